@@ -1,0 +1,73 @@
+-- The tags and names of the kinds of message. Documentation: "Message Formats".
+use Rattle.std.specs.Prelude.{◌≡◌, ℕ, List, codes}
+use Rattle.pg_base.specs.declared.message.FrontendMessageFormat.{FrontendMessageFormat}
+use Rattle.pg_base.specs.declared.message.FrontendMessageFormat.TheVariants as frontend
+use Rattle.pg_base.specs.declared.message.BackendMessageFormat.{BackendMessageFormat}
+use Rattle.pg_base.specs.declared.message.BackendMessageFormat.TheVariants as backend
+
+-- the first byte of a message from a client
+abbrev pub frontend_tag : FrontendMessageFormat → ℕ
+frontend_tag frontend.Bind = 66
+frontend_tag frontend.Close = 67
+frontend_tag frontend.Describe = 68
+frontend_tag frontend.Execute = 69
+frontend_tag frontend.Flush = 72
+frontend_tag frontend.Parse = 80
+frontend_tag frontend.Query = 81
+frontend_tag frontend.Sync = 83
+frontend_tag frontend.Terminate = 88
+frontend_tag frontend.CopyDone = 99
+frontend_tag frontend.CopyData = 100
+frontend_tag frontend.CopyFail = 102
+frontend_tag frontend.PasswordPolymorphic = 112
+
+-- the first byte of a message from a server
+abbrev pub backend_tag : BackendMessageFormat → ℕ
+backend_tag backend.Authentication = 82
+backend_tag backend.BackendKeyData = 75
+backend_tag backend.BindComplete = 50
+backend_tag backend.CloseComplete = 51
+backend_tag backend.CommandComplete = 67
+backend_tag backend.CopyData = 100
+backend_tag backend.CopyDone = 99
+backend_tag backend.CopyInResponse = 71
+backend_tag backend.CopyOutResponse = 72
+backend_tag backend.DataRow = 68
+backend_tag backend.EmptyQueryResponse = 73
+backend_tag backend.ErrorResponse = 69
+backend_tag backend.NoData = 110
+backend_tag backend.NoticeResponse = 78
+backend_tag backend.NotificationResponse = 65
+backend_tag backend.ParameterDescription = 116
+backend_tag backend.ParameterStatus = 83
+backend_tag backend.ParseComplete = 49
+backend_tag backend.PortalSuspended = 115
+backend_tag backend.ReadyForQuery = 90
+backend_tag backend.RowDescription = 84
+
+-- some message from a server begins with this byte
+abbrev pub IsBackendTag : ℕ → Type 0
+IsBackendTag tag = (format : BackendMessageFormat) × (backend_tag format ≡ tag)
+
+abbrev pub format_name : BackendMessageFormat → List ℕ
+format_name backend.Authentication = codes "Authentication"
+format_name backend.BackendKeyData = codes "BackendKeyData"
+format_name backend.BindComplete = codes "BindComplete"
+format_name backend.CloseComplete = codes "CloseComplete"
+format_name backend.CommandComplete = codes "CommandComplete"
+format_name backend.CopyData = codes "CopyData"
+format_name backend.CopyDone = codes "CopyDone"
+format_name backend.CopyInResponse = codes "CopyInResponse"
+format_name backend.CopyOutResponse = codes "CopyOutResponse"
+format_name backend.DataRow = codes "DataRow"
+format_name backend.EmptyQueryResponse = codes "EmptyQueryResponse"
+format_name backend.ErrorResponse = codes "ErrorResponse"
+format_name backend.NoData = codes "NoData"
+format_name backend.NoticeResponse = codes "NoticeResponse"
+format_name backend.NotificationResponse = codes "NotificationResponse"
+format_name backend.ParameterDescription = codes "ParameterDescription"
+format_name backend.ParameterStatus = codes "ParameterStatus"
+format_name backend.ParseComplete = codes "ParseComplete"
+format_name backend.PortalSuspended = codes "PortalSuspended"
+format_name backend.ReadyForQuery = codes "ReadyForQuery"
+format_name backend.RowDescription = codes "RowDescription"

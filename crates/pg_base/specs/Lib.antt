@@ -1,0 +1,4 @@
+pub mod Formats
+pub mod Words
+pub mod Numbers
+pub mod Cutting

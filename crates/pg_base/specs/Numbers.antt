@@ -1,0 +1,20 @@
+-- Whole numbers in messages, highest byte first. Documentation: "Message Data Types", Intn.
+use Rattle.std.specs.Prelude.{ℕ, ◌+◌, ◌*◌, ◌^◌, ◌-◌, List, [], ◌∷◌, length, ℤ, pos, ◌-ℤ◌, nat_lt, if◌then◌else◌}
+use Rattle.std.specs.Int.{w16, w32, to_be_bytes}
+
+-- a number as two bytes, and as four
+abbrev pub be16 : ℕ → List ℕ
+be16 n = to_be_bytes w16 n
+
+abbrev pub be32 : ℕ → List ℕ
+be32 n = to_be_bytes w32 n
+
+-- the number that bytes spell
+abbrev pub num : List ℕ → ℕ
+num [] = 0
+num (b ∷ bs) = b * 256 ^ length bs + num bs
+
+-- the signed number that they spell: one whose first byte is 128 or more is below 0
+abbrev pub int : List ℕ → ℤ
+int [] = pos 0
+int (b ∷ bs) = if nat_lt b 128 then pos (num (b ∷ bs)) else pos (num (b ∷ bs)) -ℤ pos (256 ^ length (b ∷ bs))

@@ -1,0 +1,13 @@
+//! The ground of the PostgreSQL message layer: what can be wrong, tags, ids, numbers and the
+//! length prefix, which both directions share.
+#![tactic(auto)]
+
+mod error;
+pub mod io;
+mod message;
+
+pub use error::{Error, ProtocolFault};
+pub use message::{BackendMessageFormat, FrontendMessageFormat};
+
+
+
