@@ -49,6 +49,30 @@ backend_tag backend.RowDescription = 84
 abbrev pub IsBackendTag : ℕ → Type 0
 IsBackendTag tag = (format : BackendMessageFormat) × (backend_tag format ≡ tag)
 
+-- the place of a kind in the list of kinds
+abbrev pub backend_number : BackendMessageFormat → ℕ
+backend_number backend.Authentication = 0
+backend_number backend.BackendKeyData = 1
+backend_number backend.BindComplete = 2
+backend_number backend.CloseComplete = 3
+backend_number backend.CommandComplete = 4
+backend_number backend.CopyData = 5
+backend_number backend.CopyDone = 6
+backend_number backend.CopyInResponse = 7
+backend_number backend.CopyOutResponse = 8
+backend_number backend.DataRow = 9
+backend_number backend.EmptyQueryResponse = 10
+backend_number backend.ErrorResponse = 11
+backend_number backend.NoData = 12
+backend_number backend.NoticeResponse = 13
+backend_number backend.NotificationResponse = 14
+backend_number backend.ParameterDescription = 15
+backend_number backend.ParameterStatus = 16
+backend_number backend.ParseComplete = 17
+backend_number backend.PortalSuspended = 18
+backend_number backend.ReadyForQuery = 19
+backend_number backend.RowDescription = 20
+
 abbrev pub format_name : BackendMessageFormat → List ℕ
 format_name backend.Authentication = codes "Authentication"
 format_name backend.BackendKeyData = codes "BackendKeyData"

@@ -2,3 +2,6 @@ pub mod Formats
 pub mod Words
 pub mod Numbers
 pub mod Cutting
+pub mod Answers
+pub mod Names
+pub mod Prefixed

@@ -3,7 +3,10 @@
 ghost use Rattle.std.specs.Prelude.{◌≡◌, ◌≢◌, Some, None, Ok, IfOk, IfErr, OnErr};
 ghost use Rattle.pg_base.specs.declared.error.Error.TheVariants.{Protocol};
 ghost use Rattle.pg_base.specs.declared.error.ProtocolFault.TheVariants.{UnknownMessageType};
-ghost use Rattle.pg_base.specs.Formats.{backend_tag, format_name, IsBackendTag};
+ghost use Rattle.pg_base.specs.declared.message.FrontendMessageFormat.{FrontendMessageFormat};
+ghost use Rattle.pg_base.specs.declared.message.BackendMessageFormat.{BackendMessageFormat};
+ghost use Rattle.std.specs.Ordering.{nat_cmp};
+ghost use Rattle.pg_base.specs.Formats.{frontend_tag, backend_tag, backend_number, format_name, IsBackendTag};
 
 use crate::error::{Error, ProtocolFault};
 
@@ -115,4 +118,11 @@ impl BackendMessageFormat {
             BackendMessageFormat::RowDescription => "RowDescription",
         }
     }
+}
+
+/// The order of both kinds of formats is that of their numbers.
+pub fn formats_are_ordered_by_number()
+    ensures frontend { (a b : FrontendMessageFormat) → ⟦<FrontendMessageFormat as Ord>⟧.cmp a b ≡ nat_cmp (frontend_tag a) (frontend_tag b) }
+    ensures backend { (a b : BackendMessageFormat) → ⟦<BackendMessageFormat as Ord>⟧.cmp a b ≡ nat_cmp (backend_number a) (backend_number b) }
+{
 }

@@ -1,0 +1,29 @@
+-- A name tells which id it is of.
+use Rattle.std.proofs.Common.{◌≡◌, ◌≢◌, ℕ, ◌+◌, ◌^◌, ◌<◌, ◌≤◌, List, [], ◌++◌, length, decimal, refl, sym, ap, ◌∙◌, arith, length-append, zero, suc}
+use Rattle.std.specs.Str.Parse.{digits_value}
+use Rattle.std.proofs.lemmas.Fmt.{decimal_is_IsNumeral, decimal_nonempty}
+use Rattle.std.proofs.lemmas.Bool.{ne_eqb}
+use Rattle.pg_base.specs.Names.{name, max_id}
+use Rattle.pg_base.proofs.Cuts.{parts_at}
+
+pub one_decimal : (a b : ℕ) → a < 2 ^ 64 → b < 2 ^ 64 → decimal a ≡ decimal b → a ≡ b
+one_decimal a b p q e = sym (decimal_is_IsNumeral a p).1 ∙ ap (digits_value 10) e ∙ (decimal_is_IsNumeral b q).1
+
+pub name_of_zero : (prefix : List ℕ) → name prefix 0 ≡ []
+name_of_zero prefix = refl
+
+pub name_of_other : (prefix : List ℕ) (n : ℕ) → n ≢ 0 → name prefix n ≡ prefix ++ decimal n
+name_of_other prefix n h = rw (ne_eqb n 0 h) refl
+
+-- only 0 has no name
+name_nonempty : (prefix : List ℕ) (n : ℕ) → n ≢ 0 → n ≤ max_id → 0 < length (name prefix n)
+name_nonempty prefix n h small =
+    omega (arith, ap length (name_of_other prefix n h), length-append prefix (decimal n), decimal_nonempty n (omega arith))
+
+pub one_name : (prefix : List ℕ) (a b : ℕ) → a ≤ max_id → b ≤ max_id → name prefix a ≡ name prefix b → a ≡ b
+one_name prefix zero zero p q e = refl
+one_name prefix zero (suc b) p q e = absurd (omega (arith, ap length e, name_nonempty prefix (suc b) (omega arith) q))
+one_name prefix (suc a) zero p q e = absurd (omega (arith, ap length e, name_nonempty prefix (suc a) (omega arith) p))
+one_name prefix (suc a) (suc b) p q e =
+    let same = sym (name_of_other prefix (suc a) (omega arith)) ∙ e ∙ name_of_other prefix (suc b) (omega arith) in
+    one_decimal (suc a) (suc b) (omega arith) (omega arith) (parts_at prefix prefix (decimal (suc a)) (decimal (suc b)) refl same).1

@@ -1,0 +1,71 @@
+use Rattle.std.proofs.Common.{ℕ, None, ◌≡◌, inl, inr, arith, ap, ◌∙◌, ◌++◌, length, length-append, vec_len}
+use Rattle.std.proofs.lemmas.Result.{IfOk-weaker, IfErr-weaker}
+use Rattle.pg_base.specs.declared.error.Error.TheVariants.{Protocol}
+use Rattle.pg_base.specs.declared.error.ProtocolFault.TheVariants.{MessageTooLong}
+use Rattle.pg_base.specs.Prefixed.{four_zeros}
+use Rattle.pg_base.proofs.Prefixes.{Holds, len_is, take_old, is_prefixed}
+use Rattle.pg_base.proofs.io.buf_mut.VecU8PgBufMutExt.put_length_prefixed.Given.{Over}
+use Rattle.pg_base.proofs.io.buf_mut.VecU8PgBufMutExt.put_length_prefixed.Goals.{After-finish}
+use Rattle.pg_base.proofs.io.buf_mut.VecU8PgBufMutExt.put_length_prefixed.Goals as goal
+
+pub finish-requires : goal.finish-requires
+finish-requires g c =
+    let a = c.requires.appends c.extend_from_slice.new.self c.call-written.new.buf c.call-written.result c.in_ok-extend_from_slice.ensures.items c.call-written.ensures in
+    omega (arith, ap length a.1, length-append (c.args.self.now.items ++ four_zeros) a.0, length-append c.args.self.now.items four_zeros, c.len-offset.ensures, c.args.self.now.ok.0, c.call-written.new.buf.ok.0)
+
+-- what the closure added, and where it stands
+stands : (g : Over) (c : After-finish g) → Holds c.args.self.now.items (c.requires.appends c.extend_from_slice.new.self c.call-written.new.buf c.call-written.result c.in_ok-extend_from_slice.ensures.items c.call-written.ensures).0 c.call-written.new.buf.items c.len-offset.result (vec_len c.call-written.new.buf)
+stands g c =
+    let a = c.requires.appends c.extend_from_slice.new.self c.call-written.new.buf c.call-written.result c.in_ok-extend_from_slice.ensures.items c.call-written.ensures in
+    record {
+      parts = a.1;
+      starts = omega (arith, c.len-offset.ensures, c.args.self.now.ok.0);
+      ends = omega (arith, c.call-written.new.buf.ok.0);
+    }
+
+pub returns-clause-ok : goal.returns-clause-ok
+returns-clause-ok g c =
+    let a = c.requires.appends c.extend_from_slice.new.self c.call-written.new.buf c.call-written.result c.in_ok-extend_from_slice.ensures.items c.call-written.ensures in
+    let h = stands g c in
+    IfOk-weaker c.finish.result _ _ (λ e k. (a.0, record {
+      wrote = record {
+        before = c.extend_from_slice.new.self;
+        shows = c.in_ok-extend_from_slice.ensures.items;
+        after = c.call-written.new.buf;
+        met = rw k.0 at c.call-written.ensures;
+        adds = a.1;
+      };
+      fits = omega (arith, len_is _ _ _ _ _ h, k.1);
+    }, k.2 ∙ is_prefixed _ _ _ _ _ h)) c.finish.ensures.ok
+
+pub returns-clause-err : goal.returns-clause-err
+returns-clause-err g c =
+    let h = stands g c in
+    IfErr-weaker c.finish.result _ _ (λ e k. k ∙ take_old _ _ _ _ _ h) c.finish.ensures.err
+
+pub returns-clause-why : goal.returns-clause-why
+returns-clause-why g c =
+    let a = c.requires.appends c.extend_from_slice.new.self c.call-written.new.buf c.call-written.result c.in_ok-extend_from_slice.ensures.items c.call-written.ensures in
+    let h = stands g c in
+    let e = len_is _ _ _ _ _ h in
+    IfErr-weaker c.finish.result _ _ (λ error k. elim k [
+      | inl own ↦ inr (inl (a.0, record {
+        before = c.extend_from_slice.new.self;
+        shows = c.in_ok-extend_from_slice.ensures.items;
+        after = c.call-written.new.buf;
+        met = rw own at c.call-written.ensures;
+        adds = a.1;
+      }))
+      | inr long ↦ inr (inr (record {
+        added = a.0;
+        wrote = record {
+          before = c.extend_from_slice.new.self;
+          shows = c.in_ok-extend_from_slice.ensures.items;
+          after = c.call-written.new.buf;
+          met = rw long.0 at c.call-written.ensures;
+          adds = a.1;
+        };
+        passes = omega (arith, e, long.1);
+        is = long.2 ∙ ap (λ (n : ℕ). Protocol None (MessageTooLong n)) (omega (arith, e));
+      }))
+    ]) c.finish.ensures.why

@@ -1,0 +1,5 @@
+use Rattle.pg_base.proofs.NameLemmas.{one_name}
+use Rattle.pg_base.proofs.io.id.names_are_distinct.Goals as goal
+
+pub returns : goal.returns
+returns c = one_name

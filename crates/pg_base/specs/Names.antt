@@ -1,0 +1,24 @@
+-- The names of prepared statements and portals, and the order in which they are handed out.
+use Rattle.std.specs.Prelude.{ℕ, ◌+◌, ◌==◌, List, [], ◌∷◌, ◌++◌, codes, decimal, if◌then◌else◌}
+
+-- the greatest id; 0 is the one without a name
+abbrev pub max_id : ℕ
+max_id = 4294967295
+
+abbrev pub statement_prefix : List ℕ
+statement_prefix = codes "sqlx_s_"
+
+abbrev pub portal_prefix : List ℕ
+portal_prefix = codes "sqlx_p_"
+
+-- the name of an id: nothing for 0, else the prefix and the number in decimal
+abbrev pub name : List ℕ → ℕ → List ℕ
+name prefix id = if id == 0 then [] else prefix ++ decimal id
+
+-- the name as a text of a message
+abbrev pub named : List ℕ → ℕ → List ℕ
+named prefix id = name prefix id ++ 0 ∷ []
+
+-- the id that is handed out after another
+abbrev pub next_id : ℕ → ℕ
+next_id id = if id == 0 then 0 else (if id == max_id then 1 else id + 1)

@@ -1,0 +1,216 @@
+//! The names of prepared statements and portals, each kept as a number.
+
+ghost use Rattle.std.specs.Prelude.{Some, ◌≡◌, ◌≢◌, ℕ, ◌+◌, ◌<◌, ◌≤◌, ◌^◌, List, [], ◌∷◌, ◌++◌, length, decimal, OnOk, OnErr, IsOkUnless, IfSome, IfNone, vec_len, vec_capacity};
+ghost use Rattle.pg_base.specs.declared.error.Error.TheVariants.{OutOfMemory};
+ghost use Rattle.pg_base.specs.Names.{name, next_id, named, statement_prefix, portal_prefix, max_id};
+
+use crate::error::Error;
+use itoa::Buffer;
+use std::fmt;
+use std::marker::Model;
+
+const STATEMENT_PREFIX: &str = "sqlx_s_";
+
+const PORTAL_PREFIX: &str = "sqlx_p_";
+
+/// A prepared statement: 0 is the unnamed one, and a number from 1 to 4294967295 a named one.
+#[derive(Clone, Copy, Debug, PartialEq, Eq)]
+pub struct StatementId(u32);
+
+impl Model for StatementId {
+    ghost Value = { ℕ };
+
+    ghost view = { λ id. id.0 };
+
+    ghost inverse = { λ n. record { 0 = n } };
+}
+
+impl StatementId {
+    pub const UNNAMED: Self = StatementId(0);
+
+    pub const NAMED_START: Self = StatementId(1);
+
+    /// The statement of that number; 0 is the unnamed one.
+    pub fn from_number(number: u32) -> Self
+        ensures { result ≡ number }
+    {
+        StatementId(number)
+    }
+
+    /// The number of the statement, 0 for the unnamed one.
+    pub fn number(&self) -> u32
+        ensures { result ≡ self.now }
+    {
+        self.0
+    }
+
+    /// The next named statement, and 1 after the last. The unnamed one stays.
+    pub fn next(&self) -> Self
+        ensures { result ≡ next_id self.now }
+    {
+        StatementId(next_number(self.0))
+    }
+
+    /// The length of what [`put_name_with_nul`](Self::put_name_with_nul) writes, in bytes.
+    pub fn name_len(&self) -> usize
+        ensures { result ≡ length (name statement_prefix self.now) + 1 }
+    {
+        name_len(STATEMENT_PREFIX, self.0)
+    }
+
+    /// Adds the name and a NUL to the buffer. `OutOfMemory`, only where the room was short, leaves
+    /// its bytes as they were.
+    pub fn put_name_with_nul(&self, buf: &mut Vec<u8>) -> Result<(), Error>
+        ensures ok { OnOk result (buf.new.items ≡ buf.old.items ++ named statement_prefix self.now) }
+        ensures err { OnErr result (buf.new.items ≡ buf.old.items) }
+        ensures memory { IsOkUnless result OutOfMemory }
+        ensures room { OnErr result (vec_capacity buf.old < vec_len buf.old + length (named statement_prefix self.now)) }
+        ensures capacity { vec_capacity buf.old ≤ vec_capacity buf.new }
+        ensures range { self.now ≤ max_id }
+    {
+        put_name_with_nul(STATEMENT_PREFIX, self.0, buf)
+    }
+
+    /// The name of a named statement, to be printed.
+    pub fn display(&self) -> Option<DisplayId>
+        ensures named { IfSome result (λ text. (self.now ≢ 0) × (text ≡ name statement_prefix self.now)) }
+        ensures unnamed { IfNone result (self.now ≡ 0) }
+    {
+        if self.0 == 0 {
+            return None;
+        }
+        Some(DisplayId {
+            prefix: STATEMENT_PREFIX,
+            number: self.0,
+        })
+    }
+}
+
+/// A portal: 0 is the unnamed one, and a number from 1 to 4294967295 a named one.
+#[derive(Clone, Copy, Debug, PartialEq, Eq)]
+pub struct PortalId(u32);
+
+impl Model for PortalId {
+    ghost Value = { ℕ };
+
+    ghost view = { λ id. id.0 };
+
+    ghost inverse = { λ n. record { 0 = n } };
+}
+
+impl PortalId {
+    pub const UNNAMED: Self = PortalId(0);
+
+    pub const NAMED_START: Self = PortalId(1);
+
+    /// The portal of that number; 0 is the unnamed one.
+    pub fn from_number(number: u32) -> Self
+        ensures { result ≡ number }
+    {
+        PortalId(number)
+    }
+
+    /// The number of the portal, 0 for the unnamed one.
+    pub fn number(&self) -> u32
+        ensures { result ≡ self.now }
+    {
+        self.0
+    }
+
+    /// The next named portal, and 1 after the last. The unnamed one stays.
+    pub fn next(&self) -> Self
+        ensures { result ≡ next_id self.now }
+    {
+        PortalId(next_number(self.0))
+    }
+
+    /// The length of what [`put_name_with_nul`](Self::put_name_with_nul) writes, in bytes.
+    pub fn name_len(&self) -> usize
+        ensures { result ≡ length (name portal_prefix self.now) + 1 }
+    {
+        name_len(PORTAL_PREFIX, self.0)
+    }
+
+    /// Adds the name and a NUL to the buffer. `OutOfMemory`, only where the room was short, leaves
+    /// its bytes as they were.
+    pub fn put_name_with_nul(&self, buf: &mut Vec<u8>) -> Result<(), Error>
+        ensures ok { OnOk result (buf.new.items ≡ buf.old.items ++ named portal_prefix self.now) }
+        ensures err { OnErr result (buf.new.items ≡ buf.old.items) }
+        ensures memory { IsOkUnless result OutOfMemory }
+        ensures room { OnErr result (vec_capacity buf.old < vec_len buf.old + length (named portal_prefix self.now)) }
+        ensures capacity { vec_capacity buf.old ≤ vec_capacity buf.new }
+        ensures range { self.now ≤ max_id }
+    {
+        put_name_with_nul(PORTAL_PREFIX, self.0, buf)
+    }
+}
+
+/// A name without its NUL.
+#[derive(Drop)]
+pub struct DisplayId {
+    prefix: &'static str,
+    number: u32,
+}
+
+impl Model for DisplayId {
+    ghost Value = { List ℕ };
+
+    ghost view = { λ id. id.prefix.now ++ decimal id.number };
+}
+
+impl fmt::Display for DisplayId {
+    ghost output = { λ text. Some text };
+
+    fn fmt<W: fmt::Write>(&self, f: &mut fmt::Formatter<W>) -> fmt::Result {
+        let prefix = self.prefix;
+        let number = self.number;
+        write!(f, "{prefix}{number}")
+    }
+}
+
+fn next_number(number: u32) -> u32
+    ensures { result ≡ next_id number }
+{
+    match number {
+        0 => 0,
+        u32::MAX => 1,
+        _ => number + 1,
+    }
+}
+
+fn name_len(prefix: &str, number: u32) -> usize
+    requires { length prefix.now < 100 }
+    ensures { result ≡ length (name prefix.now number) + 1 }
+{
+    if number == 0 {
+        return 1;
+    }
+    prefix.len() + Buffer::new().format(number).len() + 1
+}
+
+fn put_name_with_nul(prefix: &str, number: u32, buf: &mut Vec<u8>) -> Result<(), Error>
+    requires { length prefix.now < 100 }
+    ensures ok { OnOk result (buf.new.items ≡ buf.old.items ++ named prefix.now number) }
+    ensures err { OnErr result (buf.new.items ≡ buf.old.items) }
+    ensures memory { IsOkUnless result OutOfMemory }
+    ensures room { OnErr result (vec_capacity buf.old < vec_len buf.old + length (named prefix.now number)) }
+    ensures capacity { vec_capacity buf.old ≤ vec_capacity buf.new }
+{
+    if number == 0 {
+        buf.push(0)?;
+        return Ok(());
+    }
+    let mut digits = Buffer::new();
+    let digits = digits.format(number);
+    buf.reserve(prefix.len() + digits.len() + 1)?;
+    buf.extend_from_slice(prefix.as_bytes())?;
+    buf.extend_from_slice(digits.as_bytes())?;
+    buf.push(0)?;
+    Ok(())
+}
+
+/// Two ids with one name are one id.
+pub fn names_are_distinct()
+    ensures { (prefix : List ℕ) (a b : ℕ) → a ≤ max_id → b ≤ max_id → name prefix a ≡ name prefix b → a ≡ b }
+{
+}

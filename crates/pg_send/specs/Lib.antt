@@ -1,0 +1,11 @@
+pub mod Limits
+pub mod Query
+pub mod Message
+pub mod Views
+pub mod Run
+pub use Rattle.pg_base.specs.Answers
+pub use Rattle.pg_base.specs.Cutting
+pub use Rattle.pg_base.specs.Formats
+pub use Rattle.pg_base.specs.Names
+pub use Rattle.pg_base.specs.Numbers
+pub use Rattle.pg_base.specs.Words

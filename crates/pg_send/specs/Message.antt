@@ -1,0 +1,39 @@
+-- A message to the server as a plain value: which kind it is, and its fields. Documentation:
+-- "Message Formats", the messages marked (F).
+use Rattle.std.specs.Prelude.{ℕ, List, [], length, Option, None}
+use Rattle.pg_base.specs.declared.error.ProtocolFault.{ProtocolFault}
+use Rattle.pg_base.specs.Cutting.{frame}
+use Rattle.pg_send.specs.Limits.{saturated, first_fault}
+use Rattle.pg_send.specs.Query.{query_body}
+
+pub data Message : Type 0 where
+  pub Query : List ℕ → Message
+  pub Sync : Message
+
+-- the first byte
+abbrev pub tag : Message → ℕ
+tag (Query text) = 81
+tag Sync = 83
+
+-- what stands behind the length
+abbrev pub body : Message → List ℕ
+body (Query text) = query_body text
+body Sync = []
+
+-- the first limit on counts that it breaks
+abbrev pub count_fault : Message → Option ProtocolFault
+count_fault (Query text) = None
+count_fault Sync = None
+
+-- how much room is reserved for the body
+abbrev pub hint : Message → ℕ
+hint (Query text) = saturated (length (query_body text))
+hint Sync = 0
+
+-- the first limit that it breaks
+abbrev pub fault : Message → Option ProtocolFault
+fault m = first_fault (count_fault m) (length (body m))
+
+-- the whole message on the stream
+abbrev pub text : Message → List ℕ
+text m = frame (tag m) (body m)

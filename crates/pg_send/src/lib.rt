@@ -1,0 +1,4 @@
+//! The messages that a client sends to a PostgreSQL server, as bytes.
+#![tactic(auto)]
+
+pub mod message;

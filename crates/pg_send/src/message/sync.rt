@@ -1,0 +1,46 @@
+//! The end of an extended query.
+
+ghost use Rattle.std.specs.Prelude.{None, Unit, []};
+
+use crate::message::FrontendMessage;
+use crate::message::frame::check_len;
+use pg_base::{Error, FrontendMessageFormat};
+
+/// Asks the server to end the extended query and to say that it is ready. Documentation: "Message
+/// Formats", Sync (F).
+#[derive(Debug, Drop)]
+pub struct Sync;
+
+impl FrontendMessage for Sync {
+    const FORMAT: FrontendMessageFormat = FrontendMessageFormat::Sync;
+
+    ghost tag = { λ _. 83 };
+
+    ghost body = { λ _. [] };
+
+    ghost count_fault = { λ _. None };
+
+    ghost hint = { λ _. 0 };
+
+    ghost in_range = { λ _. Unit {0} };
+
+    fn tag(&self) -> u8 {
+        Self::FORMAT as u8
+    }
+
+    fn body_size_hint(&self) -> usize {
+        0
+    }
+
+    fn checked_body_len(&self) -> Result<usize, Error> {
+        check_len(None, 0)
+    }
+
+    fn encode_body(&self, _buf: &mut Vec<u8>) -> Result<(), Error> {
+        Ok(())
+    }
+
+    ghost use Rattle.std.proofs.Common.{arith};
+
+    ghost enough = { λ sync h. Prim.omega arith };
+}

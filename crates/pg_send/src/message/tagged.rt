@@ -1,0 +1,62 @@
+//! Any message that has a tag, and runs of them.
+
+ghost use Rattle.std.specs.Prelude.{◌≡◌, ◌+◌, ◌<◌, ◌≤◌, ◌++◌, length, OnOk, OnErr, IfOk, IsErrOf, IsOkUnless, vec_len, vec_capacity};
+ghost use Rattle.pg_base.specs.declared.error.Error.TheVariants.{OutOfMemory};
+ghost use Rattle.pg_base.specs.Answers.{IsAnswer};
+ghost use Rattle.pg_base.specs.Cutting.{IsCutInto};
+ghost use Rattle.pg_send.specs.Message.{fault, hint, text};
+ghost use Rattle.pg_send.specs.Views.{message_of, messages_of};
+ghost use Rattle.pg_send.specs.Run.{added, accepted, AreAnswers, RanOutWhereShort};
+
+use crate::message::{Query, Sync, encode_frame};
+use pg_base::Error;
+use std::alloc::Global;
+
+/// Any message that has a tag.
+#[derive(Drop)]
+pub enum TaggedMessage<'a> {
+    Query(Query<'a>),
+    Sync(Sync),
+}
+
+impl TaggedMessage<'_> {
+    /// Adds the message to the buffer: [`encode_frame`] of what it holds.
+    pub fn encode(&self, buf: &mut Vec<u8>) -> Result<(), Error>
+        ensures ok { OnOk result (buf.new.items ≡ buf.old.items ++ text (message_of self.now)) }
+        ensures err { OnErr result (buf.new.items ≡ buf.old.items) }
+        ensures answer { IsAnswer (fault (message_of self.now)) result }
+        ensures memory { IsErrOf result OutOfMemory → vec_capacity buf.old < vec_len buf.old + (hint (message_of self.now) + 5) }
+        ensures capacity { vec_capacity buf.old ≤ vec_capacity buf.new }
+    {
+        match self {
+            TaggedMessage::Query(message) => encode_frame(message, buf),
+            TaggedMessage::Sync(message) => encode_frame(message, buf),
+        }
+    }
+}
+
+/// Adds each message to the buffer in order, and gives one answer a message: that of
+/// [`TaggedMessage::encode`]. A refused message adds nothing and doesn't stop the rest. Where room
+/// for the answers is refused, the call is `OutOfMemory` and changes nothing.
+pub fn encode_all(
+    alloc: Global,
+    messages: &[TaggedMessage<'_>],
+    buf: &mut Vec<u8>,
+) -> Result<Vec<Result<(), Error>>, Error>
+    // The buffer gains the texts of exactly the accepted messages.
+    ensures added { IfOk result (λ answers. buf.new.items ≡ buf.old.items ++ added (messages_of messages.now) answers.items) }
+    // A message is refused for a limit exactly where it breaks one, with the first that it breaks.
+    ensures answered { IfOk result (λ answers. AreAnswers fault (messages_of messages.now) answers.items) }
+    // Tags and lengths cut what was added into the accepted messages, and into no others.
+    ensures cut { IfOk result (λ answers. IsCutInto (added (messages_of messages.now) answers.items) (accepted (messages_of messages.now) answers.items)) }
+    ensures room { IfOk result (λ answers. RanOutWhereShort (vec_capacity buf.old) (vec_len buf.old) (messages_of messages.now) answers.items) }
+
+    ensures memory { IsOkUnless result OutOfMemory }
+    ensures err { OnErr result (buf.new ≡ buf.old) }
+{
+    let mut answers = Vec::with_capacity(alloc, messages.len())?;
+    for message in messages {
+        answers.push_reserved(message.encode(buf));
+    }
+    Ok(answers)
+}
