@@ -7,8 +7,8 @@ use Rattle.pg_send.specs.Limits.{saturated, first_fault}
 use Rattle.pg_send.specs.Query.{query_body}
 
 pub data Message : Type 0 where
-  pub Query : List ℕ → Message
-  pub Sync : Message
+  Query : List ℕ → Message
+  Sync : Message
 
 -- the first byte
 abbrev pub tag : Message → ℕ

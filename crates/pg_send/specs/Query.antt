@@ -1,5 +1,5 @@
 -- Query: a simple query. Documentation: "Message Formats", Query (F).
-use Rattle.std.specs.Prelude.{ℕ, ◌+◌, List, [], ◌∷◌, ◌++◌, length}
+use Rattle.std.specs.Prelude.{ℕ, List, [], ◌∷◌, ◌++◌}
 
 -- the text and a NUL
 abbrev pub query_body : List ℕ → List ℕ

@@ -1,6 +1,6 @@
 //! A simple query.
 
-ghost use Rattle.std.specs.Prelude.{None, Unit, length};
+ghost use Rattle.std.specs.Prelude.{None, length};
 ghost use Rattle.pg_send.specs.Query.{query_body};
 ghost use Rattle.pg_send.specs.Limits.{saturated};
 

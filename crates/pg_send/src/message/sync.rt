@@ -1,6 +1,6 @@
 //! The end of an extended query.
 
-ghost use Rattle.std.specs.Prelude.{None, Unit, []};
+ghost use Rattle.std.specs.Prelude.{None, []};
 
 use crate::message::FrontendMessage;
 use crate::message::frame::check_len;

@@ -1,0 +1,14 @@
+-- What reading a message by its kind answers.
+use Rattle.std.specs.Prelude.{◌≡◌, ℕ, List, Result, Ok, Err}
+use Rattle.pg_base.specs.declared.error.Error.{Error}
+use Rattle.pg_base.specs.declared.error.Error.TheVariants.{Protocol, OutOfMemory}
+
+-- the greatest length of a body
+abbrev pub max_body : ℕ
+max_body = 2147483643
+
+-- the result is this value, unless memory ran out
+abbrev pub IsValue : {A V : Type 0} → (A → V) → V → Result A Error → Type 0
+IsValue shown v (Ok value) = shown value ≡ v
+IsValue shown v (Err (Protocol reading fault)) = ⊥
+IsValue shown v (Err OutOfMemory) = Unit {0}

@@ -1,0 +1,4 @@
+//! The messages that a PostgreSQL server sends, read from their bytes.
+#![tactic(auto)]
+
+pub mod message;

@@ -1,0 +1,7 @@
+//! What a message from the server is, and how one is read.
+
+mod ready_for_query;
+mod received;
+
+pub use ready_for_query::{ReadyForQuery, TransactionStatus};
+pub use received::{BackendMessage, ReceivedMessage};

@@ -1,0 +1,56 @@
+//! The server's word that it is ready for the next query.
+
+ghost use Rattle.std.specs.Prelude.{◌≡◌, ℕ, List};
+ghost use Rattle.pg_base.specs.declared.message.BackendMessageFormat.TheVariants as formats;
+
+use crate::message::BackendMessage;
+use bytes::Bytes;
+use pg_base::{BackendMessageFormat, Error, ProtocolFault};
+use std::alloc::Global;
+
+/// Whether a transaction is open. As a number it is the letter of the message.
+#[derive(Clone, Copy, Debug, PartialEq, Eq)]
+pub enum TransactionStatus {
+    /// Not in a transaction block.
+    Idle = b'I' as isize,
+    /// In a transaction block.
+    Transaction = b'T' as isize,
+    /// In a transaction block that failed: queries are refused until it ends.
+    Error = b'E' as isize,
+}
+
+/// The server is ready for the next query. Documentation: "Message Formats", ReadyForQuery (B).
+#[derive(Clone, Copy, Debug, PartialEq, Eq)]
+pub struct ReadyForQuery {
+    pub transaction_status: TransactionStatus,
+}
+
+impl BackendMessage for ReadyForQuery {
+    ghost use Rattle.std.specs.Prelude.{List, ℕ};
+    ghost use Rattle.pg_receive.specs.declared.message.ready_for_query.TransactionStatus.{TransactionStatus};
+    ghost use Rattle.pg_receive.specs.ReadyForQuery.{MeansStatus, BreaksStatus};
+    ghost use Rattle.pg_receive.specs.ReadyForQueryLaws.{one_status, status_or_fault};
+
+    const FORMAT: BackendMessageFormat = BackendMessageFormat::ReadyForQuery;
+
+    ghost FORMAT = { formats.ReadyForQuery };
+
+    ghost Shown = { TransactionStatus };
+
+    ghost shown = { λ ready. ready.transaction_status };
+
+    ghost Means = { MeansStatus };
+
+    ghost Broken = { BreaksStatus };
+
+    ghost Free = { λ _. Unit {0} };
+
+    fn decode_body(_alloc: Global, buf: Bytes) -> Result<Self, Error> {
+        let transaction_status = status_of(buf.as_slice())?;
+        Ok(ReadyForQuery { transaction_status })
+    }
+
+    ghost one_value = { one_status };
+
+    ghost never_both = { status_or_fault };
+}
