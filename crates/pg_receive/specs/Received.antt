@@ -1,5 +1,6 @@
 -- What reading a message by its kind answers.
-use Rattle.std.specs.Prelude.{◌≡◌, ℕ, List, Result, Ok, Err}
+use Rattle.std.specs.Prelude.{◌≡◌, Some, Result, Ok, Err, ℕ}
+use Rattle.pg_base.specs.declared.message.BackendMessageFormat.{BackendMessageFormat}
 use Rattle.pg_base.specs.declared.error.Error.{Error}
 use Rattle.pg_base.specs.declared.error.Error.TheVariants.{Protocol, OutOfMemory}
 
@@ -12,3 +13,8 @@ abbrev pub IsValue : {A V : Type 0} → (A → V) → V → Result A Error → T
 IsValue shown v (Ok value) = shown value ≡ v
 IsValue shown v (Err (Protocol reading fault)) = ⊥
 IsValue shown v (Err OutOfMemory) = Unit {0}
+
+-- the error, with the kind of message that was read in a fault of its body
+abbrev pub reading : BackendMessageFormat → Error → Error
+reading format (Protocol _ fault) = Protocol (Some format) fault
+reading format OutOfMemory = OutOfMemory

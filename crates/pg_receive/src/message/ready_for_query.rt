@@ -1,6 +1,8 @@
 //! The server's word that it is ready for the next query.
 
-ghost use Rattle.std.specs.Prelude.{◌≡◌, ℕ, List};
+ghost use Rattle.std.specs.Prelude.{None};
+ghost use Rattle.pg_base.specs.Answers.{Answers};
+ghost use Rattle.pg_receive.specs.ReadyForQuery.{MeansStatus, BreaksStatus};
 ghost use Rattle.pg_base.specs.declared.message.BackendMessageFormat.TheVariants as formats;
 
 use crate::message::BackendMessage;
@@ -26,9 +28,7 @@ pub struct ReadyForQuery {
 }
 
 impl BackendMessage for ReadyForQuery {
-    ghost use Rattle.std.specs.Prelude.{List, ℕ};
     ghost use Rattle.pg_receive.specs.declared.message.ready_for_query.TransactionStatus.{TransactionStatus};
-    ghost use Rattle.pg_receive.specs.ReadyForQuery.{MeansStatus, BreaksStatus};
     ghost use Rattle.pg_receive.specs.ReadyForQueryLaws.{one_status, status_or_fault};
 
     const FORMAT: BackendMessageFormat = BackendMessageFormat::ReadyForQuery;
@@ -53,4 +53,22 @@ impl BackendMessage for ReadyForQuery {
     ghost one_value = { one_status };
 
     ghost never_both = { status_or_fault };
+}
+
+// The status that the first byte is the letter of.
+fn status_of(body: &[u8]) -> Result<TransactionStatus, Error>
+    ensures { Answers MeansStatus BreaksStatus (λ _. Unit {0}) (λ status. status) None body.now result }
+{
+    match body {
+        [] => Err(ProtocolFault::Short {
+            at: 0,
+            needed: 1,
+            got: 0,
+        }
+        .into()),
+        [b'I', ..] => Ok(TransactionStatus::Idle),
+        [b'T', ..] => Ok(TransactionStatus::Transaction),
+        [b'E', ..] => Ok(TransactionStatus::Error),
+        [status, ..] => Err(ProtocolFault::UnknownStatus(*status).into()),
+    }
 }

@@ -1,12 +1,12 @@
 //! The law of a message that is received, and its decoding by kind.
 
-ghost use Rattle.std.specs.Prelude.{◌≡◌, ◌≢◌, ◌<◌, ◌≤◌, ℕ, List, Some, None, length, IsOkAnd, IsErrOf};
+ghost use Rattle.std.specs.Prelude.{◌≡◌, ◌≢◌, ◌<◌, ◌≤◌, ℕ, List, Some, None, Err, length, IsErrOf};
 ghost use Rattle.pg_base.specs.declared.message.BackendMessageFormat.{BackendMessageFormat};
 ghost use Rattle.pg_base.specs.declared.error.ProtocolFault.{ProtocolFault};
 ghost use Rattle.pg_base.specs.declared.error.ProtocolFault.TheVariants.{WrongFormat, BodyTooLong};
 ghost use Rattle.pg_base.specs.declared.error.Error.TheVariants.{Protocol, OutOfMemory};
 ghost use Rattle.pg_base.specs.Answers.{Answers};
-ghost use Rattle.pg_receive.specs.Received.{max_body, IsValue};
+ghost use Rattle.pg_receive.specs.Received.{max_body, IsValue, reading as error_reading};
 
 use bytes::Bytes;
 use pg_base::io::MAX_BODY;
@@ -77,7 +77,9 @@ impl ReceivedMessage {
 }
 
 // Names the kind of message in a fault of its body.
-fn reading(format: BackendMessageFormat, error: Error) -> Error {
+fn reading(format: BackendMessageFormat, error: Error) -> Error
+    ensures { result ≡ error_reading format error }
+{
     match error {
         Error::Protocol { fault, .. } => Error::Protocol {
             reading: Some(format),
