@@ -1,3 +1,4 @@
 pub mod Prefixes
 pub mod Cuts
 pub mod NameLemmas
+pub mod Spelled

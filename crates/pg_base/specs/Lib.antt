@@ -2,6 +2,8 @@ pub mod Formats
 pub mod Words
 pub mod Numbers
 pub mod Cutting
+pub mod Faults
+pub mod Reading
 pub mod Answers
 pub mod Names
 pub mod Prefixed

@@ -7,7 +7,7 @@ pub mod io;
 mod message;
 
 pub use error::{Error, ProtocolFault};
-pub use message::{BackendMessageFormat, FrontendMessageFormat};
+pub use message::{BackendMessageFormat, FrontendMessageFormat, formats_are_ordered_by_number};
 
 
 

@@ -1,8 +1,9 @@
 pub mod Received
-pub mod Faults
 pub mod ReadyForQuery
 pub mod ReadyForQueryLaws
 pub use Rattle.pg_base.specs.Answers
+pub use Rattle.pg_base.specs.Faults
 pub use Rattle.pg_base.specs.Formats
 pub use Rattle.pg_base.specs.Numbers
+pub use Rattle.pg_base.specs.Reading
 pub use Rattle.pg_base.specs.Words

@@ -5,7 +5,7 @@ use Rattle.pg_base.specs.declared.error.ProtocolFault.{ProtocolFault}
 use Rattle.pg_base.specs.declared.error.ProtocolFault.TheVariants.{UnknownStatus}
 use Rattle.pg_receive.specs.declared.message.ready_for_query.TransactionStatus.{TransactionStatus}
 use Rattle.pg_receive.specs.declared.message.ready_for_query.TransactionStatus.TheVariants as statuses
-use Rattle.pg_receive.specs.Faults.{IsShort}
+use Rattle.pg_base.specs.Faults.{IsShort}
 
 -- the letter of a status
 abbrev pub letter : TransactionStatus → ℕ

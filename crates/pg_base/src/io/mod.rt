@@ -1,7 +1,9 @@
 //! Ids and their names, formats, and what a message is written to and read from.
 
 mod buf_mut;
+mod copy;
 mod id;
+mod numbers;
 
 ghost use Rattle.std.specs.Prelude.{◌≡◌, ◌+◌, ◌<◌, ◌≤◌, List, ℕ, Option, ◌++◌, length, OnOk, OnErr, IsErrOf, vec_len, vec_capacity};
 ghost use Rattle.pg_base.specs.declared.error.Error.TheVariants.{OutOfMemory};
@@ -9,7 +11,9 @@ ghost use Rattle.pg_base.specs.declared.error.ProtocolFault.{ProtocolFault};
 ghost use Rattle.pg_base.specs.Answers.{IsAnswer, Answers};
 
 pub use buf_mut::PgBufMutExt;
-pub use id::{DisplayId, PortalId, StatementId};
+pub use copy::{CopyData, CopyDone, LendBytes};
+pub use id::{DisplayId, PortalId, StatementId, names_are_distinct};
+pub use numbers::{bytes_at, i8_at, i16_at, i32_at, u16_at, u32_at};
 
 use crate::error::Error;
 use bytes::Bytes;
