@@ -1,8 +1,7 @@
 -- Bytes are cut into messages in one way only.
-use Rattle.std.proofs.Common.{◌≡◌, ℕ, ◌+◌, ◌-◌, ◌/◌, ◌%◌, ◌^◌, ◌<◌, ◌≤◌, List, [], ◌∷◌, ◌++◌, length, pos, refl, sym, ap, ◌∙◌, arith, append_assoc, length-append, true, false, Bool, inl, inr}
+use Rattle.std.proofs.Common.{◌≡◌, ℕ, ◌+◌, ◌/◌, ◌%◌, ◌<◌, ◌≤◌, List, [], ◌∷◌, ◌++◌, length, pos, refl, sym, ap, ◌∙◌, arith, append_assoc}
 use Rattle.std.proofs.lemmas.Bool.{lt-ltb}
-use Rattle.std.proofs.lemmas.List.{take_at, drop_at, append-nil}
-use Rattle.pg_base.specs.Numbers.{be32, num, int}
+use Rattle.pg_base.specs.Numbers.{be32, int}
 use Rattle.pg_base.specs.Cutting.{max_length, Begins, Cut, IsCutInto, frame}
 
 -- equal lists split in equal parts where the fronts are as long

@@ -2,3 +2,4 @@ pub mod Prefixes
 pub mod Cuts
 pub mod NameLemmas
 pub mod Spelled
+pub mod Readings

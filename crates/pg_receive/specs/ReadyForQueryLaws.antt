@@ -1,6 +1,6 @@
 -- A body means one status, or has a fault.
 use Rattle.std.specs.Prelude.{◌≡◌, ℕ, List, [], ◌∷◌}
-use Rattle.std.proofs.Common.{refl, sym, ◌∙◌, ap, arith}
+use Rattle.std.proofs.Common.{refl, sym, ◌∙◌, arith}
 use Rattle.pg_base.specs.declared.error.ProtocolFault.{ProtocolFault}
 use Rattle.pg_receive.specs.declared.message.ready_for_query.TransactionStatus.{TransactionStatus}
 use Rattle.pg_receive.specs.declared.message.ready_for_query.TransactionStatus.TheVariants as statuses

@@ -2,6 +2,8 @@
 
 mod ready_for_query;
 mod received;
+mod text;
 
 pub use ready_for_query::{ReadyForQuery, TransactionStatus};
 pub use received::{BackendMessage, ReceivedMessage};
+pub use text::split_text;

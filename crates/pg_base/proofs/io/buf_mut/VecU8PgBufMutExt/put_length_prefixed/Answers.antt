@@ -1,4 +1,4 @@
-use Rattle.std.proofs.Common.{ℕ, None, ◌≡◌, inl, inr, arith, ap, ◌∙◌, ◌++◌, length, length-append, vec_len}
+use Rattle.std.proofs.Common.{ℕ, None, inl, inr, arith, ap, ◌∙◌, ◌++◌, length, length-append, vec_len}
 use Rattle.std.proofs.lemmas.Result.{IfOk-weaker, IfErr-weaker}
 use Rattle.pg_base.specs.declared.error.Error.TheVariants.{Protocol}
 use Rattle.pg_base.specs.declared.error.ProtocolFault.TheVariants.{MessageTooLong}

@@ -1,0 +1,16 @@
+//! Texts in a body, each ended by a NUL.
+
+ghost use Rattle.std.specs.Prelude.{IfSome, IfNone};
+ghost use Rattle.pg_base.specs.Reading.{HoldsNo, Text};
+
+use memchr::memchr;
+
+/// The text at the front of some bytes, and what stands behind its NUL. Nothing where there is no
+/// NUL.
+pub fn split_text(bytes: &[u8]) -> Option<(&[u8], &[u8])>
+    ensures found { IfSome result (λ split. Text bytes.now split.0.now split.1.now) }
+    ensures none { IfNone result (HoldsNo 0 bytes.now) }
+{
+    let end = memchr(0, bytes)?;
+    Some((&bytes[..end], &bytes[end + 1..]))
+}
