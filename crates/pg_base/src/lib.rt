@@ -9,5 +9,5 @@ mod message;
 pub use error::{Error, ProtocolFault};
 pub use message::{BackendMessageFormat, FrontendMessageFormat, formats_are_ordered_by_number};
 
-
-
+#[cfg(test)]
+mod tests;

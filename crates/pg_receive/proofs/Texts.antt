@@ -13,8 +13,8 @@ nowhere_holds_no byte bytes h = holds_no byte bytes (λ k lt e. h k (omega arith
 pub front_holds_no : (byte end : ℕ) (bytes : List ℕ) → end < length bytes → Nowhere (Passes (is_byte byte) bytes) 0 end → HoldsNo byte (take end bytes)
 front_holds_no byte end bytes inside h =
     holds_no byte (take end bytes) (λ k lt e.
-      let below : k < end = omega (arith, length-take end bytes) in
-      h k (omega arith) below (eq-eqb (get_or bytes k 0) byte (sym (get_or-take end bytes k 0 below) ∙ e)))
+    let below : k < end = omega (arith, length-take end bytes) in
+    h k (omega arith) below (eq-eqb (get_or bytes k 0) byte (sym (get_or-take end bytes k 0 below) ∙ e)))
 
 -- bytes are what stands before a place, the byte there, and what stands behind it
 pub around : (end : ℕ) (bytes : List ℕ) → end < length bytes → bytes ≡ take end bytes ++ get_or bytes end 0 ∷ drop (end + 1) bytes
@@ -26,7 +26,7 @@ pub text_before : (end : ℕ) (bytes : List ℕ) → end < length bytes → eqb 
 text_before end bytes inside is before = record {
   clean = front_holds_no 0 end bytes inside before;
   parts =
-    let zero_is : get_or bytes end 0 ≡ 0 = eqb-true (get_or bytes end 0) 0 is in
-    let whole : take (length bytes - (end + 1)) (drop (end + 1) bytes) ≡ drop (end + 1) bytes = take_all (length bytes - (end + 1)) (drop (end + 1) bytes) (omega (arith, length-drop (end + 1) bytes)) in
-    rw whole (rw zero_is at (around end bytes inside));
+      let zero_is : get_or bytes end 0 ≡ 0 = eqb-true (get_or bytes end 0) 0 is in
+      let whole : take (length bytes - (end + 1)) (drop (end + 1) bytes) ≡ drop (end + 1) bytes = take_all (length bytes - (end + 1)) (drop (end + 1) bytes) (omega (arith, length-drop (end + 1) bytes)) in
+      rw whole (rw zero_is at (around end bytes inside));
 }

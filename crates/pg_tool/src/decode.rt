@@ -83,7 +83,11 @@ fn push_outcome(
     Ok(())
 }
 
-fn outcome_of(alloc: Global, format: BackendMessageFormat, body: Vec<u8>) -> Result<Outcome, Error> {
+fn outcome_of(
+    alloc: Global,
+    format: BackendMessageFormat,
+    body: Vec<u8>,
+) -> Result<Outcome, Error> {
     let contents = Bytes::from_vec(body)?;
     let message = ReceivedMessage { format, contents };
     match format {

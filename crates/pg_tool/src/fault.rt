@@ -1,9 +1,8 @@
 //! Why the program gives up.
 
-use std::alloc::{AllocError, AllocFailed};
-use std::fmt;
-use std::io;
 use pg_base::Error;
+use std::alloc::{AllocError, AllocFailed};
+use std::{fmt, io};
 
 /// Why the program gives up.
 #[derive(Clone, Copy, Debug, PartialEq, Eq)]

@@ -30,3 +30,5 @@ fn main(rt: HostRuntime) -> ExitCode {
     ))
 }
 
+#[cfg(test)]
+mod tests;

@@ -25,7 +25,7 @@ impl LendBytes for Bytes {
     ghost bytes = { λ owner. owner };
 
     fn bytes(&self) -> &[u8] {
-        self.as_slice()
+        Bytes::as_slice(self)
     }
 }
 

@@ -10,13 +10,12 @@ ghost use Rattle.pg_base.specs.declared.error.Error.TheVariants.{OutOfMemory};
 ghost use Rattle.pg_base.specs.declared.error.ProtocolFault.{ProtocolFault};
 ghost use Rattle.pg_base.specs.Answers.{IsAnswer, Answers};
 
+use crate::error::Error;
 pub use buf_mut::PgBufMutExt;
+use bytes::Bytes;
 pub use copy::{CopyData, CopyDone, LendBytes};
 pub use id::{DisplayId, PortalId, StatementId, names_are_distinct};
 pub use numbers::{bytes_at, i8_at, i16_at, i32_at, u16_at, u32_at};
-
-use crate::error::Error;
-use bytes::Bytes;
 use std::alloc::Global;
 
 /// The greatest length that a message's length field can say, in bytes: it is a signed number of
@@ -60,6 +59,7 @@ pub trait ProtocolEncode {
 pub trait ProtocolDecode: Sized {
     /// The value without where it lies in memory.
     ghost Shown: { Type 0 };
+
     ghost shown: { Self → Shown };
     /// Which value a body means.
     ghost Means: { List ℕ → Shown → Type 0 };
@@ -74,3 +74,6 @@ pub trait ProtocolDecode: Sized {
         requires { length buf ≤ MAX_BODY }
         ensures { Answers Means Broken Free shown None buf result };
 }
+
+#[cfg(test)]
+mod tests;

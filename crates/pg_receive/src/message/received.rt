@@ -17,10 +17,12 @@ use std::alloc::Global;
 pub trait BackendMessage: Sized {
     /// The kind of message.
     const FORMAT: BackendMessageFormat;
+
     ghost FORMAT: { BackendMessageFormat };
 
     /// The value without where it lies in memory.
     ghost Shown: { Type 0 };
+
     ghost shown: { Self → Shown };
     /// Which value a body means.
     ghost Means: { List ℕ → Shown → Type 0 };

@@ -1,0 +1,261 @@
+//! The program over memory: what it prints, its statuses, and what a failing input or output leaves.
+
+use crate::fault::ToolFault;
+use crate::run::{Mode, run, start};
+use std::alloc::{AllocError, Global};
+use std::io::{self, Read, Write};
+use std::process::Abort;
+use std::test::Fail;
+
+/// What a run left: its status, its output and what it told of faults.
+#[derive(Drop)]
+struct Outcome {
+    status: u8,
+    output: Vec<u8>,
+    errors: Vec<u8>,
+}
+
+fn started(alloc: Global, args: &[&str], input: &str) -> Result<Outcome, AllocError> {
+    let mut words = Vec::new(alloc);
+    for arg in args {
+        words.push(String::from_str(alloc, arg)?)?;
+    }
+    let mut output = Vec::new(alloc);
+    let mut errors = Vec::new(alloc);
+    let status = start(
+        alloc,
+        words.as_slice(),
+        &mut input.as_bytes(),
+        &mut output,
+        &mut errors,
+    );
+    Ok(Outcome {
+        status,
+        output,
+        errors,
+    })
+}
+
+// Compares a run with what it must print. Where memory ran out the program tells that and no more.
+fn expect(
+    rt: &(impl Abort + Alloc<A = Global>),
+    args: &[&str],
+    input: &str,
+    status: u8,
+    output: &str,
+    errors: &str,
+) -> Result<(), AllocError> {
+    let outcome = started(rt.alloc(), args, input)?;
+    if outcome.errors.as_slice() == b"out of memory\n".as_slice() {
+        assert_eq!(rt; outcome.status, 3);
+        assert!(rt; outcome.output.is_empty());
+        return Err(AllocError);
+    }
+    assert_eq!(rt;
+        outcome.output.as_slice(),
+        output.as_bytes(),
+        "output of {input:?}"
+    );
+    assert_eq!(rt;
+        outcome.errors.as_slice(),
+        errors.as_bytes(),
+        "errors of {input:?}"
+    );
+    assert_eq!(rt; outcome.status, status, "status of {input:?}");
+    Ok(())
+}
+
+// The result of a run, unless memory ran out.
+fn unless_memory(outcome: Result<(), ToolFault>) -> Result<Result<(), ToolFault>, AllocError> {
+    match outcome {
+        Err(ToolFault::OutOfMemory) => Err(AllocError),
+        other => Ok(other),
+    }
+}
+
+#[test]
+fn encodes(rt: HostRuntime) -> Result<(), Fail> {
+    let cases = [
+        (
+            "query SELECT 1\nsync\n",
+            "1 ok\n2 ok\nQ 13 53454c454354203100\nS 4 -\n",
+        ),
+        ("", ""),
+        ("query \n", "1 ok\nQ 5 00\n"),
+        // a last line without its line feed counts
+        ("sync", "1 ok\nS 4 -\n"),
+        ("query a\0b", "1 ok\nQ 8 61006200\n"),
+    ];
+    for (input, output) in cases {
+        expect(&rt, &["encode"], input, 0, output, "")?;
+    }
+    // without an argument the mode is that of encode
+    expect(&rt, &[], "sync\n", 0, "1 ok\nS 4 -\n", "")?;
+    Ok(())
+}
+
+#[test]
+fn names_the_first_bad_line(rt: HostRuntime) -> Result<(), Fail> {
+    let cases = [
+        ("sync\nsink\n", "line 2: bad command\n"),
+        ("\n", "line 1: bad command\n"),
+        ("query\n", "line 1: bad command\n"),
+        ("sync \n", "line 1: bad command\n"),
+        (" sync\n", "line 1: bad command\n"),
+        ("Query a\n", "line 1: bad command\n"),
+        ("sync\n\nsink\n", "line 2: bad command\n"),
+    ];
+    for (input, errors) in cases {
+        expect(&rt, &["encode"], input, 1, "", errors)?;
+    }
+    Ok(())
+}
+
+#[test]
+fn decodes(rt: HostRuntime) -> Result<(), Fail> {
+    let cases = [
+        ("5a 45", "ReadyForQuery ok\n"),
+        (
+            "5a 51",
+            "Postgres protocol error (reading ReadyForQuery): unknown transaction status: 81\n",
+        ),
+        (
+            "5a -",
+            "Postgres protocol error (reading ReadyForQuery): expected 1 bytes at offset 0, got 0\n",
+        ),
+        ("5A 4900", "ReadyForQuery ok\n"),
+        (
+            "31 -\n76 -\n",
+            "ParseComplete untyped\nunknown message type: 118\n",
+        ),
+        ("", ""),
+    ];
+    for (input, output) in cases {
+        expect(&rt, &["decode"], input, 0, output, "")?;
+    }
+    for input in [
+        "5a", "5 -", "5a 4", "5a  45", "5g 45", "5a45", "5a 4g", "5a 45 45",
+    ] {
+        expect(&rt, &["decode"], input, 1, "", "line 1: bad command\n")?;
+    }
+    Ok(())
+}
+
+#[test]
+fn wrong_arguments_get_the_usage(rt: HostRuntime) -> Result<(), Fail> {
+    let usage = "usage: pg_tool encode|decode\n";
+    expect(&rt, &["both"], "sync\n", 2, "", usage)?;
+    expect(&rt, &["encode", "decode"], "sync\n", 2, "", usage)?;
+    expect(&rt, &["Encode"], "sync\n", 2, "", usage)?;
+    expect(&rt, &[""], "sync\n", 2, "", usage)?;
+    Ok(())
+}
+
+#[test]
+fn bytes_that_are_no_text_are_a_bad_line(rt: HostRuntime) -> Result<(), Fail> {
+    let mut output = Vec::new(rt.alloc());
+    let result = run(
+        rt.alloc(),
+        Mode::Encode,
+        &mut b"sync\nquery \xff\n".as_slice(),
+        &mut output,
+    );
+    assert!(rt; output.is_empty());
+    assert_eq!(rt; unless_memory(result)?, Err(ToolFault::BadLine(2)));
+    Ok(())
+}
+
+/// Gives one byte a call, and fails at one of its calls.
+#[derive(Drop)]
+struct FailingReader<'a> {
+    rest: &'a [u8],
+    calls: usize,
+}
+
+impl Read for FailingReader<'_> {
+    fn read(&mut self, buf: &mut [u8]) -> io::Result<usize> {
+        if self.calls == 0 {
+            return Err(io::Error::from(io::ErrorKind::Other));
+        }
+        self.calls -= 1;
+        if buf.is_empty() || self.rest.is_empty() {
+            return Ok(0);
+        }
+        buf[0] = self.rest[0];
+        self.rest = &self.rest[1..];
+        Ok(1)
+    }
+}
+
+/// Takes so many bytes, and then fails.
+#[derive(Drop)]
+struct FailingWriter {
+    taken: Vec<u8>,
+    room: usize,
+}
+
+impl Write for FailingWriter {
+    fn write(&mut self, buf: &[u8]) -> io::Result<usize> {
+        let count = buf.len().min(self.room);
+        if count == 0 {
+            return Err(io::Error::from(io::ErrorKind::Other));
+        }
+        self.taken.extend_from_slice(&buf[..count])?;
+        self.room -= count;
+        Ok(count)
+    }
+
+    fn flush(&mut self) -> io::Result<()> {
+        Ok(())
+    }
+}
+
+#[test]
+fn a_failed_read_is_told_and_nothing_is_written(rt: HostRuntime) -> Result<(), Fail> {
+    let input = b"sync\nsink\n";
+    for calls in 0..10 {
+        for mode in [Mode::Encode, Mode::Decode] {
+            let mut reader = FailingReader { rest: input, calls };
+            let mut output = Vec::new(rt.alloc());
+            let result = run(rt.alloc(), mode, &mut reader, &mut output);
+            assert!(rt; output.is_empty());
+            assert_eq!(rt; unless_memory(result)?, Err(ToolFault::Input));
+        }
+    }
+    Ok(())
+}
+
+#[test]
+fn a_failed_write_leaves_a_beginning_of_the_output(rt: HostRuntime) -> Result<(), Fail> {
+    let whole = b"1 ok\n2 ok\nQ 13 53454c454354203100\nS 4 -\n";
+    for room in 0..whole.len() {
+        let mut writer = FailingWriter {
+            taken: Vec::new(rt.alloc()),
+            room,
+        };
+        let result = run(
+            rt.alloc(),
+            Mode::Encode,
+            &mut b"query SELECT 1\nsync\n".as_slice(),
+            &mut writer,
+        );
+        assert!(rt; whole.starts_with(writer.taken.as_slice()));
+        assert_eq!(rt; unless_memory(result)?, Err(ToolFault::Output));
+    }
+    Ok(())
+}
+
+#[test]
+fn statuses_and_words_of_faults(rt: HostRuntime) -> Result<(), Fail> {
+    let cases = [
+        (ToolFault::BadLine(7), 1, "line 7: bad command"),
+        (ToolFault::Input, 3, "input failed"),
+        (ToolFault::Output, 3, "output failed"),
+        (ToolFault::OutOfMemory, 3, "out of memory"),
+    ];
+    for (fault, status, words) in cases {
+        assert_eq!(rt; fault.status(), status);
+        assert_eq!(rt; fault.to_string(rt.alloc())?.as_str(), words);
+    }
+    Ok(())
+}
