@@ -104,10 +104,10 @@ no_run old capacity len = record { adds = sym (append-nil old); answered = tt; s
 pub run_is_cut : (ms : List Message) (answers : List Answer) → AreAnswers fault ms answers → IsCutInto (added ms answers) (accepted ms answers)
 run_is_cut ms answers h = is_cut_into (added ms answers) (accepted ms answers) (cut_added ms answers h)
 
--- a step of the loop over messages
-pub run_at : (xs : List TaggedMessage) (i : ℕ) (d : TaggedMessage) (answers : List Answer) (a : Answer) (old mid new : List ℕ) (capacity len room : ℕ) → i < length xs
-    → OnOk a (new ≡ mid ++ text (message_of (get_or xs i d))) → OnErr a (new ≡ mid) → IsAnswer (fault (message_of (get_or xs i d))) a → (IsErrOf a OutOfMemory → room < length mid + (hint (message_of (get_or xs i d)) + 5))
+-- a step of the loop over messages, at the message x
+pub run_at : (xs : List TaggedMessage) (i : ℕ) (x : TaggedMessage) (answers : List Answer) (a : Answer) (old mid new : List ℕ) (capacity len room : ℕ) → i < length xs → x ≡ get_or xs i x
+    → OnOk a (new ≡ mid ++ text (message_of x)) → OnErr a (new ≡ mid) → IsAnswer (fault (message_of x)) a → (IsErrOf a OutOfMemory → room < length mid + (hint (message_of x) + 5))
     → length old ≡ len → capacity ≤ room → Ran (messages_of (take i xs)) answers old mid capacity len → Ran (messages_of (take (i + 1) xs)) (answers ++ a ∷ []) old new capacity len
-run_at xs i d answers a old mid new capacity len room lt ok err answer short starts grows run =
-    rw (take_more xs i d lt, map_push message_of (take i xs) (get_or xs i d))
-    (ran_more (messages_of (take i xs)) answers (message_of (get_or xs i d)) a old mid new capacity len room run starts grows (record { ok = ok; err = err; answer = answer; short = short }))
+run_at xs i x answers a old mid new capacity len room lt is ok err answer short starts grows run =
+    rw (take_more xs i x lt, ← is, map_push message_of (take i xs) x)
+    (ran_more (messages_of (take i xs)) answers (message_of x) a old mid new capacity len room run starts grows (record { ok = ok; err = err; answer = answer; short = short }))

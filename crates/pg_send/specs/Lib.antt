@@ -1,5 +1,7 @@
 pub mod Limits
+pub mod Execute
 pub mod Query
+pub mod Target
 pub mod Message
 pub mod Views
 pub mod Run

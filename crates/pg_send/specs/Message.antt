@@ -4,31 +4,56 @@ use Rattle.std.specs.Prelude.{ℕ, List, [], length, Option, None}
 use Rattle.pg_base.specs.declared.error.ProtocolFault.{ProtocolFault}
 use Rattle.pg_base.specs.Cutting.{frame}
 use Rattle.pg_send.specs.Limits.{saturated, first_fault}
+use Rattle.pg_send.specs.Execute.{ExecuteFields, execute_body, IsExecuteInRange}
 use Rattle.pg_send.specs.Query.{query_body}
+use Rattle.pg_send.specs.Target.{Target, target_body, IsTargetInRange}
 
 pub data Message : Type 0 where
+  Close : Target → Message
+  Describe : Target → Message
+  Execute : ExecuteFields → Message
   Query : List ℕ → Message
   Sync : Message
 
 -- the first byte
 abbrev pub tag : Message → ℕ
+tag (Close target) = 67
+tag (Describe target) = 68
+tag (Execute e) = 69
 tag (Query text) = 81
 tag Sync = 83
 
 -- what stands behind the length
 abbrev pub body : Message → List ℕ
+body (Close target) = target_body target
+body (Describe target) = target_body target
+body (Execute e) = execute_body e
 body (Query text) = query_body text
 body Sync = []
 
 -- the first limit on counts that it breaks
 abbrev pub count_fault : Message → Option ProtocolFault
+count_fault (Close target) = None
+count_fault (Describe target) = None
+count_fault (Execute e) = None
 count_fault (Query text) = None
 count_fault Sync = None
 
 -- how much room is reserved for the body
 abbrev pub hint : Message → ℕ
+hint (Close target) = saturated (length (target_body target))
+hint (Describe target) = saturated (length (target_body target))
+hint (Execute e) = saturated (length (execute_body e))
 hint (Query text) = saturated (length (query_body text))
 hint Sync = 0
+
+-- its numbers are in the ranges of their types
+abbrev pub IsInRange : Message → Type 0
+IsInRange (Close target) = IsTargetInRange target
+IsInRange (Describe target) = IsTargetInRange target
+IsInRange (Execute e) = IsExecuteInRange e
+IsInRange (Query text) = Unit {0}
+IsInRange Sync = Unit {0}
 
 -- the first limit that it breaks
 abbrev pub fault : Message → Option ProtocolFault

@@ -1,12 +1,34 @@
 -- The plain value of each message of the program.
 use Rattle.std.specs.Prelude.{List, map}
+use Rattle.pg_send.specs.declared.message.close.Close.{Close}
+use Rattle.pg_send.specs.declared.message.close.Close.TheVariants as close
+use Rattle.pg_send.specs.declared.message.describe.Describe.{Describe}
+use Rattle.pg_send.specs.declared.message.describe.Describe.TheVariants as describe
+use Rattle.pg_send.specs.declared.message.execute.Execute.{Execute}
 use Rattle.pg_send.specs.declared.message.tagged.TaggedMessage.{TaggedMessage}
 use Rattle.pg_send.specs.declared.message.tagged.TaggedMessage.TheVariants as tagged
-use Rattle.pg_send.specs.Message.{Message, Query, Sync}
+use Rattle.pg_send.specs.Execute.{ExecuteFields}
+use Rattle.pg_send.specs.Message as message
+use Rattle.pg_send.specs.Message.{Message}
+use Rattle.pg_send.specs.Target.{Target, Statement, Portal}
+
+abbrev pub close_of : Close → Target
+close_of (close.Statement id) = Statement id
+close_of (close.Portal id) = Portal id
+
+abbrev pub describe_of : Describe → Target
+describe_of (describe.Statement id) = Statement id
+describe_of (describe.Portal id) = Portal id
+
+abbrev pub execute_of : Execute → ExecuteFields
+execute_of e = record { portal = e.portal; limit = e.limit }
 
 abbrev pub message_of : TaggedMessage → Message
-message_of (tagged.Query query) = Query query.0.now
-message_of (tagged.Sync sync) = Sync
+message_of (tagged.Close close) = message.Close (close_of close)
+message_of (tagged.Describe describe) = message.Describe (describe_of describe)
+message_of (tagged.Execute execute) = message.Execute (execute_of execute)
+message_of (tagged.Query query) = message.Query query.0.now
+message_of (tagged.Sync sync) = message.Sync
 
 abbrev pub messages_of : List TaggedMessage → List Message
 messages_of messages = map message_of messages

@@ -1,10 +1,17 @@
 //! What a message to the server is, and how one is written.
 
+mod close;
+mod describe;
+mod execute;
 mod frame;
 mod query;
 mod sync;
 mod tagged;
+mod target;
 
+pub use close::Close;
+pub use describe::Describe;
+pub use execute::Execute;
 pub use frame::{EncodeMessage, FrontendMessage, encode_frame};
 pub use query::Query;
 pub use sync::Sync;

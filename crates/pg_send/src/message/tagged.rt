@@ -4,17 +4,20 @@ ghost use Rattle.std.specs.Prelude.{◌≡◌, ◌+◌, ◌<◌, ◌≤◌, ◌+
 ghost use Rattle.pg_base.specs.declared.error.Error.TheVariants.{OutOfMemory};
 ghost use Rattle.pg_base.specs.Answers.{IsAnswer};
 ghost use Rattle.pg_base.specs.Cutting.{IsCutInto};
-ghost use Rattle.pg_send.specs.Message.{fault, hint, text};
+ghost use Rattle.pg_send.specs.Message.{fault, hint, text, IsInRange};
 ghost use Rattle.pg_send.specs.Views.{message_of, messages_of};
 ghost use Rattle.pg_send.specs.Run.{added, accepted, AreAnswers, RanOutWhereShort};
 
-use crate::message::{Query, Sync, encode_frame};
+use crate::message::{Close, Describe, Execute, Query, Sync, encode_frame};
 use pg_base::Error;
 use std::alloc::Global;
 
 /// Any message that has a tag.
 #[derive(Drop)]
 pub enum TaggedMessage<'a> {
+    Close(Close),
+    Describe(Describe),
+    Execute(Execute),
     Query(Query<'a>),
     Sync(Sync),
 }
@@ -27,8 +30,12 @@ impl TaggedMessage<'_> {
         ensures answer { IsAnswer (fault (message_of self.now)) result }
         ensures memory { IsErrOf result OutOfMemory → vec_capacity buf.old < vec_len buf.old + (hint (message_of self.now) + 5) }
         ensures capacity { vec_capacity buf.old ≤ vec_capacity buf.new }
+        ensures range { OnOk result (IsInRange (message_of self.now)) }
     {
         match self {
+            TaggedMessage::Close(message) => encode_frame(message, buf),
+            TaggedMessage::Describe(message) => encode_frame(message, buf),
+            TaggedMessage::Execute(message) => encode_frame(message, buf),
             TaggedMessage::Query(message) => encode_frame(message, buf),
             TaggedMessage::Sync(message) => encode_frame(message, buf),
         }
