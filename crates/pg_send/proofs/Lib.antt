@@ -1,2 +1,4 @@
+pub mod Beginnings
+pub mod Counting
 pub mod Lengths
 pub mod Runs

@@ -1,4 +1,7 @@
 pub mod Limits
+pub mod Counted
+pub mod Parts
+pub mod Parse
 pub mod Execute
 pub mod Query
 pub mod Target

@@ -5,6 +5,7 @@ use Rattle.pg_base.specs.declared.error.ProtocolFault.{ProtocolFault}
 use Rattle.pg_base.specs.Cutting.{frame}
 use Rattle.pg_send.specs.Limits.{saturated, first_fault}
 use Rattle.pg_send.specs.Execute.{ExecuteFields, execute_body, IsExecuteInRange}
+use Rattle.pg_send.specs.Parse.{ParseFields, parse_body, parse_count_fault, IsParseInRange}
 use Rattle.pg_send.specs.Query.{query_body}
 use Rattle.pg_send.specs.Target.{Target, target_body, IsTargetInRange}
 
@@ -12,6 +13,7 @@ pub data Message : Type 0 where
   Close : Target → Message
   Describe : Target → Message
   Execute : ExecuteFields → Message
+  Parse : ParseFields → Message
   Query : List ℕ → Message
   Sync : Message
 
@@ -20,6 +22,7 @@ abbrev pub tag : Message → ℕ
 tag (Close target) = 67
 tag (Describe target) = 68
 tag (Execute e) = 69
+tag (Parse p) = 80
 tag (Query text) = 81
 tag Sync = 83
 
@@ -28,6 +31,7 @@ abbrev pub body : Message → List ℕ
 body (Close target) = target_body target
 body (Describe target) = target_body target
 body (Execute e) = execute_body e
+body (Parse p) = parse_body p
 body (Query text) = query_body text
 body Sync = []
 
@@ -36,6 +40,7 @@ abbrev pub count_fault : Message → Option ProtocolFault
 count_fault (Close target) = None
 count_fault (Describe target) = None
 count_fault (Execute e) = None
+count_fault (Parse p) = parse_count_fault p
 count_fault (Query text) = None
 count_fault Sync = None
 
@@ -44,6 +49,7 @@ abbrev pub hint : Message → ℕ
 hint (Close target) = saturated (length (target_body target))
 hint (Describe target) = saturated (length (target_body target))
 hint (Execute e) = saturated (length (execute_body e))
+hint (Parse p) = saturated (length (parse_body p))
 hint (Query text) = saturated (length (query_body text))
 hint Sync = 0
 
@@ -52,6 +58,7 @@ abbrev pub IsInRange : Message → Type 0
 IsInRange (Close target) = IsTargetInRange target
 IsInRange (Describe target) = IsTargetInRange target
 IsInRange (Execute e) = IsExecuteInRange e
+IsInRange (Parse p) = IsParseInRange p
 IsInRange (Query text) = Unit {0}
 IsInRange Sync = Unit {0}
 

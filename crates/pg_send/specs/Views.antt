@@ -5,11 +5,14 @@ use Rattle.pg_send.specs.declared.message.close.Close.TheVariants as close
 use Rattle.pg_send.specs.declared.message.describe.Describe.{Describe}
 use Rattle.pg_send.specs.declared.message.describe.Describe.TheVariants as describe
 use Rattle.pg_send.specs.declared.message.execute.Execute.{Execute}
+use Rattle.pg_send.specs.declared.message.parse.Parse.{Parse}
 use Rattle.pg_send.specs.declared.message.tagged.TaggedMessage.{TaggedMessage}
 use Rattle.pg_send.specs.declared.message.tagged.TaggedMessage.TheVariants as tagged
 use Rattle.pg_send.specs.Execute.{ExecuteFields}
 use Rattle.pg_send.specs.Message as message
 use Rattle.pg_send.specs.Message.{Message}
+use Rattle.pg_send.specs.Parse.{ParseFields}
+use Rattle.pg_send.specs.Parts.{numbers_of}
 use Rattle.pg_send.specs.Target.{Target, Statement, Portal}
 
 abbrev pub close_of : Close → Target
@@ -23,10 +26,14 @@ describe_of (describe.Portal id) = Portal id
 abbrev pub execute_of : Execute → ExecuteFields
 execute_of e = record { portal = e.portal; limit = e.limit }
 
+abbrev pub parse_of : Parse → ParseFields
+parse_of p = record { statement = p.statement; query = p.query.now; param_types = numbers_of p.param_types.now }
+
 abbrev pub message_of : TaggedMessage → Message
 message_of (tagged.Close close) = message.Close (close_of close)
 message_of (tagged.Describe describe) = message.Describe (describe_of describe)
 message_of (tagged.Execute execute) = message.Execute (execute_of execute)
+message_of (tagged.Parse parse) = message.Parse (parse_of parse)
 message_of (tagged.Query query) = message.Query query.0.now
 message_of (tagged.Sync sync) = message.Sync
 

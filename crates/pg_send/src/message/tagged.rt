@@ -8,7 +8,7 @@ ghost use Rattle.pg_send.specs.Message.{fault, hint, text, IsInRange};
 ghost use Rattle.pg_send.specs.Views.{message_of, messages_of};
 ghost use Rattle.pg_send.specs.Run.{added, accepted, AreAnswers, RanOutWhereShort};
 
-use crate::message::{Close, Describe, Execute, Query, Sync, encode_frame};
+use crate::message::{Close, Describe, Execute, Parse, Query, Sync, encode_frame};
 use pg_base::Error;
 use std::alloc::Global;
 
@@ -18,6 +18,7 @@ pub enum TaggedMessage<'a> {
     Close(Close),
     Describe(Describe),
     Execute(Execute),
+    Parse(Parse<'a>),
     Query(Query<'a>),
     Sync(Sync),
 }
@@ -36,6 +37,7 @@ impl TaggedMessage<'_> {
             TaggedMessage::Close(message) => encode_frame(message, buf),
             TaggedMessage::Describe(message) => encode_frame(message, buf),
             TaggedMessage::Execute(message) => encode_frame(message, buf),
+            TaggedMessage::Parse(message) => encode_frame(message, buf),
             TaggedMessage::Query(message) => encode_frame(message, buf),
             TaggedMessage::Sync(message) => encode_frame(message, buf),
         }
