@@ -2,9 +2,12 @@
 use Rattle.std.proofs.Common.{◌≡◌, ℕ, ◌+◌, ◌*◌, ◌<◌, ◌≤◌, List, [], ◌∷◌, ◌++◌, length, take, get_or, map, All, suc, suc-mul, refl, sym, ap, ◌∙◌, arith, append_assoc, length-append}
 use Rattle.std.specs.List.{flat_map}
 use Rattle.pg_base.specs.Numbers.{be16, be32}
+use Rattle.pg_base.specs.declared.io.PgValueFormat.{PgValueFormat}
+use Rattle.pg_base.specs.declared.io.PgValueFormat.TheVariants.{Text, Binary}
 use Rattle.pg_send.specs.Counted.{counted16, counted32}
+use Rattle.pg_send.specs.Parts.{code_of, codes_of}
 use Rattle.std.proofs.lemmas.List.{take_more, map_push, flat_map_more}
-use Rattle.std.proofs.lemmas.List.Elements.{All-push}
+use Rattle.std.proofs.lemmas.List.Elements.{All-cons, All-push}
 use Rattle.std.proofs.lemmas.List.Folds.{flat_map-map, length-flat_map-take}
 
 module _ {X : Type 0} (spell : ℕ → List ℕ) (number : X → ℕ) (xs : List X) (i : ℕ) (d : X) (before : i < length xs) where
@@ -44,3 +47,12 @@ length-counted16 ns = omega (arith, each_long be16 2 (λ _. refl) ns, length-app
 
 pub length-counted32 : (ns : List ℕ) → length (counted32 ns) ≡ 2 + length ns * 4
 length-counted32 ns = omega (arith, each_long be32 4 (λ _. refl) ns, length-append (be16 (length ns)) (flat_map be32 ns))
+
+-- a format has one of two codes
+code_small : (format : PgValueFormat) → code_of format < 2
+code_small Text = omega arith
+code_small Binary = omega arith
+
+pub codes_small : (formats : List PgValueFormat) → All (λ code. code < 2) (codes_of formats)
+codes_small [] = λ k d lt. absurd (omega arith)
+codes_small (format ∷ formats) = All-cons (λ code. code < 2) (code_of format) (codes_of formats) (code_small format) (codes_small formats)

@@ -1,4 +1,5 @@
 pub mod Beginnings
+pub mod BodyLengths
 pub mod Counting
 pub mod Lengths
 pub mod Runs

@@ -1,4 +1,5 @@
 pub mod Limits
+pub mod Bind
 pub mod Counted
 pub mod Parts
 pub mod Parse

@@ -4,12 +4,14 @@ use Rattle.std.specs.Prelude.{ℕ, List, [], length, Option, None}
 use Rattle.pg_base.specs.declared.error.ProtocolFault.{ProtocolFault}
 use Rattle.pg_base.specs.Cutting.{frame}
 use Rattle.pg_send.specs.Limits.{saturated, first_fault}
+use Rattle.pg_send.specs.Bind.{BindFields, bind_body, bind_count_fault, IsBindInRange}
 use Rattle.pg_send.specs.Execute.{ExecuteFields, execute_body, IsExecuteInRange}
 use Rattle.pg_send.specs.Parse.{ParseFields, parse_body, parse_count_fault, IsParseInRange}
 use Rattle.pg_send.specs.Query.{query_body}
 use Rattle.pg_send.specs.Target.{Target, target_body, IsTargetInRange}
 
 pub data Message : Type 0 where
+  Bind : BindFields → Message
   Close : Target → Message
   Describe : Target → Message
   Execute : ExecuteFields → Message
@@ -19,6 +21,7 @@ pub data Message : Type 0 where
 
 -- the first byte
 abbrev pub tag : Message → ℕ
+tag (Bind b) = 66
 tag (Close target) = 67
 tag (Describe target) = 68
 tag (Execute e) = 69
@@ -28,6 +31,7 @@ tag Sync = 83
 
 -- what stands behind the length
 abbrev pub body : Message → List ℕ
+body (Bind b) = bind_body b
 body (Close target) = target_body target
 body (Describe target) = target_body target
 body (Execute e) = execute_body e
@@ -37,6 +41,7 @@ body Sync = []
 
 -- the first limit on counts that it breaks
 abbrev pub count_fault : Message → Option ProtocolFault
+count_fault (Bind b) = bind_count_fault b
 count_fault (Close target) = None
 count_fault (Describe target) = None
 count_fault (Execute e) = None
@@ -46,6 +51,7 @@ count_fault Sync = None
 
 -- how much room is reserved for the body
 abbrev pub hint : Message → ℕ
+hint (Bind b) = saturated (length (bind_body b))
 hint (Close target) = saturated (length (target_body target))
 hint (Describe target) = saturated (length (target_body target))
 hint (Execute e) = saturated (length (execute_body e))
@@ -55,6 +61,7 @@ hint Sync = 0
 
 -- its numbers are in the ranges of their types
 abbrev pub IsInRange : Message → Type 0
+IsInRange (Bind b) = IsBindInRange b
 IsInRange (Close target) = IsTargetInRange target
 IsInRange (Describe target) = IsTargetInRange target
 IsInRange (Execute e) = IsExecuteInRange e

@@ -1,5 +1,6 @@
 -- The plain value of each message of the program.
 use Rattle.std.specs.Prelude.{List, map}
+use Rattle.pg_send.specs.declared.message.bind.Bind.{Bind}
 use Rattle.pg_send.specs.declared.message.close.Close.{Close}
 use Rattle.pg_send.specs.declared.message.close.Close.TheVariants as close
 use Rattle.pg_send.specs.declared.message.describe.Describe.{Describe}
@@ -8,12 +9,23 @@ use Rattle.pg_send.specs.declared.message.execute.Execute.{Execute}
 use Rattle.pg_send.specs.declared.message.parse.Parse.{Parse}
 use Rattle.pg_send.specs.declared.message.tagged.TaggedMessage.{TaggedMessage}
 use Rattle.pg_send.specs.declared.message.tagged.TaggedMessage.TheVariants as tagged
+use Rattle.pg_send.specs.Bind.{BindFields}
 use Rattle.pg_send.specs.Execute.{ExecuteFields}
 use Rattle.pg_send.specs.Message as message
 use Rattle.pg_send.specs.Message.{Message}
 use Rattle.pg_send.specs.Parse.{ParseFields}
-use Rattle.pg_send.specs.Parts.{numbers_of}
+use Rattle.pg_send.specs.Parts.{codes_of, numbers_of}
 use Rattle.pg_send.specs.Target.{Target, Statement, Portal}
+
+abbrev pub bind_of : Bind → BindFields
+bind_of b = record {
+  portal = b.portal;
+  statement = b.statement;
+  formats = codes_of b.formats.now;
+  num_params = b.num_params;
+  params = b.params.now;
+  result_formats = codes_of b.result_formats.now;
+}
 
 abbrev pub close_of : Close → Target
 close_of (close.Statement id) = Statement id
@@ -30,6 +42,7 @@ abbrev pub parse_of : Parse → ParseFields
 parse_of p = record { statement = p.statement; query = p.query.now; param_types = numbers_of p.param_types.now }
 
 abbrev pub message_of : TaggedMessage → Message
+message_of (tagged.Bind bind) = message.Bind (bind_of bind)
 message_of (tagged.Close close) = message.Close (close_of close)
 message_of (tagged.Describe describe) = message.Describe (describe_of describe)
 message_of (tagged.Execute execute) = message.Execute (execute_of execute)

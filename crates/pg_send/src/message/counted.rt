@@ -2,11 +2,11 @@
 
 ghost use Rattle.std.specs.Prelude.{◌≡◌, ℕ, ◌+◌, ◌^◌, ◌<◌, ◌≤◌, ◌++◌, length, All, Some, None, nat_le, if◌then◌else◌, vec_len, vec_capacity};
 ghost use Rattle.pg_base.specs.Numbers.{be16, be32};
-ghost use Rattle.pg_send.specs.Counted.{max_count, counted32};
-ghost use Rattle.pg_send.specs.Parts.{numbers_of};
+ghost use Rattle.pg_send.specs.Counted.{max_count, counted16, counted32};
+ghost use Rattle.pg_send.specs.Parts.{codes_of, numbers_of};
 
 use pg_base::ProtocolFault;
-use pg_base::io::Oid;
+use pg_base::io::{Oid, PgValueFormat};
 
 /// The most formats or types that a message can count. A count has two bytes, and is unsigned.
 const MAX_COUNT: usize = u16::MAX as usize;
@@ -19,6 +19,19 @@ pub fn too_many(count: usize, fault: ProtocolFault) -> Option<ProtocolFault>
         return Some(fault);
     }
     None
+}
+
+/// Adds the formats behind their count, in room that is there.
+pub fn put_formats(formats: &[PgValueFormat], buf: &mut Vec<u8>)
+    requires count { length formats.now ≤ max_count }
+    requires room { vec_len buf.old + length (counted16 (codes_of formats.now)) ≤ vec_capacity buf.old }
+    ensures items { buf.new.items ≡ buf.old.items ++ counted16 (codes_of formats.now) }
+    ensures capacity { vec_capacity buf.new ≡ vec_capacity buf.old }
+{
+    put_u16(formats.len() as u16, buf);
+    for format in formats {
+        put_u16(*format as u16, buf);
+    }
 }
 
 /// Adds the types behind their count, in room that is there.
@@ -35,10 +48,12 @@ pub fn put_types(types: &[Oid], buf: &mut Vec<u8>)
     }
 }
 
-fn put_u16(number: u16, buf: &mut Vec<u8>)
+/// Adds a number as two bytes, in room that is there.
+pub fn put_u16(number: u16, buf: &mut Vec<u8>)
     requires { vec_len buf.old + 2 ≤ vec_capacity buf.old }
     ensures items { buf.new.items ≡ buf.old.items ++ be16 number }
     ensures capacity { vec_capacity buf.new ≡ vec_capacity buf.old }
+    ensures range { number < 2 ^ 16 }
 {
     let [high, low] = number.to_be_bytes();
     buf.push_reserved(high);

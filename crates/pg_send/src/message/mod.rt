@@ -1,5 +1,6 @@
 //! What a message to the server is, and how one is written.
 
+mod bind;
 mod close;
 mod counted;
 mod describe;
@@ -11,6 +12,7 @@ mod sync;
 mod tagged;
 mod target;
 
+pub use bind::Bind;
 pub use close::Close;
 pub use describe::Describe;
 pub use execute::Execute;

@@ -8,13 +8,14 @@ ghost use Rattle.pg_send.specs.Message.{fault, hint, text, IsInRange};
 ghost use Rattle.pg_send.specs.Views.{message_of, messages_of};
 ghost use Rattle.pg_send.specs.Run.{added, accepted, AreAnswers, RanOutWhereShort};
 
-use crate::message::{Close, Describe, Execute, Parse, Query, Sync, encode_frame};
+use crate::message::{Bind, Close, Describe, Execute, Parse, Query, Sync, encode_frame};
 use pg_base::Error;
 use std::alloc::Global;
 
 /// Any message that has a tag.
 #[derive(Drop)]
 pub enum TaggedMessage<'a> {
+    Bind(Bind<'a>),
     Close(Close),
     Describe(Describe),
     Execute(Execute),
@@ -34,6 +35,7 @@ impl TaggedMessage<'_> {
         ensures range { OnOk result (IsInRange (message_of self.now)) }
     {
         match self {
+            TaggedMessage::Bind(message) => encode_frame(message, buf),
             TaggedMessage::Close(message) => encode_frame(message, buf),
             TaggedMessage::Describe(message) => encode_frame(message, buf),
             TaggedMessage::Execute(message) => encode_frame(message, buf),

@@ -1,0 +1,37 @@
+-- Bind: makes a portal of a prepared statement and the values of its parameters. Documentation:
+-- "Message Formats", Bind (F).
+use Rattle.std.specs.Prelude.{ℕ, ◌^◌, ◌<◌, ◌≤◌, List, ◌++◌, length, All, Option}
+use Rattle.std.specs.Option.{option_or}
+use Rattle.pg_base.specs.declared.error.ProtocolFault.{ProtocolFault}
+use Rattle.pg_base.specs.declared.error.ProtocolFault.TheVariants.{TooManyParamFormats, TooManyResultFormats}
+use Rattle.pg_base.specs.Names.{named, statement_prefix, portal_prefix, max_id}
+use Rattle.pg_base.specs.Numbers.{be16}
+use Rattle.pg_send.specs.Counted.{too_many, counted16}
+
+-- the formats are their codes, and the values of the parameters are as the caller spelled them
+pub record BindFields : Type 0 where
+  pub portal : ℕ
+  pub statement : ℕ
+  pub formats : List ℕ
+  pub num_params : ℕ
+  pub params : List ℕ
+  pub result_formats : List ℕ
+
+-- it may have more formats than it can count, first of the parameters and then of the results
+abbrev pub bind_count_fault : BindFields → Option ProtocolFault
+bind_count_fault b =
+    option_or (too_many TooManyParamFormats (length b.formats)) (too_many TooManyResultFormats (length b.result_formats))
+
+-- the names of the portal and the statement, the formats of the parameters behind their count, the
+-- parameters behind theirs, and the formats of the results behind theirs
+abbrev pub bind_body : BindFields → List ℕ
+bind_body b =
+    named portal_prefix b.portal ++ named statement_prefix b.statement ++ counted16 b.formats ++ be16 b.num_params ++ b.params ++ counted16 b.result_formats
+
+-- its numbers are in their ranges
+pub record IsBindInRange (b : BindFields) : Type 0 where
+  pub portal : b.portal ≤ max_id
+  pub statement : b.statement ≤ max_id
+  pub formats : All (λ code. code < 2) b.formats
+  pub num_params : b.num_params < 2 ^ 16
+  pub result_formats : All (λ code. code < 2) b.result_formats
