@@ -4,3 +4,4 @@ pub mod NameLemmas
 pub mod Spelled
 pub mod Readings
 pub mod Decimals
+pub mod ReadBack
