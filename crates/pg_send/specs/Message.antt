@@ -5,59 +5,72 @@ use Rattle.pg_base.specs.declared.error.ProtocolFault.{ProtocolFault}
 use Rattle.pg_base.specs.Cutting.{frame}
 use Rattle.pg_send.specs.Limits.{saturated, first_fault}
 use Rattle.pg_send.specs.Bind.{BindFields, bind_body, bind_count_fault, IsBindInRange}
+use Rattle.pg_send.specs.Copy.{copy_fail_body}
 use Rattle.pg_send.specs.Execute.{ExecuteFields, execute_body, IsExecuteInRange}
 use Rattle.pg_send.specs.Parse.{ParseFields, parse_body, parse_count_fault, IsParseInRange}
 use Rattle.pg_send.specs.Query.{query_body}
+use Rattle.pg_send.specs.Sasl.{SaslInitialFields, sasl_initial_body}
 use Rattle.pg_send.specs.Target.{Target, target_body, IsTargetInRange}
 
 pub data Message : Type 0 where
   Bind : BindFields → Message
   Close : Target → Message
+  CopyData : List ℕ → Message
+  CopyDone : Message
+  CopyFail : List ℕ → Message
   Describe : Target → Message
   Execute : ExecuteFields → Message
+  Flush : Message
   Parse : ParseFields → Message
   Query : List ℕ → Message
+  SaslInitialResponse : SaslInitialFields → Message
+  SaslResponse : List ℕ → Message
   Sync : Message
+  Terminate : Message
 
 -- the first byte
 abbrev pub tag : Message → ℕ
 tag (Bind b) = 66
 tag (Close target) = 67
+tag (CopyData bytes) = 100
+tag CopyDone = 99
+tag (CopyFail text) = 102
 tag (Describe target) = 68
 tag (Execute e) = 69
+tag Flush = 72
 tag (Parse p) = 80
 tag (Query text) = 81
+tag (SaslInitialResponse s) = 112
+tag (SaslResponse bytes) = 112
 tag Sync = 83
+tag Terminate = 88
 
 -- what stands behind the length
 abbrev pub body : Message → List ℕ
 body (Bind b) = bind_body b
 body (Close target) = target_body target
+body (CopyData bytes) = bytes
+body CopyDone = []
+body (CopyFail text) = copy_fail_body text
 body (Describe target) = target_body target
 body (Execute e) = execute_body e
+body Flush = []
 body (Parse p) = parse_body p
 body (Query text) = query_body text
+body (SaslInitialResponse s) = sasl_initial_body s
+body (SaslResponse bytes) = bytes
 body Sync = []
+body Terminate = []
 
 -- the first limit on counts that it breaks
 abbrev pub count_fault : Message → Option ProtocolFault
 count_fault (Bind b) = bind_count_fault b
-count_fault (Close target) = None
-count_fault (Describe target) = None
-count_fault (Execute e) = None
 count_fault (Parse p) = parse_count_fault p
-count_fault (Query text) = None
-count_fault Sync = None
+count_fault m = None
 
 -- how much room is reserved for the body
 abbrev pub hint : Message → ℕ
-hint (Bind b) = saturated (length (bind_body b))
-hint (Close target) = saturated (length (target_body target))
-hint (Describe target) = saturated (length (target_body target))
-hint (Execute e) = saturated (length (execute_body e))
-hint (Parse p) = saturated (length (parse_body p))
-hint (Query text) = saturated (length (query_body text))
-hint Sync = 0
+hint m = saturated (length (body m))
 
 -- its numbers are in the ranges of their types
 abbrev pub IsInRange : Message → Type 0
@@ -66,8 +79,7 @@ IsInRange (Close target) = IsTargetInRange target
 IsInRange (Describe target) = IsTargetInRange target
 IsInRange (Execute e) = IsExecuteInRange e
 IsInRange (Parse p) = IsParseInRange p
-IsInRange (Query text) = Unit {0}
-IsInRange Sync = Unit {0}
+IsInRange m = Unit {0}
 
 -- the first limit that it breaks
 abbrev pub fault : Message → Option ProtocolFault

@@ -1,5 +1,5 @@
 -- The plain value of each message of the program.
-use Rattle.std.specs.Prelude.{List, map}
+use Rattle.std.specs.Prelude.{List, map, string_bytes}
 use Rattle.pg_send.specs.declared.message.bind.Bind.{Bind}
 use Rattle.pg_send.specs.declared.message.close.Close.{Close}
 use Rattle.pg_send.specs.declared.message.close.Close.TheVariants as close
@@ -7,6 +7,7 @@ use Rattle.pg_send.specs.declared.message.describe.Describe.{Describe}
 use Rattle.pg_send.specs.declared.message.describe.Describe.TheVariants as describe
 use Rattle.pg_send.specs.declared.message.execute.Execute.{Execute}
 use Rattle.pg_send.specs.declared.message.parse.Parse.{Parse}
+use Rattle.pg_send.specs.declared.message.sasl.SaslInitialResponse.{SaslInitialResponse}
 use Rattle.pg_send.specs.declared.message.tagged.TaggedMessage.{TaggedMessage}
 use Rattle.pg_send.specs.declared.message.tagged.TaggedMessage.TheVariants as tagged
 use Rattle.pg_send.specs.Bind.{BindFields}
@@ -15,6 +16,7 @@ use Rattle.pg_send.specs.Message as message
 use Rattle.pg_send.specs.Message.{Message}
 use Rattle.pg_send.specs.Parse.{ParseFields}
 use Rattle.pg_send.specs.Parts.{codes_of, numbers_of}
+use Rattle.pg_send.specs.Sasl.{SaslInitialFields}
 use Rattle.pg_send.specs.Target.{Target, Statement, Portal}
 
 abbrev pub bind_of : Bind → BindFields
@@ -41,14 +43,24 @@ execute_of e = record { portal = e.portal; limit = e.limit }
 abbrev pub parse_of : Parse → ParseFields
 parse_of p = record { statement = p.statement; query = p.query.now; param_types = numbers_of p.param_types.now }
 
+abbrev pub sasl_initial_of : SaslInitialResponse → SaslInitialFields
+sasl_initial_of s = record { response = s.response.now; plus = s.plus }
+
 abbrev pub message_of : TaggedMessage → Message
 message_of (tagged.Bind bind) = message.Bind (bind_of bind)
 message_of (tagged.Close close) = message.Close (close_of close)
+message_of (tagged.CopyData copy) = message.CopyData copy.0.now
+message_of (tagged.CopyDone copy) = message.CopyDone
+message_of (tagged.CopyFail copy) = message.CopyFail (string_bytes copy.now.message)
 message_of (tagged.Describe describe) = message.Describe (describe_of describe)
 message_of (tagged.Execute execute) = message.Execute (execute_of execute)
+message_of (tagged.Flush flush) = message.Flush
 message_of (tagged.Parse parse) = message.Parse (parse_of parse)
 message_of (tagged.Query query) = message.Query query.0.now
+message_of (tagged.SaslInitialResponse sasl) = message.SaslInitialResponse (sasl_initial_of sasl)
+message_of (tagged.SaslResponse sasl) = message.SaslResponse sasl.0.now
 message_of (tagged.Sync sync) = message.Sync
+message_of (tagged.Terminate terminate) = message.Terminate
 
 abbrev pub messages_of : List TaggedMessage → List Message
 messages_of messages = map message_of messages

@@ -8,7 +8,10 @@ ghost use Rattle.pg_send.specs.Message.{fault, hint, text, IsInRange};
 ghost use Rattle.pg_send.specs.Views.{message_of, messages_of};
 ghost use Rattle.pg_send.specs.Run.{added, accepted, AreAnswers, RanOutWhereShort};
 
-use crate::message::{Bind, Close, Describe, Execute, Parse, Query, Sync, encode_frame};
+use crate::message::{
+    Bind, Close, CopyData, CopyDone, CopyFail, Describe, Execute, Flush, Parse, Query,
+    SaslInitialResponse, SaslResponse, Sync, Terminate, encode_frame,
+};
 use pg_base::Error;
 use std::alloc::Global;
 
@@ -17,11 +20,18 @@ use std::alloc::Global;
 pub enum TaggedMessage<'a> {
     Bind(Bind<'a>),
     Close(Close),
+    CopyData(CopyData<&'a [u8]>),
+    CopyDone(CopyDone),
+    CopyFail(&'a CopyFail),
     Describe(Describe),
     Execute(Execute),
+    Flush(Flush),
     Parse(Parse<'a>),
     Query(Query<'a>),
+    SaslInitialResponse(SaslInitialResponse<'a>),
+    SaslResponse(SaslResponse<'a>),
     Sync(Sync),
+    Terminate(Terminate),
 }
 
 impl TaggedMessage<'_> {
@@ -37,11 +47,18 @@ impl TaggedMessage<'_> {
         match self {
             TaggedMessage::Bind(message) => encode_frame(message, buf),
             TaggedMessage::Close(message) => encode_frame(message, buf),
+            TaggedMessage::CopyData(message) => encode_frame(message, buf),
+            TaggedMessage::CopyDone(message) => encode_frame(message, buf),
+            TaggedMessage::CopyFail(message) => encode_frame(*message, buf),
             TaggedMessage::Describe(message) => encode_frame(message, buf),
             TaggedMessage::Execute(message) => encode_frame(message, buf),
+            TaggedMessage::Flush(message) => encode_frame(message, buf),
             TaggedMessage::Parse(message) => encode_frame(message, buf),
             TaggedMessage::Query(message) => encode_frame(message, buf),
+            TaggedMessage::SaslInitialResponse(message) => encode_frame(message, buf),
+            TaggedMessage::SaslResponse(message) => encode_frame(message, buf),
             TaggedMessage::Sync(message) => encode_frame(message, buf),
+            TaggedMessage::Terminate(message) => encode_frame(message, buf),
         }
     }
 }
