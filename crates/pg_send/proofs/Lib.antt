@@ -3,3 +3,5 @@ pub mod BodyLengths
 pub mod Counting
 pub mod Lengths
 pub mod Runs
+pub mod ReadAgain
+pub mod ReadBackLemmas

@@ -1,7 +1,8 @@
 -- Execute: runs a portal. Documentation: "Message Formats", Execute (F).
-use Rattle.std.specs.Prelude.{ℕ, ◌^◌, ◌<◌, ◌≤◌, List, ◌++◌}
+use Rattle.std.specs.Prelude.{ℕ, ◌^◌, ◌<◌, ◌≤◌, List, [], ◌++◌}
 use Rattle.pg_base.specs.Numbers.{be32}
 use Rattle.pg_base.specs.Names.{named, portal_prefix, max_id}
+use Rattle.pg_base.specs.Reading.{Text, Id, Number}
 
 pub record ExecuteFields : Type 0 where
   pub portal : ℕ
@@ -15,3 +16,11 @@ execute_body e = named portal_prefix e.portal ++ be32 e.limit
 pub record IsExecuteInRange (e : ExecuteFields) : Type 0 where
   pub portal : e.portal ≤ max_id
   pub limit : e.limit < 2 ^ 32
+
+-- a reader takes the portal's name and the limit
+pub record ReadsExecute (body : List ℕ) (e : ExecuteFields) : Type 0 where
+  pub name : List ℕ
+  pub behind_name : List ℕ
+  pub first : Text body name behind_name
+  pub portal : Id portal_prefix name e.portal
+  pub limit : Number 4 behind_name e.limit []

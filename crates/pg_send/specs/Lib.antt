@@ -6,6 +6,8 @@ pub mod Limits
 pub mod Message
 pub mod Parse
 pub mod Parts
+pub mod Kind
+pub mod ReadBack
 pub mod Query
 pub mod Run
 pub mod Sasl
@@ -16,4 +18,5 @@ pub use Rattle.pg_base.specs.Cutting
 pub use Rattle.pg_base.specs.Formats
 pub use Rattle.pg_base.specs.Names
 pub use Rattle.pg_base.specs.Numbers
+pub use Rattle.pg_base.specs.Reading
 pub use Rattle.pg_base.specs.Words

@@ -3,6 +3,7 @@ use Rattle.std.specs.Prelude.{ℕ, ◌^◌, ◌<◌, ◌≤◌, List, [], ◌∷
 use Rattle.pg_base.specs.declared.error.ProtocolFault.{ProtocolFault}
 use Rattle.pg_base.specs.declared.error.ProtocolFault.TheVariants.{TooManyParamTypes}
 use Rattle.pg_base.specs.Names.{named, statement_prefix, max_id}
+use Rattle.pg_base.specs.Reading.{HoldsNo, Text, Id, Counted}
 use Rattle.pg_send.specs.Counted.{too_many, counted32}
 
 pub record ParseFields : Type 0 where
@@ -22,3 +23,17 @@ parse_body p = named statement_prefix p.statement ++ (p.query ++ 0 ∷ []) ++ co
 pub record IsParseInRange (p : ParseFields) : Type 0 where
   pub statement : p.statement ≤ max_id
   pub param_types : All (λ n. n < 2 ^ 32) p.param_types
+
+-- a reader takes the statement's name, the query, and the types behind their count
+pub record ReadsParse (body : List ℕ) (p : ParseFields) : Type 0 where
+  pub name : List ℕ
+  pub behind_name : List ℕ
+  pub behind_query : List ℕ
+  pub first : Text body name behind_name
+  pub statement : Id statement_prefix name p.statement
+  pub second : Text behind_name p.query behind_query
+  pub types : Counted 4 behind_query p.param_types []
+
+-- a query that holds a NUL isn't read back
+abbrev pub KeepsParse : ParseFields → Type 0
+KeepsParse p = HoldsNo 0 p.query
