@@ -42,7 +42,9 @@ pub enum ProtocolFault {
         got: usize,
     },
     /// The text that begins at this offset has no end.
-    MissingNul { at: usize },
+    MissingNul {
+        at: usize,
+    },
     /// A text of a message is not UTF-8.
     NotUtf8,
     /// A text of a notice or an error is not UTF-8.
@@ -65,7 +67,10 @@ impl fmt::Display for ProtocolFault {
                 write!(f, "too many result format codes ({count})")
             }
             ProtocolFault::TooManyParamTypes(count) => {
-                write!(f, "param_types.len() too large for binary protocol: {count}")
+                write!(
+                    f,
+                    "param_types.len() too large for binary protocol: {count}"
+                )
             }
             ProtocolFault::MessageTooLong(length) => {
                 write!(f, "message size out of range for protocol: {length}")

@@ -8,6 +8,3 @@ mod message;
 
 pub use error::{Error, ProtocolFault};
 pub use message::{BackendMessageFormat, FrontendMessageFormat, formats_are_ordered_by_number};
-
-
-

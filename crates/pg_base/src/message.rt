@@ -124,5 +124,4 @@ impl BackendMessageFormat {
 pub fn formats_are_ordered_by_number()
     ensures frontend { (a b : FrontendMessageFormat) → ⟦<FrontendMessageFormat as Ord>⟧.cmp a b ≡ nat_cmp (frontend_tag a) (frontend_tag b) }
     ensures backend { (a b : BackendMessageFormat) → ⟦<BackendMessageFormat as Ord>⟧.cmp a b ≡ nat_cmp (backend_number a) (backend_number b) }
-{
-}
+{}

@@ -1,12 +1,12 @@
 -- A message's body is read again, and as this message.
-use Rattle.std.proofs.Common.{◌≡◌, ◌≢◌, inl, inr, ℕ, zero, suc, ◌+◌, ◌^◌, ◌<◌, ◌≤◌, pos, true, false, Bool, All, List, [], ◌∷◌, ◌++◌, length, None, refl, sym, ap, ◌∙◌, arith, append_assoc, length-append}
+use Rattle.std.proofs.Common.{◌≡◌, ◌≢◌, ℕ, ◌^◌, ◌<◌, ◌≤◌, pos, true, false, Bool, All, List, [], ◌∷◌, ◌++◌, length, refl, sym, ap, ◌∙◌, arith, append_assoc, length-append}
 use Rattle.std.specs.List.{flat_map}
 use Rattle.std.proofs.lemmas.List.{append-nil}
 use Rattle.std.proofs.lemmas.List.Elements.{All-head, All-tail}
 use Rattle.pg_base.specs.Cutting.{max_length}
 use Rattle.pg_base.specs.Names.{name, named, max_id, statement_prefix, portal_prefix}
 use Rattle.pg_base.specs.Numbers.{be16, be32}
-use Rattle.pg_base.specs.Reading.{Number, Signed, HoldsNo, Text, Id, Numbers, Counted, Values}
+use Rattle.pg_base.specs.Reading.{Number, HoldsNo, Text, Numbers, Counted}
 use Rattle.pg_base.proofs.Cuts.{parts_at, int_be32}
 use Rattle.pg_base.proofs.Readings.{one_number, one_signed, one_text}
 use Rattle.pg_base.proofs.ReadBack.{id_of_name, text_of_name, one_id, statement_prefix_holds_no_0, portal_prefix_holds_no_0, number_of_be16, number_of_be32, one_counted, one_values, values_before}

@@ -1,12 +1,13 @@
 -- Each message that is within the limits and keeps what it must is read back, and as no other.
-use Rattle.std.proofs.Common.{◌≡◌, ℕ, ◌+◌, ◌^◌, ◌<◌, ◌≤◌, Bool, true, false, cond, leb, List, [], ◌∷◌, ◌++◌, length, Option, Some, None, Result, Ok, Err, refl, sym, ap, ◌∙◌, arith, length-append}
+use Rattle.std.proofs.Common.{◌≡◌, ℕ, ◌+◌, ◌^◌, ◌<◌, Bool, true, false, cond, leb, List, [], ◌∷◌, ◌++◌, length, Option, Some, None, Ok, Err, OnOk, refl, sym, ap, ◌∙◌, arith, length-append}
 use Rattle.std.proofs.lemmas.Bool.{leb-true}
 use Rattle.std.specs.Option.{option_or}
 use Rattle.pg_base.specs.declared.error.ProtocolFault.{ProtocolFault}
 use Rattle.pg_base.specs.declared.error.ProtocolFault.TheVariants.{TooManyParamFormats, TooManyResultFormats, TooManyParamTypes}
-use Rattle.pg_base.specs.Cutting.{max_length}
+use Rattle.pg_base.specs.Answers.{IsAnswer}
+use Rattle.pg_base.specs.Cutting.{frame}
+use Rattle.pg_base.proofs.Cuts.{parts_at}
 use Rattle.pg_base.specs.Numbers.{be32}
-use Rattle.pg_base.specs.Reading.{HoldsNo, Text}
 use Rattle.pg_base.proofs.Readings.{one_text}
 use Rattle.pg_send.specs.Counted.{too_many, max_count}
 use Rattle.pg_send.specs.Bind.{bind_count_fault}
@@ -14,10 +15,11 @@ use Rattle.pg_send.specs.Kind as kinds
 use Rattle.pg_send.specs.Kind.{Kind}
 use Rattle.pg_send.specs.Limits.{first_fault}
 use Rattle.pg_send.specs.Message as message
-use Rattle.pg_send.specs.Message.{Message, body, fault, count_fault, IsInRange}
+use Rattle.pg_send.specs.Message.{Message, tag, body, text, fault, count_fault, IsInRange}
 use Rattle.pg_send.specs.ReadBack.{kind_of, Reads, Keeps, IsReadBack}
 use Rattle.pg_send.specs.Sasl.{mechanism}
-use Rattle.pg_send.proofs.Lengths.{len_fits}
+use Rattle.pg_send.specs.Run.{Answer}
+use Rattle.pg_send.proofs.Lengths.{len_fits, accepted_fits}
 use Rattle.pg_send.proofs.ReadAgain.{text_alone, bind_again, one_bind, execute_again, one_execute, parse_again, one_parse, sasl_again, one_sasl, target_again, one_target}
 
 no_count_fault : (own : Option ProtocolFault) (len : ℕ) → first_fault own len ≡ None → own ≡ None
@@ -78,3 +80,19 @@ pub is_read_back : (m : Message) → fault m ≡ None → IsInRange m → Keeps 
 is_read_back m f r k =
     let reads = read_again m f r k in
     record { reads = reads; only = λ other also. one_message (kind_of m) (body m) other m also reads }
+
+pub read_if_ok : (m : Message) (a : Answer) → IsAnswer (fault m) a → OnOk a (IsInRange m) → OnOk a (Keeps m → IsReadBack m)
+read_if_ok m (Ok u) h r = λ k. is_read_back m (accepted_fits (fault m) u h) r k
+read_if_ok m (Err e) h r = tt
+
+-- one frame has one body
+one_body : (a b : ℕ) (x y : List ℕ) → frame a x ≡ frame b y → x ≡ y
+one_body a b x y e =
+    let tails : be32 (length x + 4) ++ x ≡ be32 (length y + 4) ++ y = cc in
+    (parts_at (be32 (length x + 4)) (be32 (length y + 4)) x y refl tails).1
+
+pub one_of_kind : (m n : Message) → fault m ≡ None → fault n ≡ None → IsInRange m → IsInRange n → Keeps m → Keeps n → kind_of m ≡ kind_of n → text m ≡ text n → m ≡ n
+one_of_kind m n f g r s k l kinds texts =
+    let bodies : body m ≡ body n = one_body (tag m) (tag n) (body m) (body n) texts in
+    let second : Reads (kind_of m) (body m) n = rw (kinds, bodies) (read_again n g s l) in
+    one_message (kind_of m) (body m) m n (read_again m f r k) second

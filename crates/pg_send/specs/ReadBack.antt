@@ -2,7 +2,7 @@
 -- shares no definition with what is written. Documentation: "Message Formats", the messages marked
 -- (F).
 use Rattle.std.specs.Prelude.{◌≡◌, ℕ, List, [], ◌∷◌}
-use Rattle.std.specs.Prelude.{Result, Ok, Err}
+use Rattle.std.specs.Prelude.{Ok, Err}
 use Rattle.pg_base.specs.Reading.{HoldsNo, Text}
 use Rattle.pg_send.specs.Bind.{BindFields, ReadsBind, KeepsBind}
 use Rattle.pg_send.specs.Execute.{ExecuteFields, ReadsExecute}

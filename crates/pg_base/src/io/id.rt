@@ -212,5 +212,4 @@ fn put_name_with_nul(prefix: &str, number: u32, buf: &mut Vec<u8>) -> Result<(),
 /// Two ids with one name are one id.
 pub fn names_are_distinct()
     ensures { (prefix : List ℕ) (a b : ℕ) → a ≤ max_id → b ≤ max_id → name prefix a ≡ name prefix b → a ≡ b }
-{
-}
+{}

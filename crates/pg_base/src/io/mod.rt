@@ -11,14 +11,13 @@ ghost use Rattle.pg_base.specs.declared.error.Error.TheVariants.{OutOfMemory};
 ghost use Rattle.pg_base.specs.declared.error.ProtocolFault.{ProtocolFault};
 ghost use Rattle.pg_base.specs.Answers.{IsAnswer, Answers};
 
+use crate::error::Error;
 pub use atoi::{atoi_u32, atoi_u64, atoi_usize};
 pub use buf_mut::PgBufMutExt;
+use bytes::Bytes;
 pub use copy::{CopyData, CopyDone, LendBytes};
 pub use id::{DisplayId, PortalId, StatementId, names_are_distinct};
 pub use numbers::{bytes_at, i8_at, i16_at, i32_at, u16_at, u32_at};
-
-use crate::error::Error;
-use bytes::Bytes;
 use std::alloc::Global;
 
 /// The greatest length that a message's length field can say, in bytes: it is a signed number of
@@ -62,6 +61,7 @@ pub trait ProtocolEncode {
 pub trait ProtocolDecode: Sized {
     /// The value without where it lies in memory.
     ghost Shown: { Type 0 };
+
     ghost shown: { Self → Shown };
     /// Which value a body means.
     ghost Means: { List ℕ → Shown → Type 0 };

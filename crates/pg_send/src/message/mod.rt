@@ -28,5 +28,5 @@ pub use pg_base::io::{CopyData, CopyDone};
 pub use query::Query;
 pub use sasl::{SaslInitialResponse, SaslResponse};
 pub use sync::Sync;
-pub use tagged::{TaggedMessage, encode_all};
+pub use tagged::{TaggedMessage, encode_all, frames_are_distinct};
 pub use terminate::Terminate;

@@ -1,11 +1,12 @@
 //! Any message that has a tag, and runs of them.
 
-ghost use Rattle.std.specs.Prelude.{◌≡◌, ◌+◌, ◌<◌, ◌≤◌, ◌++◌, length, OnOk, OnErr, IfOk, IsErrOf, IsOkUnless, vec_len, vec_capacity};
+ghost use Rattle.std.specs.Prelude.{◌≡◌, ◌+◌, ◌<◌, ◌≤◌, ◌++◌, length, None, OnOk, OnErr, IfOk, IsErrOf, IsOkUnless, vec_len, vec_capacity};
 ghost use Rattle.pg_base.specs.declared.error.Error.TheVariants.{OutOfMemory};
 ghost use Rattle.pg_base.specs.Answers.{IsAnswer};
 ghost use Rattle.pg_base.specs.Cutting.{IsCutInto};
-ghost use Rattle.pg_send.specs.Message.{fault, hint, text, IsInRange};
+ghost use Rattle.pg_send.specs.Message.{Message, fault, hint, text, IsInRange};
 ghost use Rattle.pg_send.specs.Views.{message_of, messages_of};
+ghost use Rattle.pg_send.specs.ReadBack.{kind_of, Keeps, IsReadBack, AreReadBack};
 ghost use Rattle.pg_send.specs.Run.{added, accepted, AreAnswers, RanOutWhereShort};
 
 use crate::message::{
@@ -37,6 +38,20 @@ pub enum TaggedMessage<'a> {
 impl TaggedMessage<'_> {
     /// Adds the message to the buffer: [`encode_frame`] of what it holds.
     pub fn encode(&self, buf: &mut Vec<u8>) -> Result<(), Error>
+        ensures ok { OnOk result (buf.new.items ≡ buf.old.items ++ text (message_of self.now)) }
+        ensures err { OnErr result (buf.new.items ≡ buf.old.items) }
+        ensures answer { IsAnswer (fault (message_of self.now)) result }
+        ensures memory { IsErrOf result OutOfMemory → vec_capacity buf.old < vec_len buf.old + (hint (message_of self.now) + 5) }
+        ensures capacity { vec_capacity buf.old ≤ vec_capacity buf.new }
+        ensures range { OnOk result (IsInRange (message_of self.now)) }
+        // A reader that is told the kind gets the message back from its body, and no other.
+        ensures reads { OnOk result (Keeps (message_of self.now) → IsReadBack (message_of self.now)) }
+    {
+        self.encode_held(buf)
+    }
+
+    // The frame of what it holds, for each type.
+    fn encode_held(&self, buf: &mut Vec<u8>) -> Result<(), Error>
         ensures ok { OnOk result (buf.new.items ≡ buf.old.items ++ text (message_of self.now)) }
         ensures err { OnErr result (buf.new.items ≡ buf.old.items) }
         ensures answer { IsAnswer (fault (message_of self.now)) result }
@@ -77,6 +92,9 @@ pub fn encode_all(
     ensures answered { IfOk result (λ answers. AreAnswers fault (messages_of messages.now) answers.items) }
     // Tags and lengths cut what was added into the accepted messages, and into no others.
     ensures cut { IfOk result (λ answers. IsCutInto (added (messages_of messages.now) answers.items) (accepted (messages_of messages.now) answers.items)) }
+    // A reader that is told the kinds gets back each accepted message that keeps what it must.
+    ensures reads { IfOk result (λ answers. AreReadBack (messages_of messages.now) answers.items) }
+    // Memory ran out only where the room that there was at first was short.
     ensures room { IfOk result (λ answers. RanOutWhereShort (vec_capacity buf.old) (vec_len buf.old) (messages_of messages.now) answers.items) }
 
     ensures memory { IsOkUnless result OutOfMemory }
@@ -88,3 +106,9 @@ pub fn encode_all(
     }
     Ok(answers)
 }
+
+/// Two messages of one kind with one frame are one message, where both are within the limits and
+/// keep what reading back asks.
+pub fn frames_are_distinct()
+    ensures { (m n : Message) → fault m ≡ None → fault n ≡ None → IsInRange m → IsInRange n → Keeps m → Keeps n → kind_of m ≡ kind_of n → text m ≡ text n → m ≡ n }
+{}

@@ -27,16 +27,20 @@ pub returns-clause-ok : goal.returns-clause-ok
 returns-clause-ok g c =
     let a = c.requires.appends c.extend_from_slice.new.self c.call-written.new.buf c.call-written.result c.in_ok-extend_from_slice.ensures.items c.call-written.ensures in
     let h = stands g c in
-    IfOk-weaker c.finish.result _ _ (λ e k. (a.0, record {
-      wrote = record {
-        before = c.extend_from_slice.new.self;
-        shows = c.in_ok-extend_from_slice.ensures.items;
-        after = c.call-written.new.buf;
-        met = rw k.0 at c.call-written.ensures;
-        adds = a.1;
-      };
-      fits = omega (arith, len_is _ _ _ _ _ h, k.1);
-    }, k.2 ∙ is_prefixed _ _ _ _ _ h)) c.finish.ensures.ok
+    IfOk-weaker c.finish.result _ _ (λ e k. (
+      a.0,
+      record {
+        wrote = record {
+          before = c.extend_from_slice.new.self;
+          shows = c.in_ok-extend_from_slice.ensures.items;
+          after = c.call-written.new.buf;
+          met = rw k.0 at c.call-written.ensures;
+          adds = a.1;
+        };
+        fits = omega (arith, len_is _ _ _ _ _ h, k.1);
+      },
+      k.2 ∙ is_prefixed _ _ _ _ _ h,
+    )) c.finish.ensures.ok
 
 pub returns-clause-err : goal.returns-clause-err
 returns-clause-err g c =
@@ -49,13 +53,16 @@ returns-clause-why g c =
     let h = stands g c in
     let e = len_is _ _ _ _ _ h in
     IfErr-weaker c.finish.result _ _ (λ error k. elim k [
-      | inl own ↦ inr (inl (a.0, record {
-        before = c.extend_from_slice.new.self;
-        shows = c.in_ok-extend_from_slice.ensures.items;
-        after = c.call-written.new.buf;
-        met = rw own at c.call-written.ensures;
-        adds = a.1;
-      }))
+      | inl own ↦ inr (inl (
+        a.0,
+        record {
+          before = c.extend_from_slice.new.self;
+          shows = c.in_ok-extend_from_slice.ensures.items;
+          after = c.call-written.new.buf;
+          met = rw own at c.call-written.ensures;
+          adds = a.1;
+        },
+      ))
       | inr long ↦ inr (inr (record {
         added = a.0;
         wrote = record {
