@@ -2,4 +2,5 @@ pub mod Beginnings
 pub mod BodyLengths
 pub mod Counting
 pub mod Lengths
+pub mod Powers
 pub mod Runs
