@@ -20,7 +20,7 @@ use Rattle.pg_send.specs.ReadBack.{kind_of, Reads, Keeps, IsReadBack}
 use Rattle.pg_send.specs.Sasl.{mechanism}
 use Rattle.pg_send.specs.Run.{Answer}
 use Rattle.pg_send.proofs.Lengths.{len_fits, accepted_fits}
-use Rattle.pg_send.proofs.ReadAgain.{text_alone, bind_again, one_bind, execute_again, one_execute, parse_again, one_parse, sasl_again, one_sasl, target_again, one_target}
+use Rattle.pg_send.proofs.ReadAgain.{text_alone, bind_again, one_bind, execute_again, one_execute, md5_again, one_md5, parse_again, one_parse, sasl_again, one_sasl, target_again, one_target}
 
 no_count_fault : (own : Option ProtocolFault) (len : ℕ) → first_fault own len ≡ None → own ≡ None
 no_count_fault None len e = refl
@@ -43,12 +43,14 @@ read_again (message.Bind b) f r k =
     let counts = neither (too_many TooManyParamFormats (length b.formats)) (too_many TooManyResultFormats (length b.result_formats)) (no_count_fault (bind_count_fault b) (length (body (message.Bind b))) f) in
     (b, refl, bind_again b r (few TooManyParamFormats (length b.formats) counts.0) (few TooManyResultFormats (length b.result_formats) counts.1) k)
 read_again (message.Close target) f r k = (target, refl, target_again target r)
+read_again (message.CleartextPassword text) f r k = (text, refl, text_alone text k)
 read_again (message.CopyData bytes) f r k = refl
 read_again message.CopyDone f r k = (refl, refl)
 read_again (message.CopyFail text) f r k = (text, refl, text_alone text k)
 read_again (message.Describe target) f r k = (target, refl, target_again target r)
 read_again (message.Execute e) f r k = (e, refl, execute_again e r)
 read_again message.Flush f r k = (refl, refl)
+read_again (message.Md5Password digest) f r k = (digest, refl, md5_again digest r)
 read_again (message.Parse p) f r k =
     (p, refl, parse_again p r (few TooManyParamTypes (length p.param_types) (no_count_fault (count_fault (message.Parse p)) (length (body (message.Parse p))) f)) k)
 read_again (message.Query text) f r k = (text, refl, text_alone text k)
@@ -63,12 +65,14 @@ read_again message.Terminate f r k = (refl, refl)
 pub one_message : (kind : Kind) (bytes : List ℕ) (m n : Message) → Reads kind bytes m → Reads kind bytes n → m ≡ n
 one_message kinds.Bind bytes m n p q = p.1 ∙ ap message.Bind (one_bind bytes p.0 q.0 p.2 q.2) ∙ sym q.1
 one_message kinds.Close bytes m n p q = p.1 ∙ ap message.Close (one_target bytes p.0 q.0 p.2 q.2) ∙ sym q.1
+one_message kinds.CleartextPassword bytes m n p q = p.1 ∙ ap message.CleartextPassword (one_text bytes p.0 q.0 [] [] p.2 q.2).0 ∙ sym q.1
 one_message kinds.CopyData bytes m n p q = p ∙ sym q
 one_message kinds.CopyDone bytes m n p q = p.0 ∙ sym q.0
 one_message kinds.CopyFail bytes m n p q = p.1 ∙ ap message.CopyFail (one_text bytes p.0 q.0 [] [] p.2 q.2).0 ∙ sym q.1
 one_message kinds.Describe bytes m n p q = p.1 ∙ ap message.Describe (one_target bytes p.0 q.0 p.2 q.2) ∙ sym q.1
 one_message kinds.Execute bytes m n p q = p.1 ∙ ap message.Execute (one_execute bytes p.0 q.0 p.2 q.2) ∙ sym q.1
 one_message kinds.Flush bytes m n p q = p.0 ∙ sym q.0
+one_message kinds.Md5Password bytes m n p q = p.1 ∙ ap message.Md5Password (one_md5 bytes p.0 q.0 p.2 q.2) ∙ sym q.1
 one_message kinds.Parse bytes m n p q = p.1 ∙ ap message.Parse (one_parse bytes p.0 q.0 p.2 q.2) ∙ sym q.1
 one_message kinds.Query bytes m n p q = p.1 ∙ ap message.Query (one_text bytes p.0 q.0 [] [] p.2 q.2).0 ∙ sym q.1
 one_message kinds.SaslInitialResponse bytes m n p q = p.1 ∙ ap message.SaslInitialResponse (one_sasl bytes p.0 q.0 p.2 q.2) ∙ sym q.1

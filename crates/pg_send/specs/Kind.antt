@@ -2,12 +2,14 @@
 pub data Kind : Type 0 where
   Bind : Kind
   Close : Kind
+  CleartextPassword : Kind
   CopyData : Kind
   CopyDone : Kind
   CopyFail : Kind
   Describe : Kind
   Execute : Kind
   Flush : Kind
+  Md5Password : Kind
   Parse : Kind
   Query : Kind
   SaslInitialResponse : Kind

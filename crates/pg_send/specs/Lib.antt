@@ -6,6 +6,8 @@ pub mod Limits
 pub mod Message
 pub mod Parse
 pub mod Parts
+pub mod Password
+pub mod PasswordLaws
 pub mod Kind
 pub mod ReadBack
 pub mod Query

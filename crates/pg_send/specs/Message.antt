@@ -8,6 +8,7 @@ use Rattle.pg_send.specs.Bind.{BindFields, bind_body, bind_count_fault, IsBindIn
 use Rattle.pg_send.specs.Copy.{copy_fail_body}
 use Rattle.pg_send.specs.Execute.{ExecuteFields, execute_body, IsExecuteInRange}
 use Rattle.pg_send.specs.Parse.{ParseFields, parse_body, parse_count_fault, IsParseInRange}
+use Rattle.pg_send.specs.Password.{cleartext_body, md5_body, IsDigest, power_over}
 use Rattle.pg_send.specs.Query.{query_body}
 use Rattle.pg_send.specs.Sasl.{SaslInitialFields, sasl_initial_body}
 use Rattle.pg_send.specs.Target.{Target, target_body, IsTargetInRange}
@@ -22,6 +23,8 @@ pub data Message : Type 0 where
   Execute : ExecuteFields → Message
   Flush : Message
   Parse : ParseFields → Message
+  CleartextPassword : List ℕ → Message
+  Md5Password : List ℕ → Message
   Query : List ℕ → Message
   SaslInitialResponse : SaslInitialFields → Message
   SaslResponse : List ℕ → Message
@@ -39,6 +42,8 @@ tag (Describe target) = 68
 tag (Execute e) = 69
 tag Flush = 72
 tag (Parse p) = 80
+tag (CleartextPassword text) = 112
+tag (Md5Password digest) = 112
 tag (Query text) = 81
 tag (SaslInitialResponse s) = 112
 tag (SaslResponse bytes) = 112
@@ -56,6 +61,8 @@ body (Describe target) = target_body target
 body (Execute e) = execute_body e
 body Flush = []
 body (Parse p) = parse_body p
+body (CleartextPassword text) = cleartext_body text
+body (Md5Password digest) = md5_body digest
 body (Query text) = query_body text
 body (SaslInitialResponse s) = sasl_initial_body s
 body (SaslResponse bytes) = bytes
@@ -70,6 +77,7 @@ count_fault m = None
 
 -- how much room is reserved for the body
 abbrev pub hint : Message → ℕ
+hint (CleartextPassword text) = power_over (length (cleartext_body text))
 hint m = saturated (length (body m))
 
 -- its numbers are in the ranges of their types
@@ -79,6 +87,7 @@ IsInRange (Close target) = IsTargetInRange target
 IsInRange (Describe target) = IsTargetInRange target
 IsInRange (Execute e) = IsExecuteInRange e
 IsInRange (Parse p) = IsParseInRange p
+IsInRange (Md5Password digest) = IsDigest digest
 IsInRange m = Unit {0}
 
 -- the first limit that it breaks

@@ -7,6 +7,8 @@ use Rattle.pg_send.specs.declared.message.describe.Describe.{Describe}
 use Rattle.pg_send.specs.declared.message.describe.Describe.TheVariants as describe
 use Rattle.pg_send.specs.declared.message.execute.Execute.{Execute}
 use Rattle.pg_send.specs.declared.message.parse.Parse.{Parse}
+use Rattle.pg_send.specs.declared.message.password.Password.{Password}
+use Rattle.pg_send.specs.declared.message.password.Password.TheVariants as password
 use Rattle.pg_send.specs.declared.message.sasl.SaslInitialResponse.{SaslInitialResponse}
 use Rattle.pg_send.specs.declared.message.tagged.TaggedMessage.{TaggedMessage}
 use Rattle.pg_send.specs.declared.message.tagged.TaggedMessage.TheVariants as tagged
@@ -43,6 +45,10 @@ execute_of e = record { portal = e.portal; limit = e.limit }
 abbrev pub parse_of : Parse → ParseFields
 parse_of p = record { statement = p.statement; query = p.query.now; param_types = numbers_of p.param_types.now }
 
+abbrev pub password_of : Password → Message
+password_of (password.Cleartext text) = message.CleartextPassword text.now
+password_of (password.Md5 digest) = message.Md5Password digest
+
 abbrev pub sasl_initial_of : SaslInitialResponse → SaslInitialFields
 sasl_initial_of s = record { response = s.response.now; plus = s.plus }
 
@@ -56,6 +62,7 @@ message_of (tagged.Describe describe) = message.Describe (describe_of describe)
 message_of (tagged.Execute execute) = message.Execute (execute_of execute)
 message_of (tagged.Flush flush) = message.Flush
 message_of (tagged.Parse parse) = message.Parse (parse_of parse)
+message_of (tagged.Password password) = password_of password
 message_of (tagged.Query query) = message.Query query.0.now
 message_of (tagged.SaslInitialResponse sasl) = message.SaslInitialResponse (sasl_initial_of sasl)
 message_of (tagged.SaslResponse sasl) = message.SaslResponse sasl.0.now

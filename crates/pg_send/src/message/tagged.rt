@@ -10,7 +10,7 @@ ghost use Rattle.pg_send.specs.ReadBack.{kind_of, Keeps, IsReadBack, AreReadBack
 ghost use Rattle.pg_send.specs.Run.{added, accepted, AreAnswers, RanOutWhereShort};
 
 use crate::message::{
-    Bind, Close, CopyData, CopyDone, CopyFail, Describe, Execute, Flush, Parse, Query,
+    Bind, Close, CopyData, CopyDone, CopyFail, Describe, Execute, Flush, Parse, Password, Query,
     SaslInitialResponse, SaslResponse, Sync, Terminate, encode_frame,
 };
 use pg_base::Error;
@@ -28,6 +28,7 @@ pub enum TaggedMessage<'a> {
     Execute(Execute),
     Flush(Flush),
     Parse(Parse<'a>),
+    Password(Password<'a>),
     Query(Query<'a>),
     SaslInitialResponse(SaslInitialResponse<'a>),
     SaslResponse(SaslResponse<'a>),
@@ -69,6 +70,7 @@ impl TaggedMessage<'_> {
             TaggedMessage::Execute(message) => encode_frame(message, buf),
             TaggedMessage::Flush(message) => encode_frame(message, buf),
             TaggedMessage::Parse(message) => encode_frame(message, buf),
+            TaggedMessage::Password(message) => encode_frame(message, buf),
             TaggedMessage::Query(message) => encode_frame(message, buf),
             TaggedMessage::SaslInitialResponse(message) => encode_frame(message, buf),
             TaggedMessage::SaslResponse(message) => encode_frame(message, buf),
