@@ -3,3 +3,5 @@ pub mod Cuts
 pub mod NameLemmas
 pub mod Spelled
 pub mod Readings
+pub mod Decimals
+pub mod ReadBack

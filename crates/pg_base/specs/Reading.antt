@@ -1,6 +1,8 @@
 -- How a reader takes bytes apart: of these bytes, this value, and that rest. Documentation: "Message
 -- Data Types".
-use Rattle.std.specs.Prelude.{◌≡◌, ◌≢◌, ℕ, ℤ, List, [], ◌∷◌, ◌++◌, length}
+use Rattle.std.specs.Prelude.{◌≡◌, ◌≢◌, ◌≤◌, ◌⊎◌, ℕ, zero, suc, ℤ, pos, negsuc, List, [], ◌∷◌, ◌++◌, length}
+use Rattle.pg_base.specs.Atoi.{AreDigits, decimal_value}
+use Rattle.pg_base.specs.Names.{max_id}
 use Rattle.pg_base.specs.Numbers.{num, int}
 
 -- a number of so many bytes
@@ -26,3 +28,45 @@ HoldsNo byte (b ∷ bs) = (b ≢ byte) × HoldsNo byte bs
 pub record Text (bytes text rest : List ℕ) : Type 0 where
   pub clean : HoldsNo 0 text
   pub parts : bytes ≡ text ++ 0 ∷ rest
+
+-- the first of these is that byte
+abbrev pub BeginsWith : ℕ → List ℕ → Type 0
+BeginsWith byte [] = ⊥
+BeginsWith byte (b ∷ bs) = b ≡ byte
+
+-- a text that names an id: nothing names 0, and the prefix and the digits of a number name it
+pub record NamesId (prefix text : List ℕ) (id : ℕ) : Type 0 where
+  pub digits : List ℕ
+  pub are_digits : AreDigits digits
+  pub no_leading_zero : BeginsWith 48 digits → ⊥
+  pub is : id ≡ decimal_value digits
+  pub low : 1 ≤ id
+  pub high : id ≤ max_id
+  pub parts : text ≡ prefix ++ digits
+
+abbrev pub Id : List ℕ → List ℕ → ℕ → Type 0
+Id prefix text id = ((text ≡ []) × (id ≡ 0)) ⊎ NamesId prefix text id
+
+-- numbers of so many bytes each, one after the other
+abbrev pub Numbers : ℕ → List ℕ → List ℕ → List ℕ → Type 0
+Numbers width bytes [] rest = rest ≡ bytes
+Numbers width bytes (n ∷ ns) rest = (more : List ℕ) × Number width bytes n more × Numbers width more ns rest
+
+-- the same behind their count in two bytes
+pub record Counted (width : ℕ) (bytes ns rest : List ℕ) : Type 0 where
+  pub behind : List ℕ
+  pub count : Number 2 bytes (length ns) behind
+  pub numbers : Numbers width behind ns rest
+
+-- a parameter's value: a length in four bytes and that many bytes, or -1 and none
+pub record Value (bytes rest : List ℕ) : Type 0 where
+  pub field : List ℕ
+  pub value : List ℕ
+  pub wide : length field ≡ 4
+  pub counts : ((int field ≡ negsuc 0) × (value ≡ [])) ⊎ (int field ≡ pos (length value))
+  pub parts : bytes ≡ field ++ value ++ rest
+
+-- so many values, one after the other
+abbrev pub Values : ℕ → List ℕ → List ℕ → Type 0
+Values zero bytes rest = rest ≡ bytes
+Values (suc k) bytes rest = (more : List ℕ) × Value bytes more × Values k more rest

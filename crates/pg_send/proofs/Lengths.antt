@@ -4,6 +4,7 @@ use Rattle.std.proofs.lemmas.Bool.{leb-true}
 use Rattle.std.proofs.lemmas.List.{append-nil}
 use Rattle.pg_base.specs.declared.error.ProtocolFault.{ProtocolFault}
 use Rattle.pg_base.specs.declared.error.ProtocolFault.TheVariants.{MessageTooLong}
+use Rattle.pg_base.specs.Answers.{IsAnswer}
 use Rattle.pg_base.specs.Cutting.{max_length, frame, IsCutInto}
 use Rattle.pg_base.proofs.Cuts.{cut_frame, is_cut_into}
 use Rattle.pg_send.specs.Limits.{saturated, first_fault, checked_len}
@@ -26,3 +27,8 @@ pub frame_is_cut : (fault : Option ProtocolFault) (tag : ℕ) (body : List ℕ) 
 frame_is_cut fault tag body len e =
     let fits = len_fits fault (length body) (no_fault (first_fault fault (length body)) (length body) len e) in
     is_cut_into (frame tag body) ((tag, body) ∷ []) (rw append-nil at (cut_frame tag body [] [] fits refl))
+
+-- an accepted message breaks no limit
+pub accepted_fits : (o : Option ProtocolFault) (u : Unit {0}) → IsAnswer o (Ok u) → o ≡ None
+accepted_fits None u h = refl
+accepted_fits (Some f) u h = absurd cc

@@ -4,31 +4,91 @@ use Rattle.std.specs.Prelude.{ℕ, List, [], length, Option, None}
 use Rattle.pg_base.specs.declared.error.ProtocolFault.{ProtocolFault}
 use Rattle.pg_base.specs.Cutting.{frame}
 use Rattle.pg_send.specs.Limits.{saturated, first_fault}
+use Rattle.pg_send.specs.Bind.{BindFields, bind_body, bind_count_fault, IsBindInRange}
+use Rattle.pg_send.specs.Copy.{copy_fail_body}
+use Rattle.pg_send.specs.Execute.{ExecuteFields, execute_body, IsExecuteInRange}
+use Rattle.pg_send.specs.Parse.{ParseFields, parse_body, parse_count_fault, IsParseInRange}
+use Rattle.pg_send.specs.Password.{cleartext_body, md5_body, IsDigest, power_over}
 use Rattle.pg_send.specs.Query.{query_body}
+use Rattle.pg_send.specs.Sasl.{SaslInitialFields, sasl_initial_body}
+use Rattle.pg_send.specs.Target.{Target, target_body, IsTargetInRange}
 
 pub data Message : Type 0 where
+  Bind : BindFields → Message
+  Close : Target → Message
+  CopyData : List ℕ → Message
+  CopyDone : Message
+  CopyFail : List ℕ → Message
+  Describe : Target → Message
+  Execute : ExecuteFields → Message
+  Flush : Message
+  Parse : ParseFields → Message
+  CleartextPassword : List ℕ → Message
+  Md5Password : List ℕ → Message
   Query : List ℕ → Message
+  SaslInitialResponse : SaslInitialFields → Message
+  SaslResponse : List ℕ → Message
   Sync : Message
+  Terminate : Message
 
 -- the first byte
 abbrev pub tag : Message → ℕ
+tag (Bind b) = 66
+tag (Close target) = 67
+tag (CopyData bytes) = 100
+tag CopyDone = 99
+tag (CopyFail text) = 102
+tag (Describe target) = 68
+tag (Execute e) = 69
+tag Flush = 72
+tag (Parse p) = 80
+tag (CleartextPassword text) = 112
+tag (Md5Password digest) = 112
 tag (Query text) = 81
+tag (SaslInitialResponse s) = 112
+tag (SaslResponse bytes) = 112
 tag Sync = 83
+tag Terminate = 88
 
 -- what stands behind the length
 abbrev pub body : Message → List ℕ
+body (Bind b) = bind_body b
+body (Close target) = target_body target
+body (CopyData bytes) = bytes
+body CopyDone = []
+body (CopyFail text) = copy_fail_body text
+body (Describe target) = target_body target
+body (Execute e) = execute_body e
+body Flush = []
+body (Parse p) = parse_body p
+body (CleartextPassword text) = cleartext_body text
+body (Md5Password digest) = md5_body digest
 body (Query text) = query_body text
+body (SaslInitialResponse s) = sasl_initial_body s
+body (SaslResponse bytes) = bytes
 body Sync = []
+body Terminate = []
 
 -- the first limit on counts that it breaks
 abbrev pub count_fault : Message → Option ProtocolFault
-count_fault (Query text) = None
-count_fault Sync = None
+count_fault (Bind b) = bind_count_fault b
+count_fault (Parse p) = parse_count_fault p
+count_fault m = None
 
 -- how much room is reserved for the body
 abbrev pub hint : Message → ℕ
-hint (Query text) = saturated (length (query_body text))
-hint Sync = 0
+hint (CleartextPassword text) = power_over (length (cleartext_body text))
+hint m = saturated (length (body m))
+
+-- its numbers are in the ranges of their types
+abbrev pub IsInRange : Message → Type 0
+IsInRange (Bind b) = IsBindInRange b
+IsInRange (Close target) = IsTargetInRange target
+IsInRange (Describe target) = IsTargetInRange target
+IsInRange (Execute e) = IsExecuteInRange e
+IsInRange (Parse p) = IsParseInRange p
+IsInRange (Md5Password digest) = IsDigest digest
+IsInRange m = Unit {0}
 
 -- the first limit that it breaks
 abbrev pub fault : Message → Option ProtocolFault

@@ -1,5 +1,6 @@
 //! Ids and their names, formats, and what a message is written to and read from.
 
+mod atoi;
 mod buf_mut;
 mod copy;
 mod id;
@@ -11,6 +12,7 @@ ghost use Rattle.pg_base.specs.declared.error.ProtocolFault.{ProtocolFault};
 ghost use Rattle.pg_base.specs.Answers.{IsAnswer, Answers};
 
 use crate::error::Error;
+pub use atoi::{atoi_u32, atoi_u64, atoi_usize};
 pub use buf_mut::PgBufMutExt;
 use bytes::Bytes;
 pub use copy::{CopyData, CopyDone, LendBytes};

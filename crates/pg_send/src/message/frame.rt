@@ -49,7 +49,7 @@ pub trait FrontendMessage: Sized + Drop {
         ensures beginning { OnErr result (AddsBeginning buf.old.items buf.new.items (body self.now)) }
         ensures room { OnErr result (vec_capacity buf.old < vec_len buf.old + length (body self.now)) }
         ensures capacity { vec_capacity buf.old ≤ vec_capacity buf.new }
-        ensures range { in_range self.now };
+        ensures range { OnOk result (in_range self.now) };
 
     /// Within the limits the hint covers the body.
     ghost enough: { (message : Self) → first_fault (count_fault message) (length (body message)) ≡ None → length (body message) ≤ hint message };

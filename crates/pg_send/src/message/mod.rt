@@ -1,11 +1,34 @@
 //! What a message to the server is, and how one is written.
 
+mod bind;
+mod close;
+mod copy;
+mod counted;
+mod describe;
+mod execute;
+mod flush;
 mod frame;
+mod parse;
+mod password;
 mod query;
+mod sasl;
 mod sync;
 mod tagged;
+mod target;
+mod terminate;
 
+pub use bind::Bind;
+pub use close::Close;
+pub use copy::CopyFail;
+pub use describe::Describe;
+pub use execute::Execute;
+pub use flush::Flush;
 pub use frame::{EncodeMessage, FrontendMessage, encode_frame};
+pub use parse::Parse;
+pub use password::Password;
+pub use pg_base::io::{CopyData, CopyDone};
 pub use query::Query;
+pub use sasl::{SaslInitialResponse, SaslResponse};
 pub use sync::Sync;
-pub use tagged::{TaggedMessage, encode_all};
+pub use tagged::{TaggedMessage, encode_all, frames_are_distinct};
+pub use terminate::Terminate;

@@ -9,8 +9,8 @@ loop-message-preserved c =
     let before = c.loop-message.invariant in
     record {
       run = rw c.push_reserved.ensures.items
-          (run_at c.args.messages.now c.loop-message.message-index _ c.loop-message.answers.items c.encode.result c.args.buf.now.items c.loop-message.buf.items c.encode.new.buf.items _ _ _ c.loop-message-test.true
-          c.encode.ensures.ok c.encode.ensures.err c.encode.ensures.answer (λ e. omega (arith, c.encode.ensures.memory e, c.loop-message.buf.ok.0)) (omega (arith, c.args.buf.now.ok.0)) before.grows before.run);
+          (run_at c.args.messages.now c.loop-message.message-index c.message-item.result c.loop-message.answers.items c.encode.result c.args.buf.now.items c.loop-message.buf.items c.encode.new.buf.items _ _ _ c.loop-message-test.true c.message-item.is
+          c.encode.ensures.ok c.encode.ensures.err c.encode.ensures.answer c.encode.ensures.reads (λ e. omega (arith, c.encode.ensures.memory e, c.loop-message.buf.ok.0)) (omega (arith, c.args.buf.now.ok.0)) before.grows before.run);
       grows = omega (arith, before.grows, c.encode.ensures.capacity);
       one_each = omega (arith, before.one_each, c.push_reserved.ensures.len);
       room = c.push_reserved.ensures.capacity ∙ before.room;

@@ -1,0 +1,58 @@
+-- A list in a body goes on by one number.
+use Rattle.std.proofs.Common.{◌≡◌, ℕ, ◌+◌, ◌*◌, ◌<◌, ◌≤◌, List, [], ◌∷◌, ◌++◌, length, take, get_or, map, All, suc, suc-mul, refl, sym, ap, ◌∙◌, arith, append_assoc, length-append}
+use Rattle.std.specs.List.{flat_map}
+use Rattle.pg_base.specs.Numbers.{be16, be32}
+use Rattle.pg_base.specs.declared.io.PgValueFormat.{PgValueFormat}
+use Rattle.pg_base.specs.declared.io.PgValueFormat.TheVariants.{Text, Binary}
+use Rattle.pg_send.specs.Counted.{counted16, counted32}
+use Rattle.pg_send.specs.Parts.{code_of, codes_of}
+use Rattle.std.proofs.lemmas.List.{take_more, map_push, flat_map_more}
+use Rattle.std.proofs.lemmas.List.Elements.{All-cons, All-push}
+use Rattle.std.proofs.lemmas.List.Folds.{flat_map-map, length-flat_map-take}
+
+module _ {X : Type 0} (spell : ℕ → List ℕ) (number : X → ℕ) (xs : List X) (i : ℕ) (d : X) (before : i < length xs) where
+  -- the bytes gain the spelling of one more
+  pub one_more : (old count mid new : List ℕ) → mid ≡ old ++ (count ++ flat_map spell (map number (take i xs))) → new ≡ mid ++ spell (number (get_or xs i d))
+      → new ≡ old ++ (count ++ flat_map spell (map number (take (i + 1) xs)))
+  one_more old count mid new is adds =
+      let there = is ∙ sym (append_assoc old count (flat_map spell (map number (take i xs)))) in
+      rw (take_more xs i d before, map_push number (take i xs) (get_or xs i d))
+      (adds ∙ ap (λ (l : List ℕ). l ++ spell (number (get_or xs i d))) there ∙ flat_map_more spell (old ++ count) (map number (take i xs)) (number (get_or xs i d))
+      ∙ append_assoc old count (flat_map spell (map number (take i xs) ++ number (get_or xs i d) ∷ [])))
+
+  -- room for all is room for one more
+  pub room_for_one : (old count mid : List ℕ) (capacity : ℕ) → mid ≡ old ++ (count ++ flat_map spell (map number (take i xs))) → length old + length (count ++ flat_map spell (map number xs)) ≤ capacity
+      → length mid + length (spell (number (get_or xs i d))) ≤ capacity
+  room_for_one old count mid capacity is room =
+      let fits = length-flat_map-take (λ x. spell (number x)) xs i d before in
+      let fits_mapped : length (flat_map spell (map number (take i xs))) + length (spell (number (get_or xs i d))) ≤ length (flat_map spell (map number xs)) =
+      rw (flat_map-map spell number (take i xs), flat_map-map spell number xs) fits in
+      let len_mid = ap length is in
+      omega (arith, fits_mapped, len_mid, length-append old (count ++ flat_map spell (map number (take i xs))), length-append count (flat_map spell (map number (take i xs))), length-append count (flat_map spell (map number xs)), room)
+
+  -- and what holds of each number before holds of one more
+  pub all_more : (P : ℕ → Type 0) → All P (map number (take i xs)) → P (number (get_or xs i d)) → All P (map number (take (i + 1) xs))
+  all_more P all one =
+      rw (take_more xs i d before, map_push number (take i xs) (get_or xs i d)) (All-push P (map number (take i xs)) (number (get_or xs i d)) all one)
+
+-- the length of a list behind its count
+each_long : (spell : ℕ → List ℕ) (width : ℕ) → ((n : ℕ) → length (spell n) ≡ width) → (ns : List ℕ) → length (flat_map spell ns) ≡ length ns * width
+each_long spell width long [] = omega arith
+each_long spell width long (n ∷ ns) =
+    let step : suc (length ns) * width ≡ length ns * width + width = suc-mul (length ns) width in
+    omega (arith, length-append (spell n) (flat_map spell ns), long n, each_long spell width long ns, step)
+
+pub length-counted16 : (ns : List ℕ) → length (counted16 ns) ≡ 2 + length ns * 2
+length-counted16 ns = omega (arith, each_long be16 2 (λ _. refl) ns, length-append (be16 (length ns)) (flat_map be16 ns))
+
+pub length-counted32 : (ns : List ℕ) → length (counted32 ns) ≡ 2 + length ns * 4
+length-counted32 ns = omega (arith, each_long be32 4 (λ _. refl) ns, length-append (be16 (length ns)) (flat_map be32 ns))
+
+-- a format has one of two codes
+code_small : (format : PgValueFormat) → code_of format < 2
+code_small Text = omega arith
+code_small Binary = omega arith
+
+pub codes_small : (formats : List PgValueFormat) → All (λ code. code < 2) (codes_of formats)
+codes_small [] = λ k d lt. absurd (omega arith)
+codes_small (format ∷ formats) = All-cons (λ code. code < 2) (code_of format) (codes_of formats) (code_small format) (codes_small formats)

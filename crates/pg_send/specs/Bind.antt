@@ -1,0 +1,64 @@
+-- Bind: makes a portal of a prepared statement and the values of its parameters. Documentation:
+-- "Message Formats", Bind (F).
+use Rattle.std.specs.Prelude.{ℕ, ◌^◌, ◌<◌, ◌≤◌, List, [], ◌++◌, ◌≡◌, length, All, Option}
+use Rattle.std.specs.Option.{option_or}
+use Rattle.pg_base.specs.declared.error.ProtocolFault.{ProtocolFault}
+use Rattle.pg_base.specs.declared.error.ProtocolFault.TheVariants.{TooManyParamFormats, TooManyResultFormats}
+use Rattle.pg_base.specs.Names.{named, statement_prefix, portal_prefix, max_id}
+use Rattle.pg_base.specs.Numbers.{be16}
+use Rattle.pg_base.specs.Reading.{Text, Id, Number, Counted, Values}
+use Rattle.pg_send.specs.Counted.{too_many, counted16}
+
+-- the formats are their codes, and the values of the parameters are as the caller spelled them
+pub record BindFields : Type 0 where
+  pub portal : ℕ
+  pub statement : ℕ
+  pub formats : List ℕ
+  pub num_params : ℕ
+  pub params : List ℕ
+  pub result_formats : List ℕ
+
+-- it may have more formats than it can count, first of the parameters and then of the results
+abbrev pub bind_count_fault : BindFields → Option ProtocolFault
+bind_count_fault b =
+    option_or (too_many TooManyParamFormats (length b.formats)) (too_many TooManyResultFormats (length b.result_formats))
+
+-- the names of the portal and the statement, the formats of the parameters behind their count, the
+-- parameters behind theirs, and the formats of the results behind theirs
+abbrev pub bind_body : BindFields → List ℕ
+bind_body b =
+    named portal_prefix b.portal ++ named statement_prefix b.statement ++ counted16 b.formats ++ be16 b.num_params ++ b.params ++ counted16 b.result_formats
+
+-- its numbers are in their ranges
+pub record IsBindInRange (b : BindFields) : Type 0 where
+  pub portal : b.portal ≤ max_id
+  pub statement : b.statement ≤ max_id
+  pub formats : All (λ code. code < 2) b.formats
+  pub num_params : b.num_params < 2 ^ 16
+  pub result_formats : All (λ code. code < 2) b.result_formats
+
+-- a reader takes the two names, the formats of the parameters, how many values there are, those
+-- values, and the formats of the results
+pub record ReadsBind (body : List ℕ) (b : BindFields) : Type 0 where
+  pub portal_name : List ℕ
+  pub statement_name : List ℕ
+  pub behind_portal : List ℕ
+  pub behind_statement : List ℕ
+  pub behind_formats : List ℕ
+  pub behind_count : List ℕ
+  pub behind_params : List ℕ
+  pub first : Text body portal_name behind_portal
+  pub portal : Id portal_prefix portal_name b.portal
+  pub second : Text behind_portal statement_name behind_statement
+  pub statement : Id statement_prefix statement_name b.statement
+  pub formats : Counted 2 behind_statement b.formats behind_formats
+  pub codes : All (λ code. code < 2) b.formats
+  pub count : Number 2 behind_formats b.num_params behind_count
+  pub params : behind_count ≡ b.params ++ behind_params
+  pub values : Values b.num_params behind_count behind_params
+  pub result_formats : Counted 2 behind_params b.result_formats []
+  pub result_codes : All (λ code. code < 2) b.result_formats
+
+-- parameters that are not just so many values aren't read back
+abbrev pub KeepsBind : BindFields → Type 0
+KeepsBind b = Values b.num_params b.params []

@@ -1,0 +1,20 @@
+-- Lists in a body, each behind its count.
+use Rattle.std.specs.Prelude.{ℕ, List, ◌++◌, length, Option, Some, None, nat_le, if◌then◌else◌}
+use Rattle.std.specs.List.{flat_map}
+use Rattle.pg_base.specs.declared.error.ProtocolFault.{ProtocolFault}
+use Rattle.pg_base.specs.Numbers.{be16, be32}
+
+-- the most that a count of two bytes can say; it is unsigned
+abbrev pub max_count : ℕ
+max_count = 65535
+
+-- the fault of a list that is longer, of which it tells the length
+abbrev pub too_many : (ℕ → ProtocolFault) → ℕ → Option ProtocolFault
+too_many fault count = if nat_le count max_count then None else Some (fault count)
+
+-- numbers of two bytes each, and of four, behind their count
+abbrev pub counted16 : List ℕ → List ℕ
+counted16 ns = be16 (length ns) ++ flat_map be16 ns
+
+abbrev pub counted32 : List ℕ → List ℕ
+counted32 ns = be16 (length ns) ++ flat_map be32 ns

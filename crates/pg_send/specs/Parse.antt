@@ -1,0 +1,39 @@
+-- Parse: prepares a statement. Documentation: "Message Formats", Parse (F).
+use Rattle.std.specs.Prelude.{ℕ, ◌^◌, ◌<◌, ◌≤◌, List, [], ◌∷◌, ◌++◌, length, All, Option}
+use Rattle.pg_base.specs.declared.error.ProtocolFault.{ProtocolFault}
+use Rattle.pg_base.specs.declared.error.ProtocolFault.TheVariants.{TooManyParamTypes}
+use Rattle.pg_base.specs.Names.{named, statement_prefix, max_id}
+use Rattle.pg_base.specs.Reading.{HoldsNo, Text, Id, Counted}
+use Rattle.pg_send.specs.Counted.{too_many, counted32}
+
+pub record ParseFields : Type 0 where
+  pub statement : ℕ
+  pub query : List ℕ
+  pub param_types : List ℕ
+
+-- it may have more types than it can count
+abbrev pub parse_count_fault : ParseFields → Option ProtocolFault
+parse_count_fault p = too_many TooManyParamTypes (length p.param_types)
+
+-- the statement's name, the query and a NUL, and the types behind their count
+abbrev pub parse_body : ParseFields → List ℕ
+parse_body p = named statement_prefix p.statement ++ (p.query ++ 0 ∷ []) ++ counted32 p.param_types
+
+-- its numbers are in their ranges
+pub record IsParseInRange (p : ParseFields) : Type 0 where
+  pub statement : p.statement ≤ max_id
+  pub param_types : All (λ n. n < 2 ^ 32) p.param_types
+
+-- a reader takes the statement's name, the query, and the types behind their count
+pub record ReadsParse (body : List ℕ) (p : ParseFields) : Type 0 where
+  pub name : List ℕ
+  pub behind_name : List ℕ
+  pub behind_query : List ℕ
+  pub first : Text body name behind_name
+  pub statement : Id statement_prefix name p.statement
+  pub second : Text behind_name p.query behind_query
+  pub types : Counted 4 behind_query p.param_types []
+
+-- a query that holds a NUL isn't read back
+abbrev pub KeepsParse : ParseFields → Type 0
+KeepsParse p = HoldsNo 0 p.query

@@ -1,0 +1,17 @@
+-- The plain values of parts of messages.
+use Rattle.std.specs.Prelude.{ℕ, List, map}
+use Rattle.pg_base.specs.declared.io.Oid.{Oid}
+use Rattle.pg_base.specs.declared.io.PgValueFormat.{PgValueFormat}
+use Rattle.pg_base.specs.declared.io.PgValueFormat.TheVariants.{Text, Binary}
+
+-- the numbers of types
+abbrev pub numbers_of : List Oid → List ℕ
+numbers_of types = map (λ (oid : Oid). oid.0) types
+
+-- the code of a format
+abbrev pub code_of : PgValueFormat → ℕ
+code_of Text = 0
+code_of Binary = 1
+
+abbrev pub codes_of : List PgValueFormat → List ℕ
+codes_of formats = map code_of formats

@@ -1,0 +1,88 @@
+//! A portal that is made of a prepared statement.
+
+ghost use Rattle.std.specs.Prelude.{length};
+ghost use Rattle.pg_send.specs.Limits.{saturated};
+ghost use Rattle.pg_send.specs.Bind.{bind_body, bind_count_fault, IsBindInRange};
+
+use crate::message::FrontendMessage;
+use crate::message::counted::{put_formats, put_u16, too_many};
+use crate::message::frame::check_len;
+use pg_base::io::{PgValueFormat, PortalId, StatementId};
+use pg_base::{Error, FrontendMessageFormat, ProtocolFault};
+
+/// Asks the server to make a portal of a prepared statement and the values of its parameters.
+/// Documentation: "Message Formats", Bind (F).
+#[derive(Debug, Drop)]
+pub struct Bind<'a> {
+    pub portal: PortalId,
+    pub statement: StatementId,
+    /// The formats of the parameters, at most 65535: none where all are text, one for all of them,
+    /// or one each.
+    pub formats: &'a [PgValueFormat],
+    /// How many values `params` holds.
+    pub num_params: u16,
+    /// The values, each behind its length in four bytes, which is -1 for NULL. They are sent as
+    /// they are.
+    pub params: &'a [u8],
+    /// The formats of the result's columns, at most 65535: none where all are text, one for all of
+    /// them, or one each.
+    pub result_formats: &'a [PgValueFormat],
+}
+
+impl FrontendMessage for Bind<'_> {
+    ghost use Rattle.pg_send.specs.Views.{bind_of};
+
+    const FORMAT: FrontendMessageFormat = FrontendMessageFormat::Bind;
+
+    ghost tag = { λ _. 66 };
+
+    ghost body = { λ bind. bind_body (bind_of bind) };
+
+    ghost count_fault = { λ bind. bind_count_fault (bind_of bind) };
+
+    ghost hint = { λ bind. saturated (length (bind_body (bind_of bind))) };
+
+    ghost in_range = { λ bind. IsBindInRange (bind_of bind) };
+
+    fn tag(&self) -> u8 {
+        Self::FORMAT as u8
+    }
+
+    fn body_size_hint(&self) -> usize {
+        let portal = self.portal.name_len();
+        let statement = self.statement.name_len();
+        let formats = self.formats.len().saturating_mul(2);
+        let result_formats = self.result_formats.len().saturating_mul(2);
+        portal
+            .saturating_add(statement)
+            .saturating_add(formats)
+            .saturating_add(self.params.len())
+            .saturating_add(result_formats)
+            .saturating_add(6)
+    }
+
+    fn checked_body_len(&self) -> Result<usize, Error> {
+        let formats = self.formats.len();
+        let result_formats = self.result_formats.len();
+        let fault = too_many(formats, ProtocolFault::TooManyParamFormats(formats)).or(too_many(
+            result_formats,
+            ProtocolFault::TooManyResultFormats(result_formats),
+        ));
+        check_len(fault, self.body_size_hint())
+    }
+
+    fn encode_body(&self, buf: &mut Vec<u8>) -> Result<(), Error> {
+        buf.reserve(self.body_size_hint())?;
+        self.portal.put_name_with_nul(buf)?;
+        self.statement.put_name_with_nul(buf)?;
+        put_formats(self.formats, buf);
+        put_u16(self.num_params, buf);
+        buf.extend_from_slice(self.params)?;
+        put_formats(self.result_formats, buf);
+        Ok(())
+    }
+
+    ghost use Rattle.std.proofs.Common.{arith};
+
+    ghost enough = { λ bind h. Prim.grind (arith) };
+}

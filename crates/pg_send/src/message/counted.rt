@@ -1,0 +1,74 @@
+//! Lists in a body, each behind its count.
+
+ghost use Rattle.std.specs.Prelude.{◌≡◌, ℕ, ◌+◌, ◌^◌, ◌<◌, ◌≤◌, ◌++◌, length, All, Some, None, nat_le, if◌then◌else◌, vec_len, vec_capacity};
+ghost use Rattle.pg_base.specs.Numbers.{be16, be32};
+ghost use Rattle.pg_send.specs.Counted.{max_count, counted16, counted32};
+ghost use Rattle.pg_send.specs.Parts.{codes_of, numbers_of};
+
+use pg_base::ProtocolFault;
+use pg_base::io::{Oid, PgValueFormat};
+
+/// The most formats or types that a message can count. A count has two bytes, and is unsigned.
+const MAX_COUNT: usize = u16::MAX as usize;
+
+/// The fault of a list that is too long to be counted.
+pub fn too_many(count: usize, fault: ProtocolFault) -> Option<ProtocolFault>
+    ensures { result ≡ (if nat_le count max_count then None else Some fault) }
+{
+    if count > MAX_COUNT {
+        return Some(fault);
+    }
+    None
+}
+
+/// Adds the formats behind their count, in room that is there.
+pub fn put_formats(formats: &[PgValueFormat], buf: &mut Vec<u8>)
+    requires count { length formats.now ≤ max_count }
+    requires room { vec_len buf.old + length (counted16 (codes_of formats.now)) ≤ vec_capacity buf.old }
+    ensures items { buf.new.items ≡ buf.old.items ++ counted16 (codes_of formats.now) }
+    ensures capacity { vec_capacity buf.new ≡ vec_capacity buf.old }
+{
+    put_u16(formats.len() as u16, buf);
+    for format in formats {
+        put_u16(*format as u16, buf);
+    }
+}
+
+/// Adds the types behind their count, in room that is there.
+pub fn put_types(types: &[Oid], buf: &mut Vec<u8>)
+    requires count { length types.now ≤ max_count }
+    requires room { vec_len buf.old + length (counted32 (numbers_of types.now)) ≤ vec_capacity buf.old }
+    ensures items { buf.new.items ≡ buf.old.items ++ counted32 (numbers_of types.now) }
+    ensures capacity { vec_capacity buf.new ≡ vec_capacity buf.old }
+    ensures range { All (λ n. n < 2 ^ 32) (numbers_of types.now) }
+{
+    put_u16(types.len() as u16, buf);
+    for oid in types {
+        put_u32(oid.0, buf);
+    }
+}
+
+/// Adds a number as two bytes, in room that is there.
+pub fn put_u16(number: u16, buf: &mut Vec<u8>)
+    requires { vec_len buf.old + 2 ≤ vec_capacity buf.old }
+    ensures items { buf.new.items ≡ buf.old.items ++ be16 number }
+    ensures capacity { vec_capacity buf.new ≡ vec_capacity buf.old }
+    ensures range { number < 2 ^ 16 }
+{
+    let [high, low] = number.to_be_bytes();
+    buf.push_reserved(high);
+    buf.push_reserved(low);
+}
+
+fn put_u32(number: u32, buf: &mut Vec<u8>)
+    requires { vec_len buf.old + 4 ≤ vec_capacity buf.old }
+    ensures items { buf.new.items ≡ buf.old.items ++ be32 number }
+    ensures capacity { vec_capacity buf.new ≡ vec_capacity buf.old }
+    ensures range { number < 2 ^ 32 }
+{
+    let [first, second, third, fourth] = number.to_be_bytes();
+    buf.push_reserved(first);
+    buf.push_reserved(second);
+    buf.push_reserved(third);
+    buf.push_reserved(fourth);
+}

@@ -1,0 +1,57 @@
+//! A portal that is run.
+
+ghost use Rattle.std.specs.Prelude.{None, length};
+ghost use Rattle.pg_send.specs.Limits.{saturated};
+ghost use Rattle.pg_send.specs.Execute.{execute_body, IsExecuteInRange};
+
+use crate::message::FrontendMessage;
+use crate::message::frame::check_len;
+use pg_base::io::PortalId;
+use pg_base::{Error, FrontendMessageFormat};
+
+/// Asks the server to run a portal. Documentation: "Message Formats", Execute (F).
+#[derive(Drop)]
+pub struct Execute {
+    pub portal: PortalId,
+    /// The most rows to send back, 0 for all of them.
+    pub limit: u32,
+}
+
+impl FrontendMessage for Execute {
+    ghost use Rattle.pg_send.specs.Views.{execute_of};
+
+    const FORMAT: FrontendMessageFormat = FrontendMessageFormat::Execute;
+
+    ghost tag = { λ _. 69 };
+
+    ghost body = { λ execute. execute_body (execute_of execute) };
+
+    ghost count_fault = { λ _. None };
+
+    ghost hint = { λ execute. saturated (length (execute_body (execute_of execute))) };
+
+    ghost in_range = { λ execute. IsExecuteInRange (execute_of execute) };
+
+    fn tag(&self) -> u8 {
+        Self::FORMAT as u8
+    }
+
+    fn body_size_hint(&self) -> usize {
+        self.portal.name_len().saturating_add(4)
+    }
+
+    fn checked_body_len(&self) -> Result<usize, Error> {
+        check_len(None, self.body_size_hint())
+    }
+
+    fn encode_body(&self, buf: &mut Vec<u8>) -> Result<(), Error> {
+        buf.reserve(self.body_size_hint())?;
+        self.portal.put_name_with_nul(buf)?;
+        buf.extend_from_slice(&self.limit.to_be_bytes())?;
+        Ok(())
+    }
+
+    ghost use Rattle.std.proofs.Common.{arith};
+
+    ghost enough = { λ execute h. Prim.grind (arith) };
+}

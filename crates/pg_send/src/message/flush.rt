@@ -1,0 +1,45 @@
+//! A request for what the server still holds back.
+
+ghost use Rattle.std.specs.Prelude.{None, []};
+
+use crate::message::FrontendMessage;
+use crate::message::frame::check_len;
+use pg_base::{Error, FrontendMessageFormat};
+
+/// Asks the server to send what it holds back. Documentation: "Message Formats", Flush (F).
+#[derive(Debug, Drop)]
+pub struct Flush;
+
+impl FrontendMessage for Flush {
+    const FORMAT: FrontendMessageFormat = FrontendMessageFormat::Flush;
+
+    ghost tag = { λ _. 72 };
+
+    ghost body = { λ _. [] };
+
+    ghost count_fault = { λ _. None };
+
+    ghost hint = { λ _. 0 };
+
+    ghost in_range = { λ _. Unit {0} };
+
+    fn tag(&self) -> u8 {
+        Self::FORMAT as u8
+    }
+
+    fn body_size_hint(&self) -> usize {
+        0
+    }
+
+    fn checked_body_len(&self) -> Result<usize, Error> {
+        check_len(None, 0)
+    }
+
+    fn encode_body(&self, _buf: &mut Vec<u8>) -> Result<(), Error> {
+        Ok(())
+    }
+
+    ghost use Rattle.std.proofs.Common.{arith};
+
+    ghost enough = { λ _ h. Prim.omega arith };
+}

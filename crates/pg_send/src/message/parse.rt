@@ -1,0 +1,68 @@
+//! A statement that is prepared.
+
+ghost use Rattle.std.specs.Prelude.{length};
+ghost use Rattle.pg_send.specs.Limits.{saturated};
+ghost use Rattle.pg_send.specs.Parse.{parse_body, parse_count_fault, IsParseInRange};
+
+use crate::message::FrontendMessage;
+use crate::message::counted::{put_types, too_many};
+use crate::message::frame::check_len;
+use pg_base::io::{Oid, StatementId};
+use pg_base::{Error, FrontendMessageFormat, ProtocolFault};
+
+/// Asks the server to prepare a statement. Documentation: "Message Formats", Parse (F).
+#[derive(Debug, Drop)]
+pub struct Parse<'a> {
+    pub statement: StatementId,
+    pub query: &'a str,
+    /// The types of the parameters from the first on, at most 65535; the server infers those that
+    /// are 0 or missing.
+    pub param_types: &'a [Oid],
+}
+
+impl FrontendMessage for Parse<'_> {
+    ghost use Rattle.pg_send.specs.Views.{parse_of};
+
+    const FORMAT: FrontendMessageFormat = FrontendMessageFormat::Parse;
+
+    ghost tag = { λ _. 80 };
+
+    ghost body = { λ parse. parse_body (parse_of parse) };
+
+    ghost count_fault = { λ parse. parse_count_fault (parse_of parse) };
+
+    ghost hint = { λ parse. saturated (length (parse_body (parse_of parse))) };
+
+    ghost in_range = { λ parse. IsParseInRange (parse_of parse) };
+
+    fn tag(&self) -> u8 {
+        Self::FORMAT as u8
+    }
+
+    fn body_size_hint(&self) -> usize {
+        let name = self.statement.name_len();
+        let types = self.param_types.len().saturating_mul(4);
+        name.saturating_add(self.query.len())
+            .saturating_add(3)
+            .saturating_add(types)
+    }
+
+    fn checked_body_len(&self) -> Result<usize, Error> {
+        let types = self.param_types.len();
+        let fault = too_many(types, ProtocolFault::TooManyParamTypes(types));
+        check_len(fault, self.body_size_hint())
+    }
+
+    fn encode_body(&self, buf: &mut Vec<u8>) -> Result<(), Error> {
+        buf.reserve(self.body_size_hint())?;
+        self.statement.put_name_with_nul(buf)?;
+        buf.extend_from_slice(self.query.as_bytes())?;
+        buf.push(0)?;
+        put_types(self.param_types, buf);
+        Ok(())
+    }
+
+    ghost use Rattle.std.proofs.Common.{arith};
+
+    ghost enough = { λ parse h. Prim.grind (arith) };
+}

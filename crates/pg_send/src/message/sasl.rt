@@ -1,0 +1,113 @@
+//! The client's part of authentication by SASL.
+
+ghost use Rattle.std.specs.Prelude.{◌≡◌, None, length};
+ghost use Rattle.pg_send.specs.Limits.{saturated};
+ghost use Rattle.pg_send.specs.Sasl.{mechanism, sasl_initial_body};
+
+use crate::message::FrontendMessage;
+use crate::message::frame::check_len;
+use pg_base::{Error, FrontendMessageFormat};
+
+/// Chooses SCRAM with SHA-256, and begins it. Documentation: "Message Formats",
+/// SASLInitialResponse (F).
+#[derive(Drop)]
+pub struct SaslInitialResponse<'a> {
+    pub response: &'a str,
+    /// With channel binding.
+    pub plus: bool,
+}
+
+impl SaslInitialResponse<'_> {
+    fn selected_mechanism(&self) -> &'static str
+        ensures { result.now ≡ mechanism self.now.plus }
+    {
+        if self.plus {
+            "SCRAM-SHA-256-PLUS"
+        } else {
+            "SCRAM-SHA-256"
+        }
+    }
+}
+
+impl FrontendMessage for SaslInitialResponse<'_> {
+    ghost use Rattle.pg_send.specs.Views.{sasl_initial_of};
+
+    const FORMAT: FrontendMessageFormat = FrontendMessageFormat::PasswordPolymorphic;
+
+    ghost tag = { λ _. 112 };
+
+    ghost body = { λ sasl. sasl_initial_body (sasl_initial_of sasl) };
+
+    ghost count_fault = { λ _. None };
+
+    ghost hint = { λ sasl. saturated (length (sasl_initial_body (sasl_initial_of sasl))) };
+
+    ghost in_range = { λ _. Unit {0} };
+
+    fn tag(&self) -> u8 {
+        Self::FORMAT as u8
+    }
+
+    fn body_size_hint(&self) -> usize {
+        let mechanism = self.selected_mechanism().len();
+        mechanism
+            .saturating_add(5)
+            .saturating_add(self.response.len())
+    }
+
+    fn checked_body_len(&self) -> Result<usize, Error> {
+        check_len(None, self.body_size_hint())
+    }
+
+    fn encode_body(&self, buf: &mut Vec<u8>) -> Result<(), Error> {
+        buf.reserve(self.body_size_hint())?;
+        buf.extend_from_slice(self.selected_mechanism().as_bytes())?;
+        buf.push(0)?;
+        buf.extend_from_slice(&(self.response.len() as u32).to_be_bytes())?;
+        buf.extend_from_slice(self.response.as_bytes())?;
+        Ok(())
+    }
+
+    ghost use Rattle.std.proofs.Common.{arith};
+
+    ghost enough = { λ sasl h. Prim.grind (arith) };
+}
+
+/// Answers a challenge of the mechanism. Documentation: "Message Formats", SASLResponse (F).
+#[derive(Drop)]
+pub struct SaslResponse<'a>(pub &'a str);
+
+impl FrontendMessage for SaslResponse<'_> {
+    const FORMAT: FrontendMessageFormat = FrontendMessageFormat::PasswordPolymorphic;
+
+    ghost tag = { λ _. 112 };
+
+    ghost body = { λ sasl. sasl.0.now };
+
+    ghost count_fault = { λ _. None };
+
+    ghost hint = { λ sasl. saturated (length sasl.0.now) };
+
+    ghost in_range = { λ _. Unit {0} };
+
+    fn tag(&self) -> u8 {
+        Self::FORMAT as u8
+    }
+
+    fn body_size_hint(&self) -> usize {
+        self.0.len()
+    }
+
+    fn checked_body_len(&self) -> Result<usize, Error> {
+        check_len(None, self.body_size_hint())
+    }
+
+    fn encode_body(&self, buf: &mut Vec<u8>) -> Result<(), Error> {
+        buf.extend_from_slice(self.0.as_bytes())?;
+        Ok(())
+    }
+
+    ghost use Rattle.std.proofs.Common.{arith};
+
+    ghost enough = { λ sasl h. Prim.grind (arith) };
+}
