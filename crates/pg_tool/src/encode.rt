@@ -3,18 +3,12 @@
 ghost use Rattle.std.specs.Prelude.{length};
 ghost use Rattle.std.specs.Iterator.{at_most};
 
+use crate::command::{Command, command_of, message_of};
 use crate::fault::ToolFault;
 use crate::line::{Lines, push_hex};
 use pg_base::io::u32_at;
-use pg_send::message::{Query, Sync, TaggedMessage, encode_all};
+use pg_send::message::{TaggedMessage, encode_all};
 use std::alloc::{AllocError, Global};
-
-/// What a line names, with all that its message borrows.
-#[derive(Drop)]
-enum Command<'a> {
-    Query(&'a str),
-    Sync,
-}
 
 /// The answers to the messages that the lines name, a line each, and then their frames.
 pub fn encode(alloc: Global, input: &[u8]) -> Result<String, ToolFault> {
@@ -37,34 +31,14 @@ fn messages<'a>(
     commands.iter().map(message_of).collect(alloc)
 }
 
-fn message_of<'a>(command: &'a Command<'a>) -> TaggedMessage<'a> {
-    match command {
-        Command::Query(text) => TaggedMessage::Query(Query(text)),
-        Command::Sync => TaggedMessage::Sync(Sync),
-    }
-}
-
 fn commands(alloc: Global, input: &[u8]) -> Result<Vec<Command<'_>>, ToolFault> {
     let mut commands = Vec::new(alloc);
     for (index, line) in Lines::new(input).enumerate() {
-        let Some(command) = std::str::from_utf8(line).ok().and_then(command_of) else {
-            return Err(ToolFault::BadLine(index + 1));
-        };
-        commands.push(command)?;
+        let bad = ToolFault::BadLine(index + 1);
+        let line = std::str::from_utf8(line).map_err(|_| bad)?;
+        commands.push(command_of(alloc, line)?.ok_or(bad)?)?;
     }
     Ok(commands)
-}
-
-// What a line names, where it fits a form.
-fn command_of(line: &str) -> Option<Command<'_>> {
-    match line.split_once(' ') {
-        Some(("query", text)) => Some(Command::Query(text)),
-        Some(_) => None,
-        None => match line {
-            "sync" => Some(Command::Sync),
-            _ => None,
-        },
-    }
 }
 
 fn push_answers(

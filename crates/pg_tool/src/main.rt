@@ -1,6 +1,7 @@
 //! Writes and reads PostgreSQL messages that are given as lines of text.
 #![tactic(auto)]
 
+mod command;
 mod decode;
 mod encode;
 mod fault;

@@ -95,6 +95,107 @@ fn encodes(rt: HostRuntime) -> Result<(), Fail> {
 }
 
 #[test]
+fn encodes_each_kind(rt: HostRuntime) -> Result<(), Fail> {
+    let frames = [
+        (
+            "describe S 1234567890",
+            "D 23 5373716c785f735f3132333435363738393000",
+        ),
+        ("close P 7", "C 14 5073716c785f705f3700"),
+        ("execute 0 5", "E 9 0000000005"),
+        (
+            "parse 1 25,0 SELECT $1",
+            "P 33 73716c785f735f310053454c4543542024310000020000001900000000",
+        ),
+        (
+            "bind 0 1 1 1 00000002abcd -",
+            "B 28 0073716c785f735f310000010001000100000002abcd0000",
+        ),
+        ("bind 0 0 - 0 0001 -", "B 14 00000000000000010000"),
+        ("password password", "p 13 70617373776f726400"),
+        (
+            "saslinit 1 x",
+            "p 28 534352414d2d5348412d3235362d504c5553000000000178",
+        ),
+        ("sasl ", "p 4 -"),
+        ("copydata 5100000004", "d 9 5100000004"),
+        ("copyfail no", "f 7 6e6f00"),
+        ("flush", "H 4 -"),
+        ("terminate", "X 4 -"),
+        ("copydone", "c 4 -"),
+        (
+            "md5 3E2C9D99D49B201EF867A36F3F9ED62C",
+            "p 40 6d6435336532633964393964343962323031656638363761333666336639656436326300",
+        ),
+    ];
+    for (line, frame) in frames {
+        let mut output = String::from_str(rt.alloc(), "1 ok\n")?;
+        output.push_str(frame)?;
+        output.push('\n')?;
+        expect(&rt, &["encode"], line, 0, output.as_str(), "")?;
+    }
+    Ok(())
+}
+
+#[test]
+fn lines_that_fit_no_form(rt: HostRuntime) -> Result<(), Fail> {
+    let lines = [
+        "execute 4294967296 0",
+        "execute +1 0",
+        "execute 00000000001 0",
+        "execute 0",
+        "bind 0 0 2 0 - -",
+        "bind 0 0 - 65536 - -",
+        "bind 0 0 - 000000 - -",
+        "bind 0 0 - 0 - - -",
+        "bind 0 0 , 0 - -",
+        "md5 3e",
+        "copydata ",
+        "copydata 5",
+        "saslinit 2 x",
+        "saslinit 1",
+        "describe X 1",
+        "describe S",
+        "close P -1",
+        "parse 1 25, SELECT",
+        "parse 1 -",
+        "flush now",
+    ];
+    for line in lines {
+        expect(&rt, &["encode"], line, 1, "", "line 1: bad command\n")?;
+    }
+    Ok(())
+}
+
+// A word of so many parts, with commas between them.
+fn parted(alloc: Global, part: &str, count: usize) -> Result<String, AllocError> {
+    let mut word = String::new(alloc);
+    for index in 0..count {
+        if index > 0 {
+            word.push(',')?;
+        }
+        word.push_str(part)?;
+    }
+    Ok(word)
+}
+
+#[test]
+fn counts_above_the_limit_are_refused(rt: HostRuntime) -> Result<(), Fail> {
+    let mut parse = String::from_str(rt.alloc(), "parse 1 ")?;
+    parse.push_str(parted(rt.alloc(), "25", 65536)?.as_str())?;
+    parse.push_str(" SELECT\n")?;
+    let words = "1 refused: param_types.len() too large for binary protocol: 65536\n";
+    expect(&rt, &["encode"], parse.as_str(), 0, words, "")?;
+
+    let mut bind = String::from_str(rt.alloc(), "bind 0 0 - 0 - ")?;
+    bind.push_str(parted(rt.alloc(), "1", 65536)?.as_str())?;
+    bind.push_str("\nsync\n")?;
+    let words = "1 refused: too many result format codes (65536)\n2 ok\nS 4 -\n";
+    expect(&rt, &["encode"], bind.as_str(), 0, words, "")?;
+    Ok(())
+}
+
+#[test]
 fn names_the_first_bad_line(rt: HostRuntime) -> Result<(), Fail> {
     let cases = [
         ("sync\nsink\n", "line 2: bad command\n"),

@@ -1,0 +1,310 @@
+//! What a line of `encode` names: one message to the server.
+
+use crate::fault::ToolFault;
+use crate::line::hex_bytes;
+use pg_base::io::{Oid, PgValueFormat, PortalId, StatementId};
+use pg_send::message::{
+    Bind, Close, CopyData, CopyDone, CopyFail, Describe, Execute, Flush, Parse, Password, Query,
+    SaslInitialResponse, SaslResponse, Sync, TaggedMessage, Terminate,
+};
+use std::alloc::Global;
+
+/// The most digits that a number of 32 bits has, and one of 16 bits.
+const DIGITS_OF_U32: usize = 10;
+
+const DIGITS_OF_U16: usize = 5;
+
+/// What a line names, with all that its message borrows.
+#[derive(Drop)]
+pub enum Command<'a> {
+    Bind {
+        portal: u32,
+        statement: u32,
+        formats: Vec<PgValueFormat>,
+        num_params: u16,
+        params: Vec<u8>,
+        result_formats: Vec<PgValueFormat>,
+    },
+    Cleartext(&'a str),
+    Close(Target),
+    CopyData(Vec<u8>),
+    CopyDone,
+    CopyFail(CopyFail),
+    Describe(Target),
+    Execute {
+        portal: u32,
+        limit: u32,
+    },
+    Flush,
+    Md5([u8; 16]),
+    Parse {
+        statement: u32,
+        query: &'a str,
+        param_types: Vec<Oid>,
+    },
+    Query(&'a str),
+    Sasl(&'a str),
+    SaslInit {
+        plus: bool,
+        response: &'a str,
+    },
+    Sync,
+    Terminate,
+}
+
+/// A statement or a portal, by its number.
+#[derive(Clone, Copy)]
+pub enum Target {
+    Statement(u32),
+    Portal(u32),
+}
+
+/// The command that a line spells, where it fits a form.
+pub fn command_of(alloc: Global, line: &str) -> Result<Option<Command<'_>>, ToolFault> {
+    let Some((name, rest)) = line.split_once(' ') else {
+        return Ok(plain_command(line));
+    };
+    match name {
+        "bind" => bind_of(alloc, rest),
+        "close" => Ok(close_of(rest)),
+        "copydata" => copy_data_of(alloc, rest),
+        "copyfail" => {
+            let text = String::from_str(alloc, rest)?;
+            Ok(Some(Command::CopyFail(CopyFail::new(text))))
+        }
+        "describe" => Ok(describe_of(rest)),
+        "execute" => Ok(execute_of(rest)),
+        "md5" => Ok(md5_of(rest)),
+        "parse" => parse_of(alloc, rest),
+        "password" => Ok(Some(Command::Cleartext(rest))),
+        "query" => Ok(Some(Command::Query(rest))),
+        "sasl" => Ok(Some(Command::Sasl(rest))),
+        "saslinit" => Ok(sasl_init_of(rest)),
+        _ => Ok(None),
+    }
+}
+
+/// The message that a command names.
+pub fn message_of<'a>(command: &'a Command<'a>) -> TaggedMessage<'a> {
+    match command {
+        Command::Bind {
+            portal,
+            statement,
+            formats,
+            num_params,
+            params,
+            result_formats,
+        } => TaggedMessage::Bind(Bind {
+            portal: PortalId::from_number(*portal),
+            statement: StatementId::from_number(*statement),
+            formats: formats.as_slice(),
+            num_params: *num_params,
+            params: params.as_slice(),
+            result_formats: result_formats.as_slice(),
+        }),
+        Command::Cleartext(text) => TaggedMessage::Password(Password::Cleartext(text)),
+        Command::Close(Target::Statement(number)) => {
+            TaggedMessage::Close(Close::Statement(StatementId::from_number(*number)))
+        }
+        Command::Close(Target::Portal(number)) => {
+            TaggedMessage::Close(Close::Portal(PortalId::from_number(*number)))
+        }
+        Command::CopyData(bytes) => TaggedMessage::CopyData(CopyData(bytes.as_slice())),
+        Command::CopyDone => TaggedMessage::CopyDone(CopyDone),
+        Command::CopyFail(fail) => TaggedMessage::CopyFail(fail),
+        Command::Describe(Target::Statement(number)) => {
+            TaggedMessage::Describe(Describe::Statement(StatementId::from_number(*number)))
+        }
+        Command::Describe(Target::Portal(number)) => {
+            TaggedMessage::Describe(Describe::Portal(PortalId::from_number(*number)))
+        }
+        Command::Execute { portal, limit } => TaggedMessage::Execute(Execute {
+            portal: PortalId::from_number(*portal),
+            limit: *limit,
+        }),
+        Command::Flush => TaggedMessage::Flush(Flush),
+        Command::Md5(digest) => TaggedMessage::Password(Password::Md5 { digest: *digest }),
+        Command::Parse {
+            statement,
+            query,
+            param_types,
+        } => TaggedMessage::Parse(Parse {
+            statement: StatementId::from_number(*statement),
+            query,
+            param_types: param_types.as_slice(),
+        }),
+        Command::Query(text) => TaggedMessage::Query(Query(text)),
+        Command::Sasl(text) => TaggedMessage::SaslResponse(SaslResponse(text)),
+        Command::SaslInit { plus, response } => {
+            TaggedMessage::SaslInitialResponse(SaslInitialResponse {
+                response,
+                plus: *plus,
+            })
+        }
+        Command::Sync => TaggedMessage::Sync(Sync),
+        Command::Terminate => TaggedMessage::Terminate(Terminate),
+    }
+}
+
+// A command without fields.
+fn plain_command(line: &str) -> Option<Command<'_>> {
+    match line {
+        "copydone" => Some(Command::CopyDone),
+        "flush" => Some(Command::Flush),
+        "sync" => Some(Command::Sync),
+        "terminate" => Some(Command::Terminate),
+        _ => None,
+    }
+}
+
+// `PORTAL STATEMENT FORMATS COUNT HEX FORMATS`
+fn bind_of(alloc: Global, line: &str) -> Result<Option<Command<'_>>, ToolFault> {
+    let Some((portal, statement, formats, count, params, result_formats)) = six_words(line) else {
+        return Ok(None);
+    };
+    let (Some(portal), Some(statement)) = (u32_of(portal), u32_of(statement)) else {
+        return Ok(None);
+    };
+    let (Some(formats), Some(num_params)) = (formats_of(alloc, formats)?, u16_of(count)) else {
+        return Ok(None);
+    };
+    let (Some(params), Some(result_formats)) =
+        (hex_bytes(alloc, params)?, formats_of(alloc, result_formats)?)
+    else {
+        return Ok(None);
+    };
+    Ok(Some(Command::Bind {
+        portal,
+        statement,
+        formats,
+        num_params,
+        params,
+        result_formats,
+    }))
+}
+
+fn six_words(line: &str) -> Option<(&str, &str, &str, &str, &str, &str)> {
+    let (first, rest) = line.split_once(' ')?;
+    let (second, rest) = rest.split_once(' ')?;
+    let (third, rest) = rest.split_once(' ')?;
+    let (fourth, rest) = rest.split_once(' ')?;
+    let (fifth, sixth) = rest.split_once(' ')?;
+    Some((first, second, third, fourth, fifth, sixth))
+}
+
+fn copy_data_of(alloc: Global, word: &str) -> Result<Option<Command<'_>>, ToolFault> {
+    match hex_bytes(alloc, word)? {
+        Some(bytes) => Ok(Some(Command::CopyData(bytes))),
+        None => Ok(None),
+    }
+}
+
+fn close_of(line: &str) -> Option<Command<'_>> {
+    Some(Command::Close(target_of(line)?))
+}
+
+fn describe_of(line: &str) -> Option<Command<'_>> {
+    Some(Command::Describe(target_of(line)?))
+}
+
+// `S NUMBER` or `P NUMBER`
+fn target_of(line: &str) -> Option<Target> {
+    let (letter, number) = line.split_once(' ')?;
+    let number = u32_of(number)?;
+    match letter {
+        "S" => Some(Target::Statement(number)),
+        "P" => Some(Target::Portal(number)),
+        _ => None,
+    }
+}
+
+// `PORTAL LIMIT`
+fn execute_of(line: &str) -> Option<Command<'_>> {
+    let (portal, limit) = line.split_once(' ')?;
+    Some(Command::Execute {
+        portal: u32_of(portal)?,
+        limit: u32_of(limit)?,
+    })
+}
+
+// `STATEMENT OIDS TEXT`
+fn parse_of(alloc: Global, line: &str) -> Result<Option<Command<'_>>, ToolFault> {
+    let Some((statement, rest)) = line.split_once(' ') else {
+        return Ok(None);
+    };
+    let Some((types, query)) = rest.split_once(' ') else {
+        return Ok(None);
+    };
+    let (Some(statement), Some(param_types)) = (u32_of(statement), oids_of(alloc, types)?) else {
+        return Ok(None);
+    };
+    Ok(Some(Command::Parse {
+        statement,
+        query,
+        param_types,
+    }))
+}
+
+// `0 TEXT` or `1 TEXT`
+fn sasl_init_of(line: &str) -> Option<Command<'_>> {
+    let (plus, response) = line.split_once(' ')?;
+    let plus = match plus {
+        "0" => false,
+        "1" => true,
+        _ => return None,
+    };
+    Some(Command::SaslInit { plus, response })
+}
+
+// 32 hexadecimal digits
+fn md5_of(word: &str) -> Option<Command<'_>> {
+    let mut digest = [0; 16];
+    hex::decode_to_slice(word, &mut digest).ok()?;
+    Some(Command::Md5(digest))
+}
+
+// Decimal digits, as many as a number of 32 bits has at most.
+fn u32_of(word: &str) -> Option<u32> {
+    if word.len() > DIGITS_OF_U32 || !word.bytes().all(|byte| byte.is_ascii_digit()) {
+        return None;
+    }
+    word.parse::<u32>().ok()
+}
+
+fn u16_of(word: &str) -> Option<u16> {
+    if word.len() > DIGITS_OF_U16 || !word.bytes().all(|byte| byte.is_ascii_digit()) {
+        return None;
+    }
+    word.parse::<u16>().ok()
+}
+
+// `0`s and `1`s parted by commas, or `-` for none.
+fn formats_of(alloc: Global, word: &str) -> Result<Option<Vec<PgValueFormat>>, ToolFault> {
+    let mut formats = Vec::new(alloc);
+    if word == "-" {
+        return Ok(Some(formats));
+    }
+    for code in word.split(',') {
+        formats.push(match code {
+            "0" => PgValueFormat::Text,
+            "1" => PgValueFormat::Binary,
+            _ => return Ok(None),
+        })?;
+    }
+    Ok(Some(formats))
+}
+
+// Numbers parted by commas, or `-` for none.
+fn oids_of(alloc: Global, word: &str) -> Result<Option<Vec<Oid>>, ToolFault> {
+    let mut oids = Vec::new(alloc);
+    if word == "-" {
+        return Ok(Some(oids));
+    }
+    for number in word.split(',') {
+        let Some(number) = u32_of(number) else {
+            return Ok(None);
+        };
+        oids.push(Oid(number))?;
+    }
+    Ok(Some(oids))
+}
