@@ -1,4 +1,4 @@
--- A list in a body goes on by one number.
+-- A list in a body goes on by one element, which is spelled by its plain value.
 use Rattle.std.proofs.Common.{◌≡◌, ℕ, ◌+◌, ◌*◌, ◌<◌, ◌≤◌, List, [], ◌∷◌, ◌++◌, length, take, get_or, map, All, suc, suc-mul, refl, sym, ap, ◌∙◌, arith, append_assoc, length-append}
 use Rattle.std.specs.List.{flat_map}
 use Rattle.pg_base.specs.Numbers.{be16, be32}
@@ -10,30 +10,30 @@ use Rattle.std.proofs.lemmas.List.{take_more, map_push, flat_map_more}
 use Rattle.std.proofs.lemmas.List.Elements.{All-cons, All-push}
 use Rattle.std.proofs.lemmas.List.Folds.{flat_map-map, length-flat_map-take}
 
-module _ {X : Type 0} (spell : ℕ → List ℕ) (number : X → ℕ) (xs : List X) (i : ℕ) (d : X) (before : i < length xs) where
+module _ {X N : Type 0} (spell : N → List ℕ) (value : X → N) (xs : List X) (i : ℕ) (d : X) (before : i < length xs) where
   -- the bytes gain the spelling of one more
-  pub one_more : (old count mid new : List ℕ) → mid ≡ old ++ (count ++ flat_map spell (map number (take i xs))) → new ≡ mid ++ spell (number (get_or xs i d))
-      → new ≡ old ++ (count ++ flat_map spell (map number (take (i + 1) xs)))
+  pub one_more : (old count mid new : List ℕ) → mid ≡ old ++ (count ++ flat_map spell (map value (take i xs))) → new ≡ mid ++ spell (value (get_or xs i d))
+      → new ≡ old ++ (count ++ flat_map spell (map value (take (i + 1) xs)))
   one_more old count mid new is adds =
-      let there = is ∙ sym (append_assoc old count (flat_map spell (map number (take i xs)))) in
-      rw (take_more xs i d before, map_push number (take i xs) (get_or xs i d))
-      (adds ∙ ap (λ (l : List ℕ). l ++ spell (number (get_or xs i d))) there ∙ flat_map_more spell (old ++ count) (map number (take i xs)) (number (get_or xs i d))
-      ∙ append_assoc old count (flat_map spell (map number (take i xs) ++ number (get_or xs i d) ∷ [])))
+      let there = is ∙ sym (append_assoc old count (flat_map spell (map value (take i xs)))) in
+      rw (take_more xs i d before, map_push value (take i xs) (get_or xs i d))
+      (adds ∙ ap (λ (l : List ℕ). l ++ spell (value (get_or xs i d))) there ∙ flat_map_more spell (old ++ count) (map value (take i xs)) (value (get_or xs i d))
+      ∙ append_assoc old count (flat_map spell (map value (take i xs) ++ value (get_or xs i d) ∷ [])))
 
   -- room for all is room for one more
-  pub room_for_one : (old count mid : List ℕ) (capacity : ℕ) → mid ≡ old ++ (count ++ flat_map spell (map number (take i xs))) → length old + length (count ++ flat_map spell (map number xs)) ≤ capacity
-      → length mid + length (spell (number (get_or xs i d))) ≤ capacity
+  pub room_for_one : (old count mid : List ℕ) (capacity : ℕ) → mid ≡ old ++ (count ++ flat_map spell (map value (take i xs))) → length old + length (count ++ flat_map spell (map value xs)) ≤ capacity
+      → length mid + length (spell (value (get_or xs i d))) ≤ capacity
   room_for_one old count mid capacity is room =
-      let fits = length-flat_map-take (λ x. spell (number x)) xs i d before in
-      let fits_mapped : length (flat_map spell (map number (take i xs))) + length (spell (number (get_or xs i d))) ≤ length (flat_map spell (map number xs)) =
-      rw (flat_map-map spell number (take i xs), flat_map-map spell number xs) fits in
+      let fits = length-flat_map-take (λ x. spell (value x)) xs i d before in
+      let fits_mapped : length (flat_map spell (map value (take i xs))) + length (spell (value (get_or xs i d))) ≤ length (flat_map spell (map value xs)) =
+      rw (flat_map-map spell value (take i xs), flat_map-map spell value xs) fits in
       let len_mid = ap length is in
-      omega (arith, fits_mapped, len_mid, length-append old (count ++ flat_map spell (map number (take i xs))), length-append count (flat_map spell (map number (take i xs))), length-append count (flat_map spell (map number xs)), room)
+      omega (arith, fits_mapped, len_mid, length-append old (count ++ flat_map spell (map value (take i xs))), length-append count (flat_map spell (map value (take i xs))), length-append count (flat_map spell (map value xs)), room)
 
-  -- and what holds of each number before holds of one more
-  pub all_more : (P : ℕ → Type 0) → All P (map number (take i xs)) → P (number (get_or xs i d)) → All P (map number (take (i + 1) xs))
+  -- and what holds of each value before holds of one more
+  pub all_more : (P : N → Type 0) → All P (map value (take i xs)) → P (value (get_or xs i d)) → All P (map value (take (i + 1) xs))
   all_more P all one =
-      rw (take_more xs i d before, map_push number (take i xs) (get_or xs i d)) (All-push P (map number (take i xs)) (number (get_or xs i d)) all one)
+      rw (take_more xs i d before, map_push value (take i xs) (get_or xs i d)) (All-push P (map value (take i xs)) (value (get_or xs i d)) all one)
 
 -- the length of a list behind its count
 each_long : (spell : ℕ → List ℕ) (width : ℕ) → ((n : ℕ) → length (spell n) ≡ width) → (ns : List ℕ) → length (flat_map spell ns) ≡ length ns * width

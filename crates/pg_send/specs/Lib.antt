@@ -13,6 +13,8 @@ pub mod ReadBack
 pub mod Query
 pub mod Run
 pub mod Sasl
+pub mod SslRequest
+pub mod Startup
 pub mod Target
 pub mod Views
 pub use Rattle.pg_base.specs.Answers

@@ -1,5 +1,5 @@
 -- The plain value of each message of the program.
-use Rattle.std.specs.Prelude.{List, map, string_bytes}
+use Rattle.std.specs.Prelude.{List, map, option_copied, string_bytes}
 use Rattle.pg_send.specs.declared.message.bind.Bind.{Bind}
 use Rattle.pg_send.specs.declared.message.close.Close.{Close}
 use Rattle.pg_send.specs.declared.message.close.Close.TheVariants as close
@@ -10,6 +10,7 @@ use Rattle.pg_send.specs.declared.message.parse.Parse.{Parse}
 use Rattle.pg_send.specs.declared.message.password.Password.{Password}
 use Rattle.pg_send.specs.declared.message.password.Password.TheVariants as password
 use Rattle.pg_send.specs.declared.message.sasl.SaslInitialResponse.{SaslInitialResponse}
+use Rattle.pg_send.specs.declared.message.startup.Startup.{Startup}
 use Rattle.pg_send.specs.declared.message.tagged.TaggedMessage.{TaggedMessage}
 use Rattle.pg_send.specs.declared.message.tagged.TaggedMessage.TheVariants as tagged
 use Rattle.pg_send.specs.Bind.{BindFields}
@@ -17,8 +18,9 @@ use Rattle.pg_send.specs.Execute.{ExecuteFields}
 use Rattle.pg_send.specs.Message as message
 use Rattle.pg_send.specs.Message.{Message}
 use Rattle.pg_send.specs.Parse.{ParseFields}
-use Rattle.pg_send.specs.Parts.{codes_of, numbers_of}
+use Rattle.pg_send.specs.Parts.{codes_of, numbers_of, settings_of}
 use Rattle.pg_send.specs.Sasl.{SaslInitialFields}
+use Rattle.pg_send.specs.Startup.{StartupFields}
 use Rattle.pg_send.specs.Target.{Target, Statement, Portal}
 
 abbrev pub bind_of : Bind → BindFields
@@ -71,3 +73,6 @@ message_of (tagged.Terminate terminate) = message.Terminate
 
 abbrev pub messages_of : List TaggedMessage → List Message
 messages_of messages = map message_of messages
+
+abbrev pub startup_of : Startup → StartupFields
+startup_of s = record { username = option_copied s.username; database = option_copied s.database; params = settings_of s.params.now }

@@ -5,8 +5,9 @@ ghost use Rattle.pg_send.specs.Limits.{saturated};
 ghost use Rattle.pg_send.specs.Bind.{bind_body, bind_count_fault, IsBindInRange};
 
 use crate::message::FrontendMessage;
-use crate::message::counted::{put_formats, put_u16, too_many};
+use crate::message::counted::{put_formats, too_many};
 use crate::message::frame::check_len;
+use crate::message::numbers::put_u16;
 use pg_base::io::{PgValueFormat, PortalId, StatementId};
 use pg_base::{Error, FrontendMessageFormat, ProtocolFault};
 

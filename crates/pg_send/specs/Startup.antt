@@ -1,0 +1,30 @@
+-- Startup: opens a session; it has no tag. Documentation: "Message Formats", StartupMessage (F).
+use Rattle.std.specs.Prelude.{ℕ, ◌+◌, List, [], ◌∷◌, ◌++◌, length, codes, Option, Some, None}
+use Rattle.std.specs.List.{flat_map}
+use Rattle.pg_base.specs.Numbers.{be32}
+
+pub record StartupFields : Type 0 where
+  pub username : Option (List ℕ)
+  pub database : Option (List ℕ)
+  pub params : List (List ℕ × List ℕ)
+
+-- protocol 3.0: the major version in the upper two bytes, the minor one in the lower
+abbrev pub protocol_version : ℕ
+protocol_version = 196608
+
+-- a name and its value, each ended by a NUL
+abbrev pub setting : List ℕ × List ℕ → List ℕ
+setting (name, value) = (name ++ 0 ∷ []) ++ (value ++ 0 ∷ [])
+
+abbrev pub setting_where_there : List ℕ → Option (List ℕ) → List ℕ
+setting_where_there name (Some value) = setting (name, value)
+setting_where_there name None = []
+
+-- the version; the user, the database and each parameter; and a NUL
+abbrev pub startup_body : StartupFields → List ℕ
+startup_body s =
+    be32 protocol_version ++ setting_where_there (codes "user") s.username ++ setting_where_there (codes "database") s.database ++ flat_map setting s.params ++ 0 ∷ []
+
+-- the whole, behind its length
+abbrev pub startup_text : StartupFields → List ℕ
+startup_text s = be32 (length (startup_body s) + 4) ++ startup_body s
