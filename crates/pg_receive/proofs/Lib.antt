@@ -1,1 +1,5 @@
 pub mod Texts
+pub mod SeverityLemmas
+pub mod EndedTextLemmas
+pub mod FieldLemmas
+pub mod MechanismLemmas

@@ -1,6 +1,10 @@
 pub mod Received
 pub mod ReadyForQuery
 pub mod ReadyForQueryLaws
+pub mod EndedTexts
+pub mod Fields
+pub mod Mechanisms
+pub mod Severity
 pub use Rattle.pg_base.specs.Answers
 pub use Rattle.pg_base.specs.Faults
 pub use Rattle.pg_base.specs.Formats
