@@ -3,3 +3,4 @@ pub mod Cuts
 pub mod NameLemmas
 pub mod Spelled
 pub mod Readings
+pub mod Decimals

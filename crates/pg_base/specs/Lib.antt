@@ -5,5 +5,6 @@ pub mod Cutting
 pub mod Faults
 pub mod Reading
 pub mod Answers
+pub mod Atoi
 pub mod Names
 pub mod Prefixed

@@ -1,5 +1,6 @@
 //! Ids and their names, formats, and what a message is written to and read from.
 
+mod atoi;
 mod buf_mut;
 mod copy;
 mod id;
@@ -10,6 +11,7 @@ ghost use Rattle.pg_base.specs.declared.error.Error.TheVariants.{OutOfMemory};
 ghost use Rattle.pg_base.specs.declared.error.ProtocolFault.{ProtocolFault};
 ghost use Rattle.pg_base.specs.Answers.{IsAnswer, Answers};
 
+pub use atoi::{atoi_u32, atoi_u64, atoi_usize};
 pub use buf_mut::PgBufMutExt;
 pub use copy::{CopyData, CopyDone, LendBytes};
 pub use id::{DisplayId, PortalId, StatementId, names_are_distinct};
