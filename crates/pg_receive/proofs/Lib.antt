@@ -3,3 +3,5 @@ pub mod SeverityLemmas
 pub mod EndedTextLemmas
 pub mod FieldLemmas
 pub mod MechanismLemmas
+pub mod NoticeLemmas
+pub mod ReadLemmas

@@ -3,7 +3,11 @@ pub mod ReadyForQuery
 pub mod ReadyForQueryLaws
 pub mod EndedTexts
 pub mod Fields
+pub mod Last
 pub mod Mechanisms
+pub mod Notice
+pub mod NoticeLaws
+pub mod Places
 pub mod Severity
 pub use Rattle.pg_base.specs.Answers
 pub use Rattle.pg_base.specs.Faults

@@ -9,5 +9,5 @@ mod text;
 pub use authentication::{SaslMechanisms, mechanisms_stand_in_order};
 pub use ready_for_query::{ReadyForQuery, TransactionStatus};
 pub use received::{BackendMessage, ReceivedMessage};
-pub use response::{Fields, PgSeverity, fields_stand_in_order};
+pub use response::{Fields, Notice, PgSeverity, fields_stand_in_order};
 pub use text::{split_text, utf8_text};

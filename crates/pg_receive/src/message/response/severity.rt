@@ -1,7 +1,7 @@
 //! How grave an error or a notice is.
 
 ghost use Rattle.std.specs.Prelude.{◌≡◌};
-ghost use Rattle.pg_receive.specs.Severity.{is_error, severity_answer};
+ghost use Rattle.pg_receive.specs.Severity.{is_error, severity_answer, severity_of_word};
 
 use pg_base::{Error, ProtocolFault};
 
@@ -29,6 +29,23 @@ impl PgSeverity {
             PgSeverity::Panic | PgSeverity::Fatal | PgSeverity::Error
         )
     }
+
+    /// The severity of a word in upper case.
+    pub(crate) fn from_word(word: &str) -> Option<PgSeverity>
+        ensures { result ≡ severity_of_word word.now }
+    {
+        Some(match word {
+            "PANIC" => PgSeverity::Panic,
+            "FATAL" => PgSeverity::Fatal,
+            "ERROR" => PgSeverity::Error,
+            "WARNING" => PgSeverity::Warning,
+            "NOTICE" => PgSeverity::Notice,
+            "DEBUG" => PgSeverity::Debug,
+            "INFO" => PgSeverity::Info,
+            "LOG" => PgSeverity::Log,
+            _ => return None,
+        })
+    }
 }
 
 impl TryFrom<&str> for PgSeverity {
@@ -38,16 +55,6 @@ impl TryFrom<&str> for PgSeverity {
 
     /// The severity of a word in upper case, or `UnknownSeverity` where none has it.
     fn try_from(word: &str) -> Result<PgSeverity, Error> {
-        Ok(match word {
-            "PANIC" => PgSeverity::Panic,
-            "FATAL" => PgSeverity::Fatal,
-            "ERROR" => PgSeverity::Error,
-            "WARNING" => PgSeverity::Warning,
-            "NOTICE" => PgSeverity::Notice,
-            "DEBUG" => PgSeverity::Debug,
-            "INFO" => PgSeverity::Info,
-            "LOG" => PgSeverity::Log,
-            _ => return Err(ProtocolFault::UnknownSeverity.into()),
-        })
+        PgSeverity::from_word(word).ok_or(ProtocolFault::UnknownSeverity.into())
     }
 }

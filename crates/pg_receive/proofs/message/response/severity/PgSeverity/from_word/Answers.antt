@@ -1,7 +1,7 @@
 use Rattle.std.proofs.Common.{refl}
 use Rattle.pg_receive.specs.Severity.{severity_of_word}
 use Rattle.pg_receive.proofs.SeverityLemmas.{no_word}
-use Rattle.pg_receive.proofs.message.response.severity.PgSeverityTryFromRefStr.try_from.Goals as goal
+use Rattle.pg_receive.proofs.message.response.severity.PgSeverity.from_word.Goals as goal
 
 pub returns-in-PANIC : goal.returns-in-PANIC
 unfolding severity_of_word
@@ -38,4 +38,4 @@ returns-in-LOG c = rw c.in-LOG.is refl
 pub returns-in_default : goal.returns-in_default
 returns-in_default c =
     let arm = c.in_default in
-    rw (no_word c.args.word.now arm.not-PANIC arm.not-FATAL arm.not-ERROR arm.not-WARNING arm.not-NOTICE arm.not-DEBUG arm.not-INFO arm.not-LOG, c.into.ensures) refl
+    rw (no_word c.args.word.now arm.not-PANIC arm.not-FATAL arm.not-ERROR arm.not-WARNING arm.not-NOTICE arm.not-DEBUG arm.not-INFO arm.not-LOG) refl
