@@ -5,3 +5,4 @@ pub mod FieldLemmas
 pub mod MechanismLemmas
 pub mod NoticeLemmas
 pub mod ReadLemmas
+pub mod NumberLemmas
