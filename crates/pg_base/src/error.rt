@@ -108,6 +108,23 @@ impl fmt::Display for ProtocolFault {
 
 impl std::error::Error for ProtocolFault {}
 
+/// The constraint that a statement violated, by the code of the error.
+#[derive(Clone, Copy, Debug, PartialEq, Eq)]
+pub enum ErrorKind {
+    /// A unique or primary key.
+    UniqueViolation,
+    /// A foreign key.
+    ForeignKeyViolation,
+    /// A column that takes no null.
+    NotNullViolation,
+    /// A check constraint.
+    CheckViolation,
+    /// An exclusion constraint.
+    ExclusionViolation,
+    /// Any other error.
+    Other,
+}
+
 /// Why a call of this layer gave no answer.
 #[derive(Clone, Copy, Debug, PartialEq, Eq)]
 pub enum Error {

@@ -1,6 +1,17 @@
 pub mod Received
 pub mod ReadyForQuery
 pub mod ReadyForQueryLaws
+pub mod DatabaseError
+pub mod EndedTexts
+pub mod Fields
+pub mod Last
+pub mod Mechanisms
+pub mod Notice
+pub mod NoticeLaws
+pub mod NumberAt
+pub mod Places
+pub mod Position
+pub mod Severity
 pub use Rattle.pg_base.specs.Answers
 pub use Rattle.pg_base.specs.Faults
 pub use Rattle.pg_base.specs.Formats

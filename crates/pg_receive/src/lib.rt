@@ -1,4 +1,5 @@
 //! The messages that a PostgreSQL server sends, read from their bytes.
 #![tactic(auto)]
 
+pub mod error;
 pub mod message;

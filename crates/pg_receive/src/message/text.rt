@@ -1,6 +1,7 @@
 //! Texts in a body, each ended by a NUL.
 
-ghost use Rattle.std.specs.Prelude.{IfSome, IfNone};
+ghost use Rattle.std.specs.Prelude.{◌≡◌, Some, IfSome, IfNone, option_copied, true, false};
+ghost use Rattle.std.specs.Str.{is_utf8};
 ghost use Rattle.pg_base.specs.Reading.{HoldsNo, Text};
 
 use memchr::memchr;
@@ -13,4 +14,15 @@ pub fn split_text(bytes: &[u8]) -> Option<(&[u8], &[u8])>
 {
     let end = memchr(0, bytes)?;
     Some((&bytes[..end], &bytes[end + 1..]))
+}
+
+/// The bytes as text, where they are UTF-8.
+pub fn utf8_text(bytes: &[u8]) -> Option<&str>
+    ensures text { IfSome result (λ text. (text.now ≡ bytes.now) × (is_utf8 bytes.now ≡ true)) }
+    ensures none { IfNone result (is_utf8 bytes.now ≡ false) }
+{
+    match str::from_utf8(bytes) {
+        Ok(text) => Some(text),
+        Err(_) => None,
+    }
 }

@@ -1,0 +1,11 @@
+use Rattle.std.proofs.Common.{sym, ◌∙◌, arith, ap, length}
+use Rattle.pg_receive.proofs.MechanismLemmas.{mechanisms_at}
+use Rattle.pg_receive.proofs.message.authentication.mechanisms.SaslMechanismsIterator.next.Goals as goal
+
+pub returns-clause-steps : goal.returns-clause-steps
+returns-clause-steps c = sym c.self.view_is ∙ mechanisms_at _ _ _ c.in_ok-name.ensures.found
+
+pub returns-clause-goes : goal.returns-clause-goes
+returns-clause-goes c =
+    let first = sym c.self.view_is ∙ mechanisms_at _ _ _ c.in_ok-name.ensures.found in
+    record { on = λ _. (tt, tt, omega (arith, ap length first)); keeps = tt; rests = λ _. tt }

@@ -1,0 +1,66 @@
+//! The SASL mechanisms that a server offers.
+
+ghost use Rattle.std.specs.Prelude.{◌≡◌, ℕ, ◌*◌, ◌≤◌, List, [], length, IfSome, IfNone};
+ghost use Rattle.std.specs.Iterator.{YieldsFirstRef, item_count};
+ghost use Rattle.pg_receive.specs.Mechanisms.{BeginsWithName, AreMechanisms, mechanisms_in};
+
+use crate::message::{split_text, utf8_text};
+use std::marker::Model;
+
+/// The names of the mechanisms, in order. Documentation: "Message Formats", AuthenticationSASL (B).
+///
+/// They end before the first name that is empty, isn't UTF-8 or has no NUL, and at the end of the
+/// bytes. After them the iterator has none any more.
+#[derive(Drop)]
+pub struct SaslMechanisms<'a> {
+    rest: &'a [u8],
+}
+
+impl<'a> Model for SaslMechanisms<'a> {
+    ghost Value = { List (List ℕ) };
+
+    ghost view = { λ mechanisms. mechanisms_in mechanisms.rest.now };
+}
+
+impl<'a> SaslMechanisms<'a> {
+    /// The mechanisms that some bytes name.
+    pub(crate) fn new(bytes: &'a [u8]) -> SaslMechanisms<'a>
+        ensures { result ≡ mechanisms_in bytes.now }
+    {
+        SaslMechanisms { rest: bytes }
+    }
+}
+
+impl<'a> Iterator for SaslMechanisms<'a> {
+    type Item = &'a str;
+
+    ghost next_gives = { YieldsFirstRef (λ names. names) };
+
+    ghost remaining = { item_count (λ names. names) };
+
+    fn next(&mut self) -> Option<&'a str> {
+        let (name, rest) = split_name(self.rest)?;
+        self.rest = rest;
+        Some(name)
+    }
+}
+
+// The name at the front of some bytes, and what stands behind its NUL.
+fn split_name(bytes: &[u8]) -> Option<(&str, &[u8])>
+    ensures found { IfSome result (λ name. BeginsWithName bytes.now name.0.now name.1.now) }
+    ensures none { IfNone result (mechanisms_in bytes.now ≡ []) }
+{
+    let (text, rest) = split_text(bytes)?;
+    if text.is_empty() {
+        return None;
+    }
+    Some((utf8_text(text)?, rest))
+}
+
+/// The mechanisms are told by cases: each name begins what the ones before it leave. They are no
+/// more than half as many as the bytes.
+pub fn mechanisms_stand_in_order()
+    ensures are { (bytes : List ℕ) → AreMechanisms bytes (mechanisms_in bytes) }
+    ensures only { (bytes : List ℕ) (names : List (List ℕ)) → AreMechanisms bytes names → names ≡ mechanisms_in bytes }
+    ensures half { (bytes : List ℕ) → 2 * length (mechanisms_in bytes) ≤ length bytes }
+{}

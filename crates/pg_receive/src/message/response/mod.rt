@@ -1,0 +1,156 @@
+//! Errors and notices of the server.
+
+mod fields;
+mod read;
+mod severity;
+
+ghost use Rattle.std.specs.Prelude.{◌≡◌, ◌≤◌, ℕ, List, length, None, option_copied};
+ghost use Rattle.std.specs.Str.{is_utf8};
+ghost use Rattle.pg_base.specs.Answers.{Answers};
+ghost use Rattle.pg_base.specs.declared.message.BackendMessageFormat.TheVariants as formats;
+ghost use Rattle.pg_receive.specs.Fields.{fields_in, first_value, first_text};
+ghost use Rattle.pg_receive.specs.Notice.{NoticeValue, MeansNotice, BreaksNotice};
+ghost use Rattle.pg_receive.specs.NoticeLaws.{one_notice, notice_or_fault};
+ghost use Rattle.pg_receive.specs.Places.{IsPlaceIn, bytes_at};
+
+use crate::message::{BackendMessage, utf8_text};
+use bytes::Bytes;
+pub use fields::{Fields, fields_stand_in_order};
+use pg_base::io::{MAX_BODY, ProtocolDecode};
+use pg_base::{BackendMessageFormat, Error};
+pub use severity::PgSeverity;
+use std::alloc::Global;
+use std::marker::Model;
+use std::ops::Range;
+
+/// What the server wants its client to know: a warning, say. Documentation: "Message Formats",
+/// NoticeResponse (B).
+///
+/// Its severity, code and message are read when it is decoded, up to the field behind which the
+/// last message and the last code that were read aren't empty.
+#[derive(Drop)]
+pub struct Notice {
+    storage: Bytes,
+    severity: PgSeverity,
+    message: Range<usize>,
+    code: Range<usize>,
+}
+
+impl Model for Notice {
+    ghost Value = { NoticeValue };
+
+    ghost view = { λ notice. record {
+      fields = fields_in notice.storage;
+      severity = notice.severity;
+      message = bytes_at notice.storage notice.message;
+      code = bytes_at notice.storage notice.code;
+    } };
+
+    ghost invariant = { λ notice. IsPlaceIn notice.storage notice.message × IsPlaceIn notice.storage notice.code };
+}
+
+impl Notice {
+    /// How grave it is: the last severity that was read; without one the last severity in the
+    /// server's language that is a known word; else `Log`.
+    pub fn severity(&self) -> PgSeverity
+        ensures { result ≡ self.now.severity }
+    {
+        self.severity
+    }
+
+    /// The last code that was read, empty where there is none. Documentation: "PostgreSQL Error
+    /// Codes".
+    pub fn code(&self) -> &str
+        ensures { result.now ≡ self.now.code }
+    {
+        text_at(self.storage.as_slice(), &self.code)
+    }
+
+    /// The last message that was read, empty where there is none.
+    pub fn message(&self) -> &str
+        ensures { result.now ≡ self.now.message }
+    {
+        text_at(self.storage.as_slice(), &self.message)
+    }
+
+    /// The first field of a letter, where it is UTF-8. Documentation: "Error and Notice Message
+    /// Fields".
+    pub fn get(&self, ty: u8) -> Option<&str>
+        ensures { option_copied result ≡ first_text ty self.now.fields }
+    {
+        utf8_text(self.get_raw(ty)?)
+    }
+
+    /// The bytes of the first field of a letter.
+    pub fn get_raw(&self, ty: u8) -> Option<&[u8]>
+        ensures { option_copied result ≡ first_value ty self.now.fields }
+    {
+        for (letter, value) in self.fields() {
+            if letter == ty {
+                return Some(value);
+            }
+        }
+        None
+    }
+
+    /// All fields, in order.
+    pub fn fields(&self) -> Fields<'_>
+        ensures { result ≡ self.now.fields }
+    {
+        Fields::new(self.storage.as_slice())
+    }
+}
+
+impl ProtocolDecode for Notice {
+    ghost Shown = { NoticeValue };
+
+    ghost shown = { λ notice. notice };
+
+    ghost Means = { MeansNotice };
+
+    ghost Broken = { BreaksNotice };
+
+    ghost Free = { λ _. Unit {0} };
+
+    fn decode(_alloc: Global, buf: Bytes) -> Result<Self, Error> {
+        let part = read::read(buf.as_slice())?;
+        Ok(Notice {
+            severity: part.severity(),
+            message: part.message,
+            code: part.code,
+            storage: buf,
+        })
+    }
+}
+
+impl BackendMessage for Notice {
+    const FORMAT: BackendMessageFormat = BackendMessageFormat::NoticeResponse;
+
+    ghost FORMAT = { formats.NoticeResponse };
+
+    ghost Shown = { NoticeValue };
+
+    ghost shown = { λ notice. notice };
+
+    ghost Means = { MeansNotice };
+
+    ghost Broken = { BreaksNotice };
+
+    ghost Free = { λ _. Unit {0} };
+
+    fn decode_body(alloc: Global, buf: Bytes) -> Result<Self, Error> {
+        Notice::decode(alloc, buf)
+    }
+
+    ghost one_value = { one_notice };
+
+    ghost never_both = { notice_or_fault };
+}
+
+// The text at a place that was found to hold one.
+fn text_at<'a>(body: &'a [u8], place: &Range<usize>) -> &'a str
+    requires { IsPlaceIn body.now place.now }
+    ensures { result.now ≡ bytes_at body.now place.now }
+{
+    unsafe { str::from_utf8_unchecked(&body[place.start..place.end]) }
+}
