@@ -1,3 +1,14 @@
+pub mod BackendKeyData
+pub mod BackendKeyDataLaws
+pub mod CommandComplete
+pub mod DataRow
+pub mod DataRowLaws
+pub mod Items
+pub mod ItemsLaws
+pub mod Notification
+pub mod NotificationLaws
+pub mod ParameterStatus
+pub mod ParameterStatusLaws
 pub mod Received
 pub mod ReadyForQuery
 pub mod ReadyForQueryLaws
@@ -12,6 +23,8 @@ pub mod NumberAt
 pub mod Places
 pub mod Position
 pub mod Severity
+pub mod Strings
+pub mod StringsLaws
 pub use Rattle.pg_base.specs.Answers
 pub use Rattle.pg_base.specs.Faults
 pub use Rattle.pg_base.specs.Formats

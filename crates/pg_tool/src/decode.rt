@@ -4,7 +4,11 @@ use crate::fault::ToolFault;
 use crate::line::{Lines, hex_bytes};
 use bytes::Bytes;
 use pg_base::{BackendMessageFormat, Error};
-use pg_receive::message::{BackendMessage, ReadyForQuery, ReceivedMessage};
+use pg_receive::error::PgDatabaseError;
+use pg_receive::message::{
+    BackendKeyData, BackendMessage, CommandComplete, CopyData, CopyDone, Notice, Notification,
+    ParameterStatus, ReadyForQuery, ReceivedMessage,
+};
 use std::alloc::{AllocError, Global};
 
 /// A tag and the body behind it.
@@ -91,6 +95,14 @@ fn outcome_of(
     let contents = Bytes::from_vec(body)?;
     let message = ReceivedMessage { format, contents };
     match format {
+        BackendMessageFormat::BackendKeyData => typed::<BackendKeyData>(alloc, message),
+        BackendMessageFormat::CommandComplete => typed::<CommandComplete>(alloc, message),
+        BackendMessageFormat::CopyData => typed::<CopyData<Bytes>>(alloc, message),
+        BackendMessageFormat::CopyDone => typed::<CopyDone>(alloc, message),
+        BackendMessageFormat::ErrorResponse => typed::<PgDatabaseError>(alloc, message),
+        BackendMessageFormat::NoticeResponse => typed::<Notice>(alloc, message),
+        BackendMessageFormat::NotificationResponse => typed::<Notification>(alloc, message),
+        BackendMessageFormat::ParameterStatus => typed::<ParameterStatus>(alloc, message),
         BackendMessageFormat::ReadyForQuery => typed::<ReadyForQuery>(alloc, message),
         _ => Ok(Outcome::Untyped),
     }

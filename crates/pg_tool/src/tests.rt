@@ -226,6 +226,14 @@ fn decodes(rt: HostRuntime) -> Result<(), Fail> {
         ),
         ("5A 4900", "ReadyForQuery ok\n"),
         (
+            "53 6100ff00",
+            "Postgres protocol error (reading ParameterStatus): text is not UTF-8\n",
+        ),
+        (
+            "45 56464f4f0000",
+            "Postgres protocol error (reading ErrorResponse): unknown severity\n",
+        ),
+        (
             "31 -\n76 -\n",
             "ParseComplete untyped\nunknown message type: 118\n",
         ),

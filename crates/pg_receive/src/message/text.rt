@@ -1,10 +1,13 @@
 //! Texts in a body, each ended by a NUL.
 
-ghost use Rattle.std.specs.Prelude.{◌≡◌, Some, IfSome, IfNone, option_copied, true, false};
+ghost use Rattle.std.specs.Prelude.{◌≡◌, ◌+◌, ◌≤◌, length, drop, IfSome, IfNone, IfOk, IfErr, true, false};
 ghost use Rattle.std.specs.Str.{is_utf8};
 ghost use Rattle.pg_base.specs.Reading.{HoldsNo, Text};
+ghost use Rattle.pg_receive.specs.Strings.{Utf8Text, LacksNul, BreaksText};
 
 use memchr::memchr;
+use pg_base::ProtocolFault;
+use std::str;
 
 /// The text at the front of some bytes, and what stands behind its NUL. Nothing where there is no
 /// NUL.
@@ -24,5 +27,34 @@ pub fn utf8_text(bytes: &[u8]) -> Option<&str>
     match str::from_utf8(bytes) {
         Ok(text) => Some(text),
         Err(_) => None,
+    }
+}
+
+/// The text at an offset within a body, and the offset behind its NUL. Refused with `MissingNul`
+/// where there is no NUL.
+pub fn text_at(body: &[u8], at: usize) -> Result<(&[u8], usize), ProtocolFault>
+    requires { at ≤ length body.now }
+    ensures found { IfOk result (λ found. Text (drop at body.now) found.0.now (drop found.1 body.now)) }
+    ensures behind { IfOk result (λ found. (found.1 ≡ at + length found.0.now + 1) × (found.1 ≤ length body.now)) }
+    ensures missing { IfErr result (LacksNul at (drop at body.now)) }
+{
+    let Some((text, _)) = split_text(&body[at..]) else {
+        return Err(ProtocolFault::MissingNul { at });
+    };
+    Ok((text, at + text.len() + 1))
+}
+
+/// The text at an offset within a body, as [`text_at`], and refused with `NotUtf8` where it isn't
+/// UTF-8.
+pub fn str_at(body: &[u8], at: usize) -> Result<(&str, usize), ProtocolFault>
+    requires { at ≤ length body.now }
+    ensures found { IfOk result (λ found. Utf8Text (drop at body.now) found.0.now (drop found.1 body.now)) }
+    ensures behind { IfOk result (λ found. (found.1 ≡ at + length found.0.now + 1) × (found.1 ≤ length body.now)) }
+    ensures broken { IfErr result (BreaksText at (drop at body.now)) }
+{
+    let (text, behind) = text_at(body, at)?;
+    match str::from_utf8(text) {
+        Ok(text) => Ok((text, behind)),
+        Err(_) => Err(ProtocolFault::NotUtf8),
     }
 }

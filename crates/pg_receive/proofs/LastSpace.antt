@@ -1,0 +1,49 @@
+-- What stands behind the last of a byte.
+use Rattle.std.proofs.Common.{◌≡◌, ◌≢◌, ℕ, unwrap_or, ◌+◌, ◌-◌, ◌<◌, eqb, true, List, [], ◌∷◌, ◌++◌, Option, Some, None, length, get_or, take, drop, refl, sym, ap, ◌∙◌, arith, inl, inr}
+use Rattle.std.proofs.lemmas.Bool.{eqb-true, eq-eqb}
+use Rattle.std.proofs.lemmas.List.{take_all, length-drop, get_or-drop}
+use Rattle.memchr.specs.Find.{Nowhere, Passes, is_byte, NoneAfter}
+use Rattle.pg_base.specs.Reading.{HoldsNo}
+use Rattle.pg_base.specs.Atoi.{Atoi}
+use Rattle.pg_base.proofs.Readings.{holds_no}
+use Rattle.pg_receive.specs.CommandComplete.{max_rows, BehindLastSpace, IsRowsAffected}
+use Rattle.pg_receive.proofs.Texts.{around, nowhere_holds_no}
+
+-- bytes without a byte aren't parted by one
+no_part : (byte : ℕ) (bytes front rest : List ℕ) → HoldsNo byte bytes → bytes ≡ front ++ byte ∷ rest → ⊥
+no_part byte [] [] rest h e = absurd cc
+no_part byte [] (c ∷ front) rest h e = absurd cc
+no_part byte (b ∷ bytes) [] rest h e = h.0 (let heads : b ≡ byte = cc in heads)
+no_part byte (b ∷ bytes) (c ∷ front) rest h e = no_part byte bytes front rest h.1 (let tails : bytes ≡ front ++ byte ∷ rest = cc in tails)
+
+one_tail : (front other x y : List ℕ) → HoldsNo 32 x → HoldsNo 32 y → front ++ 32 ∷ x ≡ other ++ 32 ∷ y → x ≡ y
+one_tail [] [] x y p q e = cc
+one_tail [] (c ∷ other) x y p q e = absurd (no_part 32 x other y p (let tails : x ≡ other ++ 32 ∷ y = cc in tails))
+one_tail (c ∷ front) [] x y p q e = absurd (no_part 32 y front x q (let tails : y ≡ front ++ 32 ∷ x = cc in tails))
+one_tail (c ∷ front) (d ∷ other) x y p q e = one_tail front other x y p q (let tails : front ++ 32 ∷ x ≡ other ++ 32 ∷ y = cc in tails)
+
+pub behind_last : (tag : List ℕ) (space : ℕ) → NoneAfter (Passes (is_byte 32) tag) 0 (length tag) space → eqb (get_or tag space 0) 32 ≡ true
+    → BehindLastSpace tag (take (length tag - (space + 1)) (drop (space + 1) tag))
+behind_last tag space h is =
+    let tail = drop (space + 1) tag in
+    let whole : take (length tag - (space + 1)) tail ≡ tail = take_all (length tag - (space + 1)) tail (omega (arith, length-drop (space + 1) tag)) in
+    let space_is : get_or tag space 0 ≡ 32 = eqb-true (get_or tag space 0) 32 is in
+    rw whole (record {
+      front = take space tag;
+      parts = rw space_is at (around space tag h.high);
+      last = holds_no 32 tail (λ k lt e.
+          let at_is : get_or tag (space + 1 + k) 0 ≡ 32 = sym (get_or-drop (space + 1) tag k 0) ∙ e in
+          h.after (space + 1 + k) (omega arith) (omega (arith, lt, length-drop (space + 1) tag)) (eq-eqb (get_or tag (space + 1 + k) 0) 32 at_is));
+    })
+
+-- the number behind the last space
+pub rows_behind : (tag tail : List ℕ) (found : Option ℕ) (rows : ℕ) → BehindLastSpace tag tail → Atoi max_rows tail found → rows ≡ unwrap_or found 0 → IsRowsAffected tag rows
+rows_behind tag tail (Some n) rows behind number is = inl (record { tail = tail; behind = behind; number = rw is number })
+rows_behind tag tail None rows behind number is = inr (
+  is,
+  λ other q.
+      rw (one_tail q.front behind.front other tail q.last behind.last (sym q.parts ∙ behind.parts)) number,
+)
+
+pub no_rows : (tag : List ℕ) → Nowhere (Passes (is_byte 32) tag) 0 (length tag) → IsRowsAffected tag 0
+no_rows tag h = inr (refl, λ tail q. absurd (no_part 32 tag q.front tail (nowhere_holds_no 32 tag h) q.parts))

@@ -1,0 +1,51 @@
+-- DataRow: the cells of a row. Documentation: "Message Formats", DataRow (B).
+use Rattle.std.specs.Prelude.{◌≡◌, ℕ, ◌+◌, ◌≤◌, ℤ, pos, ◌<ℤ◌, List, ◌++◌, length, Option, Some, None, ◌⊎◌}
+use Rattle.pg_base.specs.declared.error.ProtocolFault.{ProtocolFault}
+use Rattle.pg_base.specs.Numbers.{int}
+use Rattle.pg_base.specs.Faults.{IsShort}
+use Rattle.pg_receive.specs.Items.{CountedItems, BreaksItems, AsksForNothing}
+
+-- NULL is any negative length
+pub record SpellsNull (spelled : List ℕ) : Type 0 where
+  pub wide : length spelled ≡ 4
+  pub negative : int spelled <ℤ pos 0
+
+-- a value stands behind its length
+pub record SpellsValue (spelled value : List ℕ) : Type 0 where
+  pub field : List ℕ
+  pub wide : length field ≡ 4
+  pub counts : int field ≡ pos (length value)
+  pub fits : length value ≤ 2147483647
+  pub parts : spelled ≡ field ++ value
+
+-- a cell is NULL or a value
+abbrev pub SpellsCell : List ℕ → Option (List ℕ) → Type 0
+SpellsCell spelled None = SpellsNull spelled
+SpellsCell spelled (Some value) = SpellsValue spelled value
+
+-- the length is there, and fewer bytes stand behind it than it says
+pub record LacksValue (body : List ℕ) (at : ℕ) (bytes : List ℕ) (fault : ProtocolFault) : Type 0 where
+  pub field : List ℕ
+  pub behind : List ℕ
+  pub needed : ℕ
+  pub wide : length field ≡ 4
+  pub counts : int field ≡ pos needed
+  pub parts : bytes ≡ field ++ behind
+  pub short : IsShort body (at + 4) needed fault
+
+-- the bytes at this offset of the body begin with no cell
+abbrev pub BreaksCell : List ℕ → ℕ → List ℕ → ProtocolFault → Type 0
+BreaksCell body at bytes fault = IsShort body at 4 fault ⊎ LacksValue body at bytes fault
+
+-- the least number of bytes that spell a cell
+abbrev pub least_cell : ℕ
+least_cell = 4
+
+abbrev pub Row : List ℕ → List (Option (List ℕ)) → Type 0
+Row body cells = CountedItems SpellsCell body cells
+
+abbrev pub BreaksRow : List ℕ → ProtocolFault → Type 0
+BreaksRow body fault = BreaksItems SpellsCell BreaksCell least_cell body fault
+
+abbrev pub FreeRow : List ℕ → Type 0
+FreeRow body = AsksForNothing least_cell 0 body

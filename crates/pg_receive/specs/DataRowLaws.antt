@@ -1,0 +1,50 @@
+-- A body is one row, or has a fault.
+use Rattle.std.specs.Prelude.{◌≡◌, ℕ, ◌+◌, ◌≤◌, pos, List, ◌++◌, length, Option, Some, None}
+use Rattle.std.proofs.Common.{refl, sym, ap, ◌∙◌, arith, inl, inr, append_assoc, length-append}
+use Rattle.std.proofs.lemmas.Int.{ints}
+use Rattle.pg_base.specs.declared.error.ProtocolFault.{ProtocolFault}
+use Rattle.pg_base.specs.Numbers.{int}
+use Rattle.pg_base.proofs.Cuts.{parts_at}
+use Rattle.pg_receive.specs.Items.{CountedItems}
+use Rattle.pg_receive.specs.ItemsLaws.{SpellsOne, TakesAtLeast, ItemOrFault, one_items, items_take, items_or_fault}
+use Rattle.pg_receive.specs.DataRow.{SpellsCell, BreaksCell, BreaksRow, Row, least_cell}
+
+pub one_cell : SpellsOne SpellsCell
+one_cell s t x y None None p q e =
+    let both = parts_at s t x y (p.wide ∙ sym q.wide) e in
+    (refl, both.1)
+one_cell s t x y None (Some w) p q e =
+    let both = parts_at s q.field x (w ++ y) (p.wide ∙ sym q.wide) (e ∙ ap (λ (l : List ℕ). l ++ y) q.parts ∙ append_assoc q.field w y) in
+    absurd (omega (arith, ints, p.negative, ap int both.0, q.counts))
+one_cell s t x y (Some v) None p q e =
+    let both = parts_at p.field t (v ++ x) y (p.wide ∙ sym q.wide) (sym (append_assoc p.field v x) ∙ ap (λ (l : List ℕ). l ++ x) (sym p.parts) ∙ e) in
+    absurd (omega (arith, ints, q.negative, ap int both.0, p.counts))
+one_cell s t x y (Some v) (Some w) p q e =
+    let whole : p.field ++ (v ++ x) ≡ q.field ++ (w ++ y) =
+      sym (append_assoc p.field v x) ∙ ap (λ (l : List ℕ). l ++ x) (sym p.parts) ∙ e ∙ ap (λ (l : List ℕ). l ++ y) q.parts ∙ append_assoc q.field w y in
+    let fields = parts_at p.field q.field (v ++ x) (w ++ y) (p.wide ∙ sym q.wide) whole in
+    let counts : pos (length v) ≡ pos (length w) = sym p.counts ∙ ap int fields.0 ∙ q.counts in
+    let lengths : length v ≡ length w = cc in
+    let both = parts_at v w x y lengths fields.1 in
+    (ap Some both.0, both.1)
+
+pub cell_takes : TakesAtLeast least_cell SpellsCell
+cell_takes s None p = omega (arith, p.wide)
+cell_takes s (Some v) p = omega (arith, p.wide, ap length p.parts, length-append p.field v)
+
+pub cell_or_fault : ItemOrFault SpellsCell BreaksCell
+cell_or_fault body s x at v fault len p (inl short) = omega (arith, short.lacks, len, length-append s x, cell_takes s v p)
+cell_or_fault body s x at None fault len p (inr lacks) =
+    let both = parts_at s lacks.field x lacks.behind (p.wide ∙ sym lacks.wide) lacks.parts in
+    omega (arith, ints, p.negative, ap int both.0, lacks.counts)
+cell_or_fault body s x at (Some v) fault len p (inr lacks) =
+    let both = parts_at p.field lacks.field (v ++ x) lacks.behind (p.wide ∙ sym lacks.wide) (sym (append_assoc p.field v x) ∙ ap (λ (l : List ℕ). l ++ x) (sym p.parts) ∙ lacks.parts) in
+    let counts : pos (length v) ≡ pos lacks.needed = sym p.counts ∙ ap int both.0 ∙ lacks.counts in
+    let lengths : length v ≡ lacks.needed = cc in
+    omega (arith, lacks.short.lacks, lengths, len, length-append s x, ap length p.parts, length-append p.field v, p.wide)
+
+pub one_row : (body : List ℕ) (v w : List (Option (List ℕ))) → Row body v → Row body w → v ≡ w
+one_row body v w p q = one_items SpellsCell one_cell body v w p q
+
+pub row_or_fault : (body : List ℕ) (v : List (Option (List ℕ))) (fault : ProtocolFault) → Row body v → BreaksRow body fault → ⊥
+row_or_fault body v fault p q = items_or_fault SpellsCell BreaksCell least_cell one_cell cell_takes cell_or_fault body v fault p q

@@ -1,0 +1,88 @@
+//! What a cancel request has to name.
+
+ghost use Rattle.std.specs.Prelude.{None};
+ghost use Rattle.pg_base.specs.Answers.{Answers};
+ghost use Rattle.pg_base.specs.declared.message.BackendMessageFormat.TheVariants as formats;
+ghost use Rattle.pg_receive.specs.BackendKeyData.{MeansKey, BreaksKey};
+
+use crate::message::BackendMessage;
+use bytes::Bytes;
+use pg_base::io::u32_at;
+use pg_base::{BackendMessageFormat, Error};
+use std::alloc::Global;
+
+/// The process that serves this connection, and the secret that a request to cancel its work has
+/// to name too. Documentation: "Message Formats", BackendKeyData (B).
+#[derive(Clone, Copy, Debug, PartialEq, Eq)]
+pub struct BackendKeyData {
+    pub process_id: u32,
+    pub secret_key: u32,
+}
+
+impl BackendMessage for BackendKeyData {
+    ghost use Rattle.pg_receive.specs.declared.message.backend_key_data.BackendKeyData.{BackendKeyData};
+    ghost use Rattle.pg_receive.specs.BackendKeyDataLaws.{one_key, key_or_fault};
+
+    const FORMAT: BackendMessageFormat = BackendMessageFormat::BackendKeyData;
+
+    ghost FORMAT = { formats.BackendKeyData };
+
+    ghost Shown = { BackendKeyData };
+
+    ghost shown = { λ key. key };
+
+    ghost Means = { MeansKey };
+
+    ghost Broken = { BreaksKey };
+
+    ghost Free = { λ _. Unit {0} };
+
+    fn decode_body(_alloc: Global, buf: Bytes) -> Result<Self, Error> {
+        key_of(buf.as_slice())
+    }
+
+    ghost one_value = { one_key };
+
+    ghost never_both = { key_or_fault };
+}
+
+fn key_of(body: &[u8]) -> Result<BackendKeyData, Error>
+    ensures { Answers MeansKey BreaksKey (λ _. Unit {0}) (λ key. key) None body.now result }
+{
+    let process_id = u32_at(body, 0)?;
+    let secret_key = u32_at(body, 4)?;
+    Ok(BackendKeyData {
+        process_id,
+        secret_key,
+    })
+}
+
+#[cfg(test)]
+mod tests {
+    use super::*;
+    use pg_base::ProtocolFault;
+    use std::test::Fail;
+
+    #[test]
+    fn process_and_secret(rt: HostRuntime) -> Result<(), Fail> {
+        let body = Bytes::from_static(&[0x00, 0x00, 0x27, 0xC6, 0x89, 0x52, 0xC5, 0x2B]);
+        let key = BackendKeyData::decode_body(rt.alloc(), body)?;
+        assert_eq!(rt; key.process_id, 10182);
+        assert_eq!(rt; key.secret_key, 2303903019);
+        Ok(())
+    }
+
+    #[test]
+    fn half_a_secret(rt: HostRuntime) {
+        let body = Bytes::from_static(&[0x00, 0x00, 0x27, 0xC6, 0x89, 0x52]);
+        let fault = ProtocolFault::Short {
+            at: 4,
+            needed: 4,
+            got: 2,
+        };
+        assert_eq!(rt;
+            BackendKeyData::decode_body(rt.alloc(), body),
+            Err(Error::from(fault))
+        );
+    }
+}

@@ -1,0 +1,98 @@
+//! A command that is done.
+
+ghost use Rattle.std.specs.Prelude.{◌≡◌, ℕ, List};
+ghost use Rattle.pg_base.specs.declared.message.BackendMessageFormat.TheVariants as formats;
+ghost use Rattle.pg_receive.specs.CommandComplete.{IsRowsAffected};
+
+use crate::message::BackendMessage;
+use bytes::Bytes;
+use memchr::memrchr;
+use pg_base::io::atoi_u64;
+use pg_base::{BackendMessageFormat, Error};
+use std::alloc::Global;
+use std::marker::Model;
+
+/// A command is done; its tag says which, and mostly how many rows it had to do with.
+/// Documentation: "Message Formats", CommandComplete (B).
+#[derive(Drop)]
+pub struct CommandComplete {
+    tag: Bytes,
+}
+
+impl Model for CommandComplete {
+    ghost Value = { List ℕ };
+
+    ghost view = { λ done. done.tag };
+}
+
+impl CommandComplete {
+    /// How many rows the command had to do with: the number behind the last space of its tag, and 0
+    /// where there is none.
+    pub fn rows_affected(&self) -> u64
+        ensures { IsRowsAffected self.now result }
+    {
+        rows_in(self.tag.as_slice())
+    }
+}
+
+impl BackendMessage for CommandComplete {
+    ghost use Rattle.std.specs.Prelude.{◌≡◌, ℕ, List};
+    ghost use Rattle.std.proofs.Common.{◌∙◌, sym};
+
+    const FORMAT: BackendMessageFormat = BackendMessageFormat::CommandComplete;
+
+    ghost FORMAT = { formats.CommandComplete };
+
+    ghost Shown = { List ℕ };
+
+    ghost shown = { λ done. done };
+
+    // Every body is a tag.
+    ghost Means = { λ body tag. tag ≡ body };
+
+    ghost Broken = { λ _ _. ⊥ };
+
+    ghost Free = { λ _. Unit {0} };
+
+    fn decode_body(_alloc: Global, buf: Bytes) -> Result<Self, Error> {
+        Ok(CommandComplete { tag: buf })
+    }
+
+    ghost one_value = { λ body v w p q. p ∙ sym q };
+
+    ghost never_both = { λ body v fault p q. q };
+}
+
+fn rows_in(tag: &[u8]) -> u64
+    ensures { IsRowsAffected tag.now result }
+{
+    match memrchr(b' ', tag) {
+        Some(space) => atoi_u64(&tag[space + 1..]).unwrap_or(0),
+        None => 0,
+    }
+}
+
+#[cfg(test)]
+mod tests {
+    use super::*;
+    use std::test::Fail;
+
+    #[test]
+    fn rows_of_tags(rt: HostRuntime) -> Result<(), Fail> {
+        let table: [(&'static [u8], u64); 7] = [
+            (b"INSERT 0 1214\0", 1214),
+            (b"BEGIN\0", 0),
+            (b"UPDATE 18446744073709551616\0", 0),
+            (b"COPY +5\0", 5),
+            (b"SELECT 007x\0", 7),
+            (b"SELECT 7 \0", 0),
+            (b"UPDATE 5\0", 5),
+        ];
+        for (tag, rows) in table {
+            assert!(rt; tag.len() < 100);
+            let done = CommandComplete::decode_body(rt.alloc(), Bytes::from_static(tag))?;
+            assert_eq!(rt; done.rows_affected(), rows, "at {tag:?}");
+        }
+        Ok(())
+    }
+}

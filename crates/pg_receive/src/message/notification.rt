@@ -1,0 +1,172 @@
+//! A notification from another session.
+
+ghost use Rattle.std.specs.Prelude.{◌≡◌, ◌+◌, ◌<◌, ◌-◌, None, IfOk, IfErr};
+ghost use Rattle.pg_base.specs.declared.error.Error.TheVariants.{OutOfMemory};
+ghost use Rattle.pg_base.specs.Answers.{Answers};
+ghost use Rattle.pg_base.specs.declared.message.BackendMessageFormat.TheVariants as formats;
+ghost use Rattle.pg_receive.specs.Notification.{Notified, MeansNotification, BreaksNotification};
+
+use crate::message::BackendMessage;
+use crate::message::text::text_at;
+use bytes::Bytes;
+use pg_base::io::u32_at;
+use pg_base::{BackendMessageFormat, Error};
+use std::alloc::Global;
+use std::marker::Model;
+
+/// A notification on a channel that this session listens to. Channel and payload are any bytes but
+/// NUL. Documentation: "Message Formats", NotificationResponse (B).
+#[derive(Drop)]
+pub struct Notification {
+    process_id: u32,
+    // The channel, its NUL, and the payload.
+    texts: Bytes,
+    channel_len: usize,
+}
+
+impl Model for Notification {
+    ghost use Rattle.std.specs.Prelude.{◌+◌, ◌<◌, length, take, drop};
+    ghost use Rattle.pg_receive.specs.Notification.{Notified};
+
+    ghost Value = { Notified };
+
+    ghost view = { λ n. record { process_id = n.process_id; channel = take n.channel_len n.texts; payload = drop (n.channel_len + 1) n.texts } };
+
+    ghost invariant = { λ n. n.channel_len < length n.texts };
+}
+
+impl Notification {
+    /// The process that notified.
+    pub fn process_id(&self) -> u32
+        ensures { result ≡ self.now.process_id }
+    {
+        self.process_id
+    }
+
+    /// The channel, without its NUL.
+    pub fn channel(&self) -> &[u8]
+        ensures { result.now ≡ self.now.channel }
+    {
+        &self.texts.as_slice()[..self.channel_len]
+    }
+
+    /// The payload, without its NUL.
+    pub fn payload(&self) -> &[u8]
+        ensures { result.now ≡ self.now.payload }
+    {
+        &self.texts.as_slice()[self.channel_len + 1..]
+    }
+
+    /// The same notification, which shares the bytes of this one. Refused with `OutOfMemory` alone.
+    pub fn clone(&self) -> Result<Self, Error>
+        ensures same { IfOk result (λ other. other ≡ self.now) }
+        ensures err { IfErr result (λ error. error ≡ OutOfMemory) }
+    {
+        Ok(Notification {
+            process_id: self.process_id,
+            texts: self.texts.clone()?,
+            channel_len: self.channel_len,
+        })
+    }
+}
+
+impl BackendMessage for Notification {
+    ghost use Rattle.pg_receive.specs.Notification.{Notified, MeansNotification, BreaksNotification};
+    ghost use Rattle.pg_receive.specs.NotificationLaws.{one_notification, notification_or_fault};
+
+    const FORMAT: BackendMessageFormat = BackendMessageFormat::NotificationResponse;
+
+    ghost FORMAT = { formats.NotificationResponse };
+
+    ghost Shown = { Notified };
+
+    ghost shown = { λ notification. notification };
+
+    ghost Means = { MeansNotification };
+
+    ghost Broken = { BreaksNotification };
+
+    ghost Free = { λ _. Unit {0} };
+
+    fn decode_body(_alloc: Global, mut buf: Bytes) -> Result<Self, Error> {
+        let (process_id, channel, payload) = parts_of(buf.as_slice())?;
+        let channel_len = channel.len();
+        let texts_len = channel_len + 1 + payload.len();
+        buf.advance(4);
+        buf.truncate(texts_len);
+        Ok(Notification {
+            process_id,
+            texts: buf,
+            channel_len,
+        })
+    }
+
+    ghost one_value = { one_notification };
+
+    ghost never_both = { notification_or_fault };
+}
+
+// The number of the process, the channel and the payload.
+fn parts_of(body: &[u8]) -> Result<(u32, &[u8], &[u8]), Error>
+    ensures { Answers MeansNotification BreaksNotification (λ _. Unit {0}) (λ parts. record { process_id = parts.0; channel = parts.1.now; payload = parts.2.now }) None body.now result }
+{
+    let process_id = u32_at(body, 0)?;
+    let (channel, behind) = text_at(body, 4)?;
+    let (payload, _) = text_at(body, behind)?;
+    Ok((process_id, channel, payload))
+}
+
+#[cfg(test)]
+mod tests {
+    use super::*;
+    use pg_base::ProtocolFault;
+    use std::test::Fail;
+
+    const BODY: &[u8] = b"\x34\x20\x10\x02TEST-CHANNEL\0THIS IS A TEST\0";
+
+    #[test]
+    fn channel_and_payload(rt: HostRuntime) -> Result<(), Fail> {
+        let notification = Notification::decode_body(rt.alloc(), Bytes::from_static(BODY))?;
+        let other = notification.clone()?;
+        drop(notification);
+        assert_eq!(rt; other.process_id(), 0x34201002);
+        assert_eq!(rt; other.channel(), b"TEST-CHANNEL".as_slice());
+        assert_eq!(rt; other.payload(), b"THIS IS A TEST".as_slice());
+        Ok(())
+    }
+
+    #[test]
+    fn channel_of_any_bytes(rt: HostRuntime) -> Result<(), Fail> {
+        let body = Bytes::from_static(&[0x00, 0x00, 0x00, 0x01, 0xFF, 0x00, 0x00]);
+        let notification = Notification::decode_body(rt.alloc(), body)?;
+        assert_eq!(rt; notification.process_id(), 1);
+        assert_eq!(rt; notification.channel(), [0xFF].as_slice());
+        assert!(rt; notification.payload().is_empty());
+        Ok(())
+    }
+
+    #[test]
+    fn broken_bodies(rt: HostRuntime) {
+        let short = ProtocolFault::Short {
+            at: 0,
+            needed: 4,
+            got: 3,
+        };
+        let table: [(&'static [u8], ProtocolFault); 3] = [
+            (&[0x00, 0x00, 0x00], short),
+            (
+                &[0x00, 0x00, 0x00, 0x01, 0x61, 0x00],
+                ProtocolFault::MissingNul { at: 6 },
+            ),
+            (
+                &BODY[..BODY.len() - 1],
+                ProtocolFault::MissingNul { at: 17 },
+            ),
+        ];
+        for (body, fault) in table {
+            assert!(rt; body.len() < 200);
+            let notification = Notification::decode_body(rt.alloc(), Bytes::from_static(body));
+            assert_eq!(rt; notification.err(), Some(Error::from(fault)), "at {body:?}");
+        }
+    }
+}
