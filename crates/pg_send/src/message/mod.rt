@@ -19,6 +19,8 @@ mod sync;
 mod tagged;
 mod target;
 mod terminate;
+#[cfg(test)]
+mod tests;
 
 pub use bind::Bind;
 pub use close::Close;

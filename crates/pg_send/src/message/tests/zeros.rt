@@ -1,0 +1,116 @@
+//! Messages of any length, and one that wants more room than there is.
+
+ghost use Rattle.std.specs.Prelude.{◌^◌, None, replicate};
+
+use crate::message::frame::check_len;
+use crate::message::{FrontendMessage, encode_frame};
+use pg_base::{Error, FrontendMessageFormat, ProtocolFault};
+use std::test::Fail;
+
+/// That many zero bytes.
+#[derive(Drop)]
+struct Zeros(usize);
+
+impl FrontendMessage for Zeros {
+    const FORMAT: FrontendMessageFormat = FrontendMessageFormat::CopyData;
+
+    ghost tag = { λ _. 100 };
+
+    ghost body = { λ zeros. replicate zeros.0 0 };
+
+    ghost count_fault = { λ _. None };
+
+    ghost hint = { λ zeros. zeros.0 };
+
+    ghost in_range = { λ _. Unit {0} };
+
+    fn tag(&self) -> u8 {
+        Self::FORMAT as u8
+    }
+
+    fn body_size_hint(&self) -> usize {
+        self.0
+    }
+
+    fn checked_body_len(&self) -> Result<usize, Error> {
+        check_len(None, self.0)
+    }
+
+    fn encode_body(&self, buf: &mut Vec<u8>) -> Result<(), Error> {
+        buf.resize(buf.len() + self.0, 0)?;
+        Ok(())
+    }
+
+    ghost use Rattle.std.proofs.Common.{arith};
+    ghost use Rattle.std.proofs.lemmas.List.{length-replicate};
+
+    ghost enough = { λ zeros h. Prim.grind (arith, length-replicate) };
+}
+
+#[test]
+fn a_frame_of_zeros(rt: HostRuntime) -> Result<(), Fail> {
+    let mut buf = Vec::from_slice(rt.alloc(), b"\xaa")?;
+    encode_frame(&Zeros(2), &mut buf)?;
+    assert_eq!(rt; buf.as_slice(), b"\xaad\x00\x00\x00\x06\x00\x00".as_slice());
+    Ok(())
+}
+
+#[test]
+fn too_many_zeros(rt: HostRuntime) -> Result<(), Fail> {
+    let mut buf = Vec::from_slice(rt.alloc(), b"\xaa")?;
+    let capacity = buf.capacity();
+    for (len, told) in [(2147483644, 2147483648), (usize::MAX, usize::MAX)] {
+        let fault = ProtocolFault::MessageTooLong(told);
+        assert_eq!(rt; encode_frame(&Zeros(len), &mut buf), Err(fault.into()));
+        assert_eq!(rt; buf.as_slice(), b"\xaa".as_slice());
+        assert_eq!(rt; buf.capacity(), capacity);
+    }
+    Ok(())
+}
+
+/// A byte for which no buffer has the room that it asks for.
+#[derive(Drop)]
+struct Spacious;
+
+impl FrontendMessage for Spacious {
+    const FORMAT: FrontendMessageFormat = FrontendMessageFormat::CopyData;
+
+    ghost tag = { λ _. 100 };
+
+    ghost body = { λ _. replicate 1 0 };
+
+    ghost count_fault = { λ _. None };
+
+    ghost hint = { λ _. 2 ^ 62 };
+
+    ghost in_range = { λ _. Unit {0} };
+
+    fn tag(&self) -> u8 {
+        Self::FORMAT as u8
+    }
+
+    fn body_size_hint(&self) -> usize {
+        1 << 62
+    }
+
+    fn checked_body_len(&self) -> Result<usize, Error> {
+        check_len(None, 1)
+    }
+
+    fn encode_body(&self, buf: &mut Vec<u8>) -> Result<(), Error> {
+        buf.push(0)?;
+        Ok(())
+    }
+
+    ghost use Rattle.std.proofs.Common.{arith};
+
+    ghost enough = { λ _ h. Prim.omega arith };
+}
+
+#[test]
+fn refused_room_leaves_the_bytes(rt: HostRuntime) -> Result<(), Fail> {
+    let mut buf = Vec::from_slice(rt.alloc(), b"\xaa")?;
+    assert_eq!(rt; encode_frame(&Spacious, &mut buf), Err(Error::OutOfMemory));
+    assert_eq!(rt; buf.as_slice(), b"\xaa".as_slice());
+    Ok(())
+}
