@@ -1,11 +1,13 @@
 // Refuses requests for memory in a test process.
 //
-// REFUSE_AT=N refuses the Nth request alone. A request of SWITCH bytes, which no test means, turns
+// REFUSE_AT=N refuses the Nth request, and then makes the file REFUSE_MARK. A request of SWITCH bytes, which no test means, turns
 // the refusal of every request on, and the next one off again; it is refused itself.
 #define _GNU_SOURCE
 #include <dlfcn.h>
 #include <errno.h>
+#include <fcntl.h>
 #include <stdlib.h>
+#include <unistd.h>
 
 #define SWITCH ((size_t)0x524546555345)
 
@@ -30,6 +32,10 @@ static int is_refused(size_t size) {
         return 1;
     }
     requests += 1;
+    if (requests == refused_at) {
+        const char *mark = getenv("REFUSE_MARK");
+        if (mark) close(open(mark, O_CREAT | O_WRONLY, 0600));
+    }
     if (refuses_all || requests == refused_at) {
         errno = ENOMEM;
         return 1;

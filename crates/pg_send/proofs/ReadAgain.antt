@@ -226,8 +226,7 @@ hex_again : (bytes : List ℕ) → All (λ b. b < 256) bytes → HexBytes (encod
 unfolding encode_with
 hex_again [] small = refl
 hex_again (b ∷ bytes) small =
-    let lt : b < 256 = All-head (λ x. x < 256) b bytes small in
-    (
+    let lt : b < 256 = All-head (λ x. x < 256) b bytes small in (
       encode_lower bytes,
       record {
         high = slice_index lower_digits (b / 16);

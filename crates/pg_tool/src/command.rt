@@ -168,9 +168,10 @@ fn bind_of(alloc: Global, line: &str) -> Result<Option<Command<'_>>, ToolFault> 
     let (Some(formats), Some(num_params)) = (formats_of(alloc, formats)?, u16_of(count)) else {
         return Ok(None);
     };
-    let (Some(params), Some(result_formats)) =
-        (hex_bytes(alloc, params)?, formats_of(alloc, result_formats)?)
-    else {
+    let (Some(params), Some(result_formats)) = (
+        hex_bytes(alloc, params)?,
+        formats_of(alloc, result_formats)?,
+    ) else {
         return Ok(None);
     };
     Ok(Some(Command::Bind {

@@ -7,6 +7,8 @@ use std::io::{self, Read, Write};
 use std::process::Abort;
 use std::test::Fail;
 
+const WANT_OF_MEMORY: &[u8] = b"out of memory\n";
+
 /// What a run left: its status, its output and what it told of faults.
 #[derive(Drop)]
 struct Outcome {
@@ -46,9 +48,18 @@ fn expect(
     errors: &str,
 ) -> Result<(), AllocError> {
     let outcome = started(rt.alloc(), args, input)?;
-    if outcome.errors.as_slice() == b"out of memory\n".as_slice() {
+    if outcome.errors.as_slice() == WANT_OF_MEMORY {
         assert_eq!(rt; outcome.status, 3);
         assert!(rt; outcome.output.is_empty());
+        return Err(AllocError);
+    }
+    // a message's own want of memory, or that of a body, is a line of the output
+    if outcome
+        .output
+        .windows(WANT_OF_MEMORY.len())
+        .any(|part| part == WANT_OF_MEMORY)
+    {
+        assert_eq!(rt; outcome.status, 0);
         return Err(AllocError);
     }
     assert_eq!(rt;

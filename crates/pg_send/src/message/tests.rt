@@ -1,6 +1,7 @@
 //! Frames as the documentation lays them out.
 
 mod limits;
+mod room;
 mod zeros;
 
 use crate::message::*;

@@ -2,8 +2,8 @@
 
 use crate::message::tests::bind_of;
 use crate::message::*;
-use pg_base::ProtocolFault;
 use pg_base::io::{Oid, PgValueFormat, ProtocolEncode, StatementId};
+use pg_base::{Error, ProtocolFault};
 use std::test::Fail;
 
 #[test]
@@ -39,6 +39,9 @@ fn a_refused_message_among_others(rt: HostRuntime) -> Result<(), Fail> {
     ];
     let mut buf = Vec::new(rt.alloc());
     let answers = encode_all(rt.alloc(), &messages, &mut buf)?;
+    if answers.contains(&Err(Error::OutOfMemory)) {
+        return Err("out of memory".into());
+    }
     let fault = ProtocolFault::TooManyParamTypes(65536);
     assert_eq!(rt;
         answers.as_slice(),
