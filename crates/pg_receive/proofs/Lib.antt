@@ -6,3 +6,5 @@ pub mod MechanismLemmas
 pub mod NoticeLemmas
 pub mod ReadLemmas
 pub mod NumberLemmas
+pub mod SaslItemLemmas
+pub mod SaslLemmas

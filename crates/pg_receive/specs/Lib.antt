@@ -1,3 +1,6 @@
+pub mod Authentication
+pub mod AuthenticationLaws
+pub mod AuthenticationShown
 pub mod Received
 pub mod ReadyForQuery
 pub mod ReadyForQueryLaws
@@ -11,6 +14,10 @@ pub mod NoticeLaws
 pub mod NumberAt
 pub mod Places
 pub mod Position
+pub mod SaslContinue
+pub mod SaslFinal
+pub mod SaslItems
+pub mod SaslShown
 pub mod Severity
 pub use Rattle.pg_base.specs.Answers
 pub use Rattle.pg_base.specs.Faults

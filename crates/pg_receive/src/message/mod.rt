@@ -7,7 +7,11 @@ mod received;
 mod response;
 mod text;
 
-pub use authentication::{SaslMechanisms, mechanisms_stand_in_order};
+pub use authentication::{
+    Authentication, AuthenticationMd5Password, AuthenticationSasl, AuthenticationSaslContinue,
+    AuthenticationSaslFinal, SaslMechanisms, mechanisms_stand_in_order,
+    sasl_items_are_between_commas,
+};
 pub use number::numbers_are_found_by_atoi;
 pub use ready_for_query::{ReadyForQuery, TransactionStatus};
 pub use received::{BackendMessage, ReceivedMessage};
