@@ -8,3 +8,5 @@ pub mod ReadLemmas
 pub mod NumberLemmas
 pub mod LastSpace
 pub mod Notifications
+pub mod SaslItemLemmas
+pub mod SaslLemmas

@@ -9,6 +9,9 @@ pub mod Notification
 pub mod NotificationLaws
 pub mod ParameterStatus
 pub mod ParameterStatusLaws
+pub mod Authentication
+pub mod AuthenticationLaws
+pub mod AuthenticationShown
 pub mod Received
 pub mod ReadyForQuery
 pub mod ReadyForQueryLaws
@@ -22,6 +25,10 @@ pub mod NoticeLaws
 pub mod NumberAt
 pub mod Places
 pub mod Position
+pub mod SaslContinue
+pub mod SaslFinal
+pub mod SaslItems
+pub mod SaslShown
 pub mod Severity
 pub mod Strings
 pub mod StringsLaws

@@ -12,7 +12,11 @@ mod received;
 mod response;
 mod text;
 
-pub use authentication::{SaslMechanisms, mechanisms_stand_in_order};
+pub use authentication::{
+    Authentication, AuthenticationMd5Password, AuthenticationSasl, AuthenticationSaslContinue,
+    AuthenticationSaslFinal, SaslMechanisms, mechanisms_stand_in_order,
+    sasl_items_are_between_commas,
+};
 pub use backend_key_data::BackendKeyData;
 pub use command_complete::CommandComplete;
 pub use copy::{CopyData, CopyDone};

@@ -22,8 +22,9 @@ pub(crate) fn usize_at_front(bytes: &[u8]) -> Option<usize>
     atoi_usize(bytes)
 }
 
-/// The number at the front of some bytes is the one that `atoi` finds there.
-#[tactic(auto, using(crate::proofs::NumberLemmas::number_is))]
+/// The number at the front of some bytes is the one that `atoi` finds there, and no other.
+#[tactic(auto, using(crate::proofs::NumberLemmas::number_is, crate::proofs::NumberLemmas::number_is_there))]
 pub fn numbers_are_found_by_atoi()
-    ensures { (top : ℕ) (bytes : List ℕ) (result : Option ℕ) → Atoi top bytes result → result ≡ number_at top bytes }
+    ensures is { (top : ℕ) (bytes : List ℕ) → Atoi top bytes (number_at top bytes) }
+    ensures only { (top : ℕ) (bytes : List ℕ) (result : Option ℕ) → Atoi top bytes result → result ≡ number_at top bytes }
 {}

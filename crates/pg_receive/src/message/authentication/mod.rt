@@ -1,5 +1,139 @@
 //! What the server asks of a client that opens a session.
 
+mod items;
 mod mechanisms;
+mod sasl;
 
+ghost use Rattle.std.specs.Prelude.{◌≡◌, ◌≤◌, ℕ, ◌+◌, List, length, take, drop, None, IfOk, IfErr};
+ghost use Rattle.pg_base.specs.Answers.{Answers};
+ghost use Rattle.pg_base.specs.Faults.{IsShort};
+ghost use Rattle.pg_base.specs.declared.message.BackendMessageFormat.TheVariants as formats;
+ghost use Rattle.pg_receive.specs.Mechanisms.{mechanisms_in};
+ghost use Rattle.pg_receive.specs.Authentication.{AuthenticationValue, md5_password, MeansRest, MeansAuthentication, BreaksAuthentication, IsNoSaslData};
+ghost use Rattle.pg_receive.specs.AuthenticationLaws.{one_authentication, authentication_or_fault};
+
+use crate::message::BackendMessage;
+use bytes::{Buf, Bytes};
+pub use items::sasl_items_are_between_commas;
 pub use mechanisms::{SaslMechanisms, mechanisms_stand_in_order};
+use pg_base::io::{MAX_BODY, bytes_at, u32_at};
+use pg_base::{BackendMessageFormat, Error, ProtocolFault};
+pub use sasl::{AuthenticationSaslContinue, AuthenticationSaslFinal};
+use std::alloc::Global;
+use std::marker::Model;
+
+const OK: u32 = 0;
+
+const CLEARTEXT_PASSWORD: u32 = 3;
+
+const MD5_PASSWORD: u32 = 5;
+
+const SASL: u32 = 10;
+
+const SASL_CONTINUE: u32 = 11;
+
+const SASL_FINAL: u32 = 12;
+
+/// The bytes of the number of the method.
+const METHOD_LEN: usize = 4;
+
+const SALT_LEN: usize = 4;
+
+/// How the server wants its client to show who it is, or that it has. Documentation: "Message
+/// Formats", AuthenticationOk (B) and those after it.
+#[derive(Drop)]
+pub enum Authentication {
+    /// The client is accepted.
+    Ok,
+    /// A password is wanted as it is.
+    CleartextPassword,
+    /// A password is wanted as an MD5 digest.
+    Md5Password(AuthenticationMd5Password),
+    /// A SASL exchange is wanted, by one of the mechanisms.
+    Sasl(AuthenticationSasl),
+    /// The challenge in a SASL exchange.
+    SaslContinue(AuthenticationSaslContinue),
+    /// The last word in a SASL exchange.
+    SaslFinal(AuthenticationSaslFinal),
+}
+
+/// Documentation: "Message Formats", AuthenticationMD5Password (B).
+#[derive(Debug, Drop)]
+pub struct AuthenticationMd5Password {
+    /// What the digest is salted with.
+    pub salt: [u8; 4],
+}
+
+/// Documentation: "Message Formats", AuthenticationSASL (B).
+#[derive(Drop)]
+pub struct AuthenticationSasl(Bytes);
+
+impl Model for AuthenticationSasl {
+    ghost Value = { List (List ℕ) };
+
+    ghost view = { λ sasl. mechanisms_in sasl.0 };
+}
+
+impl AuthenticationSasl {
+    /// The names of the mechanisms that the server offers, in order.
+    pub fn mechanisms(&self) -> SaslMechanisms<'_>
+        ensures { result ≡ self.now }
+    {
+        SaslMechanisms::new(self.0.as_slice())
+    }
+}
+
+impl BackendMessage for Authentication {
+    ghost use Rattle.pg_receive.specs.AuthenticationShown.{authentication_shown};
+
+    const FORMAT: BackendMessageFormat = BackendMessageFormat::Authentication;
+
+    ghost FORMAT = { formats.Authentication };
+
+    ghost Shown = { AuthenticationValue };
+
+    ghost shown = { authentication_shown };
+
+    ghost Means = { MeansAuthentication };
+
+    ghost Broken = { BreaksAuthentication };
+
+    ghost Free = { IsNoSaslData };
+
+    fn decode_body(alloc: Global, buf: Bytes) -> Result<Self, Error> {
+        let body = buf.as_slice();
+        match u32_at(body, 0)? {
+            OK => Ok(Authentication::Ok),
+            CLEARTEXT_PASSWORD => Ok(Authentication::CleartextPassword),
+            MD5_PASSWORD => Ok(Authentication::Md5Password(md5_password_of(body)?)),
+            SASL => {
+                let mut names = buf;
+                names.advance(METHOD_LEN);
+                Ok(Authentication::Sasl(AuthenticationSasl(names)))
+            }
+            SASL_CONTINUE => {
+                let challenge = sasl::continue_of(alloc, &body[METHOD_LEN..])?;
+                Ok(Authentication::SaslContinue(challenge))
+            }
+            SASL_FINAL => {
+                let verifier = sasl::verifier_of(alloc, &body[METHOD_LEN..])?;
+                Ok(Authentication::SaslFinal(AuthenticationSaslFinal { verifier }))
+            }
+            method => Err(ProtocolFault::UnknownAuthentication(method).into()),
+        }
+    }
+
+    ghost one_value = { one_authentication };
+
+    ghost never_both = { authentication_or_fault };
+}
+
+fn md5_password_of(body: &[u8]) -> Result<AuthenticationMd5Password, ProtocolFault>
+    requires { METHOD_LEN ≤ length body.now }
+    ensures salt { IfOk result (λ password. MeansRest (drop METHOD_LEN body.now) (md5_password password.salt)) }
+    ensures short { IfErr result (λ fault. IsShort body.now METHOD_LEN SALT_LEN fault) }
+{
+    let mut salt = [0; SALT_LEN];
+    salt.copy_from_slice(bytes_at(body, METHOD_LEN, SALT_LEN)?);
+    Ok(AuthenticationMd5Password { salt })
+}

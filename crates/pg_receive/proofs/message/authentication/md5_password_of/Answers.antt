@@ -1,0 +1,11 @@
+use Rattle.std.proofs.Common.{drop, sym, ◌∙◌}
+use Rattle.std.proofs.lemmas.List.{take-append-drop}
+use Rattle.pg_base.proofs.Spelled.{wide_enough}
+use Rattle.pg_receive.proofs.message.authentication.md5_password_of.Goals as goal
+
+pub returns-clause-salt : goal.returns-clause-salt
+returns-clause-salt c =
+    let body = c.args.body.now in
+    let found = c.in_ok-bytes_at.ensures.found in
+    let salt = c.copy_from_slice.ensures.after ∙ found.1 in
+    rw salt (drop 4 (drop 4 body), wide_enough body 4 4 found.0, sym (take-append-drop 4 (drop 4 body)))

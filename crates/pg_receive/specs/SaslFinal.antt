@@ -1,0 +1,21 @@
+-- The last word of a server in a SASL exchange. Documentation: "Message Formats",
+-- AuthenticationSASLFinal (B), and "SCRAM Authentication".
+use Rattle.std.specs.Prelude.{◌≡◌, ℕ, List, [], Option, Some, None}
+use Rattle.pg_base.specs.declared.error.ProtocolFault.{ProtocolFault}
+use Rattle.pg_receive.specs.Last.{last, first_fault_of}
+use Rattle.pg_receive.specs.SaslItems.{items_in, keyed, item_fault, base64_bytes}
+
+abbrev pub verifier_key : ℕ
+verifier_key = 118
+
+abbrev pub verifier_of : List ℕ → List ℕ
+verifier_of bytes = last base64_bytes [] verifier_key (keyed (items_in bytes))
+
+abbrev pub final_fault : List ℕ → Option ProtocolFault
+final_fault bytes = first_fault_of (item_fault verifier_key) (items_in bytes)
+
+abbrev pub MeansFinal : List ℕ → List ℕ → Type 0
+MeansFinal bytes verifier = (final_fault bytes ≡ None) × (verifier ≡ verifier_of bytes)
+
+abbrev pub BreaksFinal : List ℕ → ProtocolFault → Type 0
+BreaksFinal bytes fault = final_fault bytes ≡ Some fault

@@ -1,0 +1,148 @@
+//! What a server says in a SASL exchange.
+
+ghost use Rattle.std.specs.Prelude.{◌≡◌, ◌==◌, ◌≤◌, ℕ, List, [], ◌∷◌, length, None, Some, OnOk, IfErr, string_bytes, if◌then◌else◌};
+ghost use Rattle.std.specs.Str.{is_utf8};
+ghost use Rattle.pg_base.specs.Answers.{Answers};
+ghost use Rattle.pg_receive.specs.Last.{last};
+ghost use Rattle.pg_receive.specs.SaslItems.{keyed, item_fault, base64_bytes as bytes_of_base64};
+ghost use Rattle.pg_receive.specs.SaslContinue.{ContinueValue, MeansContinue, BreaksContinue, iterations_key, nonce_key, salt_key, iterations_of};
+ghost use Rattle.pg_receive.specs.SaslShown.{continue_shown, final_shown};
+ghost use Rattle.pg_receive.specs.SaslFinal.{MeansFinal, BreaksFinal, verifier_key};
+
+use crate::message::authentication::items::{Items, base64_bytes, split_key};
+use crate::message::number::u32_at_front;
+use crate::message::utf8_text;
+use bytes::Bytes;
+use pg_base::io::{MAX_BODY, ProtocolDecode};
+use pg_base::{Error, ProtocolFault};
+use std::alloc::Global;
+
+const DEFAULT_ITERATIONS: u32 = 4096;
+
+const ITERATIONS: u8 = b'i';
+
+const NONCE: u8 = b'r';
+
+const SALT: u8 = b's';
+
+const VERIFIER: u8 = b'v';
+
+/// The challenge of the server in a SASL exchange: items between commas, each a letter, `=` and a
+/// value, of which the last of a letter counts. Documentation: "Message Formats",
+/// AuthenticationSASLContinue (B), and "SCRAM Authentication".
+#[derive(Drop)]
+pub struct AuthenticationSaslContinue {
+    /// Empty where none is given.
+    pub salt: Vec<u8>,
+    /// 4096 where no number is given.
+    pub iterations: u32,
+    /// Empty where none is given.
+    pub nonce: String,
+    /// The challenge as a whole.
+    pub message: String,
+}
+
+impl ProtocolDecode for AuthenticationSaslContinue {
+    ghost Shown = { ContinueValue };
+
+    ghost shown = { continue_shown };
+
+    ghost Means = { MeansContinue };
+
+    ghost Broken = { BreaksContinue };
+
+    ghost Free = { λ _. ⊥ };
+
+    fn decode(alloc: Global, buf: Bytes) -> Result<Self, Error> {
+        continue_of(alloc, buf.as_slice())
+    }
+}
+
+/// The last word of the server in a SASL exchange, with items as in [`AuthenticationSaslContinue`].
+/// Documentation: "Message Formats", AuthenticationSASLFinal (B), and "SCRAM Authentication".
+#[derive(Drop)]
+pub struct AuthenticationSaslFinal {
+    /// Empty where none is given.
+    pub verifier: Vec<u8>,
+}
+
+impl ProtocolDecode for AuthenticationSaslFinal {
+    ghost Shown = { List ℕ };
+
+    ghost shown = { final_shown };
+
+    ghost Means = { MeansFinal };
+
+    ghost Broken = { BreaksFinal };
+
+    ghost Free = { λ _. ⊥ };
+
+    fn decode(alloc: Global, buf: Bytes) -> Result<Self, Error> {
+        let verifier = verifier_of(alloc, buf.as_slice())?;
+        Ok(AuthenticationSaslFinal { verifier })
+    }
+}
+
+// What the items of a challenge say.
+#[derive(Drop)]
+struct Challenge<'a> {
+    salt: Vec<u8>,
+    iterations: u32,
+    nonce: &'a [u8],
+}
+
+impl<'a> Challenge<'a> {
+    fn take(&mut self, alloc: Global, item: &'a [u8]) -> Result<(), Error>
+        ensures answer { Answers (λ item _. item_fault salt_key item ≡ None) (λ item fault. item_fault salt_key item ≡ Some fault) (λ _. ⊥) (λ done. done) None item.now result }
+        ensures salt { OnOk result (self.new.salt.items ≡ last bytes_of_base64 self.old.salt.items salt_key (keyed (item.now ∷ []))) }
+        ensures iterations { OnOk result (self.new.iterations ≡ last iterations_of self.old.iterations iterations_key (keyed (item.now ∷ []))) }
+        ensures nonce { OnOk result (self.new.nonce.now ≡ last (λ value. value) self.old.nonce.now nonce_key (keyed (item.now ∷ []))) }
+    {
+        let (key, value) = split_key(item)?;
+        match key {
+            SALT => self.salt = base64_bytes(alloc, value)?,
+            ITERATIONS => {
+                self.iterations = u32_at_front(value).unwrap_or(DEFAULT_ITERATIONS);
+            }
+            NONCE => self.nonce = value,
+            _ => {}
+        }
+        Ok(())
+    }
+}
+
+/// The challenge that SASL data is.
+pub(crate) fn continue_of(alloc: Global, body: &[u8]) -> Result<AuthenticationSaslContinue, Error>
+    ensures { Answers MeansContinue BreaksContinue (λ _. ⊥) continue_shown None body.now result }
+{
+    let mut challenge = Challenge {
+        salt: Vec::new(alloc),
+        iterations: DEFAULT_ITERATIONS,
+        nonce: &[],
+    };
+    for item in Items::new(body) {
+        challenge.take(alloc, item)?;
+    }
+    let nonce = utf8_text(challenge.nonce).ok_or(ProtocolFault::NotUtf8)?;
+    let message = utf8_text(body).ok_or(ProtocolFault::NotUtf8)?;
+    Ok(AuthenticationSaslContinue {
+        salt: challenge.salt,
+        iterations: challenge.iterations,
+        nonce: String::from_str(alloc, nonce)?,
+        message: String::from_str(alloc, message)?,
+    })
+}
+
+/// The verifier in the last word that SASL data is.
+pub(crate) fn verifier_of(alloc: Global, body: &[u8]) -> Result<Vec<u8>, Error>
+    ensures { Answers MeansFinal BreaksFinal (λ _. ⊥) (λ verifier. verifier.items) None body.now result }
+{
+    let mut verifier = Vec::new(alloc);
+    for item in Items::new(body) {
+        let (key, value) = split_key(item)?;
+        if key == VERIFIER {
+            verifier = base64_bytes(alloc, value)?;
+        }
+    }
+    Ok(verifier)
+}
