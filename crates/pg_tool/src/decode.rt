@@ -6,7 +6,7 @@ use bytes::Bytes;
 use pg_base::{BackendMessageFormat, Error};
 use pg_receive::error::PgDatabaseError;
 use pg_receive::message::{
-    BackendKeyData, BackendMessage, CommandComplete, CopyData, CopyDone, Notice, Notification,
+    Authentication, BackendKeyData, BackendMessage, CommandComplete, CopyData, CopyDone, Notice, Notification,
     ParameterStatus, ReadyForQuery, ReceivedMessage,
 };
 use std::alloc::{AllocError, Global};
@@ -95,6 +95,7 @@ fn outcome_of(
     let contents = Bytes::from_vec(body)?;
     let message = ReceivedMessage { format, contents };
     match format {
+        BackendMessageFormat::Authentication => typed::<Authentication>(alloc, message),
         BackendMessageFormat::BackendKeyData => typed::<BackendKeyData>(alloc, message),
         BackendMessageFormat::CommandComplete => typed::<CommandComplete>(alloc, message),
         BackendMessageFormat::CopyData => typed::<CopyData<Bytes>>(alloc, message),
