@@ -3,17 +3,23 @@
 mod backend_key_data;
 mod command_complete;
 mod copy;
+mod data_row;
 mod notification;
+mod parameter_description;
 mod parameter_status;
 mod ready_for_query;
 mod received;
+mod row_description;
 mod text;
 
 pub use backend_key_data::BackendKeyData;
 pub use command_complete::CommandComplete;
-pub use copy::{CopyData, CopyDone};
+pub use copy::{CopyData, CopyDone, CopyInResponse, CopyOutResponse, CopyResponseData};
+pub use data_row::DataRow;
 pub use notification::Notification;
+pub use parameter_description::ParameterDescription;
 pub use parameter_status::ParameterStatus;
 pub use ready_for_query::{ReadyForQuery, TransactionStatus};
 pub use received::{BackendMessage, ReceivedMessage};
+pub use row_description::{Field, RowDescription};
 pub use text::{split_text, str_at, text_at};
