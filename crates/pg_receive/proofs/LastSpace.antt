@@ -1,5 +1,5 @@
 -- What stands behind the last of a byte.
-use Rattle.std.proofs.Common.{◌≡◌, ◌≢◌, ℕ, unwrap_or, ◌+◌, ◌-◌, ◌<◌, eqb, true, List, [], ◌∷◌, ◌++◌, Option, Some, None, length, get_or, take, drop, refl, sym, ap, ◌∙◌, arith, inl, inr}
+use Rattle.std.proofs.Common.{◌≡◌, ℕ, unwrap_or, ◌+◌, ◌-◌, eqb, true, List, [], ◌∷◌, ◌++◌, Option, Some, None, length, get_or, take, drop, refl, sym, ◌∙◌, arith, inl, inr}
 use Rattle.std.proofs.lemmas.Bool.{eqb-true, eq-eqb}
 use Rattle.std.proofs.lemmas.List.{take_all, length-drop, get_or-drop}
 use Rattle.memchr.specs.Find.{Nowhere, Passes, is_byte, NoneAfter}

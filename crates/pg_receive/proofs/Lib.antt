@@ -10,3 +10,6 @@ pub mod LastSpace
 pub mod Notifications
 pub mod SaslItemLemmas
 pub mod SaslLemmas
+pub mod ItemLemmas
+pub mod Cells
+pub mod Columns

@@ -1,9 +1,8 @@
 -- A body means one key, or has a fault.
 use Rattle.std.specs.Prelude.{◌≡◌, ℕ, List}
-use Rattle.std.proofs.Common.{ap, ◌∙◌, sym, arith, inl, inr}
+use Rattle.std.proofs.Common.{ap, ◌∙◌, arith, inl, inr}
 use Rattle.pg_base.specs.declared.error.ProtocolFault.{ProtocolFault}
 use Rattle.pg_receive.specs.declared.message.backend_key_data.BackendKeyData.{BackendKeyData}
-use Rattle.pg_base.specs.Reading.{Number}
 use Rattle.pg_base.proofs.Readings.{one_number, number_fits}
 use Rattle.pg_receive.specs.BackendKeyData.{MeansKey, BreaksKey}
 

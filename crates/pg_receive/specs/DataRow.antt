@@ -1,9 +1,9 @@
 -- DataRow: the cells of a row. Documentation: "Message Formats", DataRow (B).
-use Rattle.std.specs.Prelude.{◌≡◌, ℕ, ◌+◌, ◌≤◌, ℤ, pos, ◌<ℤ◌, List, ◌++◌, length, Option, Some, None, ◌⊎◌}
+use Rattle.std.specs.Prelude.{◌≡◌, ℕ, ◌+◌, ◌≤◌, pos, ◌<ℤ◌, List, ◌++◌, length, Option, Some, None, ◌⊎◌}
 use Rattle.pg_base.specs.declared.error.ProtocolFault.{ProtocolFault}
 use Rattle.pg_base.specs.Numbers.{int}
 use Rattle.pg_base.specs.Faults.{IsShort}
-use Rattle.pg_receive.specs.Items.{CountedItems, BreaksItems, AsksForNothing}
+use Rattle.pg_receive.specs.Items.{SpellItems, CountedItems, BreaksItems, AsksForNothing}
 
 -- NULL is any negative length
 pub record SpellsNull (spelled : List ℕ) : Type 0 where
@@ -49,3 +49,14 @@ BreaksRow body fault = BreaksItems SpellsCell BreaksCell least_cell body fault
 
 abbrev pub FreeRow : List ℕ → Type 0
 FreeRow body = AsksForNothing least_cell 0 body
+
+-- a value stands in the body behind the count, the spellings of these cells, and its own length
+pub record StandsBehind (body : List ℕ) (cells : List (Option (List ℕ))) (value : List ℕ) : Type 0 where
+  pub count : List ℕ
+  pub spelled : List ℕ
+  pub field : List ℕ
+  pub after : List ℕ
+  pub counted : length count ≡ 2
+  pub are_spelled : SpellItems SpellsCell spelled cells
+  pub wide : length field ≡ 4
+  pub parts : body ≡ count ++ (spelled ++ (field ++ (value ++ after)))

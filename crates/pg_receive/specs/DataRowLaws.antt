@@ -1,13 +1,12 @@
 -- A body is one row, or has a fault.
-use Rattle.std.specs.Prelude.{◌≡◌, ℕ, ◌+◌, ◌≤◌, pos, List, ◌++◌, length, Option, Some, None}
+use Rattle.std.specs.Prelude.{◌≡◌, ℕ, ◌+◌, ◌*◌, ◌≤◌, pos, List, ◌∷◌, ◌++◌, length, Option, Some, None}
 use Rattle.std.proofs.Common.{refl, sym, ap, ◌∙◌, arith, inl, inr, append_assoc, length-append}
 use Rattle.std.proofs.lemmas.Int.{ints}
 use Rattle.pg_base.specs.declared.error.ProtocolFault.{ProtocolFault}
 use Rattle.pg_base.specs.Numbers.{int}
 use Rattle.pg_base.proofs.Cuts.{parts_at}
-use Rattle.pg_receive.specs.Items.{CountedItems}
-use Rattle.pg_receive.specs.ItemsLaws.{SpellsOne, TakesAtLeast, ItemOrFault, one_items, items_take, items_or_fault}
-use Rattle.pg_receive.specs.DataRow.{SpellsCell, BreaksCell, BreaksRow, Row, least_cell}
+use Rattle.pg_receive.specs.ItemsLaws.{SpellsOne, TakesAtLeast, ItemOrFault, one_items, items_or_fault, items_fit, item_between}
+use Rattle.pg_receive.specs.DataRow.{SpellsCell, BreaksCell, BreaksRow, Row, StandsBehind, least_cell}
 
 pub one_cell : SpellsOne SpellsCell
 one_cell s t x y None None p q e =
@@ -21,7 +20,7 @@ one_cell s t x y (Some v) None p q e =
     absurd (omega (arith, ints, q.negative, ap int both.0, p.counts))
 one_cell s t x y (Some v) (Some w) p q e =
     let whole : p.field ++ (v ++ x) ≡ q.field ++ (w ++ y) =
-      sym (append_assoc p.field v x) ∙ ap (λ (l : List ℕ). l ++ x) (sym p.parts) ∙ e ∙ ap (λ (l : List ℕ). l ++ y) q.parts ∙ append_assoc q.field w y in
+    sym (append_assoc p.field v x) ∙ ap (λ (l : List ℕ). l ++ x) (sym p.parts) ∙ e ∙ ap (λ (l : List ℕ). l ++ y) q.parts ∙ append_assoc q.field w y in
     let fields = parts_at p.field q.field (v ++ x) (w ++ y) (p.wide ∙ sym q.wide) whole in
     let counts : pos (length v) ≡ pos (length w) = sym p.counts ∙ ap int fields.0 ∙ q.counts in
     let lengths : length v ≡ length w = cc in
@@ -48,3 +47,26 @@ one_row body v w p q = one_items SpellsCell one_cell body v w p q
 
 pub row_or_fault : (body : List ℕ) (v : List (Option (List ℕ))) (fault : ProtocolFault) → Row body v → BreaksRow body fault → ⊥
 row_or_fault body v fault p q = items_or_fault SpellsCell BreaksCell least_cell one_cell cell_takes cell_or_fault body v fault p q
+
+pub cells_fit : (body : List ℕ) (cells : List (Option (List ℕ))) → Row body cells → 2 + 4 * length cells ≤ length body
+cells_fit body cells p = items_fit least_cell SpellsCell cell_takes body cells p
+
+pub value_stands_behind : (body : List ℕ) (front : List (Option (List ℕ))) (value : List ℕ) (back : List (Option (List ℕ))) → Row body (front ++ Some value ∷ back) → StandsBehind body front value
+value_stands_behind body front value back p =
+    let q = item_between SpellsCell p.spelled front (Some value) back p.are_spelled in
+    let cell : q.at ++ q.after ≡ q.is_at.field ++ (value ++ q.after) = ap (λ (l : List ℕ). l ++ q.after) q.is_at.parts ∙ append_assoc q.is_at.field value q.after in
+    let spelled : p.spelled ≡ q.before ++ (q.is_at.field ++ (value ++ q.after)) = q.parts ∙ ap (λ (l : List ℕ). q.before ++ l) cell in
+    let inner : (q.is_at.field ++ (value ++ q.after)) ++ p.rest ≡ q.is_at.field ++ (value ++ (q.after ++ p.rest)) =
+    append_assoc q.is_at.field (value ++ q.after) p.rest ∙ ap (λ (l : List ℕ). q.is_at.field ++ l) (append_assoc value q.after p.rest) in
+    let behind : p.behind ≡ q.before ++ (q.is_at.field ++ (value ++ (q.after ++ p.rest))) =
+    p.parts ∙ ap (λ (l : List ℕ). l ++ p.rest) spelled ∙ append_assoc q.before (q.is_at.field ++ (value ++ q.after)) p.rest ∙ ap (λ (l : List ℕ). q.before ++ l) inner in
+    record {
+      count = p.count.spelled;
+      spelled = q.before;
+      field = q.is_at.field;
+      after = q.after ++ p.rest;
+      counted = p.count.wide;
+      are_spelled = q.are_before;
+      wide = q.is_at.wide;
+      parts = p.count.parts ∙ ap (λ (l : List ℕ). p.count.spelled ++ l) behind;
+    }

@@ -1,10 +1,9 @@
 -- A body is one list of items, or isn't one and has a fault.
-use Rattle.std.specs.Prelude.{◌≡◌, ℕ, ◌+◌, ◌*◌, ◌<◌, ◌≤◌, List, [], ◌∷◌, ◌++◌, length, ◌⊎◌}
+use Rattle.std.specs.Prelude.{◌≡◌, ℕ, ◌+◌, ◌*◌, ◌<◌, ◌≤◌, List, [], ◌∷◌, ◌++◌, length}
 use Rattle.std.proofs.Common.{refl, sym, ap, ◌∙◌, arith, inl, inr, append_assoc, length-append}
 use Rattle.pg_base.specs.declared.error.ProtocolFault.{ProtocolFault}
-use Rattle.pg_base.specs.Reading.{Number}
 use Rattle.pg_base.proofs.Readings.{one_number, number_fits}
-use Rattle.pg_receive.specs.Items.{SpellItems, CountedItems, HoldsFewer, BreaksCount, BreaksNext, BreaksItems}
+use Rattle.pg_receive.specs.Items.{SpellItems, CountedItems, BreaksItems}
 
 -- equal bytes begin with one item
 abbrev pub SpellsOne : {X : Type 0} → (List ℕ → X → Type 0) → Type 0
@@ -25,7 +24,7 @@ one_list Spells one s t x y [] (b ∷ bs) len p q e = absurd (omega (arith, len)
 one_list Spells one s t x y (a ∷ as') [] len p q e = absurd (omega (arith, len))
 one_list Spells one s t x y (a ∷ as') (b ∷ bs) len p q e =
     let whole : p.0 ++ (p.1 ++ x) ≡ q.0 ++ (q.1 ++ y) =
-      sym (append_assoc p.0 p.1 x) ∙ ap (λ (l : List ℕ). l ++ x) (sym p.2) ∙ e ∙ ap (λ (l : List ℕ). l ++ y) q.2 ∙ append_assoc q.0 q.1 y in
+    sym (append_assoc p.0 p.1 x) ∙ ap (λ (l : List ℕ). l ++ x) (sym p.2) ∙ e ∙ ap (λ (l : List ℕ). l ++ y) q.2 ∙ append_assoc q.0 q.1 y in
     let first = one p.0 q.0 (p.1 ++ x) (q.1 ++ y) a b p.3 q.3 whole in
     let others = one_list Spells one p.1 q.1 x y as' bs (omega (arith, len)) p.4 q.4 first.1 in
     rw (first.0, others) refl
@@ -52,7 +51,7 @@ next_is_there Spells BreaksItem one apart body s t x y at (a ∷ as') [] fault l
     apart body p.0 (p.1 ++ x) (at + length t) a fault long p.3 (rw whole at breaks)
 next_is_there Spells BreaksItem one apart body s t x y at (a ∷ as') (b ∷ bs) fault len fewer p q e breaks =
     let whole : p.0 ++ (p.1 ++ x) ≡ q.0 ++ (q.1 ++ y) =
-      sym (append_assoc p.0 p.1 x) ∙ ap (λ (l : List ℕ). l ++ x) (sym p.2) ∙ e ∙ ap (λ (l : List ℕ). l ++ y) q.2 ∙ append_assoc q.0 q.1 y in
+    sym (append_assoc p.0 p.1 x) ∙ ap (λ (l : List ℕ). l ++ x) (sym p.2) ∙ e ∙ ap (λ (l : List ℕ). l ++ y) q.2 ∙ append_assoc q.0 q.1 y in
     let first = one p.0 q.0 (p.1 ++ x) (q.1 ++ y) a b p.3 q.3 whole in
     let long : length body ≡ at + length q.0 + length (q.1 ++ y) = omega (arith, len, ap length q.2, length-append t y, length-append q.0 q.1, length-append q.1 y) in
     let place : at + length t ≡ at + length q.0 + length q.1 = omega (arith, ap length q.2, length-append q.0 q.1) in
@@ -70,3 +69,30 @@ items_or_fault Spells BreaksItem least one takes apart body v fault p (inr next)
     let same : p.spelled ++ p.rest ≡ next.spelled ++ next.after = sym p.parts ∙ counts.1 ∙ next.parts in
     let long : length body ≡ 2 + length (next.spelled ++ next.after) = omega (arith, number_fits 2 body next.count next.behind next.counted, ap length next.parts) in
     next_is_there Spells BreaksItem one apart body p.spelled next.spelled p.rest next.after 2 v next.items fault long (omega (arith, next.fewer, counts.0)) p.are_spelled next.are_spelled same next.breaks
+
+-- so many bytes hold so many items
+pub items_fit : {X : Type 0} (least : ℕ) (Spells : List ℕ → X → Type 0) → TakesAtLeast least Spells → (body : List ℕ) (v : List X) → CountedItems Spells body v → 2 + least * length v ≤ length body
+items_fit least Spells takes body v p =
+    omega (arith, number_fits 2 body (length v) p.behind p.count, items_take least Spells takes p.spelled v p.are_spelled, ap length p.parts, length-append p.spelled p.rest)
+
+-- an item stands between the spellings of those before it and of those behind it
+pub record Parts {X : Type 0} (Spells : List ℕ → X → Type 0) (spelled : List ℕ) (front : List X) (item : X) : Type 0 where
+  pub before : List ℕ
+  pub at : List ℕ
+  pub after : List ℕ
+  pub are_before : SpellItems Spells before front
+  pub is_at : Spells at item
+  pub parts : spelled ≡ before ++ (at ++ after)
+
+pub item_between : {X : Type 0} (Spells : List ℕ → X → Type 0) (spelled : List ℕ) (front : List X) (item : X) (back : List X) → SpellItems Spells spelled (front ++ item ∷ back) → Parts Spells spelled front item
+item_between Spells spelled [] item back p = record { before = []; at = p.0; after = p.1; are_before = refl; is_at = p.3; parts = p.2 }
+item_between Spells spelled (first ∷ front) item back p =
+    let more = item_between Spells p.1 front item back p.4 in
+    record {
+      before = p.0 ++ more.before;
+      at = more.at;
+      after = more.after;
+      are_before = (p.0, more.before, refl, p.3, more.are_before);
+      is_at = more.is_at;
+      parts = p.2 ∙ ap (λ (l : List ℕ). p.0 ++ l) more.parts ∙ sym (append_assoc p.0 more.before (more.at ++ more.after));
+    }

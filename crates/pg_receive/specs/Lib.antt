@@ -1,12 +1,17 @@
 pub mod BackendKeyData
 pub mod BackendKeyDataLaws
+pub mod CellEnds
 pub mod CommandComplete
+pub mod CopyResponse
+pub mod CopyResponseLaws
 pub mod DataRow
 pub mod DataRowLaws
 pub mod Items
 pub mod ItemsLaws
 pub mod Notification
 pub mod NotificationLaws
+pub mod ParameterDescription
+pub mod ParameterDescriptionLaws
 pub mod ParameterStatus
 pub mod ParameterStatusLaws
 pub mod Authentication
@@ -30,6 +35,8 @@ pub mod SaslFinal
 pub mod SaslItems
 pub mod SaslShown
 pub mod Severity
+pub mod RowDescription
+pub mod RowDescriptionLaws
 pub mod Strings
 pub mod StringsLaws
 pub use Rattle.pg_base.specs.Answers

@@ -1,6 +1,6 @@
 -- A body means one notification, or has a fault.
 use Rattle.std.specs.Prelude.{◌≡◌, ◌+◌, ℕ, List, length}
-use Rattle.std.proofs.Common.{ap, ◌∙◌, inl, inr, arith, sym}
+use Rattle.std.proofs.Common.{ap, ◌∙◌, inl, inr, arith}
 use Rattle.pg_base.specs.declared.error.ProtocolFault.{ProtocolFault}
 use Rattle.pg_base.proofs.Readings.{one_number, one_text, number_fits}
 use Rattle.pg_receive.specs.Notification.{Notified, MeansNotification, BreaksNotification}

@@ -1,10 +1,10 @@
 -- Bytes begin with one text of UTF-8, or with none and have a fault.
-use Rattle.std.specs.Prelude.{◌≡◌, ℕ, List, IsUtf8}
-use Rattle.std.proofs.Common.{inl, inr, sym}
+use Rattle.std.specs.Prelude.{ℕ, List}
+use Rattle.std.proofs.Common.{inl, inr}
 use Rattle.pg_base.specs.declared.error.ProtocolFault.{ProtocolFault}
 use Rattle.pg_base.specs.Reading.{Text}
 use Rattle.pg_base.proofs.Readings.{one_text, no_text}
-use Rattle.pg_receive.specs.Strings.{Utf8Text, LacksNul, IsNotUtf8, BreaksText}
+use Rattle.pg_receive.specs.Strings.{Utf8Text, LacksNul, BreaksText}
 
 pub text_or_no_nul : (at : ℕ) (bytes text rest : List ℕ) (fault : ProtocolFault) → Text bytes text rest → LacksNul at bytes fault → ⊥
 text_or_no_nul at bytes text rest fault p q = no_text bytes text rest q.lacks p.parts

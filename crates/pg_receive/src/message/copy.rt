@@ -1,16 +1,48 @@
 //! The messages of a COPY.
 
-ghost use Rattle.std.specs.Prelude.{◌≡◌, ℕ, List};
+ghost use Rattle.std.specs.Prelude.{◌≡◌, ℕ, ◌≤◌, List, length, None};
+ghost use Rattle.pg_base.specs.Answers.{Answers};
 ghost use Rattle.pg_base.specs.declared.message.BackendMessageFormat.TheVariants as formats;
+ghost use Rattle.pg_receive.specs.CopyResponse.{codes_counted, formats_of as shown_formats, MeansFormats, BreaksFormats, FreeFormats};
 
 use crate::message::BackendMessage;
 use bytes::Bytes;
 pub use pg_base::io::{CopyData, CopyDone};
+use pg_base::io::{MAX_BODY, bytes_at, i8_at, i16_at};
 use pg_base::{BackendMessageFormat, Error};
 use std::alloc::Global;
 
+// Where the count of columns stands, and the first code behind it.
+const COLUMNS: usize = 1;
+
+const FIRST_CODE: usize = 3;
+
+// The bytes of a format code.
+const CODE_LENGTH: usize = 2;
+
+/// How the data of a COPY is spelled. Format codes are 0 for text and 1 for binary.
+#[derive(Drop)]
+pub struct CopyResponseData {
+    /// The format of the data as a whole.
+    pub format: i8,
+    /// How many columns there are. Below 0 it stands for none.
+    pub num_columns: i16,
+    /// The format of each column.
+    pub format_codes: Vec<i16>,
+}
+
+/// The server is ready for the data of a COPY. Documentation: "Message Formats", CopyInResponse (B).
+#[derive(Drop)]
+pub struct CopyInResponse(pub CopyResponseData);
+
+/// The server is about to send the data of a COPY. Documentation: "Message Formats",
+/// CopyOutResponse (B).
+#[derive(Drop)]
+pub struct CopyOutResponse(pub CopyResponseData);
+
 impl BackendMessage for CopyData<Bytes> {
-    ghost use Rattle.std.specs.Prelude.{◌≡◌, ℕ, List};
+    ghost use Rattle.std.specs.Prelude.{◌≡◌, ℕ, ◌≤◌, List, length, None};
+    ghost use Rattle.pg_base.specs.Answers.{Answers};
     ghost use Rattle.std.proofs.Common.{◌∙◌, sym};
 
     const FORMAT: BackendMessageFormat = BackendMessageFormat::CopyData;
@@ -64,9 +96,90 @@ impl BackendMessage for CopyDone {
     ghost never_both = { λ body v fault p q. q };
 }
 
+impl BackendMessage for CopyInResponse {
+    ghost use Rattle.pg_receive.specs.CopyResponse.{CopyFormats, formats_of as shown_formats, MeansFormats, BreaksFormats, FreeFormats};
+    ghost use Rattle.pg_receive.specs.CopyResponseLaws.{one_formats, formats_or_fault};
+
+    const FORMAT: BackendMessageFormat = BackendMessageFormat::CopyInResponse;
+
+    ghost FORMAT = { formats.CopyInResponse };
+
+    ghost Shown = { CopyFormats };
+
+    ghost shown = { λ response. shown_formats response.0 };
+
+    ghost Means = { MeansFormats };
+
+    ghost Broken = { BreaksFormats };
+
+    ghost Free = { FreeFormats };
+
+    fn decode_body(alloc: Global, buf: Bytes) -> Result<Self, Error> {
+        Ok(CopyInResponse(formats_of(alloc, buf.as_slice())?))
+    }
+
+    ghost one_value = { one_formats };
+
+    ghost never_both = { formats_or_fault };
+}
+
+impl BackendMessage for CopyOutResponse {
+    ghost use Rattle.pg_receive.specs.CopyResponse.{CopyFormats, formats_of as shown_formats, MeansFormats, BreaksFormats, FreeFormats};
+    ghost use Rattle.pg_receive.specs.CopyResponseLaws.{one_formats, formats_or_fault};
+
+    const FORMAT: BackendMessageFormat = BackendMessageFormat::CopyOutResponse;
+
+    ghost FORMAT = { formats.CopyOutResponse };
+
+    ghost Shown = { CopyFormats };
+
+    ghost shown = { λ response. shown_formats response.0 };
+
+    ghost Means = { MeansFormats };
+
+    ghost Broken = { BreaksFormats };
+
+    ghost Free = { FreeFormats };
+
+    fn decode_body(alloc: Global, buf: Bytes) -> Result<Self, Error> {
+        Ok(CopyOutResponse(formats_of(alloc, buf.as_slice())?))
+    }
+
+    ghost one_value = { one_formats };
+
+    ghost never_both = { formats_or_fault };
+}
+
+fn formats_of(alloc: Global, body: &[u8]) -> Result<CopyResponseData, Error>
+    requires { length body.now ≤ MAX_BODY }
+    ensures { Answers MeansFormats BreaksFormats FreeFormats shown_formats None body.now result }
+{
+    let format = i8_at(body, 0)?;
+    let num_columns = i16_at(body, COLUMNS)?;
+    let count = code_count(num_columns);
+    bytes_at(body, FIRST_CODE, CODE_LENGTH * count)?;
+    let mut format_codes = Vec::with_capacity(alloc, count)?;
+    for index in 0..count {
+        format_codes.push_reserved(i16_at(body, FIRST_CODE + CODE_LENGTH * index)?);
+    }
+    Ok(CopyResponseData {
+        format,
+        num_columns,
+        format_codes,
+    })
+}
+
+// How many codes stand behind a count of columns.
+fn code_count(num_columns: i16) -> usize
+    ensures { result ≡ codes_counted num_columns }
+{
+    usize::try_from(num_columns).unwrap_or(0)
+}
+
 #[cfg(test)]
 mod tests {
     use super::*;
+    use pg_base::ProtocolFault;
     use std::test::Fail;
 
     #[test]
@@ -78,5 +191,31 @@ mod tests {
         assert_eq!(rt; part.0.as_slice(), b"a\tb\n".as_slice());
         let _done = CopyDone::decode_body(rt.alloc(), Bytes::from_static(b"X"))?;
         Ok(())
+    }
+
+    #[test]
+    fn formats(rt: HostRuntime) -> Result<(), Fail> {
+        let body = Bytes::from_static(&[1, 0, 2, 0, 0, 0, 1]);
+        let CopyOutResponse(out) = CopyOutResponse::decode_body(rt.alloc(), body)?;
+        assert_eq!(rt; out.format, 1);
+        assert_eq!(rt; out.num_columns, 2);
+        assert_eq!(rt; out.format_codes.as_slice(), [0, 1].as_slice());
+        let body = Bytes::from_static(&[0, 0xFF, 0xFF]);
+        let CopyInResponse(input) = CopyInResponse::decode_body(rt.alloc(), body)?;
+        assert_eq!(rt; input.num_columns, -1);
+        assert!(rt; input.format_codes.is_empty());
+        Ok(())
+    }
+
+    #[test]
+    fn too_few_codes(rt: HostRuntime) {
+        let body = Bytes::from_static(&[0, 0, 2, 0, 1]);
+        let fault = ProtocolFault::Short {
+            at: 3,
+            needed: 4,
+            got: 2,
+        };
+        let response = CopyInResponse::decode_body(rt.alloc(), body);
+        assert_eq!(rt; response.err(), Some(Error::from(fault)));
     }
 }

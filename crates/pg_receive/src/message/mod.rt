@@ -4,12 +4,15 @@ mod authentication;
 mod backend_key_data;
 mod command_complete;
 mod copy;
+mod data_row;
 mod notification;
 pub(crate) mod number;
+mod parameter_description;
 mod parameter_status;
 mod ready_for_query;
 mod received;
 mod response;
+mod row_description;
 mod text;
 
 pub use authentication::{
@@ -19,11 +22,14 @@ pub use authentication::{
 };
 pub use backend_key_data::BackendKeyData;
 pub use command_complete::CommandComplete;
-pub use copy::{CopyData, CopyDone};
+pub use copy::{CopyData, CopyDone, CopyInResponse, CopyOutResponse, CopyResponseData};
+pub use data_row::{DataRow, cells_stand_in_order};
 pub use notification::Notification;
 pub use number::numbers_are_found_by_atoi;
+pub use parameter_description::ParameterDescription;
 pub use parameter_status::ParameterStatus;
 pub use ready_for_query::{ReadyForQuery, TransactionStatus};
 pub use received::{BackendMessage, ReceivedMessage};
 pub use response::{Fields, Notice, PgSeverity, fields_stand_in_order};
+pub use row_description::{Field, RowDescription, columns_fit_in_their_body};
 pub use text::{split_text, str_at, text_at, utf8_text};

@@ -1,0 +1,98 @@
+//! The types of a statement's parameters.
+
+ghost use Rattle.std.specs.Prelude.{◌≤◌, length, None};
+ghost use Rattle.pg_base.specs.Answers.{Answers};
+ghost use Rattle.pg_base.specs.declared.message.BackendMessageFormat.TheVariants as formats;
+ghost use Rattle.pg_receive.specs.ParameterDescription.{type_numbers, MeansTypes, BreaksTypes, FreeTypes};
+
+use crate::message::BackendMessage;
+use bytes::Bytes;
+use pg_base::io::{MAX_BODY, Oid, bytes_at, u16_at, u32_at};
+use pg_base::{BackendMessageFormat, Error};
+use smallvec::SmallVec;
+use std::alloc::Global;
+
+// Where the first type stands, behind the count.
+const FIRST_TYPE: usize = 2;
+
+// The bytes of a type.
+const TYPE_LENGTH: usize = 4;
+
+/// The types of the parameters of a prepared statement, in order. Up to six take no memory of their
+/// own. Documentation: "Message Formats", ParameterDescription (B).
+#[derive(Drop)]
+pub struct ParameterDescription {
+    pub types: SmallVec<Oid, 6>,
+}
+
+impl BackendMessage for ParameterDescription {
+    ghost use Rattle.std.specs.Prelude.{ℕ, List};
+    ghost use Rattle.pg_receive.specs.ParameterDescription.{type_numbers, MeansTypes, BreaksTypes, FreeTypes};
+    ghost use Rattle.pg_receive.specs.ParameterDescriptionLaws.{one_types, types_or_fault};
+
+    const FORMAT: BackendMessageFormat = BackendMessageFormat::ParameterDescription;
+
+    ghost FORMAT = { formats.ParameterDescription };
+
+    ghost Shown = { List ℕ };
+
+    ghost shown = { λ description. type_numbers description.types.items };
+
+    ghost Means = { MeansTypes };
+
+    ghost Broken = { BreaksTypes };
+
+    ghost Free = { FreeTypes };
+
+    fn decode_body(alloc: Global, buf: Bytes) -> Result<Self, Error> {
+        let types = types_of(alloc, buf.as_slice())?;
+        Ok(ParameterDescription { types })
+    }
+
+    ghost one_value = { one_types };
+
+    ghost never_both = { types_or_fault };
+}
+
+fn types_of(alloc: Global, body: &[u8]) -> Result<SmallVec<Oid, 6>, Error>
+    requires { length body.now ≤ MAX_BODY }
+    ensures { Answers MeansTypes BreaksTypes FreeTypes (λ types. type_numbers types.items) None body.now result }
+{
+    let count = usize::from(u16_at(body, 0)?);
+    bytes_at(body, FIRST_TYPE, TYPE_LENGTH * count)?;
+    let mut types = SmallVec::new(alloc);
+    types.reserve(count)?;
+    for index in 0..count {
+        types.push_reserved(Oid(u32_at(body, FIRST_TYPE + TYPE_LENGTH * index)?));
+    }
+    Ok(types)
+}
+
+#[cfg(test)]
+mod tests {
+    use super::*;
+    use pg_base::ProtocolFault;
+    use std::test::Fail;
+
+    #[test]
+    fn types(rt: HostRuntime) -> Result<(), Fail> {
+        let body = Bytes::from_static(&[0, 2, 0, 0, 0, 0, 0, 0, 5, 0]);
+        let two = ParameterDescription::decode_body(rt.alloc(), body)?;
+        assert_eq!(rt; two.types.as_slice(), [Oid(0), Oid(1280)].as_slice());
+        let none = ParameterDescription::decode_body(rt.alloc(), Bytes::from_static(&[0, 0]))?;
+        assert!(rt; none.types.is_empty());
+        Ok(())
+    }
+
+    #[test]
+    fn too_few_types(rt: HostRuntime) {
+        let body = Bytes::from_static(&[0, 2, 0, 0, 0, 1, 0]);
+        let fault = ProtocolFault::Short {
+            at: 2,
+            needed: 8,
+            got: 5,
+        };
+        let description = ParameterDescription::decode_body(rt.alloc(), body);
+        assert_eq!(rt; description.err(), Some(Error::from(fault)));
+    }
+}

@@ -1,0 +1,195 @@
+//! The columns of a result.
+
+ghost use Rattle.std.specs.Prelude.{◌≡◌, ℕ, ◌+◌, ◌*◌, ◌≤◌, List, length, drop, map, None, IsOk, IfOk, option_map, string_bytes};
+ghost use Rattle.pg_base.specs.Answers.{Answers};
+ghost use Rattle.pg_base.specs.declared.message.BackendMessageFormat.TheVariants as formats;
+ghost use Rattle.pg_receive.specs.Items.{StandsAt};
+ghost use Rattle.pg_receive.specs.RowDescription.{Column, column_of, table, attribute, numbers_length, SpellsNumbers, SpellsColumn, BreaksColumn, Columns, BreaksColumns, FreeColumns};
+
+use crate::message::BackendMessage;
+use crate::message::text::str_at;
+use bytes::Bytes;
+use pg_base::io::{MAX_BODY, Oid, bytes_at, i16_at, i32_at, u16_at, u32_at};
+use pg_base::{BackendMessageFormat, Error, ProtocolFault};
+use std::alloc::Global;
+
+// Where the first column stands, behind the count.
+const FIRST_COLUMN: usize = 2;
+
+// The bytes of a column's numbers, which stand behind its name.
+const NUMBERS_LENGTH: usize = 18;
+
+// The least bytes of a column: the NUL of an empty name, and the numbers.
+const LEAST_COLUMN: usize = 19;
+
+/// The columns of the rows that follow. Documentation: "Message Formats", RowDescription (B).
+#[derive(Drop)]
+pub struct RowDescription {
+    pub fields: Vec<Field>,
+}
+
+/// A column of a result.
+#[derive(Drop)]
+pub struct Field {
+    pub name: String,
+    /// The table that the column is of, where it is of one.
+    pub relation_id: Option<Oid>,
+    /// The number of the column in its table, where it is of one.
+    pub relation_attribute_no: Option<i16>,
+    pub data_type_id: Oid,
+    /// The bytes of the type, below 0 where they vary.
+    pub data_type_size: i16,
+    /// What the type makes of it depends on the type.
+    pub type_modifier: i32,
+    /// The format code, 0 for text and 1 for binary.
+    pub format: i16,
+}
+
+impl BackendMessage for RowDescription {
+    ghost use Rattle.std.specs.Prelude.{List, map};
+    ghost use Rattle.pg_receive.specs.RowDescription.{Column, column_of, Columns, BreaksColumns, FreeColumns};
+    ghost use Rattle.pg_receive.specs.RowDescriptionLaws.{one_description, description_or_fault};
+
+    const FORMAT: BackendMessageFormat = BackendMessageFormat::RowDescription;
+
+    ghost FORMAT = { formats.RowDescription };
+
+    ghost Shown = { List Column };
+
+    ghost shown = { λ description. map column_of description.fields.items };
+
+    ghost Means = { Columns };
+
+    ghost Broken = { BreaksColumns };
+
+    ghost Free = { FreeColumns };
+
+    fn decode_body(alloc: Global, buf: Bytes) -> Result<Self, Error> {
+        let fields = fields_of(alloc, buf.as_slice())?;
+        Ok(RowDescription { fields })
+    }
+
+    ghost one_value = { one_description };
+
+    ghost never_both = { description_or_fault };
+}
+
+/// A body of n bytes describes at most (n - 2) / 19 columns.
+pub fn columns_fit_in_their_body()
+    ensures { (body : List ℕ) (columns : List Column) → Columns body columns → 2 + 19 * length columns ≤ length body }
+{}
+
+fn fields_of(alloc: Global, body: &[u8]) -> Result<Vec<Field>, Error>
+    requires { length body.now ≤ MAX_BODY }
+    ensures { Answers Columns BreaksColumns FreeColumns (λ fields. map column_of fields.items) None body.now result }
+{
+    let count = usize::from(u16_at(body, 0)?);
+    bytes_at(body, FIRST_COLUMN, LEAST_COLUMN * count)?;
+    let mut fields = Vec::with_capacity(alloc, count)?;
+    let mut at = FIRST_COLUMN;
+    for _index in 0..count {
+        let (field, end) = field_at(alloc, body, at)?;
+        fields.push_reserved(field);
+        at = end;
+    }
+    Ok(fields)
+}
+
+// The column at an offset, and the offset behind it.
+fn field_at(alloc: Global, body: &[u8], at: usize) -> Result<(Field, usize), Error>
+    requires within { at ≤ length body.now }
+    requires short { length body.now ≤ MAX_BODY }
+    ensures { Answers (λ body found. StandsAt SpellsColumn body at (column_of found.0) found.1) (λ body fault. BreaksColumn body at (drop at body) fault) (λ _. ⊥) (λ found. found) None body.now result }
+{
+    let (name, behind) = str_at(body, at)?;
+    let numbers = bytes_at(body, behind, NUMBERS_LENGTH)?;
+    let field = field_of(String::from_str(alloc, name)?, numbers)?;
+    Ok((field, behind + NUMBERS_LENGTH))
+}
+
+// The column of a name and the numbers behind it.
+fn field_of(name: String, numbers: &[u8]) -> Result<Field, ProtocolFault>
+    requires { length numbers.now ≡ NUMBERS_LENGTH }
+    ensures whole { IsOk result }
+    ensures name { IfOk result (λ field. (column_of field).name ≡ string_bytes name) }
+    ensures numbers { IfOk result (λ field. SpellsNumbers numbers.now (column_of field)) }
+{
+    Ok(Field {
+        name,
+        relation_id: relation_of(u32_at(numbers, 0)?),
+        relation_attribute_no: attribute_of(i16_at(numbers, 4)?),
+        data_type_id: Oid(u32_at(numbers, 6)?),
+        data_type_size: i16_at(numbers, 10)?,
+        type_modifier: i32_at(numbers, 12)?,
+        format: i16_at(numbers, 16)?,
+    })
+}
+
+fn relation_of(id: u32) -> Option<Oid>
+    ensures { option_map (λ oid. oid.0) result ≡ table id }
+{
+    if id == 0 { None } else { Some(Oid(id)) }
+}
+
+fn attribute_of(number: i16) -> Option<i16>
+    ensures { result ≡ attribute number }
+{
+    if number == 0 { None } else { Some(number) }
+}
+
+#[cfg(test)]
+mod tests {
+    use super::*;
+    use std::test::Fail;
+
+    const ID: &[u8] = b"\0\x01id\0\0\0\x40\x06\0\x01\0\0\0\x17\0\x04\xFF\xFF\xFF\xFF\0\x01";
+
+    const NAMELESS: &[u8] = b"\0\x01\0\0\0\0\0\0\0\0\0\0\0\0\0\0\0\0\0\0\0";
+
+    #[test]
+    fn columns(rt: HostRuntime) -> Result<(), Fail> {
+        let description = RowDescription::decode_body(rt.alloc(), Bytes::from_static(ID))?;
+        assert_eq!(rt; description.fields.len(), 1);
+        let id = &description.fields[0];
+        assert_eq!(rt; id.name.as_str(), "id");
+        assert_eq!(rt; id.relation_id, Some(Oid(16390)));
+        assert_eq!(rt; id.relation_attribute_no, Some(1));
+        assert_eq!(rt; id.data_type_id, Oid(23));
+        assert_eq!(rt; id.data_type_size, 4);
+        assert_eq!(rt; id.type_modifier, -1);
+        assert_eq!(rt; id.format, 1);
+        let description = RowDescription::decode_body(rt.alloc(), Bytes::from_static(NAMELESS))?;
+        assert_eq!(rt; description.fields.len(), 1);
+        let nameless = &description.fields[0];
+        assert_eq!(rt; nameless.name.as_str(), "");
+        assert_eq!(rt; nameless.relation_id, None);
+        assert_eq!(rt; nameless.relation_attribute_no, None);
+        assert_eq!(rt; nameless.data_type_id, Oid(0));
+        assert_eq!(rt; nameless.data_type_size, 0);
+        assert_eq!(rt; nameless.type_modifier, 0);
+        assert_eq!(rt; nameless.format, 0);
+        Ok(())
+    }
+
+    #[test]
+    fn broken_columns(rt: HostRuntime) {
+        let short = |at: usize, needed: usize, got: usize| ProtocolFault::Short { at, needed, got };
+        let table: [(&'static [u8], ProtocolFault); 4] = [
+            (&ID[..ID.len() - 1], short(5, 18, 17)),
+            (&NAMELESS[..NAMELESS.len() - 1], short(2, 19, 18)),
+            (
+                b"\0\x01aaaaaaaaaaaaaaaaaaa",
+                ProtocolFault::MissingNul { at: 2 },
+            ),
+            (
+                b"\0\x01\xFF\0\0\0\0\0\0\0\0\0\0\0\0\0\0\0\0\0\0\0",
+                ProtocolFault::NotUtf8,
+            ),
+        ];
+        for (body, fault) in table {
+            assert!(rt; body.len() < 200);
+            let description = RowDescription::decode_body(rt.alloc(), Bytes::from_static(body));
+            assert_eq!(rt; description.err(), Some(Error::from(fault)), "at {body:?}");
+        }
+    }
+}
