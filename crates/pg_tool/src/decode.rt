@@ -6,8 +6,9 @@ use bytes::Bytes;
 use pg_base::{BackendMessageFormat, Error};
 use pg_receive::error::PgDatabaseError;
 use pg_receive::message::{
-    Authentication, BackendKeyData, BackendMessage, CommandComplete, CopyData, CopyDone, Notice, Notification,
-    ParameterStatus, ReadyForQuery, ReceivedMessage,
+    Authentication, BackendKeyData, BackendMessage, CommandComplete, CopyData, CopyDone,
+    CopyInResponse, CopyOutResponse, DataRow, Notice, Notification, ParameterDescription,
+    ParameterStatus, ReadyForQuery, ReceivedMessage, RowDescription,
 };
 use std::alloc::{AllocError, Global};
 
@@ -100,12 +101,24 @@ fn outcome_of(
         BackendMessageFormat::CommandComplete => typed::<CommandComplete>(alloc, message),
         BackendMessageFormat::CopyData => typed::<CopyData<Bytes>>(alloc, message),
         BackendMessageFormat::CopyDone => typed::<CopyDone>(alloc, message),
+        BackendMessageFormat::CopyInResponse => typed::<CopyInResponse>(alloc, message),
+        BackendMessageFormat::CopyOutResponse => typed::<CopyOutResponse>(alloc, message),
+        BackendMessageFormat::DataRow => typed::<DataRow>(alloc, message),
         BackendMessageFormat::ErrorResponse => typed::<PgDatabaseError>(alloc, message),
         BackendMessageFormat::NoticeResponse => typed::<Notice>(alloc, message),
         BackendMessageFormat::NotificationResponse => typed::<Notification>(alloc, message),
+        BackendMessageFormat::ParameterDescription => {
+            typed::<ParameterDescription>(alloc, message)
+        }
         BackendMessageFormat::ParameterStatus => typed::<ParameterStatus>(alloc, message),
         BackendMessageFormat::ReadyForQuery => typed::<ReadyForQuery>(alloc, message),
-        _ => Ok(Outcome::Untyped),
+        BackendMessageFormat::RowDescription => typed::<RowDescription>(alloc, message),
+        BackendMessageFormat::BindComplete
+        | BackendMessageFormat::CloseComplete
+        | BackendMessageFormat::EmptyQueryResponse
+        | BackendMessageFormat::NoData
+        | BackendMessageFormat::ParseComplete
+        | BackendMessageFormat::PortalSuspended => Ok(Outcome::Untyped),
     }
 }
 
