@@ -240,3 +240,6 @@ impl BackendMessage for PgDatabaseError {
 
     ghost never_both = { notice_or_fault };
 }
+
+#[cfg(test)]
+mod tests;

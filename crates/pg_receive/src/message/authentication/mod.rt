@@ -137,3 +137,6 @@ fn md5_password_of(body: &[u8]) -> Result<AuthenticationMd5Password, ProtocolFau
     salt.copy_from_slice(bytes_at(body, METHOD_LEN, SALT_LEN)?);
     Ok(AuthenticationMd5Password { salt })
 }
+
+#[cfg(test)]
+mod tests;

@@ -154,3 +154,6 @@ fn text_at<'a>(body: &'a [u8], place: &Range<usize>) -> &'a str
 {
     unsafe { str::from_utf8_unchecked(&body[place.start..place.end]) }
 }
+
+#[cfg(test)]
+mod tests;
