@@ -1,3 +1,5 @@
+ghost use Rattle.std.specs.Prelude.{◌<◌, length};
+
 use super::*;
 use pg_base::io::ProtocolDecode;
 use std::test::Fail;
