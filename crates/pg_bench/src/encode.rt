@@ -1,0 +1,114 @@
+//! A script's messages, encoded again and again into one buffer.
+//!
+//! Each call clears the buffer before each pass, copies what the last pass made to `out`, and
+//! answers its length in bytes: 0 where the script can't be read, a message is refused, or `out`
+//! has no room.
+
+use crate::script::{Record, Script, encode_record, message_of};
+use pg_send::message::{TaggedMessage, encode_all};
+use std::alloc::{AllocError, Global};
+
+/// Reads the script once, and encodes its messages one by one.
+#[unsafe(no_mangle)]
+pub extern "C" fn tw_encode_prepared(
+    alloc: Global,
+    script: &[u8],
+    times: usize,
+    out: &mut [u8],
+) -> usize {
+    give(prepared(alloc, script, times), out)
+}
+
+/// Reads the script once, and encodes its messages by one call a pass.
+#[unsafe(no_mangle)]
+pub extern "C" fn tw_encode_all(
+    alloc: Global,
+    script: &[u8],
+    times: usize,
+    out: &mut [u8],
+) -> usize {
+    give(all(alloc, script, times), out)
+}
+
+/// Reads the script in each pass, and encodes each message as it is read.
+#[unsafe(no_mangle)]
+pub extern "C" fn tw_encode_script(
+    alloc: Global,
+    script: &[u8],
+    times: usize,
+    out: &mut [u8],
+) -> usize {
+    give(scripted(alloc, script, times), out)
+}
+
+fn prepared(alloc: Global, script: &[u8], times: usize) -> Option<Vec<u8>> {
+    let records = records(alloc, script)?;
+    let messages = messages(alloc, records.as_slice()).ok()?;
+    let mut buf = Vec::new(alloc);
+    for _ in 0..times {
+        buf.clear();
+        for message in messages.iter() {
+            message.encode(&mut buf).ok()?;
+        }
+    }
+    Some(buf)
+}
+
+fn all(alloc: Global, script: &[u8], times: usize) -> Option<Vec<u8>> {
+    let records = records(alloc, script)?;
+    let messages = messages(alloc, records.as_slice()).ok()?;
+    let mut buf = Vec::new(alloc);
+    for _ in 0..times {
+        buf.clear();
+        let answers = encode_all(alloc, messages.as_slice(), &mut buf).ok()?;
+        for answer in answers {
+            answer.ok()?;
+        }
+    }
+    Some(buf)
+}
+
+fn scripted(alloc: Global, script: &[u8], times: usize) -> Option<Vec<u8>> {
+    let mut buf = Vec::new(alloc);
+    for _ in 0..times {
+        buf.clear();
+        for record in Script::new(script) {
+            let Some(record) = record else {
+                return None;
+            };
+            encode_record(record, &mut buf).ok()?;
+        }
+    }
+    Some(buf)
+}
+
+fn records(alloc: Global, script: &[u8]) -> Option<Vec<Record<'_>>> {
+    let mut records = Vec::new(alloc);
+    for record in Script::new(script) {
+        let Some(record) = record else {
+            return None;
+        };
+        records.reserve(1).ok()?;
+        records.push_reserved(record);
+    }
+    Some(records)
+}
+
+fn messages<'a>(
+    alloc: Global,
+    records: &[Record<'a>],
+) -> Result<Vec<TaggedMessage<'a>>, AllocError> {
+    records.iter().map(message_of).collect(alloc)
+}
+
+fn give(buf: Option<Vec<u8>>, out: &mut [u8]) -> usize {
+    let Some(buf) = buf else {
+        return 0;
+    };
+    let len = buf.len();
+    if len > out.len() {
+        return 0;
+    }
+    out[..len].copy_from_slice(buf.as_slice());
+    len
+}
