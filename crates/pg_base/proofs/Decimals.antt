@@ -6,7 +6,7 @@ use Rattle.std.proofs.Math.Nat.{le-mul_of_pos_right}
 use Rattle.std.specs.Char.{IsAsciiDigit, IsNotAsciiDigit}
 use Rattle.pg_base.specs.Atoi.{AreDigits, BeginsWithDigit, decimal_value, Digits, IsDigitsUpTo, unsigned, plus, minus, Sign, SignedDigits, IsWithin, Atoi}
 
-ten_pos : (k : ℕ) → 0 < 10 ^ k
+pub ten_pos : (k : ℕ) → 0 < 10 ^ k
 ten_pos zero = omega arith
 ten_pos (suc k) = omega (arith, ten_pos k)
 

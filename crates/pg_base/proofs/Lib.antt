@@ -4,4 +4,5 @@ pub mod NameLemmas
 pub mod Spelled
 pub mod Readings
 pub mod Decimals
+pub mod DecimalLength
 pub mod ReadBack

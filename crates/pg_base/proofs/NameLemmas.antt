@@ -1,10 +1,12 @@
 -- A name tells which id it is of.
-use Rattle.std.proofs.Common.{◌≡◌, ◌≢◌, ℕ, ◌^◌, ◌<◌, ◌≤◌, List, [], ◌++◌, length, decimal, refl, sym, ap, ◌∙◌, arith, length-append, zero, suc}
+use Rattle.std.proofs.Common.{◌≡◌, ◌≢◌, ℕ, ◌+◌, ◌*◌, ◌^◌, ◌<◌, ◌≤◌, List, [], ◌++◌, length, decimal, refl, sym, ap, ◌∙◌, arith, length-append, zero, suc}
 use Rattle.std.specs.Str.Parse.{digits_value}
 use Rattle.std.proofs.lemmas.Fmt.{decimal_is_IsNumeral, decimal_nonempty}
 use Rattle.std.proofs.lemmas.Bool.{ne_eqb}
 use Rattle.pg_base.specs.Names.{name, max_id}
 use Rattle.pg_base.proofs.Cuts.{parts_at}
+use Rattle.pg_base.proofs.Decimals.{ten_pos}
+use Rattle.pg_base.proofs.DecimalLength.{decimal_length}
 
 pub one_decimal : (a b : ℕ) → a < 2 ^ 64 → b < 2 ^ 64 → decimal a ≡ decimal b → a ≡ b
 one_decimal a b p q e = sym (decimal_is_IsNumeral a p).1 ∙ ap (digits_value 10) e ∙ (decimal_is_IsNumeral b q).1
@@ -14,6 +16,11 @@ name_of_zero prefix = refl
 
 pub name_of_other : (prefix : List ℕ) (n : ℕ) → n ≢ 0 → name prefix n ≡ prefix ++ decimal n
 name_of_other prefix n h = rw (ne_eqb n 0 h) refl
+
+pub name_length : (prefix : List ℕ) (k n : ℕ) → 10 ^ k ≤ n → n < 10 * 10 ^ k → n < 2 ^ 32 → length (name prefix n) ≡ length prefix + k + 1
+name_length prefix k n low high small =
+    let some : n ≢ 0 = λ e. omega (arith, low, ten_pos k, e) in
+    omega (arith, ap length (name_of_other prefix n some), length-append prefix (decimal n), decimal_length k n low high (omega (arith, small)))
 
 -- only 0 has no name
 name_nonempty : (prefix : List ℕ) (n : ℕ) → n ≢ 0 → n ≤ max_id → 0 < length (name prefix n)

@@ -3,13 +3,12 @@
 //! Each call answers the sum of all that was read in all passes: 0 where the stream is not whole
 //! frames, or a message is refused.
 
-ghost use Rattle.std.specs.Prelude.{◌<◌, length, IfSome};
-ghost use Rattle.std.specs.Iterator.{at_most};
+ghost use Rattle.std.specs.Prelude.{◌≤◌, length, IfSome};
 
 use crate::sum::Sum;
 use byteorder::{BigEndian, ByteOrder};
 use bytes::{Bytes, BytesMut};
-use pg_base::{BackendMessageFormat, Error};
+use pg_base::BackendMessageFormat;
 use pg_receive::error::{PgDatabaseError, PgErrorPosition};
 use pg_receive::message::{
     CommandComplete, DataRow, ParameterStatus, ReadyForQuery, ReceivedMessage, RowDescription,
@@ -41,19 +40,29 @@ struct Frame {
 }
 
 fn bodies(alloc: Global, stream: &[u8], times: usize, full: bool) -> Option<u64> {
-    let mut frames = Vec::new(alloc);
-    for frame in (Frames { rest: Bytes::copy_from_slice(alloc, stream).ok()? }) {
-        let Frame { tag, body } = frame?;
-        let body = Bytes::copy_from_slice(alloc, body.as_slice()).ok()?;
-        frames.push(Frame { tag, body }).ok()?;
-    }
+    let frames = frames(alloc, stream)?;
     let mut sum = Sum { value: 0, full };
     for _ in 0..times {
         for frame in frames.iter() {
-            add(alloc, frame.tag, frame.body.clone().ok()?, &mut sum).ok()?;
+            add(alloc, frame.tag, frame.body.clone().ok()?, &mut sum)?;
         }
     }
     Some(sum.value)
+}
+
+fn frames(alloc: Global, stream: &[u8]) -> Option<Vec<Frame>> {
+    let mut frames = Vec::new(alloc);
+    let mut rest = stream;
+    for _ in 0..stream.len() {
+        if rest.is_empty() {
+            break;
+        }
+        let (tag, end) = head_of(rest)?;
+        let body = Bytes::copy_from_slice(alloc, &rest[HEAD_LENGTH..end]).ok()?;
+        frames.push(Frame { tag, body }).ok()?;
+        rest = &rest[end..];
+    }
+    Some(frames)
 }
 
 fn streamed(alloc: Global, stream: &[u8], times: usize, full: bool) -> Option<u64> {
@@ -62,86 +71,68 @@ fn streamed(alloc: Global, stream: &[u8], times: usize, full: bool) -> Option<u6
     for _ in 0..times {
         buf.extend_from_slice(stream).ok()?;
         let len = buf.len();
-        for frame in (Frames { rest: buf.freeze_to(len).ok()? }) {
-            let Frame { tag, body } = frame?;
-            add(alloc, tag, body, &mut sum).ok()?;
-        }
+        add_frames(alloc, buf.freeze_to(len).ok()?, &mut sum)?;
     }
     Some(sum.value)
 }
 
-// The frames of a stream. One that is not whole is None, and the last.
-#[derive(Drop)]
-struct Frames {
-    rest: Bytes,
-}
-
-impl Iterator for Frames {
-    type Item = Option<Frame>;
-
-    ghost remaining = { λ frames. at_most (length frames.rest) };
-
-    fn next(&mut self) -> Option<Option<Frame>> {
-        if self.rest.is_empty() {
-            return None;
+fn add_frames(alloc: Global, stream: Bytes, sum: &mut Sum) -> Option<()> {
+    let mut rest = stream;
+    for _ in 0..rest.len() {
+        if rest.is_empty() {
+            break;
         }
-        let frame = first_frame(&mut self.rest);
-        if frame.is_none() {
-            self.rest = Bytes::new();
-        }
-        Some(frame)
+        let (tag, end) = head_of(rest.as_slice())?;
+        rest.advance(HEAD_LENGTH);
+        add(alloc, tag, rest.split_to(end - HEAD_LENGTH).ok()?, sum)?;
     }
+    Some(())
 }
 
-fn first_frame(rest: &mut Bytes) -> Option<Frame>
-    ensures { IfSome result (λ _. length rest.new < length rest.old) }
+// The bytes before a body: a tag, and the length, which counts itself and the body.
+const HEAD_LENGTH: usize = 5;
+
+// The tag of the frame at the front, and where the frame ends.
+fn head_of(stream: &[u8]) -> Option<(u8, usize)>
+    ensures { IfSome result (λ head. (HEAD_LENGTH ≤ head.1) × (head.1 ≤ length stream.now)) }
 {
-    let head = rest.as_slice().get(..5)?;
-    let tag = head[0];
-    let length = BigEndian::read_u32(&head[1..]) as usize;
-    if length < 4 || rest.len() < 1 + length {
+    if stream.len() < HEAD_LENGTH {
         return None;
     }
-    rest.advance(5);
-    let body = rest.split_to(length - 4).ok()?;
-    Some(Frame { tag, body })
+    let end = 1 + BigEndian::read_u32(&stream[1..HEAD_LENGTH]) as usize;
+    if end < HEAD_LENGTH || stream.len() < end {
+        return None;
+    }
+    Some((stream[0], end))
 }
 
 // Adds the tag and all that the message says.
-fn add(alloc: Global, tag: u8, contents: Bytes, sum: &mut Sum) -> Result<(), Error> {
-    let format = BackendMessageFormat::try_from_u8(tag)?;
+fn add(alloc: Global, tag: u8, contents: Bytes, sum: &mut Sum) -> Option<()> {
+    let format = BackendMessageFormat::try_from_u8(tag).ok()?;
     let message = ReceivedMessage { format, contents };
     sum.mix(u64::from(tag));
     match format {
-        BackendMessageFormat::DataRow => add_row(&message.decode(alloc)?, sum),
-        BackendMessageFormat::RowDescription => add_columns(&message.decode(alloc)?, sum),
-        BackendMessageFormat::CommandComplete => {
-            let complete: CommandComplete = message.decode(alloc)?;
-            sum.mix(complete.rows_affected());
-        }
-        BackendMessageFormat::ReadyForQuery => {
-            let ready: ReadyForQuery = message.decode(alloc)?;
-            sum.mix(ready.transaction_status as u64);
-        }
-        BackendMessageFormat::ErrorResponse => add_error(&message.decode(alloc)?, sum),
-        BackendMessageFormat::ParameterStatus => {
-            let status: ParameterStatus = message.decode(alloc)?;
-            sum.touch(status.name.as_bytes());
-            sum.touch(status.value.as_bytes());
-        }
-        _ => {}
+        BackendMessageFormat::DataRow => add_row(alloc, message, sum),
+        BackendMessageFormat::RowDescription => add_columns(alloc, message, sum),
+        BackendMessageFormat::CommandComplete => add_complete(alloc, message, sum),
+        BackendMessageFormat::ReadyForQuery => add_ready(alloc, message, sum),
+        BackendMessageFormat::ErrorResponse => add_error(alloc, message, sum),
+        BackendMessageFormat::ParameterStatus => add_status(alloc, message, sum),
+        _ => None,
     }
-    Ok(())
 }
 
-fn add_row(row: &DataRow, sum: &mut Sum) {
+fn add_row(alloc: Global, message: ReceivedMessage, sum: &mut Sum) -> Option<()> {
+    let row: DataRow = message.decode(alloc).ok()?;
     sum.mix(row.len() as u64);
     for index in 0..row.len() {
         sum.touch_option(row.get(index));
     }
+    Some(())
 }
 
-fn add_columns(description: &RowDescription, sum: &mut Sum) {
+fn add_columns(alloc: Global, message: ReceivedMessage, sum: &mut Sum) -> Option<()> {
+    let description: RowDescription = message.decode(alloc).ok()?;
     for field in description.fields.iter() {
         sum.touch(field.name.as_bytes());
         sum.mix(field.relation_id.map_or(0, |oid| u64::from(oid.0)));
@@ -153,26 +144,36 @@ fn add_columns(description: &RowDescription, sum: &mut Sum) {
         sum.mix(u64::from(field.format.cast_unsigned()));
     }
     sum.mix(description.fields.len() as u64);
+    Some(())
 }
 
-fn add_error(error: &PgDatabaseError, sum: &mut Sum) {
+fn add_complete(alloc: Global, message: ReceivedMessage, sum: &mut Sum) -> Option<()> {
+    let complete: CommandComplete = message.decode(alloc).ok()?;
+    sum.mix(complete.rows_affected());
+    Some(())
+}
+
+fn add_ready(alloc: Global, message: ReceivedMessage, sum: &mut Sum) -> Option<()> {
+    let ready: ReadyForQuery = message.decode(alloc).ok()?;
+    sum.mix(ready.transaction_status as u64);
+    Some(())
+}
+
+fn add_status(alloc: Global, message: ReceivedMessage, sum: &mut Sum) -> Option<()> {
+    let status: ParameterStatus = message.decode(alloc).ok()?;
+    sum.touch(status.name.as_bytes());
+    sum.touch(status.value.as_bytes());
+    Some(())
+}
+
+fn add_error(alloc: Global, message: ReceivedMessage, sum: &mut Sum) -> Option<()> {
+    let error: PgDatabaseError = message.decode(alloc).ok()?;
     sum.mix(error.severity() as u64);
     sum.touch(error.code().as_bytes());
     sum.touch(error.message().as_bytes());
     sum.text(error.detail());
     sum.text(error.hint());
-    match error.position() {
-        None => sum.nothing(),
-        Some(PgErrorPosition::Original(position)) => {
-            sum.mix(0);
-            sum.mix(position as u64);
-        }
-        Some(PgErrorPosition::Internal { position, query }) => {
-            sum.mix(1);
-            sum.mix(position as u64);
-            sum.touch(query.as_bytes());
-        }
-    }
+    add_position(error.position(), sum);
     sum.text(error.where_());
     sum.text(error.schema());
     sum.text(error.table());
@@ -185,4 +186,20 @@ fn add_error(error: &PgDatabaseError, sum: &mut Sum) {
         None => sum.nothing(),
     }
     sum.text(error.routine());
+    Some(())
+}
+
+fn add_position(position: Option<PgErrorPosition<'_>>, sum: &mut Sum) {
+    match position {
+        None => sum.nothing(),
+        Some(PgErrorPosition::Original(position)) => {
+            sum.mix(0);
+            sum.mix(position as u64);
+        }
+        Some(PgErrorPosition::Internal { position, query }) => {
+            sum.mix(1);
+            sum.mix(position as u64);
+            sum.touch(query.as_bytes());
+        }
+    }
 }

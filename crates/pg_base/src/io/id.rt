@@ -6,6 +6,7 @@ ghost use Rattle.pg_base.specs.Names.{name, next_id, named, statement_prefix, po
 
 use crate::error::Error;
 use itoa::Buffer;
+use std::alloc::AllocError;
 use std::fmt;
 use std::marker::Model;
 
@@ -68,7 +69,8 @@ impl StatementId {
         ensures capacity { vec_capacity buf.old ≤ vec_capacity buf.new }
         ensures range { self.now ≤ max_id }
     {
-        put_name_with_nul(STATEMENT_PREFIX, self.0, buf)
+        put_name_with_nul(STATEMENT_PREFIX, self.0, buf)?;
+        Ok(())
     }
 
     /// The name of a named statement, to be printed.
@@ -141,7 +143,8 @@ impl PortalId {
         ensures capacity { vec_capacity buf.old ≤ vec_capacity buf.new }
         ensures range { self.now ≤ max_id }
     {
-        put_name_with_nul(PORTAL_PREFIX, self.0, buf)
+        put_name_with_nul(PORTAL_PREFIX, self.0, buf)?;
+        Ok(())
     }
 }
 
@@ -178,35 +181,34 @@ fn next_number(number: u32) -> u32
     }
 }
 
+#[tactic(auto, using(crate::proofs::NameLemmas::name_length))]
 fn name_len(prefix: &str, number: u32) -> usize
     requires { length prefix.now < 100 }
     ensures { result ≡ length (name prefix.now number) + 1 }
 {
-    if number == 0 {
-        return 1;
+    match number.checked_ilog10() {
+        // One digit more than the logarithm, and the NUL.
+        Some(log) => prefix.len() + log as usize + 2,
+        None => 1,
     }
-    prefix.len() + Buffer::new().format(number).len() + 1
 }
 
-fn put_name_with_nul(prefix: &str, number: u32, buf: &mut Vec<u8>) -> Result<(), Error>
+fn put_name_with_nul(prefix: &str, number: u32, buf: &mut Vec<u8>) -> Result<(), AllocError>
     requires { length prefix.now < 100 }
     ensures ok { OnOk result (buf.new.items ≡ buf.old.items ++ named prefix.now number) }
     ensures err { OnErr result (buf.new.items ≡ buf.old.items) }
-    ensures memory { IsOkUnless result OutOfMemory }
     ensures room { OnErr result (vec_capacity buf.old < vec_len buf.old + length (named prefix.now number)) }
     ensures capacity { vec_capacity buf.old ≤ vec_capacity buf.new }
 {
     if number == 0 {
-        buf.push(0)?;
-        return Ok(());
+        return Ok(buf.push(0)?);
     }
     let mut digits = Buffer::new();
     let digits = digits.format(number);
     buf.reserve(prefix.len() + digits.len() + 1)?;
     buf.extend_from_slice(prefix.as_bytes())?;
     buf.extend_from_slice(digits.as_bytes())?;
-    buf.push(0)?;
-    Ok(())
+    Ok(buf.push(0)?)
 }
 
 /// Two ids with one name are one id.
