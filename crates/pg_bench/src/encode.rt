@@ -4,9 +4,9 @@
 //! answers its length in bytes: 0 where the script can't be read, a message is refused, or `out`
 //! has no room.
 
-use crate::script::{Record, Script, encode_record, message_of};
+use crate::script::Script;
 use pg_send::message::{TaggedMessage, encode_all};
-use std::alloc::{AllocError, Global};
+use std::alloc::Global;
 
 /// Reads the script once, and encodes its messages one by one.
 #[unsafe(no_mangle)]
@@ -42,8 +42,8 @@ pub extern "C" fn tw_encode_script(
 }
 
 fn prepared(alloc: Global, script: &[u8], times: usize) -> Option<Vec<u8>> {
-    let records = records(alloc, script)?;
-    let messages = messages(alloc, records.as_slice()).ok()?;
+    let mut messages = Vec::new(alloc);
+    read_messages(script, &mut messages)?;
     let mut buf = Vec::new(alloc);
     for _ in 0..times {
         buf.clear();
@@ -55,8 +55,8 @@ fn prepared(alloc: Global, script: &[u8], times: usize) -> Option<Vec<u8>> {
 }
 
 fn all(alloc: Global, script: &[u8], times: usize) -> Option<Vec<u8>> {
-    let records = records(alloc, script)?;
-    let messages = messages(alloc, records.as_slice()).ok()?;
+    let mut messages = Vec::new(alloc);
+    read_messages(script, &mut messages)?;
     let mut buf = Vec::new(alloc);
     for _ in 0..times {
         buf.clear();
@@ -72,33 +72,31 @@ fn scripted(alloc: Global, script: &[u8], times: usize) -> Option<Vec<u8>> {
     let mut buf = Vec::new(alloc);
     for _ in 0..times {
         buf.clear();
-        for record in Script::new(script) {
-            let Some(record) = record else {
-                return None;
-            };
-            encode_record(record, &mut buf).ok()?;
-        }
+        encode_script(script, &mut buf)?;
     }
     Some(buf)
 }
 
-fn records(alloc: Global, script: &[u8]) -> Option<Vec<Record<'_>>> {
-    let mut records = Vec::new(alloc);
-    for record in Script::new(script) {
-        let Some(record) = record else {
-            return None;
-        };
-        records.reserve(1).ok()?;
-        records.push_reserved(record);
+fn read_messages<'a>(script: &'a [u8], messages: &mut Vec<TaggedMessage<'a>>) -> Option<()> {
+    let mut script = Script { rest: script };
+    for _ in 0..script.rest.len() {
+        if script.rest.is_empty() {
+            break;
+        }
+        script.push_next(messages)?;
     }
-    Some(records)
+    Some(())
 }
 
-fn messages<'a>(
-    alloc: Global,
-    records: &[Record<'a>],
-) -> Result<Vec<TaggedMessage<'a>>, AllocError> {
-    records.iter().map(message_of).collect(alloc)
+fn encode_script(script: &[u8], buf: &mut Vec<u8>) -> Option<()> {
+    let mut script = Script { rest: script };
+    for _ in 0..script.rest.len() {
+        if script.rest.is_empty() {
+            break;
+        }
+        script.encode_next(buf)?;
+    }
+    Some(())
 }
 
 fn give(buf: Option<Vec<u8>>, out: &mut [u8]) -> usize {

@@ -186,13 +186,16 @@ fn name_len(prefix: &str, number: u32) -> usize
     requires { length prefix.now < 100 }
     ensures { result ≡ length (name prefix.now number) + 1 }
 {
-    match number.checked_ilog10() {
-        // One digit more than the logarithm, and the NUL.
-        Some(log) => prefix.len() + log as usize + 2,
-        None => 1,
+    // The logarithm is taken of every number, so that no branch stands before it.
+    let digits = number.max(1).ilog10() as usize + 1;
+    if number == 0 {
+        1
+    } else {
+        prefix.len() + digits + 1
     }
 }
 
+#[inline]
 fn put_name_with_nul(prefix: &str, number: u32, buf: &mut Vec<u8>) -> Result<(), AllocError>
     requires { length prefix.now < 100 }
     ensures ok { OnOk result (buf.new.items ≡ buf.old.items ++ named prefix.now number) }
@@ -203,12 +206,28 @@ fn put_name_with_nul(prefix: &str, number: u32, buf: &mut Vec<u8>) -> Result<(),
     if number == 0 {
         return Ok(buf.push(0)?);
     }
+    put_named(prefix, number, buf)
+}
+
+// The name of a number that isn't 0.
+#[inline(never)]
+fn put_named(prefix: &str, number: u32, buf: &mut Vec<u8>) -> Result<(), AllocError>
+    requires { (length prefix.now < 100) × (number ≢ 0) }
+    ensures ok { OnOk result (buf.new.items ≡ buf.old.items ++ named prefix.now number) }
+    ensures err { OnErr result (buf.new.items ≡ buf.old.items) }
+    ensures room { OnErr result (vec_capacity buf.old < vec_len buf.old + length (named prefix.now number)) }
+    ensures capacity { vec_capacity buf.old ≤ vec_capacity buf.new }
+{
     let mut digits = Buffer::new();
     let digits = digits.format(number);
     buf.reserve(prefix.len() + digits.len() + 1)?;
     buf.extend_from_slice(prefix.as_bytes())?;
-    buf.extend_from_slice(digits.as_bytes())?;
-    Ok(buf.push(0)?)
+    // One by one, since a copy of several waits for digits that were just written.
+    for digit in digits.as_bytes() {
+        buf.push_reserved(*digit);
+    }
+    buf.push_reserved(0);
+    Ok(())
 }
 
 /// Two ids with one name are one id.

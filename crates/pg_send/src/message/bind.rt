@@ -7,7 +7,7 @@ ghost use Rattle.pg_send.specs.Bind.{bind_body, bind_count_fault, IsBindInRange}
 use crate::message::FrontendMessage;
 use crate::message::counted::{put_formats, too_many};
 use crate::message::frame::check_len;
-use crate::message::numbers::put_u16;
+use crate::message::parts::{put_portal_name, put_slice, put_statement_name, put_u16};
 use pg_base::io::{PgValueFormat, PortalId, StatementId};
 use pg_base::{Error, FrontendMessageFormat, ProtocolFault};
 
@@ -72,15 +72,13 @@ impl FrontendMessage for Bind<'_> {
         check_len(fault, self.body_size_hint())
     }
 
-    fn encode_body(&self, buf: &mut Vec<u8>) -> Result<(), Error> {
-        buf.reserve(self.body_size_hint())?;
-        self.portal.put_name_with_nul(buf)?;
-        self.statement.put_name_with_nul(buf)?;
+    fn put_body(&self, buf: &mut Vec<u8>) {
+        put_portal_name(self.portal, buf);
+        put_statement_name(self.statement, buf);
         put_formats(self.formats, buf);
         put_u16(self.num_params, buf);
-        buf.extend_from_slice(self.params)?;
+        put_slice(self.params, buf);
         put_formats(self.result_formats, buf);
-        Ok(())
     }
 
     ghost use Rattle.std.proofs.Common.{arith};

@@ -48,7 +48,7 @@ impl FrontendMessage for Close {
         check_len(None, self.body_size_hint())
     }
 
-    fn encode_body(&self, buf: &mut Vec<u8>) -> Result<(), Error> {
+    fn put_body(&self, buf: &mut Vec<u8>) {
         match self {
             Close::Statement(id) => put_statement(*id, buf),
             Close::Portal(id) => put_portal(*id, buf),

@@ -6,6 +6,7 @@ ghost use Rattle.pg_send.specs.Limits.{saturated};
 
 use crate::message::FrontendMessage;
 use crate::message::frame::check_len;
+use crate::message::parts::put_slice;
 use pg_base::io::{CopyData, CopyDone, LendBytes};
 use pg_base::{Error, FrontendMessageFormat};
 
@@ -49,9 +50,8 @@ impl<B: LendBytes> FrontendMessage for CopyData<B> {
         check_len(None, self.body_size_hint())
     }
 
-    fn encode_body(&self, buf: &mut Vec<u8>) -> Result<(), Error> {
-        buf.extend_from_slice(self.0.bytes())?;
-        Ok(())
+    fn put_body(&self, buf: &mut Vec<u8>) {
+        put_slice(self.0.bytes(), buf);
     }
 
     ghost use Rattle.std.proofs.Common.{arith};
@@ -84,11 +84,9 @@ impl FrontendMessage for CopyFail {
         check_len(None, self.body_size_hint())
     }
 
-    fn encode_body(&self, buf: &mut Vec<u8>) -> Result<(), Error> {
-        buf.reserve(self.body_size_hint())?;
-        buf.extend_from_slice(self.message.as_bytes())?;
-        buf.push(0)?;
-        Ok(())
+    fn put_body(&self, buf: &mut Vec<u8>) {
+        put_slice(self.message.as_bytes(), buf);
+        buf.push_reserved(0);
     }
 
     ghost use Rattle.std.proofs.Common.{arith};
@@ -121,9 +119,7 @@ impl FrontendMessage for CopyDone {
         check_len(None, 0)
     }
 
-    fn encode_body(&self, _buf: &mut Vec<u8>) -> Result<(), Error> {
-        Ok(())
-    }
+    fn put_body(&self, _buf: &mut Vec<u8>) {}
 
     ghost use Rattle.std.proofs.Common.{arith};
 

@@ -5,7 +5,7 @@ ghost use Rattle.pg_base.specs.Numbers.{be16, be32};
 ghost use Rattle.pg_send.specs.Counted.{max_count, counted16, counted32};
 ghost use Rattle.pg_send.specs.Parts.{codes_of, numbers_of};
 
-use crate::message::numbers::{put_u16, put_u32};
+use crate::message::parts::{put_u16, put_u32};
 use pg_base::ProtocolFault;
 use pg_base::io::{Oid, PgValueFormat};
 

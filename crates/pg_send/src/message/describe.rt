@@ -48,7 +48,7 @@ impl FrontendMessage for Describe {
         check_len(None, self.body_size_hint())
     }
 
-    fn encode_body(&self, buf: &mut Vec<u8>) -> Result<(), Error> {
+    fn put_body(&self, buf: &mut Vec<u8>) {
         match self {
             Describe::Statement(id) => put_statement(*id, buf),
             Describe::Portal(id) => put_portal(*id, buf),

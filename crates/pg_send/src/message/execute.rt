@@ -6,6 +6,7 @@ ghost use Rattle.pg_send.specs.Execute.{execute_body, IsExecuteInRange};
 
 use crate::message::FrontendMessage;
 use crate::message::frame::check_len;
+use crate::message::parts::{put_portal_name, put_u32};
 use pg_base::io::PortalId;
 use pg_base::{Error, FrontendMessageFormat};
 
@@ -44,11 +45,9 @@ impl FrontendMessage for Execute {
         check_len(None, self.body_size_hint())
     }
 
-    fn encode_body(&self, buf: &mut Vec<u8>) -> Result<(), Error> {
-        buf.reserve(self.body_size_hint())?;
-        self.portal.put_name_with_nul(buf)?;
-        buf.extend_from_slice(&self.limit.to_be_bytes())?;
-        Ok(())
+    fn put_body(&self, buf: &mut Vec<u8>) {
+        put_portal_name(self.portal, buf);
+        put_u32(self.limit, buf);
     }
 
     ghost use Rattle.std.proofs.Common.{arith};

@@ -7,6 +7,7 @@ ghost use Rattle.pg_base.specs.Answers.{IsAnswer};
 ghost use Rattle.pg_base.specs.Cutting.{frame, IsCutInto};
 ghost use Rattle.pg_send.specs.Limits.{first_fault, checked_len, saturated, AddsBeginning};
 
+use crate::message::parts::put_u32;
 use pg_base::io::{MAX_BODY, ProtocolEncode};
 use pg_base::{Error, FrontendMessageFormat, ProtocolFault};
 
@@ -40,19 +41,33 @@ pub trait FrontendMessage: Sized + Drop {
     fn checked_body_len(&self) -> Result<usize, Error>
         ensures { result ≡ checked_len (first_fault (count_fault self.now) (length (body self.now))) (length (body self.now)) };
 
+    /// Adds the body of a message within the limits, in room that is there.
+    fn put_body(&self, buf: &mut Vec<u8>)
+        requires limits { first_fault (count_fault self.now) (length (body self.now)) ≡ None }
+        requires room { vec_len buf.old + length (body self.now) ≤ vec_capacity buf.old }
+        ensures items { buf.new.items ≡ buf.old.items ++ body self.now }
+        ensures capacity { vec_capacity buf.old ≤ vec_capacity buf.new }
+        ensures range { in_range self.now };
+
+    /// Within the limits the hint covers the body.
+    ghost enough: { (message : Self) → first_fault (count_fault message) (length (body message)) ≡ None → length (body message) ≤ hint message };
+
     /// Adds the body of a message within the limits. The only refusal is `OutOfMemory`, where the
     /// spare room doesn't hold the body, and it leaves the old bytes and a beginning of the body.
-    fn encode_body(&self, buf: &mut Vec<u8>) -> Result<(), Error>
+    final fn encode_body(&self, buf: &mut Vec<u8>) -> Result<(), Error>
         requires { first_fault (count_fault self.now) (length (body self.now)) ≡ None }
         ensures ok { OnOk result (buf.new.items ≡ buf.old.items ++ body self.now) }
         ensures memory { IsOkUnless result OutOfMemory }
         ensures beginning { OnErr result (AddsBeginning buf.old.items buf.new.items (body self.now)) }
         ensures room { OnErr result (vec_capacity buf.old < vec_len buf.old + length (body self.now)) }
         ensures capacity { vec_capacity buf.old ≤ vec_capacity buf.new }
-        ensures range { OnOk result (in_range self.now) };
-
-    /// Within the limits the hint covers the body.
-    ghost enough: { (message : Self) → first_fault (count_fault message) (length (body message)) ≡ None → length (body message) ≤ hint message };
+        ensures range { OnOk result (in_range self.now) }
+    {
+        let len = self.checked_body_len()?;
+        buf.reserve(len)?;
+        self.put_body(buf);
+        Ok(())
+    }
 
     /// Adds the whole message: `EncodeMessage(self).encode(buf)`.
     final fn encode_msg(self, buf: &mut Vec<u8>) -> Result<(), Error>
@@ -71,6 +86,7 @@ pub trait FrontendMessage: Sized + Drop {
 /// Every refusal leaves the bytes of the buffer as they were: a broken limit, exactly where there
 /// is one and before memory is asked for, or `OutOfMemory`, only where the spare room is less than
 /// the hint and five.
+#[inline(never)]
 pub fn encode_frame<F: FrontendMessage>(message: &F, buf: &mut Vec<u8>) -> Result<(), Error>
     ensures ok { OnOk result (buf.new.items ≡ buf.old.items ++ frame (F.tag message.now) (F.body message.now)) }
     ensures cut { OnOk result (IsCutInto (frame (F.tag message.now) (F.body message.now)) ((F.tag message.now, F.body message.now) ∷ [])) }
@@ -82,9 +98,10 @@ pub fn encode_frame<F: FrontendMessage>(message: &F, buf: &mut Vec<u8>) -> Resul
 {
     let len = message.checked_body_len()?;
     buf.reserve(message.body_size_hint().saturating_add(5))?;
-    buf.push(message.tag())?;
-    buf.extend_from_slice(&(len as u32 + 4).to_be_bytes())?;
-    message.encode_body(buf)
+    buf.push_reserved(message.tag());
+    put_u32(len as u32 + 4, buf);
+    message.put_body(buf);
+    Ok(())
 }
 
 /// A message as [`ProtocolEncode`] writes it: by [`encode_frame`].

@@ -7,6 +7,7 @@ ghost use Rattle.pg_send.specs.Parse.{parse_body, parse_count_fault, IsParseInRa
 use crate::message::FrontendMessage;
 use crate::message::counted::{put_types, too_many};
 use crate::message::frame::check_len;
+use crate::message::parts::{put_slice, put_statement_name};
 use pg_base::io::{Oid, StatementId};
 use pg_base::{Error, FrontendMessageFormat, ProtocolFault};
 
@@ -53,13 +54,11 @@ impl FrontendMessage for Parse<'_> {
         check_len(fault, self.body_size_hint())
     }
 
-    fn encode_body(&self, buf: &mut Vec<u8>) -> Result<(), Error> {
-        buf.reserve(self.body_size_hint())?;
-        self.statement.put_name_with_nul(buf)?;
-        buf.extend_from_slice(self.query.as_bytes())?;
-        buf.push(0)?;
+    fn put_body(&self, buf: &mut Vec<u8>) {
+        put_statement_name(self.statement, buf);
+        put_slice(self.query.as_bytes(), buf);
+        buf.push_reserved(0);
         put_types(self.param_types, buf);
-        Ok(())
     }
 
     ghost use Rattle.std.proofs.Common.{arith};

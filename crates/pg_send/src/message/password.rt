@@ -6,6 +6,7 @@ ghost use Rattle.pg_send.specs.Password.{md5_body, IsDigest};
 
 use crate::message::FrontendMessage;
 use crate::message::frame::check_len;
+use crate::message::parts::put_slice;
 use pg_base::{Error, FrontendMessageFormat};
 
 const MD5_PREFIX: &str = "md5";
@@ -58,20 +59,15 @@ impl FrontendMessage for Password<'_> {
         }
     }
 
-    fn encode_body(&self, buf: &mut Vec<u8>) -> Result<(), Error> {
+    fn put_body(&self, buf: &mut Vec<u8>) {
         match self {
-            Password::Cleartext(password) => {
-                buf.reserve(password.len().saturating_add(1))?;
-                buf.extend_from_slice(password.as_bytes())?;
-            }
+            Password::Cleartext(password) => put_slice(password.as_bytes(), buf),
             Password::Md5 { digest } => {
-                buf.reserve(md5_body_len(digest))?;
-                buf.extend_from_slice(MD5_PREFIX.as_bytes())?;
-                buf.extend_from_slice(&digits_of(digest))?;
+                put_slice(MD5_PREFIX.as_bytes(), buf);
+                put_slice(&digits_of(digest), buf);
             }
         }
-        buf.push(0)?;
-        Ok(())
+        buf.push_reserved(0);
     }
 
     ghost use Rattle.pg_send.specs.PasswordLaws.{enough_room};

@@ -6,6 +6,7 @@ ghost use Rattle.pg_send.specs.Limits.{saturated};
 
 use crate::message::FrontendMessage;
 use crate::message::frame::check_len;
+use crate::message::parts::put_slice;
 use pg_base::{Error, FrontendMessageFormat};
 
 /// Asks the server to run the statements of a text. Documentation: "Message Formats", Query (F).
@@ -37,11 +38,9 @@ impl FrontendMessage for Query<'_> {
         check_len(None, self.body_size_hint())
     }
 
-    fn encode_body(&self, buf: &mut Vec<u8>) -> Result<(), Error> {
-        buf.reserve(self.body_size_hint())?;
-        buf.extend_from_slice(self.0.as_bytes())?;
-        buf.push(0)?;
-        Ok(())
+    fn put_body(&self, buf: &mut Vec<u8>) {
+        put_slice(self.0.as_bytes(), buf);
+        buf.push_reserved(0);
     }
 
     ghost use Rattle.std.proofs.Common.{arith};

@@ -6,6 +6,7 @@ ghost use Rattle.pg_send.specs.Sasl.{mechanism, sasl_initial_body};
 
 use crate::message::FrontendMessage;
 use crate::message::frame::check_len;
+use crate::message::parts::{put_slice, put_u32};
 use pg_base::{Error, FrontendMessageFormat};
 
 /// Chooses SCRAM with SHA-256, and begins it. Documentation: "Message Formats",
@@ -59,13 +60,11 @@ impl FrontendMessage for SaslInitialResponse<'_> {
         check_len(None, self.body_size_hint())
     }
 
-    fn encode_body(&self, buf: &mut Vec<u8>) -> Result<(), Error> {
-        buf.reserve(self.body_size_hint())?;
-        buf.extend_from_slice(self.selected_mechanism().as_bytes())?;
-        buf.push(0)?;
-        buf.extend_from_slice(&(self.response.len() as u32).to_be_bytes())?;
-        buf.extend_from_slice(self.response.as_bytes())?;
-        Ok(())
+    fn put_body(&self, buf: &mut Vec<u8>) {
+        put_slice(self.selected_mechanism().as_bytes(), buf);
+        buf.push_reserved(0);
+        put_u32(self.response.len() as u32, buf);
+        put_slice(self.response.as_bytes(), buf);
     }
 
     ghost use Rattle.std.proofs.Common.{arith};
@@ -102,9 +101,8 @@ impl FrontendMessage for SaslResponse<'_> {
         check_len(None, self.body_size_hint())
     }
 
-    fn encode_body(&self, buf: &mut Vec<u8>) -> Result<(), Error> {
-        buf.extend_from_slice(self.0.as_bytes())?;
-        Ok(())
+    fn put_body(&self, buf: &mut Vec<u8>) {
+        put_slice(self.0.as_bytes(), buf);
     }
 
     ghost use Rattle.std.proofs.Common.{arith};

@@ -6,7 +6,7 @@ ghost use Rattle.pg_send.specs.Limits.{first_fault, saturated};
 ghost use Rattle.pg_send.specs.Parts.{settings_of};
 ghost use Rattle.pg_send.specs.Startup.{setting, setting_where_there, startup_body, startup_text};
 
-use crate::message::numbers::put_u32;
+use crate::message::parts::put_u32;
 use pg_base::io::{MAX_LENGTH, ProtocolEncode};
 use pg_base::{Error, ProtocolFault};
 

@@ -36,9 +36,7 @@ impl FrontendMessage for Sync {
         check_len(None, 0)
     }
 
-    fn encode_body(&self, _buf: &mut Vec<u8>) -> Result<(), Error> {
-        Ok(())
-    }
+    fn put_body(&self, _buf: &mut Vec<u8>) {}
 
     ghost use Rattle.std.proofs.Common.{arith};
 

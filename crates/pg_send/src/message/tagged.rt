@@ -38,6 +38,7 @@ pub enum TaggedMessage<'a> {
 
 impl TaggedMessage<'_> {
     /// Adds the message to the buffer: [`encode_frame`] of what it holds.
+    #[inline(always)]
     pub fn encode(&self, buf: &mut Vec<u8>) -> Result<(), Error>
         ensures ok { OnOk result (buf.new.items ≡ buf.old.items ++ text (message_of self.now)) }
         ensures err { OnErr result (buf.new.items ≡ buf.old.items) }
@@ -52,6 +53,7 @@ impl TaggedMessage<'_> {
     }
 
     // The frame of what it holds, for each type.
+    #[inline(always)]
     fn encode_held(&self, buf: &mut Vec<u8>) -> Result<(), Error>
         ensures ok { OnOk result (buf.new.items ≡ buf.old.items ++ text (message_of self.now)) }
         ensures err { OnErr result (buf.new.items ≡ buf.old.items) }

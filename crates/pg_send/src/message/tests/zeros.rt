@@ -36,9 +36,9 @@ impl FrontendMessage for Zeros {
         check_len(None, self.0)
     }
 
-    fn encode_body(&self, buf: &mut Vec<u8>) -> Result<(), Error> {
-        buf.resize(buf.len() + self.0, 0)?;
-        Ok(())
+    fn put_body(&self, buf: &mut Vec<u8>) {
+        let resized = buf.resize(buf.len() + self.0, 0);
+        prove!(resized.is_ok());
     }
 
     ghost use Rattle.std.proofs.Common.{arith};
@@ -97,9 +97,8 @@ impl FrontendMessage for Spacious {
         check_len(None, 1)
     }
 
-    fn encode_body(&self, buf: &mut Vec<u8>) -> Result<(), Error> {
-        buf.push(0)?;
-        Ok(())
+    fn put_body(&self, buf: &mut Vec<u8>) {
+        buf.push_reserved(0);
     }
 
     ghost use Rattle.std.proofs.Common.{arith};
