@@ -2,6 +2,7 @@ pub mod Texts
 pub mod SeverityLemmas
 pub mod EndedTextLemmas
 pub mod FieldLemmas
+pub mod FieldLengthLemmas
 pub mod MechanismLemmas
 pub mod NoticeLemmas
 pub mod ReadLemmas

@@ -23,6 +23,7 @@ pub mod ReadyForQueryLaws
 pub mod DatabaseError
 pub mod EndedTexts
 pub mod Fields
+pub mod FieldLengths
 pub mod Last
 pub mod Mechanisms
 pub mod Notice

@@ -1,6 +1,7 @@
 //! Errors and notices of the server.
 
 mod fields;
+mod lengths;
 mod read;
 mod severity;
 
@@ -8,6 +9,7 @@ ghost use Rattle.std.specs.Prelude.{◌≡◌, ◌≤◌, ℕ, List, length, Non
 ghost use Rattle.std.specs.Str.{is_utf8};
 ghost use Rattle.pg_base.specs.Answers.{Answers};
 ghost use Rattle.pg_base.specs.declared.message.BackendMessageFormat.TheVariants as formats;
+ghost use Rattle.pg_receive.specs.FieldLengths.{HasLengths};
 ghost use Rattle.pg_receive.specs.Fields.{fields_in, first_value, first_text};
 ghost use Rattle.pg_receive.specs.Notice.{NoticeValue, MeansNotice, BreaksNotice};
 ghost use Rattle.pg_receive.specs.NoticeLaws.{one_notice, notice_or_fault};
@@ -16,9 +18,11 @@ ghost use Rattle.pg_receive.specs.Places.{IsPlaceIn, bytes_at};
 use crate::message::{BackendMessage, utf8_text};
 use bytes::Bytes;
 pub use fields::{Fields, fields_stand_in_order};
+use lengths::{lengths_of, value_in};
 use pg_base::io::{MAX_BODY, ProtocolDecode};
 use pg_base::{BackendMessageFormat, Error};
 pub use severity::PgSeverity;
+use smallvec::SmallVec;
 use std::alloc::Global;
 use std::marker::Model;
 use std::ops::Range;
@@ -34,6 +38,7 @@ pub struct Notice {
     severity: PgSeverity,
     message: Range<usize>,
     code: Range<usize>,
+    lengths: SmallVec<u32, 16>,
 }
 
 impl Model for Notice {
@@ -46,7 +51,7 @@ impl Model for Notice {
       code = bytes_at notice.storage notice.code;
     } };
 
-    ghost invariant = { λ notice. IsPlaceIn notice.storage notice.message × IsPlaceIn notice.storage notice.code };
+    ghost invariant = { λ notice. IsPlaceIn notice.storage notice.message × IsPlaceIn notice.storage notice.code × HasLengths notice.storage notice.lengths.items };
 }
 
 impl Notice {
@@ -85,12 +90,7 @@ impl Notice {
     pub fn get_raw(&self, ty: u8) -> Option<&[u8]>
         ensures { option_copied result ≡ first_value ty self.now.fields }
     {
-        for (letter, value) in self.fields() {
-            if letter == ty {
-                return Some(value);
-            }
-        }
-        None
+        value_in(self.storage.as_slice(), self.lengths.as_slice(), ty)
     }
 
     /// All fields, in order.
@@ -112,9 +112,10 @@ impl ProtocolDecode for Notice {
 
     ghost Free = { λ _. Unit {0} };
 
-    fn decode(_alloc: Global, buf: Bytes) -> Result<Self, Error> {
+    fn decode(alloc: Global, buf: Bytes) -> Result<Self, Error> {
         let part = read::read(buf.as_slice())?;
         Ok(Notice {
+            lengths: lengths_of(alloc, buf.as_slice()),
             severity: part.severity(),
             message: part.message,
             code: part.code,
