@@ -61,8 +61,8 @@ fn all(alloc: Global, script: &[u8], times: usize) -> Option<Vec<u8>> {
     for _ in 0..times {
         buf.clear();
         let answers = encode_all(alloc, messages.as_slice(), &mut buf).ok()?;
-        for answer in answers {
-            answer.ok()?;
+        if !answers.iter().all(Result::is_ok) {
+            return None;
         }
     }
     Some(buf)

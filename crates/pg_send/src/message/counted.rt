@@ -40,7 +40,7 @@ pub fn put_types(types: &[Oid], buf: &mut Vec<u8>)
     requires count { length types.now ≤ max_count }
     requires room { vec_len buf.old + length (counted32 (numbers_of types.now)) ≤ vec_capacity buf.old }
     ensures items { buf.new.items ≡ buf.old.items ++ counted32 (numbers_of types.now) }
-    ensures capacity { vec_capacity buf.new ≡ vec_capacity buf.old }
+    ensures capacity { vec_capacity buf.old ≤ vec_capacity buf.new }
     ensures range { All (λ n. n < 2 ^ 32) (numbers_of types.now) }
 {
     put_u16(types.len() as u16, buf);

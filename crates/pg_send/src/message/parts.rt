@@ -22,14 +22,10 @@ pub fn put_u16(number: u16, buf: &mut Vec<u8>)
 pub fn put_u32(number: u32, buf: &mut Vec<u8>)
     requires { vec_len buf.old + 4 ≤ vec_capacity buf.old }
     ensures items { buf.new.items ≡ buf.old.items ++ be32 number }
-    ensures capacity { vec_capacity buf.new ≡ vec_capacity buf.old }
+    ensures capacity { vec_capacity buf.old ≤ vec_capacity buf.new }
     ensures range { number < 2 ^ 32 }
 {
-    let [first, second, third, fourth] = number.to_be_bytes();
-    buf.push_reserved(first);
-    buf.push_reserved(second);
-    buf.push_reserved(third);
-    buf.push_reserved(fourth);
+    put_slice(&number.to_be_bytes(), buf);
 }
 
 /// Adds some bytes.

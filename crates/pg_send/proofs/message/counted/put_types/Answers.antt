@@ -1,4 +1,4 @@
-use Rattle.std.proofs.Common.{◌^◌, ◌<◌, length, vec_capacity, arith, ◌∙◌}
+use Rattle.std.proofs.Common.{◌^◌, ◌<◌, length, vec_capacity, arith}
 use Rattle.pg_base.specs.declared.io.Oid.{Oid}
 use Rattle.pg_base.specs.Numbers.{be16, be32}
 use Rattle.pg_send.proofs.Counting.{one_more, room_for_one, all_more}
@@ -17,6 +17,6 @@ loop-oid-preserved c =
     let i = c.loop-oid.oid-index in
     record {
       adds = one_more be32 number types i _ c.loop-oid-test.true c.args.buf.now.items (be16 (length types)) _ _ c.loop-oid.invariant.adds c.put_u32.ensures.items;
-      capacity = c.put_u32.ensures.capacity ∙ c.loop-oid.invariant.capacity;
+      capacity = omega (arith, c.put_u32.ensures.capacity, c.loop-oid.invariant.capacity);
       range = all_more be32 number types i (record { 0 = 0 }) c.loop-oid-test.true (λ n. n < 2 ^ 32) c.loop-oid.invariant.range c.put_u32.ensures.range;
     }
