@@ -1,7 +1,7 @@
 //! A stream of frames, decoded again and again, and each accessor asked.
 //!
 //! Each call answers the sum of all that was read in all passes: 0 where the stream is not whole
-//! frames, or a message is refused.
+//! frames, a message is refused or is none of the six kinds of `add`, or memory runs out.
 
 ghost use Rattle.std.specs.Prelude.{◌≤◌, length, IfSome};
 
@@ -17,13 +17,8 @@ use std::alloc::Global;
 
 /// Cuts the frames once into tags and shared bodies; each pass decodes a clone of each body.
 #[unsafe(no_mangle)]
-pub extern "C" fn tw_decode_prepared(
-    alloc: Global,
-    stream: &[u8],
-    times: usize,
-    full: u8,
-) -> u64 {
-    bodies(alloc, stream, times, full != 0).unwrap_or(0)
+pub extern "C" fn tw_decode_prepared(alloc: Global, stream: &[u8], times: usize, full: u8) -> u64 {
+    prepared(alloc, stream, times, full != 0).unwrap_or(0)
 }
 
 /// Each pass appends the stream to a buffer, and decodes the frames that it cuts from it.
@@ -39,7 +34,7 @@ struct Frame {
     body: Bytes,
 }
 
-fn bodies(alloc: Global, stream: &[u8], times: usize, full: bool) -> Option<u64> {
+fn prepared(alloc: Global, stream: &[u8], times: usize, full: bool) -> Option<u64> {
     let frames = frames(alloc, stream)?;
     let mut sum = Sum { value: 0, full };
     for _ in 0..times {

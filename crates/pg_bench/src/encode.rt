@@ -1,8 +1,8 @@
 //! A script's messages, encoded again and again into one buffer.
 //!
 //! Each call clears the buffer before each pass, copies what the last pass made to `out`, and
-//! answers its length in bytes: 0 where the script can't be read, a message is refused, or `out`
-//! has no room.
+//! answers its length in bytes: 0 where the script can't be read, a message is refused, memory runs
+//! out, or `out` has no room.
 
 use crate::script::Script;
 use pg_send::message::{TaggedMessage, encode_all};

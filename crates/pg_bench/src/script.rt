@@ -4,9 +4,7 @@ ghost use Rattle.std.specs.Prelude.{◌≡◌, ◌<◌, length, IfSome, vec_len,
 
 use byteorder::{BigEndian, ByteOrder};
 use pg_base::io::{CopyData, Oid, PgValueFormat, PortalId, StatementId};
-use pg_send::message::{
-    Bind, Describe, Execute, Parse, Query, Sync, TaggedMessage, encode_frame,
-};
+use pg_send::message::{Bind, Describe, Execute, Parse, Query, Sync, TaggedMessage, encode_frame};
 
 const TEXTS: &[PgValueFormat] = &[PgValueFormat::Text; 16];
 

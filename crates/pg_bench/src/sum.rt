@@ -9,16 +9,17 @@ pub struct Sum {
 }
 
 impl Sum {
+    /// Adds a number.
     pub fn mix(&mut self, number: u64) {
         self.value = (self.value.rotate_left(5) ^ number).wrapping_mul(0x9E37_79B9_7F4A_7C15);
     }
 
-    /// What stands for nothing.
+    /// Adds what stands for nothing.
     pub fn nothing(&mut self) {
         self.mix(u64::MAX);
     }
 
-    /// How many bytes there are, and the bytes that count.
+    /// Adds how many bytes there are, and the bytes that count.
     pub fn touch(&mut self, bytes: &[u8]) {
         self.mix(bytes.len() as u64);
         if self.full {
@@ -31,6 +32,7 @@ impl Sum {
         }
     }
 
+    /// Adds bytes, or nothing.
     pub fn touch_option(&mut self, bytes: Option<&[u8]>) {
         match bytes {
             Some(bytes) => self.touch(bytes),
@@ -38,6 +40,7 @@ impl Sum {
         }
     }
 
+    /// Adds a text, or nothing.
     pub fn text(&mut self, text: Option<&str>) {
         self.touch_option(text.map(str::as_bytes));
     }
