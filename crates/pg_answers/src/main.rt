@@ -1,0 +1,20 @@
+//! Answers what each body from the server decodes to, and all that its accessors say of it.
+#![tactic(auto)]
+
+mod answer;
+mod authentication;
+mod copy;
+mod error;
+mod fault;
+mod line;
+mod notice;
+mod rows;
+mod run;
+mod session;
+mod write;
+
+use std::process::ExitCode;
+
+fn main(rt: HostRuntime) -> ExitCode {
+    ExitCode::from(run::start(rt.alloc(), rt.stdin(), &mut rt.stdout(), &mut rt.stderr()))
+}

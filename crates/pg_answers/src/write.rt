@@ -1,0 +1,65 @@
+//! How bytes, missing values and lists are written.
+
+ghost use Rattle.std.specs.Iterator.{IsFinite};
+
+use std::alloc::AllocError;
+use std::fmt;
+
+/// Bytes as lower hexadecimal digits, or `-` for no bytes.
+#[derive(Clone, Copy)]
+pub struct Hex<'a>(pub &'a [u8]);
+
+impl<'a> fmt::Display for Hex<'a> {
+    fn fmt<W: fmt::Write>(&self, f: &mut fmt::Formatter<W>) -> fmt::Result {
+        if self.0.is_empty() {
+            return write!(f, "-");
+        }
+        for byte in self.0 {
+            write!(f, "{byte:02x}")?;
+        }
+        Ok(())
+    }
+}
+
+/// A text as the digits of its bytes.
+pub fn text(text: &str) -> Hex<'_> {
+    Hex(text.as_bytes())
+}
+
+/// A value, or `none`.
+#[derive(Clone, Copy)]
+pub struct OrNone<T>(pub Option<T>);
+
+impl<T: fmt::Display> fmt::Display for OrNone<T> {
+    fn fmt<W: fmt::Write>(&self, f: &mut fmt::Formatter<W>) -> fmt::Result {
+        match &self.0 {
+            Some(value) => write!(f, "{value}"),
+            None => write!(f, "none"),
+        }
+    }
+}
+
+/// A text as the digits of its bytes, or `none`.
+pub fn text_or_none(value: Option<&str>) -> OrNone<Hex<'_>> {
+    OrNone(value.map(text))
+}
+
+/// Adds items in brackets, with commas between them.
+pub fn push_list<T: fmt::Display + Drop, I: Iterator<Item = T> + Drop>(
+    items: I,
+    output: &mut String,
+) -> Result<(), AllocError>
+    requires can { I.can_next items }
+    requires ends { IsFinite (I.remaining items) }
+{
+    output.push('[')?;
+    let mut is_first = true;
+    for item in items {
+        if !is_first {
+            output.push(',')?;
+        }
+        is_first = false;
+        write!(output, "{item}")?;
+    }
+    output.push(']')
+}
