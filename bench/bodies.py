@@ -1,0 +1,161 @@
+#!/usr/bin/env python3
+"""Writes received bodies to compare two decoders on, as lines `TAGHEX BODYHEX` (`-` for no bytes).
+
+    bodies.py short                  all bodies of 0 to 2 bytes of the fifteen tags that a type decodes
+    bodies.py large                  bodies with the greatest counts, whole and without their last byte
+    bodies.py good SEED COUNT        COUNT good bodies of every tag
+    bodies.py damaged SEED COUNT     COUNT damaged copies of good bodies
+"""
+
+import random
+import sys
+
+from good_bodies import TYPED, UNTYPED
+
+# What a changed byte mostly becomes: ends, signs, separators, numbers, no UTF-8.
+BYTES = b"\0\x01\x02\x7f\x80\xff\xc3\xe2+-,=0 9CMSVPpqL"
+
+# Tags that bodies have, the ones with most to decode more often; with one that no message has.
+TAGS = [*TYPED, *TYPED, *"RRRRRREEEEEENNNNDDDDTTTTtt", *UNTYPED, "x"]
+
+
+def line(tag, body):
+    """The line of a tag and a body."""
+    return f"{ord(tag):02x} {body.hex() or '-'}"
+
+
+def short():
+    """Every body of 0 to 2 bytes."""
+    for tag in TYPED:
+        for length in range(3):
+            for number in range(256 ** length):
+                yield tag, number.to_bytes(length, "big")
+
+
+def large():
+    """Bodies with the greatest counts, and with more fields than any server sends."""
+    most, most_codes = b"\xff\xff", b"\x7f\xff"
+    bodies = [
+        ("D", most + b"\xff\xff\xff\xff" * 65535), ("D", most + b"\0\0\0\x01x" * 65535),
+        ("T", most + b"\0" * 19 * 65535), ("T", most + (b"name\0" + b"\x01" * 18) * 65535),
+        ("t", most + b"\x01" * 4 * 65535), ("G", b"\x01" + most_codes + b"\0\x01" * 32767),
+        ("H", b"\x01" + most_codes + b"\x80\0" * 32767), ("E", b"Xvalue\0" * 20000 + b"L7\0"),
+        ("N", b"Xvalue\0" * 2000 + b"C1\0Mm\0"), ("R", b"\0\0\0\x0a" + b"name\0" * 20000),
+        ("R", b"\0\0\0\x0b" + b"i=7," * 20000 + b"r=n"), ("d", b"x" * 2 ** 20),
+    ]
+    for tag, body in bodies:
+        yield tag, body
+        yield tag, body[:-1]
+
+
+def good(rng):
+    """A tag and a good body."""
+    tag = rng.choice(TAGS)
+    return tag, {**TYPED, **UNTYPED}.get(tag, TYPED["C"])(rng)
+
+
+def place(rng, body):
+    """A place in a body, often near its front, where the counts are."""
+    end = len(body) if rng.random() < 0.7 else min(len(body), 8)
+    return rng.randint(0, end)
+
+
+def replaced(rng, body):
+    """A byte of the body becomes another."""
+    at = place(rng, body)
+    return body[:at] + bytes([rng.choice(BYTES)]) + body[at + 1:]
+
+
+def flipped(rng, body):
+    """A bit of the body flips."""
+    at = place(rng, body)
+    return body[:at] + bytes(byte ^ 1 << rng.randrange(8) for byte in body[at:at + 1]) + body[at + 1:]
+
+
+def inserted(rng, body):
+    """Some bytes come in."""
+    at = place(rng, body)
+    return body[:at] + bytes(rng.choices(BYTES, k=rng.choice([1, 1, 2, 4]))) + body[at:]
+
+
+def deleted(rng, body):
+    """Some bytes go."""
+    at = place(rng, body)
+    return body[:at] + body[at + rng.choice([1, 1, 2, 4, 8]):]
+
+
+def duplicated(rng, body):
+    """Some bytes stand twice."""
+    at = place(rng, body)
+    return body[:at + rng.choice([1, 2, 4, 8, 16])] + body[at:]
+
+
+def truncated(rng, body):
+    """The end goes."""
+    return body[:place(rng, body)]
+
+
+def extended(rng, body):
+    """Bytes behind the end."""
+    return body + rng.randbytes(rng.randint(1, 4))
+
+
+def counted_anew(rng, body):
+    """The count at the front becomes another, or its bytes change places."""
+    count = int.from_bytes(body[:2], "big")
+    other = rng.choice([count + 1, count - 1, count * 2, count << 8, 0, 65535, 32768]) % 65536
+    return other.to_bytes(2, "big") + body[2:]
+
+
+def spliced(rng, body):
+    """The front of the body, and the end of another."""
+    _, other = good(rng)
+    return body[:place(rng, body)] + other[place(rng, other):]
+
+
+def exchanged(rng, body):
+    """Two parts of the body change places."""
+    one, two, three = sorted(place(rng, body) for _ in range(3))
+    return body[:one] + body[two:three] + body[one:two] + body[three:]
+
+
+DAMAGES = [replaced, replaced, flipped, inserted, deleted, duplicated, truncated, extended,
+           counted_anew, spliced, exchanged]
+
+
+def damaged(seed, count):
+    """Damaged copies of good bodies, at times with the tag of another message."""
+    rng = random.Random(seed)
+    for _ in range(count):
+        tag, body = good(rng)
+        for _ in range(rng.choice([1, 1, 1, 2, 3])):
+            body = rng.choice(DAMAGES)(rng, body)
+        if rng.random() < 0.03:
+            tag = rng.choice(TAGS)
+        yield tag, body
+
+
+def cases(words):
+    """The tags and bodies that the words of a command name, or None."""
+    match words:
+        case ["short"]:
+            return short()
+        case ["large"]:
+            return large()
+        case ["good", seed, count]:
+            rng = random.Random(int(seed))
+            return (good(rng) for _ in range(int(count)))
+        case ["damaged", seed, count]:
+            return damaged(int(seed), int(count))
+    return None
+
+
+def main():
+    found = cases(sys.argv[1:])
+    if found is None:
+        sys.exit(__doc__)
+    sys.stdout.writelines(line(tag, body) + "\n" for tag, body in found)
+
+
+if __name__ == "__main__":
+    main()

@@ -1,0 +1,100 @@
+"""The classes of difference between the original's answers and ours.
+
+A class is told by the body and by both answers; a difference that fits none is a fault of one side.
+"""
+
+import struct
+
+
+def number(form, body, at):
+    """The number of a form at a place, or None where the body ends before it."""
+    end = at + struct.calcsize(form)
+    return struct.unpack(form, body[at:end])[0] if end <= len(body) else None
+
+
+def is_short(tag, body):
+    """Whether the body lacks a byte that its numbers or its count ask for."""
+    if tag == "R":
+        method = number(">I", body, 0)
+        return method is None or method == 5 and len(body) < 8
+    if tag in "GH":
+        count = number(">h", body, 1)
+        return count is None or len(body) < 3 + 2 * count
+    if tag == "t":
+        count = number(">H", body, 0)
+        return count is None or len(body) < 2 + 4 * count
+    return len(body) < {"K": 8, "A": 4, "Z": 1}.get(tag, 0)
+
+
+def has_short_item(tag, body):
+    """Whether SASL data has an item without a key and a separator."""
+    items = body[4:].split(b",")
+    return tag == "R" and number(">I", body, 0) in (11, 12) and any(len(item) < 2 for item in items)
+
+
+def last_value_is_cut(tag, body):
+    """Whether every length of a row is there, and the last value ends behind the body."""
+    if tag != "D" or len(body) < 2:
+        return False
+    end = 2
+    for _ in range(number(">H", body, 0)):
+        length = number(">i", body, end)
+        if length is None:
+            return False
+        end += 4 + max(length, 0)
+    return end > len(body)
+
+
+def has_bare_sign(value):
+    """Whether a number is asked of a sign without a digit behind it."""
+    return value[:1] in (b"+", b"-") and not value[1:2].isdigit()
+
+
+def bare_signs(tag, body):
+    """The keys whose numbers are asked of a sign without a digit."""
+    if tag == "R" and number(">I", body, 0) == 11:
+        signs = [has_bare_sign(item[2:]) for item in body[4:].split(b",") if item[:1] == b"i"]
+        return {"iterations"} if signs and signs[-1] else set()
+    if tag != "E":
+        return set()
+    keys = set()
+    for letter, key in ((b"P", "position"), (b"p", "position"), (b"L", "line")):
+        values = [field[1:] for field in body.split(b"\0") if field[:1] == letter]
+        if values and has_bare_sign(values[0]):
+            keys |= {key, "display"} if key == "line" else {key}
+    return keys
+
+
+def changed_keys(original, ours):
+    """The keys whose values differ, or None where the answers haven't the same keys."""
+    one, other = (dict(word.partition("=")[::2] for word in line.split()) for line in (original, ours))
+    return {key for key in one if one[key] != other[key]} if one.keys() == other.keys() else None
+
+
+def is_bare_sign(tag, body, original, ours):
+    """Whether the answers differ only in numbers that are asked of a sign without a digit."""
+    changed = changed_keys(original, ours)
+    return changed is not None and changed <= bare_signs(tag, body)
+
+
+# The name of each class: what the original does, what ours does (the answer's second word, and the
+# original's place where it panics), and what is true of the body.
+PANICS = {
+    "short body: the original panics in decoding": ("decode:", is_short),
+    "SASL item of fewer than two bytes: the original panics in decoding": ("decode:", has_short_item),
+    "last value of a row cut off: the original panics in an accessor": ("access:", last_value_is_cut),
+}
+BARE_SIGN = "sign without a digit: 0 for the original, no number for ours"
+CLASSES = [*PANICS, BARE_SIGN]
+
+
+def class_of(tag, body, original, ours):
+    """The class of a difference, or None. `original` has the place of a panic behind it."""
+    words = original.split(" ")
+    if words[1] == "panic":
+        for name, (place, holds) in PANICS.items():
+            if words[2] == place and ours == f"{words[0]} err" and holds(tag, body):
+                return name
+    elif words[1] == "ok" and ours.startswith(f"{words[0]} ok ") and is_bare_sign(tag, body, original, ours):
+        return BARE_SIGN
+    return None
