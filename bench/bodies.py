@@ -1,6 +1,7 @@
 #!/usr/bin/env python3
 """Writes received bodies to compare two decoders on, as lines `TAGHEX BODYHEX` (`-` for no bytes).
 
+    bodies.py tags                   every byte as a tag, of no bytes and of one
     bodies.py short                  all bodies of 0 to 2 bytes of the fifteen tags that a type decodes
     bodies.py large                  bodies with the greatest counts, whole and without their last byte
     bodies.py good SEED COUNT        COUNT good bodies of every tag
@@ -22,6 +23,11 @@ TAGS = [*TYPED, *TYPED, *"RRRRRREEEEEENNNNDDDDTTTTtt", *UNTYPED, "x"]
 def line(tag, body):
     """The line of a tag and a body."""
     return f"{ord(tag):02x} {body.hex() or '-'}"
+
+
+def tags():
+    """Every byte as a tag, with the shortest bodies."""
+    return ((chr(tag), body) for tag in range(256) for body in (b"", b"\0"))
 
 
 def short():
@@ -138,6 +144,8 @@ def damaged(seed, count):
 def cases(words):
     """The tags and bodies that the words of a command name, or None."""
     match words:
+        case ["tags"]:
+            return tags()
         case ["short"]:
             return short()
         case ["large"]:
