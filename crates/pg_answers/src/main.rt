@@ -18,3 +18,6 @@ use std::process::ExitCode;
 fn main(rt: HostRuntime) -> ExitCode {
     ExitCode::from(run::start(rt.alloc(), rt.stdin(), &mut rt.stdout(), &mut rt.stderr()))
 }
+
+#[cfg(test)]
+mod tests;
