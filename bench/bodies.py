@@ -3,15 +3,30 @@
 
     bodies.py tags                   every byte as a tag, of no bytes and of one
     bodies.py short                  all bodies of 0 to 2 bytes of the fifteen tags that a type decodes
+    bodies.py alphabets              all short bodies over a few bytes that matter to the message
     bodies.py large                  bodies with the greatest counts, whole and without their last byte
     bodies.py good SEED COUNT        COUNT good bodies of every tag
     bodies.py damaged SEED COUNT     COUNT damaged copies of good bodies
 """
 
+import itertools
 import random
 import sys
 
 from good_bodies import TYPED, UNTYPED
+
+# Of a tag: the front of its bodies, the bytes behind it, and how many of them at most.
+ALPHABETS = [
+    ("R", b"\0\0\0\x0a", b"\0a\xc3\xa4", 8), ("R", b"\0\0\0\x0b", b",=ris+7\xff", 6),
+    ("R", b"\0\0\0\x0b", b"i=,-09", 7), ("R", b"\0\0\0\x0bs=", b"AQ/=,\0", 7),
+    ("R", b"\0\0\0\x0c", b",v=Ag\xff", 7), ("C", b"", b" 079+-\0", 6),
+    ("D", b"\0\x01", b"\0\x01\x02\xff", 8), ("D", b"\0\x02\0\0", b"\0\x01\xff", 10),
+    ("E", b"", b"\0SVMC\xff", 7), ("N", b"", b"\0SVMC\xff", 7), ("E", b"", b"\0Ppq+7", 7),
+    ("E", b"VLOG\0", b"\0LM-01", 7), ("A", b"\0\0\0\x01", b"\0a\xff", 10),
+    ("t", b"\0", b"\0\x01\x02\xff", 8), ("G", b"", b"\0\x01\x02\xff", 8),
+    ("H", b"", b"\0\x01\x80\xff", 8), ("S", b"", b"\0a\xc3\xa4", 8),
+    ("T", b"\0\x01\xc3\xa4", b"\0\x01", 16), ("T", b"\0\x01a\0" + b"\0" * 12, b"\0\x01\xff", 7),
+]
 
 # What a changed byte mostly becomes: ends, signs, separators, numbers, no UTF-8.
 BYTES = b"\0\x01\x02\x7f\x80\xff\xc3\xe2+-,=0 9CMSVPpqL"
@@ -36,6 +51,14 @@ def short():
         for length in range(3):
             for number in range(256 ** length):
                 yield tag, number.to_bytes(length, "big")
+
+
+def alphabets():
+    """Every short body over an alphabet."""
+    for tag, front, alphabet, most in ALPHABETS:
+        for length in range(most + 1):
+            for back in itertools.product(alphabet, repeat=length):
+                yield tag, front + bytes(back)
 
 
 def large():
@@ -148,6 +171,8 @@ def cases(words):
             return tags()
         case ["short"]:
             return short()
+        case ["alphabets"]:
+            return alphabets()
         case ["large"]:
             return large()
         case ["good", seed, count]:
