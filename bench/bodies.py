@@ -13,6 +13,8 @@ import itertools
 import random
 import sys
 
+sys.dont_write_bytecode = True
+
 from good_bodies import TYPED, UNTYPED
 
 # Of a tag: the front of its bodies, the bytes behind it, and how many of them at most.
