@@ -3,6 +3,7 @@
 A class is told by the body and by both answers; a difference that fits none is a fault of one side.
 """
 
+import re
 import struct
 
 
@@ -65,20 +66,31 @@ def bare_signs(tag, body):
     return keys
 
 
-def changed_keys(original, ours):
-    """The keys whose values differ, or None where the answers haven't the same keys."""
-    one, other = (dict(word.partition("=")[::2] for word in line.split()) for line in (original, ours))
-    return {key for key in one if one[key] != other[key]} if one.keys() == other.keys() else None
+def parts_of(answer):
+    """The values of an answer by their keys."""
+    return dict(word.partition("=")[::2] for word in answer.split(" ")[2:])
+
+
+# What a sign alone makes of each key: whether the original's value and ours are what they must be.
+SIGN_VALUES = {
+    "iterations": lambda one, other: (one, other) == ("0", "4096"),
+    "line": lambda one, other: (one, other) == ("0", "none"),
+    "display": lambda one, other: one == other.strip("-") + b" at line 0".hex(),
+    "position": lambda one, other: re.fullmatch("original:0|internal:0:.*", one)
+    and re.fullmatch("none|internal:.*", other),
+}
 
 
 def is_bare_sign(tag, body, original, ours):
     """Whether the answers differ only in numbers that are asked of a sign without a digit."""
-    changed = changed_keys(original, ours)
-    return changed is not None and changed <= bare_signs(tag, body)
+    one, other = parts_of(original), parts_of(ours)
+    if one.keys() != other.keys():
+        return False
+    changed = {key for key in one if one[key] != other[key]}
+    return changed <= bare_signs(tag, body) and all(SIGN_VALUES[key](one[key], other[key]) for key in changed)
 
 
-# The name of each class: what the original does, what ours does (the answer's second word, and the
-# original's place where it panics), and what is true of the body.
+# Classes in which the original panics: where it does, and what is true of the body.
 PANICS = {
     "short body: the original panics in decoding": ("decode:", is_short),
     "SASL item of fewer than two bytes: the original panics in decoding": ("decode:", has_short_item),
