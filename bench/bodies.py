@@ -4,6 +4,7 @@
     bodies.py tags                   every byte as a tag, of no bytes and of one
     bodies.py short                  all bodies of 0 to 2 bytes of the fifteen tags that a type decodes
     bodies.py alphabets              all short bodies over a few bytes that matter to the message
+    bodies.py telling                bodies by hand in which it counts which of two parts is taken
     bodies.py large                  bodies with the greatest counts, whole and without their last byte
     bodies.py good SEED COUNT        COUNT good bodies of every tag
     bodies.py damaged SEED COUNT     COUNT damaged copies of good bodies
@@ -16,6 +17,7 @@ import sys
 sys.dont_write_bytecode = True
 
 from good_bodies import TYPED, UNTYPED
+from telling_bodies import telling
 
 # Of a tag: the front of its bodies, the bytes behind it, and how many of them at most.
 ALPHABETS = [
@@ -175,6 +177,8 @@ def cases(words):
             return short()
         case ["alphabets"]:
             return alphabets()
+        case ["telling"]:
+            return telling()
         case ["large"]:
             return large()
         case ["good", seed, count]:

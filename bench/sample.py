@@ -4,9 +4,9 @@
     sample.py ORIGINAL OURS
 
 Keeps bodies on which the two programs (`answers.py`) agree, and for each what the original answers.
-They come from one seed: those of `tags`; good ones of each tag; each front of a good one of each tag,
-and that one with each byte changed; and of many damaged ones, the short ones first, those with a form
-of a part of an answer that few before them show.
+They are those of `tags` and `telling`; and from one seed good ones of each tag; each front of a good one
+of each tag, and that one with each byte changed; and of many damaged ones, the short ones first, those
+with a form of a part of an answer that few before them show.
 """
 
 import pathlib
@@ -19,6 +19,7 @@ sys.dont_write_bytecode = True
 from answers import both, lines_of, without_reasons
 from bodies import TAGS, damaged, line, tags
 from good_bodies import TYPED, UNTYPED
+from telling_bodies import telling
 
 SEED = 20261122
 
@@ -96,7 +97,7 @@ def sample(programs):
     """The tags and bodies that are kept."""
     rng = random.Random(SEED)
     good = good_bodies(rng)
-    first = list(tags())
+    first = [*tags(), *telling()]
     first += [(tag, body) for tag, bodies in good.items() for body in bodies]
     first += [(tag, body) for tag, bodies in good.items()
               for body in with_one_change(rng, bodies[GOOD // 2])]
