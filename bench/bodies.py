@@ -76,6 +76,10 @@ def large():
         ("N", b"Xvalue\0" * 2000 + b"C1\0Mm\0"), ("R", b"\0\0\0\x0a" + b"name\0" * 20000),
         ("R", b"\0\0\0\x0b" + b"i=7," * 20000 + b"r=n"), ("d", b"x" * 2 ** 20),
     ]
+    for length in (255, 256, 32767, 32768, 65535, 65536):
+        bodies += [(tag, b"D" + b"x" * length + b"\0Mm\0L7\0\0") for tag in "EN"]
+        bodies += [("A", b"\0\0\0\x01" + b"x" * length + b"\0y\0"), ("S", b"x" * length + b"\0y\0"),
+                   ("D", b"\0\x02" + length.to_bytes(4, "big") + b"x" * length + b"\0\0\0\x01y")]
     for tag, body in bodies:
         yield tag, body
         yield tag, body[:-1]

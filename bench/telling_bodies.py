@@ -17,6 +17,11 @@ REPORTS = [
     b"", b"\0", b"\0Ma\0\0", b"Ma", b"Ma\0", b"Ma\0C", b"Ma\0Cb", b"M", b"Ma\0\0Cb\0",
 ]
 
+# Up to more fields than a server sends, each of another letter, in either order.
+LETTERS = bytes(range(ord("A"), ord("z") + 1))
+REPORTS += [b"".join(bytes([letter]) + b"7\0" for letter in letters[:count]) + b"\0"
+            for letters in (LETTERS, LETTERS[::-1]) for count in (7, 8, 9, 15, 16, 17, 31, 32, 33, 58)]
+
 MECHANISMS = [
     b"a\0b\0\0", b"a\0b\0", b"a\0b", b"a\0\0b\0", b"\0a\0", b"\xff\0a\0", b"a\0\xff\0b\0\0", b"a\0\xff",
 ]
