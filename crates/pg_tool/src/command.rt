@@ -1,18 +1,13 @@
 //! What a line of `encode` names: one message to the server.
 
 use crate::fault::ToolFault;
-use crate::line::hex_bytes;
+use crate::line::{formats_of, hex_bytes, oids_of, u16_of, u32_of};
 use pg_base::io::{Oid, PgValueFormat, PortalId, StatementId};
 use pg_send::message::{
     Bind, Close, CopyData, CopyDone, CopyFail, Describe, Execute, Flush, Parse, Password, Query,
     SaslInitialResponse, SaslResponse, Sync, TaggedMessage, Terminate,
 };
 use std::alloc::Global;
-
-/// The most digits that a number of 32 bits has, and one of 16 bits.
-const DIGITS_OF_U32: usize = 10;
-
-const DIGITS_OF_U16: usize = 5;
 
 /// What a line names, with all that its message borrows.
 #[derive(Drop)]
@@ -262,50 +257,4 @@ fn md5_of(word: &str) -> Option<Command<'_>> {
     let mut digest = [0; 16];
     hex::decode_to_slice(word, &mut digest).ok()?;
     Some(Command::Md5(digest))
-}
-
-// Decimal digits, as many as a number of 32 bits has at most.
-fn u32_of(word: &str) -> Option<u32> {
-    if word.len() > DIGITS_OF_U32 || !word.bytes().all(|byte| byte.is_ascii_digit()) {
-        return None;
-    }
-    word.parse::<u32>().ok()
-}
-
-fn u16_of(word: &str) -> Option<u16> {
-    if word.len() > DIGITS_OF_U16 || !word.bytes().all(|byte| byte.is_ascii_digit()) {
-        return None;
-    }
-    word.parse::<u16>().ok()
-}
-
-// `0`s and `1`s parted by commas, or `-` for none.
-fn formats_of(alloc: Global, word: &str) -> Result<Option<Vec<PgValueFormat>>, ToolFault> {
-    let mut formats = Vec::new(alloc);
-    if word == "-" {
-        return Ok(Some(formats));
-    }
-    for code in word.split(',') {
-        formats.push(match code {
-            "0" => PgValueFormat::Text,
-            "1" => PgValueFormat::Binary,
-            _ => return Ok(None),
-        })?;
-    }
-    Ok(Some(formats))
-}
-
-// Numbers parted by commas, or `-` for none.
-fn oids_of(alloc: Global, word: &str) -> Result<Option<Vec<Oid>>, ToolFault> {
-    let mut oids = Vec::new(alloc);
-    if word == "-" {
-        return Ok(Some(oids));
-    }
-    for number in word.split(',') {
-        let Some(number) = u32_of(number) else {
-            return Ok(None);
-        };
-        oids.push(Oid(number))?;
-    }
-    Ok(Some(oids))
 }

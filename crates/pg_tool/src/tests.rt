@@ -1,13 +1,17 @@
-//! The program over memory: what it prints, its statuses, and what a failing input or output leaves.
+//! The program over memory: what it prints, and its statuses.
+
+mod failures;
 
 use crate::fault::ToolFault;
 use crate::run::{Mode, run, start};
 use std::alloc::{AllocError, Global};
-use std::io::{self, Read, Write};
 use std::process::Abort;
 use std::test::Fail;
 
 const WANT_OF_MEMORY: &[u8] = b"out of memory\n";
+
+/// Room for what a run tells of faults.
+const ROOM_FOR_ERRORS: usize = 64;
 
 /// What a run left: its status, its output and what it told of faults.
 #[derive(Drop)]
@@ -17,16 +21,20 @@ struct Outcome {
     errors: Vec<u8>,
 }
 
-fn started(alloc: Global, args: &[&str], input: &str) -> Result<Outcome, AllocError> {
+fn words(alloc: Global, args: &[&str]) -> Result<Vec<String>, AllocError> {
     let mut words = Vec::new(alloc);
     for arg in args {
         words.push(String::from_str(alloc, arg)?)?;
     }
+    Ok(words)
+}
+
+fn started(alloc: Global, args: &[&str], input: &str) -> Result<Outcome, AllocError> {
     let mut output = Vec::new(alloc);
-    let mut errors = Vec::new(alloc);
+    let mut errors = Vec::with_capacity(alloc, ROOM_FOR_ERRORS)?;
     let status = start(
         alloc,
-        words.as_slice(),
+        words(alloc, args)?.as_slice(),
         &mut input.as_bytes(),
         &mut output,
         &mut errors,
@@ -282,100 +290,5 @@ fn bytes_that_are_no_text_are_a_bad_line(rt: HostRuntime) -> Result<(), Fail> {
     );
     assert!(rt; output.is_empty());
     assert_eq!(rt; unless_memory(result)?, Err(ToolFault::BadLine(2)));
-    Ok(())
-}
-
-/// Gives one byte a call, and fails at one of its calls.
-#[derive(Drop)]
-struct FailingReader<'a> {
-    rest: &'a [u8],
-    calls: usize,
-}
-
-impl Read for FailingReader<'_> {
-    fn read(&mut self, buf: &mut [u8]) -> io::Result<usize> {
-        if self.calls == 0 {
-            return Err(io::Error::from(io::ErrorKind::Other));
-        }
-        self.calls -= 1;
-        if buf.is_empty() || self.rest.is_empty() {
-            return Ok(0);
-        }
-        buf[0] = self.rest[0];
-        self.rest = &self.rest[1..];
-        Ok(1)
-    }
-}
-
-/// Takes so many bytes, and then fails.
-#[derive(Drop)]
-struct FailingWriter {
-    taken: Vec<u8>,
-    room: usize,
-}
-
-impl Write for FailingWriter {
-    fn write(&mut self, buf: &[u8]) -> io::Result<usize> {
-        let count = buf.len().min(self.room);
-        if count == 0 {
-            return Err(io::Error::from(io::ErrorKind::Other));
-        }
-        self.taken.extend_from_slice(&buf[..count])?;
-        self.room -= count;
-        Ok(count)
-    }
-
-    fn flush(&mut self) -> io::Result<()> {
-        Ok(())
-    }
-}
-
-#[test]
-fn a_failed_read_is_told_and_nothing_is_written(rt: HostRuntime) -> Result<(), Fail> {
-    let input = b"sync\nsink\n";
-    for calls in 0..10 {
-        for mode in [Mode::Encode, Mode::Decode] {
-            let mut reader = FailingReader { rest: input, calls };
-            let mut output = Vec::new(rt.alloc());
-            let result = run(rt.alloc(), mode, &mut reader, &mut output);
-            assert!(rt; output.is_empty());
-            assert_eq!(rt; unless_memory(result)?, Err(ToolFault::Input));
-        }
-    }
-    Ok(())
-}
-
-#[test]
-fn a_failed_write_leaves_a_beginning_of_the_output(rt: HostRuntime) -> Result<(), Fail> {
-    let whole = b"1 ok\n2 ok\nQ 13 53454c454354203100\nS 4 -\n";
-    for room in 0..whole.len() {
-        let mut writer = FailingWriter {
-            taken: Vec::new(rt.alloc()),
-            room,
-        };
-        let result = run(
-            rt.alloc(),
-            Mode::Encode,
-            &mut b"query SELECT 1\nsync\n".as_slice(),
-            &mut writer,
-        );
-        assert!(rt; whole.starts_with(writer.taken.as_slice()));
-        assert_eq!(rt; unless_memory(result)?, Err(ToolFault::Output));
-    }
-    Ok(())
-}
-
-#[test]
-fn statuses_and_words_of_faults(rt: HostRuntime) -> Result<(), Fail> {
-    let cases = [
-        (ToolFault::BadLine(7), 1, "line 7: bad command"),
-        (ToolFault::Input, 3, "input failed"),
-        (ToolFault::Output, 3, "output failed"),
-        (ToolFault::OutOfMemory, 3, "out of memory"),
-    ];
-    for (fault, status, words) in cases {
-        assert_eq!(rt; fault.status(), status);
-        assert_eq!(rt; fault.to_string(rt.alloc())?.as_str(), words);
-    }
     Ok(())
 }

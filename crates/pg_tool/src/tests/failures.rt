@@ -1,0 +1,182 @@
+//! What a failing input, output or error stream leaves, and the words and statuses of faults.
+
+use crate::fault::ToolFault;
+use crate::run::{Mode, run, start};
+use crate::tests::{ROOM_FOR_ERRORS, WANT_OF_MEMORY, unless_memory, words};
+use std::alloc::{AllocError, Global};
+use std::io::{self, Read, Write};
+use std::process::Abort;
+use std::test::Fail;
+
+/// Gives one byte a call, and fails at one of its calls.
+#[derive(Drop)]
+struct FailingReader<'a> {
+    rest: &'a [u8],
+    calls: usize,
+}
+
+impl Read for FailingReader<'_> {
+    fn read(&mut self, buf: &mut [u8]) -> io::Result<usize> {
+        if self.calls == 0 {
+            return Err(io::Error::from(io::ErrorKind::Other));
+        }
+        self.calls -= 1;
+        if buf.is_empty() || self.rest.is_empty() {
+            return Ok(0);
+        }
+        buf[0] = self.rest[0];
+        self.rest = &self.rest[1..];
+        Ok(1)
+    }
+}
+
+/// Takes so many bytes, and then fails.
+#[derive(Drop)]
+struct FailingWriter {
+    taken: Vec<u8>,
+    room: usize,
+}
+
+impl FailingWriter {
+    fn new(alloc: Global, room: usize) -> Result<FailingWriter, AllocError> {
+        let taken = Vec::with_capacity(alloc, room)?;
+        Ok(FailingWriter { taken, room })
+    }
+}
+
+impl Write for FailingWriter {
+    fn write(&mut self, buf: &[u8]) -> io::Result<usize> {
+        let count = buf.len().min(self.room);
+        if count == 0 {
+            return Err(io::Error::from(io::ErrorKind::Other));
+        }
+        self.taken.extend_from_slice(&buf[..count])?;
+        self.room -= count;
+        Ok(count)
+    }
+
+    fn flush(&mut self) -> io::Result<()> {
+        Ok(())
+    }
+}
+
+#[test]
+fn a_failed_read_is_told_and_nothing_is_written(rt: HostRuntime) -> Result<(), Fail> {
+    let input = b"sync\nsink\n";
+    for calls in 0..10 {
+        for mode in [Mode::Encode, Mode::Decode] {
+            let mut reader = FailingReader { rest: input, calls };
+            let mut output = Vec::new(rt.alloc());
+            let result = run(rt.alloc(), mode, &mut reader, &mut output);
+            assert!(rt; output.is_empty());
+            assert_eq!(rt; unless_memory(result)?, Err(ToolFault::Input));
+        }
+    }
+    Ok(())
+}
+
+#[test]
+fn a_failed_write_leaves_a_beginning_of_the_output(rt: HostRuntime) -> Result<(), Fail> {
+    let whole = b"1 ok\n2 ok\nQ 13 53454c454354203100\nS 4 -\n";
+    for room in 0..whole.len() {
+        let mut writer = FailingWriter::new(rt.alloc(), room)?;
+        let result = run(
+            rt.alloc(),
+            Mode::Encode,
+            &mut b"query SELECT 1\nsync\n".as_slice(),
+            &mut writer,
+        );
+        assert_eq!(rt; unless_memory(result)?, Err(ToolFault::Output));
+        assert_eq!(rt; writer.taken.as_slice(), &whole[..room]);
+    }
+    Ok(())
+}
+
+// Compares the status of a run and what it told with what they must be, unless memory ran out.
+fn expect_told(rt: &impl Abort, status: u8, told: &[u8], errors: &[u8]) -> Result<(), AllocError> {
+    assert_eq!(rt; status, 3);
+    if told == WANT_OF_MEMORY {
+        return Err(AllocError);
+    }
+    assert_eq!(rt; told, errors);
+    Ok(())
+}
+
+#[test]
+fn a_failed_read_is_status_3(rt: HostRuntime) -> Result<(), Fail> {
+    let args = words(rt.alloc(), &["encode"])?;
+    for calls in 0..6 {
+        let mut output = Vec::new(rt.alloc());
+        let mut errors = Vec::with_capacity(rt.alloc(), ROOM_FOR_ERRORS)?;
+        let status = start(
+            rt.alloc(),
+            args.as_slice(),
+            &mut FailingReader {
+                rest: b"sync\n",
+                calls,
+            },
+            &mut output,
+            &mut errors,
+        );
+        assert!(rt; output.is_empty());
+        expect_told(&rt, status, errors.as_slice(), b"input failed\n")?;
+    }
+    Ok(())
+}
+
+#[test]
+fn a_failed_write_is_status_3(rt: HostRuntime) -> Result<(), Fail> {
+    let args = words(rt.alloc(), &["encode"])?;
+    let mut output = FailingWriter::new(rt.alloc(), 0)?;
+    let mut errors = Vec::with_capacity(rt.alloc(), ROOM_FOR_ERRORS)?;
+    let status = start(
+        rt.alloc(),
+        args.as_slice(),
+        &mut b"sync\n".as_slice(),
+        &mut output,
+        &mut errors,
+    );
+    assert!(rt; output.taken.is_empty());
+    expect_told(&rt, status, errors.as_slice(), b"output failed\n")?;
+    Ok(())
+}
+
+#[test]
+fn a_fault_that_cannot_be_told_keeps_its_status(rt: HostRuntime) -> Result<(), Fail> {
+    let cases = [("both", "sync\n", 2), ("encode", "sink\n", 1)];
+    for (word, input, wanted) in cases {
+        let args = words(rt.alloc(), &[word])?;
+        let mut output = Vec::new(rt.alloc());
+        let mut errors = FailingWriter::new(rt.alloc(), 0)?;
+        let status = start(
+            rt.alloc(),
+            args.as_slice(),
+            &mut input.as_bytes(),
+            &mut output,
+            &mut errors,
+        );
+        assert!(rt; output.is_empty());
+        assert!(rt; errors.taken.is_empty());
+        // want of memory can't be told either
+        if status == 3 {
+            return Err(AllocError.into());
+        }
+        assert_eq!(rt; status, wanted);
+    }
+    Ok(())
+}
+
+#[test]
+fn statuses_and_words_of_faults(rt: HostRuntime) -> Result<(), Fail> {
+    let cases = [
+        (ToolFault::BadLine(7), 1, "line 7: bad command"),
+        (ToolFault::Input, 3, "input failed"),
+        (ToolFault::Output, 3, "output failed"),
+        (ToolFault::OutOfMemory, 3, "out of memory"),
+    ];
+    for (fault, status, words) in cases {
+        assert_eq!(rt; fault.status(), status);
+        assert_eq!(rt; fault.to_string(rt.alloc())?.as_str(), words);
+    }
+    Ok(())
+}
