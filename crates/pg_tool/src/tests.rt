@@ -10,8 +10,8 @@ use std::test::Fail;
 
 const WANT_OF_MEMORY: &[u8] = b"out of memory\n";
 
-/// Room for what a run tells of faults.
-const ROOM_FOR_ERRORS: usize = 64;
+/// Room for what a run writes, so that memory runs out in the program alone.
+const ROOM: usize = 1024;
 
 /// What a run left: its status, its output and what it told of faults.
 #[derive(Drop)]
@@ -30,8 +30,8 @@ fn words(alloc: Global, args: &[&str]) -> Result<Vec<String>, AllocError> {
 }
 
 fn started(alloc: Global, args: &[&str], input: &str) -> Result<Outcome, AllocError> {
-    let mut output = Vec::new(alloc);
-    let mut errors = Vec::with_capacity(alloc, ROOM_FOR_ERRORS)?;
+    let mut output = Vec::with_capacity(alloc, ROOM)?;
+    let mut errors = Vec::with_capacity(alloc, ROOM)?;
     let status = start(
         alloc,
         words(alloc, args)?.as_slice(),
