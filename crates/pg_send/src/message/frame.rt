@@ -69,15 +69,16 @@ pub trait FrontendMessage: Sized + Drop {
         Ok(())
     }
 
-    /// Adds the whole message: `EncodeMessage(self).encode(buf)`.
+    /// Adds the whole message to the buffer, as [`encode_frame`] does.
     final fn encode_msg(self, buf: &mut Vec<u8>) -> Result<(), Error>
         ensures ok { OnOk result (buf.new.items ≡ buf.old.items ++ frame (tag self) (body self)) }
+        ensures cut { OnOk result (IsCutInto (frame (tag self) (body self)) ((tag self, body self) ∷ [])) }
         ensures err { OnErr result (buf.new.items ≡ buf.old.items) }
         ensures answer { IsAnswer (first_fault (count_fault self) (length (body self))) result }
         ensures memory { IsErrOf result OutOfMemory → vec_capacity buf.old < vec_len buf.old + (hint self + 5) }
         ensures capacity { vec_capacity buf.old ≤ vec_capacity buf.new }
     {
-        EncodeMessage(self).encode(buf)
+        encode_frame(&self, buf)
     }
 }
 

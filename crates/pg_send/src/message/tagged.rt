@@ -1,10 +1,10 @@
 //! Any message that has a tag, and runs of them.
 
-ghost use Rattle.std.specs.Prelude.{◌≡◌, ◌+◌, ◌<◌, ◌≤◌, ◌++◌, length, None, OnOk, OnErr, IfOk, IsErrOf, IsOkUnless, vec_len, vec_capacity};
+ghost use Rattle.std.specs.Prelude.{◌≡◌, ◌+◌, ◌<◌, ◌≤◌, [], ◌∷◌, ◌++◌, length, None, OnOk, OnErr, IfOk, IsErrOf, IsOkUnless, vec_len, vec_capacity};
 ghost use Rattle.pg_base.specs.declared.error.Error.TheVariants.{OutOfMemory};
 ghost use Rattle.pg_base.specs.Answers.{IsAnswer};
 ghost use Rattle.pg_base.specs.Cutting.{IsCutInto};
-ghost use Rattle.pg_send.specs.Message.{Message, fault, hint, text, IsInRange};
+ghost use Rattle.pg_send.specs.Message.{Message, tag, body, fault, hint, text, IsInRange};
 ghost use Rattle.pg_send.specs.Views.{message_of, messages_of};
 ghost use Rattle.pg_send.specs.ReadBack.{kind_of, Keeps, IsReadBack, AreReadBack};
 ghost use Rattle.pg_send.specs.Run.{added, accepted, AreAnswers, RanOutWhereShort};
@@ -41,6 +41,7 @@ impl TaggedMessage<'_> {
     #[inline(always)]
     pub fn encode(&self, buf: &mut Vec<u8>) -> Result<(), Error>
         ensures ok { OnOk result (buf.new.items ≡ buf.old.items ++ text (message_of self.now)) }
+        ensures cut { OnOk result (IsCutInto (text (message_of self.now)) ((tag (message_of self.now), body (message_of self.now)) ∷ [])) }
         ensures err { OnErr result (buf.new.items ≡ buf.old.items) }
         ensures answer { IsAnswer (fault (message_of self.now)) result }
         ensures memory { IsErrOf result OutOfMemory → vec_capacity buf.old < vec_len buf.old + (hint (message_of self.now) + 5) }
@@ -56,6 +57,7 @@ impl TaggedMessage<'_> {
     #[inline(always)]
     fn encode_held(&self, buf: &mut Vec<u8>) -> Result<(), Error>
         ensures ok { OnOk result (buf.new.items ≡ buf.old.items ++ text (message_of self.now)) }
+        ensures cut { OnOk result (IsCutInto (text (message_of self.now)) ((tag (message_of self.now), body (message_of self.now)) ∷ [])) }
         ensures err { OnErr result (buf.new.items ≡ buf.old.items) }
         ensures answer { IsAnswer (fault (message_of self.now)) result }
         ensures memory { IsErrOf result OutOfMemory → vec_capacity buf.old < vec_len buf.old + (hint (message_of self.now) + 5) }
