@@ -1,6 +1,7 @@
 //! What can be wrong with a message, and the words for it.
 
-ghost use Rattle.std.specs.Prelude.{◌≡◌, Some, None};
+ghost use Rattle.std.specs.Prelude.{◌≡◌, Decides, Some, None};
+ghost use Rattle.pg_base.specs.declared.error.ErrorKind.{ErrorKind};
 ghost use Rattle.pg_base.specs.declared.error.Error.TheVariants.{Protocol, OutOfMemory};
 ghost use Rattle.pg_base.specs.Words.{fault_words, error_words};
 
@@ -124,6 +125,11 @@ pub enum ErrorKind {
     /// Any other error.
     Other,
 }
+
+/// Kinds of error are equal where they are the same.
+pub fn errors_are_equal_by_value()
+    ensures kinds { (a b : ErrorKind) → Decides (⟦<ErrorKind as PartialEq>⟧.eq a b) (a ≡ b) }
+{}
 
 /// Why a call of this layer gave no answer.
 #[derive(Clone, Copy, Debug, PartialEq, Eq)]

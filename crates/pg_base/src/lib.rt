@@ -6,7 +6,7 @@ mod error;
 pub mod io;
 mod message;
 
-pub use error::{Error, ErrorKind, ProtocolFault};
+pub use error::{Error, ErrorKind, ProtocolFault, errors_are_equal_by_value};
 pub use message::{BackendMessageFormat, FrontendMessageFormat, formats_are_ordered_by_number};
 
 #[cfg(test)]

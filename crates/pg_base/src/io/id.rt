@@ -1,6 +1,6 @@
 //! The names of prepared statements and portals, each kept as a number.
 
-ghost use Rattle.std.specs.Prelude.{Some, ◌≡◌, ◌≢◌, ℕ, ◌+◌, ◌<◌, ◌≤◌, ◌^◌, List, [], ◌∷◌, ◌++◌, length, decimal, OnOk, OnErr, IsOkUnless, IfSome, IfNone, vec_len, vec_capacity};
+ghost use Rattle.std.specs.Prelude.{Some, ◌≡◌, ◌≢◌, ◌==◌, ℕ, ◌+◌, ◌<◌, ◌≤◌, ◌^◌, List, [], ◌∷◌, ◌++◌, length, decimal, OnOk, OnErr, IsOkUnless, IfSome, IfNone, vec_len, vec_capacity};
 ghost use Rattle.pg_base.specs.declared.error.Error.TheVariants.{OutOfMemory};
 ghost use Rattle.pg_base.specs.Names.{name, next_id, named, statement_prefix, portal_prefix, max_id};
 
@@ -229,6 +229,12 @@ fn put_named(prefix: &str, number: u32, buf: &mut Vec<u8>) -> Result<(), AllocEr
     buf.push_reserved(0);
     Ok(())
 }
+
+/// Ids are equal where their numbers are.
+pub fn ids_are_equal_by_number()
+    ensures statements { (a b : ℕ) → ⟦<StatementId as PartialEq>⟧.eq a b ≡ (a == b) }
+    ensures portals { (a b : ℕ) → ⟦<PortalId as PartialEq>⟧.eq a b ≡ (a == b) }
+{}
 
 /// Two ids with one name are one id.
 pub fn names_are_distinct()

@@ -6,9 +6,11 @@ mod copy;
 mod id;
 mod numbers;
 
-ghost use Rattle.std.specs.Prelude.{◌≡◌, ◌+◌, ◌<◌, ◌≤◌, List, ℕ, Option, ◌++◌, length, OnOk, OnErr, IsErrOf, vec_len, vec_capacity};
+ghost use Rattle.std.specs.Prelude.{◌≡◌, ◌+◌, ◌<◌, ◌≤◌, Decides, List, ℕ, Option, ◌++◌, length, OnOk, OnErr, IsErrOf, vec_len, vec_capacity};
 ghost use Rattle.pg_base.specs.declared.error.Error.TheVariants.{OutOfMemory};
 ghost use Rattle.pg_base.specs.declared.error.ProtocolFault.{ProtocolFault};
+ghost use Rattle.pg_base.specs.declared.io.Oid.{Oid};
+ghost use Rattle.pg_base.specs.declared.io.PgValueFormat.{PgValueFormat};
 ghost use Rattle.pg_base.specs.Answers.{IsAnswer, Answers};
 
 use crate::error::Error;
@@ -16,7 +18,7 @@ pub use atoi::{atoi_u32, atoi_u64, atoi_usize};
 pub use buf_mut::PgBufMutExt;
 use bytes::Bytes;
 pub use copy::{CopyData, CopyDone, LendBytes};
-pub use id::{DisplayId, PortalId, StatementId, names_are_distinct};
+pub use id::{DisplayId, PortalId, StatementId, ids_are_equal_by_number, names_are_distinct};
 pub use numbers::{bytes_at, i8_at, i16_at, i32_at, u16_at, u32_at};
 use std::alloc::Global;
 
@@ -37,6 +39,12 @@ pub enum PgValueFormat {
     Text = 0,
     Binary = 1,
 }
+
+/// Types and formats are equal where they are the same.
+pub fn types_and_formats_are_equal_by_value()
+    ensures types { (a b : Oid) → Decides (⟦<Oid as PartialEq>⟧.eq a b) (a ≡ b) }
+    ensures formats { (a b : PgValueFormat) → Decides (⟦<PgValueFormat as PartialEq>⟧.eq a b) (a ≡ b) }
+{}
 
 /// What is written to a buffer as a whole or not at all.
 pub trait ProtocolEncode {
