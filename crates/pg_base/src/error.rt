@@ -2,6 +2,8 @@
 
 ghost use Rattle.std.specs.Prelude.{◌≡◌, Decides, Some, None};
 ghost use Rattle.pg_base.specs.declared.error.ErrorKind.{ErrorKind};
+ghost use Rattle.pg_base.specs.declared.error.ProtocolFault.{ProtocolFault};
+ghost use Rattle.pg_base.specs.declared.error.Error.{Error};
 ghost use Rattle.pg_base.specs.declared.error.Error.TheVariants.{Protocol, OutOfMemory};
 ghost use Rattle.pg_base.specs.Words.{fault_words, error_words};
 
@@ -126,8 +128,10 @@ pub enum ErrorKind {
     Other,
 }
 
-/// Kinds of error are equal where they are the same.
+/// Faults, errors and kinds of error are equal where they are the same.
 pub fn errors_are_equal_by_value()
+    ensures faults { (a b : ProtocolFault) → Decides (⟦<ProtocolFault as PartialEq>⟧.eq a b) (a ≡ b) }
+    ensures errors { (a b : Error) → Decides (⟦<Error as PartialEq>⟧.eq a b) (a ≡ b) }
     ensures kinds { (a b : ErrorKind) → Decides (⟦<ErrorKind as PartialEq>⟧.eq a b) (a ≡ b) }
 {}
 
