@@ -32,16 +32,18 @@ fn assert_room<M: FrontendMessage>(
     assert_eq!(rt; accepted, Ok(()));
     assert_eq!(rt; enough.capacity(), room);
 
-    let mut tight = Vec::with_capacity(alloc, room.saturating_sub(1))?;
+    // Behind a byte that was there, a byte is lacking.
+    let mut tight = Vec::with_capacity(alloc, room)?;
+    tight.push(0xaa)?;
     let is_refused = switch(alloc);
     let answer = encode_frame(message, &mut tight);
     switch(alloc);
     if is_refused {
         assert_eq!(rt; answer, Err(Error::OutOfMemory));
-        assert!(rt; tight.is_empty());
+        assert_eq!(rt; tight.as_slice(), b"\xaa".as_slice());
     } else {
         answer?;
-        assert_eq!(rt; tight.as_slice(), enough.as_slice());
+        assert_eq!(rt; &tight.as_slice()[1..], enough.as_slice());
     }
     Ok(())
 }
