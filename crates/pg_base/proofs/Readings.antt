@@ -39,7 +39,7 @@ no_text [] (c ∷ t) rest h e = absurd cc
 no_text (b ∷ bytes) [] rest h e = h.0 (let heads : b ≡ 0 = cc in heads)
 no_text (b ∷ bytes) (c ∷ t) rest h e = no_text bytes t rest h.1 (let tails : bytes ≡ t ++ 0 ∷ rest = cc in tails)
 
--- fewer bytes than a number takes spell none
+-- bytes that begin with a number are as long as it and the rest
 pub number_fits : (width : ℕ) (bytes : List ℕ) (n : ℕ) (rest : List ℕ) → Number width bytes n rest → length bytes ≡ width + length rest
 number_fits width bytes n rest p = omega (arith, ap length p.parts, length-append p.spelled rest, p.wide)
 

@@ -11,7 +11,8 @@ use crate::message::BackendMessageFormat;
 use std::alloc::{AllocError, AllocFailed};
 use std::fmt;
 
-/// Why a message is refused. Offsets and counts are in bytes from the start of the body.
+/// Why a message is refused. Offsets and lengths are in bytes; an offset counts from the start of
+/// the body.
 #[derive(Clone, Copy, Debug, PartialEq, Eq)]
 pub enum ProtocolFault {
     /// More parameter format codes than a message can count: how many there are.
@@ -25,7 +26,9 @@ pub enum ProtocolFault {
     MessageTooLong(usize),
     /// A message was read as one of another kind.
     WrongFormat {
+        /// The kind that it was read as.
         expected: BackendMessageFormat,
+        /// The kind that it is.
         got: BackendMessageFormat,
     },
     /// A received body is longer than a length field can say: its length.
@@ -40,8 +43,11 @@ pub enum ProtocolFault {
     UnknownSeverity,
     /// Fewer bytes than are needed at an offset.
     Short {
+        /// Where the bytes are wanted.
         at: usize,
+        /// How many are wanted.
         needed: usize,
+        /// How many there are from there to the end.
         got: usize,
     },
     /// The text that begins at this offset has no end.
@@ -142,6 +148,7 @@ pub enum Error {
     Protocol {
         /// The kind of message whose body was being read, where one was.
         reading: Option<BackendMessageFormat>,
+        /// What is wrong.
         fault: ProtocolFault,
     },
     /// A growth of a buffer, or a cut that shares one, found no memory.

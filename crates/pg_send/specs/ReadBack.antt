@@ -1,6 +1,6 @@
 -- A reader that is told the kind of a message, and what it reads. It looks at the body alone, and
--- shares no definition with what is written. Documentation: "Message Formats", the messages marked
--- (F).
+-- shares with what is written only fixed texts: the prefixes of names and the names of mechanisms.
+-- Documentation: "Message Formats", the messages marked (F).
 use Rattle.std.specs.Prelude.{◌≡◌, ℕ, List, [], ◌∷◌}
 use Rattle.std.specs.Prelude.{Ok, Err}
 use Rattle.pg_base.specs.Reading.{HoldsNo, Text}

@@ -9,6 +9,7 @@ pub trait LendBytes: Drop {
     /// The bytes that are lent.
     ghost bytes: { Self → List ℕ };
 
+    /// Lends the bytes.
     fn bytes(&self) -> &[u8]
         ensures { result.now ≡ bytes self.now };
 }

@@ -27,8 +27,10 @@ impl Model for StatementId {
 }
 
 impl StatementId {
+    /// The unnamed one.
     pub const UNNAMED: Self = StatementId(0);
 
+    /// The first named one.
     pub const NAMED_START: Self = StatementId(1);
 
     /// The statement of that number; 0 is the unnamed one.
@@ -101,8 +103,10 @@ impl Model for PortalId {
 }
 
 impl PortalId {
+    /// The unnamed one.
     pub const UNNAMED: Self = PortalId(0);
 
+    /// The first named one.
     pub const NAMED_START: Self = PortalId(1);
 
     /// The portal of that number; 0 is the unnamed one.

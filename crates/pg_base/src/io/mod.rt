@@ -33,7 +33,8 @@ pub const MAX_BODY: usize = MAX_LENGTH - 4;
 #[derive(Clone, Copy, Debug, Default, PartialEq, Eq)]
 pub struct Oid(pub u32);
 
-/// How a value is spelled. As a number it is the format code of a message.
+/// How a value is spelled. As a number it is the format code of a message. Documentation: "Formats
+/// and Format Codes".
 #[derive(Clone, Copy, Debug, PartialEq, Eq)]
 pub enum PgValueFormat {
     Text = 0,

@@ -15,7 +15,9 @@ use pg_base::{Error, FrontendMessageFormat, ProtocolFault};
 /// Documentation: "Message Formats", Bind (F).
 #[derive(Debug, Drop)]
 pub struct Bind<'a> {
+    /// The portal to make.
     pub portal: PortalId,
+    /// The prepared statement to make it of.
     pub statement: StatementId,
     /// The formats of the parameters, at most 65535: none where all are text, one for all of them,
     /// or one each.

@@ -13,6 +13,7 @@ use pg_base::{Error, FrontendMessageFormat};
 /// Tells the server that a COPY failed, and why. Documentation: "Message Formats", CopyFail (F).
 #[derive(Drop)]
 pub struct CopyFail {
+    /// Why. With a NUL in it the message isn't read back.
     pub message: String,
 }
 

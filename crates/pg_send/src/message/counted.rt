@@ -9,7 +9,7 @@ use crate::message::parts::{put_u16, put_u32};
 use pg_base::ProtocolFault;
 use pg_base::io::{Oid, PgValueFormat};
 
-/// The most formats or types that a message can count. A count has two bytes, and is unsigned.
+// The most formats or types that a message can count. A count has two bytes, and is unsigned.
 const MAX_COUNT: usize = u16::MAX as usize;
 
 /// The fault of a list that is too long to be counted.

@@ -13,6 +13,7 @@ use pg_base::{Error, FrontendMessageFormat};
 /// Asks the server to run a portal. Documentation: "Message Formats", Execute (F).
 #[derive(Drop)]
 pub struct Execute {
+    /// The portal to run.
     pub portal: PortalId,
     /// The most rows to send back, 0 for all of them.
     pub limit: u32,

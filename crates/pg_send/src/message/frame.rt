@@ -87,6 +87,7 @@ pub trait FrontendMessage: Sized + Drop {
 /// Every refusal leaves the bytes of the buffer as they were: a broken limit, exactly where there
 /// is one and before memory is asked for, or `OutOfMemory`, only where the spare room is less than
 /// the hint and five.
+// A function of its own for each type: inlined side by side they would pay for each other's locals.
 #[inline(never)]
 pub fn encode_frame<F: FrontendMessage>(message: &F, buf: &mut Vec<u8>) -> Result<(), Error>
     ensures ok { OnOk result (buf.new.items ≡ buf.old.items ++ frame (F.tag message.now) (F.body message.now)) }
@@ -121,8 +122,9 @@ impl<F: FrontendMessage> ProtocolEncode for EncodeMessage<F> {
     }
 }
 
-/// The answer of [`FrontendMessage::checked_body_len`], of the fault of the counts, where there is
-/// one, and the length of the body in bytes, which saturates at the greatest `usize`.
+/// The answer of [`FrontendMessage::checked_body_len`]: the fault of the counts where there is one,
+/// `MessageTooLong` where the body passes [`MAX_BODY`], else its length. `len` is in bytes and
+/// saturates.
 pub fn check_len(count_fault: Option<ProtocolFault>, len: usize) -> Result<usize, Error>
     ensures { (real : ℕ) → len ≡ saturated real → result ≡ checked_len (first_fault count_fault real) real }
 {

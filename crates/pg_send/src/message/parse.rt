@@ -14,7 +14,9 @@ use pg_base::{Error, FrontendMessageFormat, ProtocolFault};
 /// Asks the server to prepare a statement. Documentation: "Message Formats", Parse (F).
 #[derive(Debug, Drop)]
 pub struct Parse<'a> {
+    /// The statement to prepare.
     pub statement: StatementId,
+    /// Its text. With a NUL in it the message isn't read back.
     pub query: &'a str,
     /// The types of the parameters from the first on, at most 65535; the server infers those that
     /// are 0 or missing.

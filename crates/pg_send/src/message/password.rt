@@ -81,7 +81,7 @@ fn md5_body_len(digest: &[u8; 16]) -> usize
     MD5_PREFIX.len() + 2 * digest.len() + 1
 }
 
-/// The digest as hexadecimal digits in lower case.
+// The digest as hexadecimal digits in lower case.
 fn digits_of(digest: &[u8; 16]) -> [u8; 32]
     ensures digits { result ≡ encode_lower digest.now }
     ensures range { IsDigest digest.now }

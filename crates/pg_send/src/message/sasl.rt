@@ -13,6 +13,7 @@ use pg_base::{Error, FrontendMessageFormat};
 /// SASLInitialResponse (F).
 #[derive(Drop)]
 pub struct SaslInitialResponse<'a> {
+    /// What the client says first.
     pub response: &'a str,
     /// With channel binding.
     pub plus: bool,

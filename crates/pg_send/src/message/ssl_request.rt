@@ -6,10 +6,10 @@ ghost use Rattle.pg_send.specs.SslRequest.{ssl_request_text};
 use pg_base::Error;
 use pg_base::io::ProtocolEncode;
 
-/// The length of the whole, in bytes.
+// The length of the whole, in bytes.
 const LENGTH: u32 = 8;
 
-/// What stands in the place of a version: 1234 in the upper two bytes and 5679 in the lower.
+// What stands in the place of a version: 1234 in the upper two bytes and 5679 in the lower.
 const SSL_REQUEST: u32 = 80877103;
 
 /// Asks the server for an encrypted connection. It has no tag, and the server answers with one

@@ -10,26 +10,27 @@ use crate::message::parts::put_u32;
 use pg_base::io::{MAX_LENGTH, ProtocolEncode};
 use pg_base::{Error, ProtocolFault};
 
-/// Protocol 3.0: the major version in the upper two bytes, the minor one in the lower.
+// Protocol 3.0: the major version in the upper two bytes, the minor one in the lower.
 const PROTOCOL_VERSION: u32 = 196608;
 
-/// The length of a message without settings: the length field, the version and the last NUL.
+// The length of a message without settings: the length field, the version and the last NUL.
 const EMPTY_LENGTH: usize = 9;
 
 /// Opens a session. It has no tag. Documentation: "Message Formats", StartupMessage (F).
 #[derive(Drop)]
 pub struct Startup<'a> {
+    /// The user to connect as.
     pub username: Option<&'a str>,
     /// The server takes that of the user's name where there is none.
     pub database: Option<&'a str>,
-    /// Names and values of further settings.
+    /// Names and values of further settings. A NUL in one, or an empty name, is sent as it is.
     pub params: &'a [(&'a str, &'a str)],
 }
 
 impl Startup<'_> {
     ghost use Rattle.pg_send.specs.Views.{startup_of};
 
-    /// The length of the whole in bytes, which saturates.
+    // The length of the whole in bytes, which saturates.
     fn text_len(&self) -> usize
         ensures { result ≡ saturated (length (startup_body (startup_of self.now)) + 4) }
     {
@@ -87,7 +88,7 @@ fn params_len(params: &[(&str, &str)]) -> usize
     len
 }
 
-/// Adds a name and its value, each ended by a NUL, in room that is there.
+// Adds a name and its value, each ended by a NUL, in room that is there.
 fn put_setting(name: &str, value: &str, buf: &mut Vec<u8>)
     requires { vec_len buf.old + length (setting (name.now, value.now)) ≤ vec_capacity buf.old }
     ensures items { buf.new.items ≡ buf.old.items ++ setting (name.now, value.now) }
@@ -99,7 +100,7 @@ fn put_setting(name: &str, value: &str, buf: &mut Vec<u8>)
     buf.push_reserved(0);
 }
 
-/// Adds a name and its value where there is one, in room that is there.
+// Adds a name and its value where there is one, in room that is there.
 fn put_optional(name: &str, value: Option<&str>, buf: &mut Vec<u8>)
     requires { vec_len buf.old + length (setting_where_there name.now (option_copied value)) ≤ vec_capacity buf.old }
     ensures items { buf.new.items ≡ buf.old.items ++ setting_where_there name.now (option_copied value.entry) }
@@ -110,7 +111,7 @@ fn put_optional(name: &str, value: Option<&str>, buf: &mut Vec<u8>)
     }
 }
 
-/// Adds names and values, each ended by a NUL, in room that is there.
+// Adds names and values, each ended by a NUL, in room that is there.
 fn put_params(params: &[(&str, &str)], buf: &mut Vec<u8>)
     requires { vec_len buf.old + length (flat_map setting (settings_of params.now)) ≤ vec_capacity buf.old }
     ensures items { buf.new.items ≡ buf.old.items ++ flat_map setting (settings_of params.now) }

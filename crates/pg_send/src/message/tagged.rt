@@ -38,6 +38,7 @@ pub enum TaggedMessage<'a> {
 
 impl TaggedMessage<'_> {
     /// Adds the message to the buffer: [`encode_frame`] of what it holds.
+    // Inlined, so that the answer isn't copied on its way.
     #[inline(always)]
     pub fn encode(&self, buf: &mut Vec<u8>) -> Result<(), Error>
         ensures ok { OnOk result (buf.new.items ≡ buf.old.items ++ text (message_of self.now)) }

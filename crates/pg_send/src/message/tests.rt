@@ -119,7 +119,7 @@ fn parses(rt: HostRuntime) -> Result<(), Fail> {
     assert_frames(&rt, rt.alloc(), &[TaggedMessage::Parse(two_types)], frame)
 }
 
-/// Of the unnamed portal and statement, without a count of parameters.
+// Of the unnamed portal and statement, without a count of parameters.
 fn bind_of<'a>(
     formats: &'a [PgValueFormat],
     params: &'a [u8],

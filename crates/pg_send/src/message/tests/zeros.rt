@@ -7,7 +7,7 @@ use crate::message::{FrontendMessage, encode_frame};
 use pg_base::{Error, FrontendMessageFormat, ProtocolFault};
 use std::test::Fail;
 
-/// That many zero bytes.
+// That many zero bytes.
 #[derive(Drop)]
 struct Zeros(usize);
 
@@ -68,7 +68,7 @@ fn too_many_zeros(rt: HostRuntime) -> Result<(), Fail> {
     Ok(())
 }
 
-/// A byte for which no buffer has the room that it asks for.
+// A byte for which no buffer has the room that it asks for.
 #[derive(Drop)]
 struct Spacious;
 
