@@ -2,7 +2,9 @@
 -- "Message Formats", the messages marked (F).
 use Rattle.std.specs.Prelude.{ℕ, List, [], length, Option, None}
 use Rattle.pg_base.specs.declared.error.ProtocolFault.{ProtocolFault}
+use Rattle.pg_base.specs.declared.message.FrontendMessageFormat.TheVariants as formats
 use Rattle.pg_base.specs.Cutting.{frame}
+use Rattle.pg_base.specs.Formats.{frontend_tag}
 use Rattle.pg_send.specs.Limits.{saturated, first_fault}
 use Rattle.pg_send.specs.Bind.{BindFields, bind_body, bind_count_fault, IsBindInRange}
 use Rattle.pg_send.specs.Copy.{copy_fail_body}
@@ -33,22 +35,22 @@ pub data Message : Type 0 where
 
 -- the first byte
 abbrev pub tag : Message → ℕ
-tag (Bind b) = 66
-tag (Close target) = 67
-tag (CopyData bytes) = 100
-tag CopyDone = 99
-tag (CopyFail text) = 102
-tag (Describe target) = 68
-tag (Execute e) = 69
-tag Flush = 72
-tag (Parse p) = 80
-tag (CleartextPassword text) = 112
-tag (Md5Password digest) = 112
-tag (Query text) = 81
-tag (SaslInitialResponse s) = 112
-tag (SaslResponse bytes) = 112
-tag Sync = 83
-tag Terminate = 88
+tag (Bind b) = frontend_tag formats.Bind
+tag (Close target) = frontend_tag formats.Close
+tag (CopyData bytes) = frontend_tag formats.CopyData
+tag CopyDone = frontend_tag formats.CopyDone
+tag (CopyFail text) = frontend_tag formats.CopyFail
+tag (Describe target) = frontend_tag formats.Describe
+tag (Execute e) = frontend_tag formats.Execute
+tag Flush = frontend_tag formats.Flush
+tag (Parse p) = frontend_tag formats.Parse
+tag (CleartextPassword text) = frontend_tag formats.PasswordPolymorphic
+tag (Md5Password digest) = frontend_tag formats.PasswordPolymorphic
+tag (Query text) = frontend_tag formats.Query
+tag (SaslInitialResponse s) = frontend_tag formats.PasswordPolymorphic
+tag (SaslResponse bytes) = frontend_tag formats.PasswordPolymorphic
+tag Sync = frontend_tag formats.Sync
+tag Terminate = frontend_tag formats.Terminate
 
 -- what stands behind the length
 abbrev pub body : Message → List ℕ

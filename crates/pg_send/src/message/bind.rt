@@ -1,6 +1,8 @@
 //! A portal that is made of a prepared statement.
 
 ghost use Rattle.std.specs.Prelude.{length};
+ghost use Rattle.pg_base.specs.declared.message.FrontendMessageFormat.TheVariants as formats;
+ghost use Rattle.pg_base.specs.Formats.{frontend_tag};
 ghost use Rattle.pg_send.specs.Limits.{saturated};
 ghost use Rattle.pg_send.specs.Bind.{bind_body, bind_count_fault, IsBindInRange};
 
@@ -37,7 +39,7 @@ impl FrontendMessage for Bind<'_> {
 
     const FORMAT: FrontendMessageFormat = FrontendMessageFormat::Bind;
 
-    ghost tag = { λ _. 66 };
+    ghost tag = { λ _. frontend_tag formats.Bind };
 
     ghost body = { λ bind. bind_body (bind_of bind) };
 

@@ -1,6 +1,8 @@
 //! A prepared statement or a portal that is let go.
 
 ghost use Rattle.std.specs.Prelude.{None, length};
+ghost use Rattle.pg_base.specs.declared.message.FrontendMessageFormat.TheVariants as formats;
+ghost use Rattle.pg_base.specs.Formats.{frontend_tag};
 ghost use Rattle.pg_send.specs.Limits.{saturated};
 ghost use Rattle.pg_send.specs.Target.{target_body, IsTargetInRange};
 
@@ -23,7 +25,7 @@ impl FrontendMessage for Close {
 
     const FORMAT: FrontendMessageFormat = FrontendMessageFormat::Close;
 
-    ghost tag = { λ _. 67 };
+    ghost tag = { λ _. frontend_tag formats.Close };
 
     ghost body = { λ close. target_body (close_of close) };
 

@@ -1,6 +1,8 @@
 //! The client's part of a COPY.
 
 ghost use Rattle.std.specs.Prelude.{◌≡◌, None, [], length, string_bytes};
+ghost use Rattle.pg_base.specs.declared.message.FrontendMessageFormat.TheVariants as formats;
+ghost use Rattle.pg_base.specs.Formats.{frontend_tag};
 ghost use Rattle.pg_send.specs.Copy.{copy_fail_body};
 ghost use Rattle.pg_send.specs.Limits.{saturated};
 
@@ -29,7 +31,7 @@ impl CopyFail {
 impl<B: LendBytes> FrontendMessage for CopyData<B> {
     const FORMAT: FrontendMessageFormat = FrontendMessageFormat::CopyData;
 
-    ghost tag = { λ _. 100 };
+    ghost tag = { λ _. frontend_tag formats.CopyData };
 
     ghost body = { λ copy. B.bytes copy.0 };
 
@@ -63,7 +65,7 @@ impl<B: LendBytes> FrontendMessage for CopyData<B> {
 impl FrontendMessage for CopyFail {
     const FORMAT: FrontendMessageFormat = FrontendMessageFormat::CopyFail;
 
-    ghost tag = { λ _. 102 };
+    ghost tag = { λ _. frontend_tag formats.CopyFail };
 
     ghost body = { λ copy. copy_fail_body (string_bytes copy.message) };
 
@@ -98,7 +100,7 @@ impl FrontendMessage for CopyFail {
 impl FrontendMessage for CopyDone {
     const FORMAT: FrontendMessageFormat = FrontendMessageFormat::CopyDone;
 
-    ghost tag = { λ _. 99 };
+    ghost tag = { λ _. frontend_tag formats.CopyDone };
 
     ghost body = { λ _. [] };
 

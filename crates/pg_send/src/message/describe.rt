@@ -1,6 +1,8 @@
 //! What a prepared statement or a portal takes and gives.
 
 ghost use Rattle.std.specs.Prelude.{None, length};
+ghost use Rattle.pg_base.specs.declared.message.FrontendMessageFormat.TheVariants as formats;
+ghost use Rattle.pg_base.specs.Formats.{frontend_tag};
 ghost use Rattle.pg_send.specs.Limits.{saturated};
 ghost use Rattle.pg_send.specs.Target.{target_body, IsTargetInRange};
 
@@ -23,7 +25,7 @@ impl FrontendMessage for Describe {
 
     const FORMAT: FrontendMessageFormat = FrontendMessageFormat::Describe;
 
-    ghost tag = { λ _. 68 };
+    ghost tag = { λ _. frontend_tag formats.Describe };
 
     ghost body = { λ describe. target_body (describe_of describe) };
 

@@ -1,6 +1,8 @@
 //! A portal that is run.
 
 ghost use Rattle.std.specs.Prelude.{None, length};
+ghost use Rattle.pg_base.specs.declared.message.FrontendMessageFormat.TheVariants as formats;
+ghost use Rattle.pg_base.specs.Formats.{frontend_tag};
 ghost use Rattle.pg_send.specs.Limits.{saturated};
 ghost use Rattle.pg_send.specs.Execute.{execute_body, IsExecuteInRange};
 
@@ -24,7 +26,7 @@ impl FrontendMessage for Execute {
 
     const FORMAT: FrontendMessageFormat = FrontendMessageFormat::Execute;
 
-    ghost tag = { λ _. 69 };
+    ghost tag = { λ _. frontend_tag formats.Execute };
 
     ghost body = { λ execute. execute_body (execute_of execute) };
 

@@ -1,6 +1,8 @@
 //! A request for what the server still holds back.
 
 ghost use Rattle.std.specs.Prelude.{None, []};
+ghost use Rattle.pg_base.specs.declared.message.FrontendMessageFormat.TheVariants as formats;
+ghost use Rattle.pg_base.specs.Formats.{frontend_tag};
 
 use crate::message::FrontendMessage;
 use crate::message::frame::check_len;
@@ -13,7 +15,7 @@ pub struct Flush;
 impl FrontendMessage for Flush {
     const FORMAT: FrontendMessageFormat = FrontendMessageFormat::Flush;
 
-    ghost tag = { λ _. 72 };
+    ghost tag = { λ _. frontend_tag formats.Flush };
 
     ghost body = { λ _. [] };
 

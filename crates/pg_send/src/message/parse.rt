@@ -1,6 +1,8 @@
 //! A statement that is prepared.
 
 ghost use Rattle.std.specs.Prelude.{length};
+ghost use Rattle.pg_base.specs.declared.message.FrontendMessageFormat.TheVariants as formats;
+ghost use Rattle.pg_base.specs.Formats.{frontend_tag};
 ghost use Rattle.pg_send.specs.Limits.{saturated};
 ghost use Rattle.pg_send.specs.Parse.{parse_body, parse_count_fault, IsParseInRange};
 
@@ -28,7 +30,7 @@ impl FrontendMessage for Parse<'_> {
 
     const FORMAT: FrontendMessageFormat = FrontendMessageFormat::Parse;
 
-    ghost tag = { λ _. 80 };
+    ghost tag = { λ _. frontend_tag formats.Parse };
 
     ghost body = { λ parse. parse_body (parse_of parse) };
 

@@ -1,6 +1,8 @@
 //! A simple query.
 
 ghost use Rattle.std.specs.Prelude.{None, length};
+ghost use Rattle.pg_base.specs.declared.message.FrontendMessageFormat.TheVariants as formats;
+ghost use Rattle.pg_base.specs.Formats.{frontend_tag};
 ghost use Rattle.pg_send.specs.Query.{query_body};
 ghost use Rattle.pg_send.specs.Limits.{saturated};
 
@@ -16,7 +18,7 @@ pub struct Query<'a>(pub &'a str);
 impl FrontendMessage for Query<'_> {
     const FORMAT: FrontendMessageFormat = FrontendMessageFormat::Query;
 
-    ghost tag = { λ _. 81 };
+    ghost tag = { λ _. frontend_tag formats.Query };
 
     ghost body = { λ query. query_body query.0.now };
 

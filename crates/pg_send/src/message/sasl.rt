@@ -1,6 +1,8 @@
 //! The client's part of authentication by SASL.
 
 ghost use Rattle.std.specs.Prelude.{◌≡◌, None, length};
+ghost use Rattle.pg_base.specs.declared.message.FrontendMessageFormat.TheVariants as formats;
+ghost use Rattle.pg_base.specs.Formats.{frontend_tag};
 ghost use Rattle.pg_send.specs.Limits.{saturated};
 ghost use Rattle.pg_send.specs.Sasl.{mechanism, sasl_initial_body};
 
@@ -36,7 +38,7 @@ impl FrontendMessage for SaslInitialResponse<'_> {
 
     const FORMAT: FrontendMessageFormat = FrontendMessageFormat::PasswordPolymorphic;
 
-    ghost tag = { λ _. 112 };
+    ghost tag = { λ _. frontend_tag formats.PasswordPolymorphic };
 
     ghost body = { λ sasl. sasl_initial_body (sasl_initial_of sasl) };
 
@@ -80,7 +82,7 @@ pub struct SaslResponse<'a>(pub &'a str);
 impl FrontendMessage for SaslResponse<'_> {
     const FORMAT: FrontendMessageFormat = FrontendMessageFormat::PasswordPolymorphic;
 
-    ghost tag = { λ _. 112 };
+    ghost tag = { λ _. frontend_tag formats.PasswordPolymorphic };
 
     ghost body = { λ sasl. sasl.0.now };
 

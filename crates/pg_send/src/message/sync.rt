@@ -1,6 +1,8 @@
 //! The end of an extended query.
 
 ghost use Rattle.std.specs.Prelude.{None, []};
+ghost use Rattle.pg_base.specs.declared.message.FrontendMessageFormat.TheVariants as formats;
+ghost use Rattle.pg_base.specs.Formats.{frontend_tag};
 
 use crate::message::FrontendMessage;
 use crate::message::frame::check_len;
@@ -14,7 +16,7 @@ pub struct Sync;
 impl FrontendMessage for Sync {
     const FORMAT: FrontendMessageFormat = FrontendMessageFormat::Sync;
 
-    ghost tag = { λ _. 83 };
+    ghost tag = { λ _. frontend_tag formats.Sync };
 
     ghost body = { λ _. [] };
 

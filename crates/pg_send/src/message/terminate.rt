@@ -1,6 +1,8 @@
 //! The end of a session.
 
 ghost use Rattle.std.specs.Prelude.{None, []};
+ghost use Rattle.pg_base.specs.declared.message.FrontendMessageFormat.TheVariants as formats;
+ghost use Rattle.pg_base.specs.Formats.{frontend_tag};
 
 use crate::message::FrontendMessage;
 use crate::message::frame::check_len;
@@ -13,7 +15,7 @@ pub struct Terminate;
 impl FrontendMessage for Terminate {
     const FORMAT: FrontendMessageFormat = FrontendMessageFormat::Terminate;
 
-    ghost tag = { λ _. 88 };
+    ghost tag = { λ _. frontend_tag formats.Terminate };
 
     ghost body = { λ _. [] };
 

@@ -1,6 +1,8 @@
 //! Messages of any length, and one that wants more room than there is.
 
 ghost use Rattle.std.specs.Prelude.{◌^◌, None, replicate};
+ghost use Rattle.pg_base.specs.declared.message.FrontendMessageFormat.TheVariants as formats;
+ghost use Rattle.pg_base.specs.Formats.{frontend_tag};
 
 use crate::message::frame::check_len;
 use crate::message::{FrontendMessage, encode_frame};
@@ -14,7 +16,7 @@ struct Zeros(usize);
 impl FrontendMessage for Zeros {
     const FORMAT: FrontendMessageFormat = FrontendMessageFormat::CopyData;
 
-    ghost tag = { λ _. 100 };
+    ghost tag = { λ _. frontend_tag formats.CopyData };
 
     ghost body = { λ zeros. replicate zeros.0 0 };
 
@@ -75,7 +77,7 @@ struct Spacious;
 impl FrontendMessage for Spacious {
     const FORMAT: FrontendMessageFormat = FrontendMessageFormat::CopyData;
 
-    ghost tag = { λ _. 100 };
+    ghost tag = { λ _. frontend_tag formats.CopyData };
 
     ghost body = { λ _. replicate 1 0 };
 
