@@ -17,9 +17,12 @@ decimal_value-append (x ∷ xs) ys =
     ap (λ (k : ℕ). 10 ^ k) (length-append xs ys) ∙ pow-add 10 (length xs) (length ys) in
     rw (power, decimal_value-append xs ys) (omega arith)
 
+pub decimal_value-push : (ds : List ℕ) (d : ℕ) → decimal_value (ds ++ d ∷ []) ≡ decimal_value ds * 10 + (d - 48)
+decimal_value-push ds d = omega (arith, decimal_value-append ds (d ∷ []))
+
 pub decimal_value-more : (ds : List ℕ) (i : ℕ) → i < length ds → decimal_value (take (i + 1) ds) ≡ decimal_value (take i ds) * 10 + (get_or ds i 0 - 48)
 decimal_value-more ds i h =
-    rw (take_more ds i 0 h) (omega (arith, decimal_value-append (take i ds) (get_or ds i 0 ∷ [])))
+    rw (take_more ds i 0 h) (decimal_value-push (take i ds) (get_or ds i 0))
 
 pub decimal_value-take-le : (ds : List ℕ) (i : ℕ) → decimal_value (take i ds) ≤ decimal_value ds
 decimal_value-take-le ds i =

@@ -9,23 +9,11 @@ use Rattle.pg_base.specs.Names.{name, named, max_id, statement_prefix, portal_pr
 use Rattle.pg_base.specs.Numbers.{num, int, be16, be32}
 use Rattle.pg_base.specs.Reading.{Number, Signed, HoldsNo, Text, BeginsWith, NamesId, Id, Numbers, Counted, Value, Values}
 use Rattle.pg_base.proofs.Cuts.{parts_at, int_be32}
+use Rattle.pg_base.proofs.Decimals.{AreDigits-push, decimal_value-push}
 use Rattle.pg_base.proofs.NameLemmas.{name_of_other}
 use Rattle.pg_base.proofs.Readings.{one_number, one_text}
 
 -- ---- digits
-
-pow-add_one : (b n : ℕ) → b ^ (n + 1) ≡ b ^ n * b
-pow-add_one b n = rw add-one (pow-suc b n)
-
-AreDigits-push : (ds : List ℕ) (d : ℕ) → AreDigits ds → IsAsciiDigit d → AreDigits (ds ++ d ∷ [])
-AreDigits-push [] d h one = (one, tt)
-AreDigits-push (e ∷ ds) d h one = (h.0, AreDigits-push ds d h.1 one)
-
-decimal_value-push : (ds : List ℕ) (d : ℕ) → decimal_value (ds ++ d ∷ []) ≡ decimal_value ds * 10 + (d - 48)
-decimal_value-push [] d = omega arith
-decimal_value-push (e ∷ ds) d =
-    let worth : 10 ^ length (ds ++ d ∷ []) ≡ 10 ^ length ds * 10 = ap (λ (n : ℕ). 10 ^ n) (length_push ds d) ∙ pow-add_one 10 (length ds) in
-    rw (worth, decimal_value-push ds d) (omega (arith))
 
 -- the digits of a number, whose sum it is
 record IsSpelled (n : ℕ) (ds : List ℕ) : Type 0 where
