@@ -140,6 +140,7 @@ fn binds(rt: HostRuntime) -> Result<(), Fail> {
     let binary = bind_of(&[], b"", &[PgValueFormat::Binary]);
     let frame = b"B\x00\x00\x00\x0e\x00\x00\x00\x00\x00\x00\x00\x01\x00\x01";
     assert_msg(&rt, rt.alloc(), binary, frame)?;
+    // Two messages of one frame: bytes that are not so many values aren't read back.
     let stray = bind_of(&[], b"\x00\x01", &[]);
     let frame = b"B\x00\x00\x00\x0e\x00\x00\x00\x00\x00\x00\x00\x01\x00\x00";
     assert_msg(&rt, rt.alloc(), stray, frame)?;
