@@ -1,17 +1,14 @@
 -- What was written is read again, and as one value.
-use Rattle.std.proofs.Common.{◌≡◌, ◌≢◌, ◌⊎◌, inl, inr, ℕ, zero, suc, ◌+◌, ◌-◌, ◌*◌, ◌/◌, ◌%◌, ◌^◌, ◌<◌, ◌≤◌, ℤ, pos, negsuc, List, [], ◌∷◌, ◌++◌, length, decimal, refl, sym, ap, ◌∙◌, arith, append_assoc, length-append, add-one}
-use Rattle.std.proofs.lemmas.List.{length_push, append-nil, take_at, drop_at}
-use Rattle.std.proofs.Math.Nat.{pow-suc}
-use Rattle.std.specs.Char.{IsAsciiDigit}
+use Rattle.std.proofs.Common.{◌≡◌, ◌≢◌, ◌⊎◌, inl, inr, ℕ, zero, suc, ◌+◌, ◌/◌, ◌%◌, ◌^◌, ◌<◌, ◌≤◌, ℤ, pos, negsuc, List, [], ◌∷◌, ◌++◌, length, decimal, refl, sym, ap, ◌∙◌, arith, append_assoc, length-append}
 use Rattle.std.proofs.lemmas.Fmt.{decimal_by_steps}
 use Rattle.pg_base.specs.Atoi.{AreDigits, decimal_value}
 use Rattle.pg_base.specs.Names.{name, named, max_id, statement_prefix, portal_prefix}
-use Rattle.pg_base.specs.Numbers.{num, int, be16, be32}
-use Rattle.pg_base.specs.Reading.{Number, Signed, HoldsNo, Text, BeginsWith, NamesId, Id, Numbers, Counted, Value, Values}
-use Rattle.pg_base.proofs.Cuts.{parts_at, int_be32}
+use Rattle.pg_base.specs.Numbers.{int, be16, be32}
+use Rattle.pg_base.specs.Reading.{Number, HoldsNo, Text, BeginsWith, Id, Numbers, Counted, Value, Values}
+use Rattle.pg_base.proofs.Cuts.{parts_at}
 use Rattle.pg_base.proofs.Decimals.{AreDigits-push, decimal_value-push}
 use Rattle.pg_base.proofs.NameLemmas.{name_of_other}
-use Rattle.pg_base.proofs.Readings.{one_number, one_text}
+use Rattle.pg_base.proofs.Readings.{one_number}
 
 -- ---- digits
 
