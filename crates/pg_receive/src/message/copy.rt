@@ -207,6 +207,7 @@ mod tests {
         Ok(())
     }
 
+    // No memory is asked for before the count is found to fit.
     #[test]
     fn too_few_codes(rt: HostRuntime) {
         let body = Bytes::from_static(&[0, 0, 2, 0, 1]);
@@ -215,7 +216,9 @@ mod tests {
             needed: 4,
             got: 2,
         };
-        let response = CopyInResponse::decode_body(rt.alloc(), body);
-        assert_eq!(rt; response.err(), Some(Error::from(fault)));
+        let Err(error) = CopyInResponse::decode_body(rt.alloc(), body) else {
+            panic!(rt; "formats are read");
+        };
+        assert_eq!(rt; error, Error::from(fault));
     }
 }

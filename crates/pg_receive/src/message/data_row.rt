@@ -213,10 +213,8 @@ mod tests {
 
     #[test]
     fn broken_rows(rt: HostRuntime) {
-        let table: [(&'static [u8], (usize, usize, usize)); 5] = [
+        let table: [(&'static [u8], (usize, usize, usize)); 3] = [
             (&[0, 1, 0, 0, 0, 5, 0x61, 0x62], (6, 5, 2)),
-            (&[0xFF, 0xFF], (2, 262140, 0)),
-            (&[], (0, 2, 0)),
             (&[0, 2, 0, 0, 0, 4, 0x61, 0x62, 0x63, 0x64], (10, 4, 0)),
             (&[0, 1, 0x7F, 0xFF, 0xFF, 0xFF], (6, 2147483647, 0)),
         ];
@@ -225,6 +223,23 @@ mod tests {
             let fault = ProtocolFault::Short { at, needed, got };
             let row = DataRow::decode_body(rt.alloc(), Bytes::from_static(body));
             assert_eq!(rt; row.err(), Some(Error::from(fault)), "at {body:?}");
+        }
+    }
+
+    // No memory is asked for before the count is found to fit.
+    #[test]
+    fn too_few_cells(rt: HostRuntime) {
+        let table: [(&'static [u8], (usize, usize, usize)); 2] = [
+            (&[0xFF, 0xFF], (2, 262140, 0)),
+            (&[], (0, 2, 0)),
+        ];
+        for (body, (at, needed, got)) in table {
+            assert!(rt; body.len() < 200);
+            let fault = ProtocolFault::Short { at, needed, got };
+            let Err(error) = DataRow::decode_body(rt.alloc(), Bytes::from_static(body)) else {
+                panic!(rt; "a row is read");
+            };
+            assert_eq!(rt; error, Error::from(fault), "at {body:?}");
         }
     }
 }

@@ -84,6 +84,7 @@ mod tests {
         Ok(())
     }
 
+    // No memory is asked for before the count is found to fit.
     #[test]
     fn too_few_types(rt: HostRuntime) {
         let body = Bytes::from_static(&[0, 2, 0, 0, 0, 1, 0]);
@@ -92,7 +93,9 @@ mod tests {
             needed: 8,
             got: 5,
         };
-        let description = ParameterDescription::decode_body(rt.alloc(), body);
-        assert_eq!(rt; description.err(), Some(Error::from(fault)));
+        let Err(error) = ParameterDescription::decode_body(rt.alloc(), body) else {
+            panic!(rt; "types are read");
+        };
+        assert_eq!(rt; error, Error::from(fault));
     }
 }

@@ -173,10 +173,15 @@ mod tests {
 
     #[test]
     fn broken_columns(rt: HostRuntime) {
-        let short = |at: usize, needed: usize, got: usize| ProtocolFault::Short { at, needed, got };
-        let table: [(&'static [u8], ProtocolFault); 4] = [
-            (&ID[..ID.len() - 1], short(5, 18, 17)),
-            (&NAMELESS[..NAMELESS.len() - 1], short(2, 19, 18)),
+        let table: [(&'static [u8], ProtocolFault); 3] = [
+            (
+                &ID[..ID.len() - 1],
+                ProtocolFault::Short {
+                    at: 5,
+                    needed: 18,
+                    got: 17,
+                },
+            ),
             (
                 b"\0\x01aaaaaaaaaaaaaaaaaaa",
                 ProtocolFault::MissingNul { at: 2 },
@@ -191,5 +196,20 @@ mod tests {
             let description = RowDescription::decode_body(rt.alloc(), Bytes::from_static(body));
             assert_eq!(rt; description.err(), Some(Error::from(fault)), "at {body:?}");
         }
+    }
+
+    // No memory is asked for before the count is found to fit.
+    #[test]
+    fn too_few_columns(rt: HostRuntime) {
+        let body = Bytes::from_static(&NAMELESS[..NAMELESS.len() - 1]);
+        let fault = ProtocolFault::Short {
+            at: 2,
+            needed: 19,
+            got: 18,
+        };
+        let Err(error) = RowDescription::decode_body(rt.alloc(), body) else {
+            panic!(rt; "columns are read");
+        };
+        assert_eq!(rt; error, Error::from(fault));
     }
 }

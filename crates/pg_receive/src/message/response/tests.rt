@@ -38,6 +38,11 @@ fn fields_of_a_letter(rt: HostRuntime) -> Result<(), Fail> {
     assert_eq!(rt; notice.get(b'M'), Some("foo"));
     assert_eq!(rt; notice.get(b'V'), Some("ERROR"));
     assert_eq!(rt; notice.get(b'D'), None);
+    let body = Bytes::from_static(b"Mfoo\0M\0C1\0Mbar\0\0");
+    assert!(rt; body.len() < 200);
+    let notice = Notice::decode_body(rt.alloc(), body)?;
+    assert_eq!(rt; notice.message(), "bar");
+    assert_eq!(rt; notice.get(b'M'), Some("foo"));
     let body = Bytes::from_static(b"X\xFF\0Xa\0\0");
     assert!(rt; body.len() < 200);
     let notice = Notice::decode_body(rt.alloc(), body)?;
@@ -48,6 +53,32 @@ fn fields_of_a_letter(rt: HostRuntime) -> Result<(), Fail> {
     assert_eq!(rt; fields.next(), Some((b'X', b"a".as_slice())));
     assert_eq!(rt; fields.next(), None);
     assert_eq!(rt; fields.next(), None);
+    Ok(())
+}
+
+// The lengths of sixteen fields are kept.
+#[test]
+fn fields_behind_the_sixteenth(rt: HostRuntime) -> Result<(), Fail> {
+    let body = Bytes::from_static(
+        b"a0\0b1\0c2\0d3\0e4\0f5\0g6\0h7\0i8\0j9\0k10\0l11\0m12\0n13\0o14\0p15\0q16\0r\xFF\0\0sno\0\0",
+    );
+    assert!(rt; body.len() < 200);
+    let notice = Notice::decode_body(rt.alloc(), body)?;
+    assert_eq!(rt; notice.get(b'a'), Some("0"));
+    assert_eq!(rt; notice.get(b'p'), Some("15"));
+    assert_eq!(rt; notice.get(b'q'), Some("16"));
+    assert_eq!(rt; notice.get(b'r'), None);
+    assert_eq!(rt; notice.get_raw(b'r'), Some(b"\xFF".as_slice()));
+    // A letter NUL ends the fields.
+    assert_eq!(rt; notice.get(b's'), None);
+    assert_eq!(rt; notice.get_raw(0), None);
+    assert_eq!(rt; notice.fields().count(), 18);
+    let body = Bytes::from_static(b"Da\0\0Hb\0\0");
+    assert!(rt; body.len() < 200);
+    let notice = Notice::decode_body(rt.alloc(), body)?;
+    assert_eq!(rt; notice.get(b'D'), Some("a"));
+    assert_eq!(rt; notice.get(b'H'), None);
+    assert_eq!(rt; notice.get_raw(0), None);
     Ok(())
 }
 
