@@ -34,6 +34,7 @@ pub mod Position
 pub mod SaslContinue
 pub mod SaslFinal
 pub mod SaslItems
+pub mod SaslLaws
 pub mod SaslShown
 pub mod Severity
 pub mod RowDescription

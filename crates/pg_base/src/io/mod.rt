@@ -84,6 +84,11 @@ pub trait ProtocolDecode: Sized {
     fn decode(alloc: Global, buf: Bytes) -> Result<Self, Error>
         requires { length buf ≤ MAX_BODY }
         ensures { Answers Means Broken Free shown None buf result };
+
+    /// A body means one value.
+    ghost one_value: { (body : List ℕ) (v w : Shown) → Means body v → Means body w → v ≡ w };
+    /// A body with a value has no fault.
+    ghost never_both: { (body : List ℕ) (v : Shown) (fault : ProtocolFault) → Means body v → Broken body fault → ⊥ };
 }
 
 #[cfg(test)]

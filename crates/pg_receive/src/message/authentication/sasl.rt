@@ -6,6 +6,7 @@ ghost use Rattle.pg_base.specs.Answers.{Answers};
 ghost use Rattle.pg_receive.specs.Last.{last};
 ghost use Rattle.pg_receive.specs.SaslItems.{keyed, item_fault, base64_bytes as bytes_of_base64};
 ghost use Rattle.pg_receive.specs.SaslContinue.{ContinueValue, MeansContinue, BreaksContinue, iterations_key, nonce_key, salt_key, iterations_of};
+ghost use Rattle.pg_receive.specs.SaslLaws.{one_challenge, challenge_or_fault, one_verifier, verifier_or_fault};
 ghost use Rattle.pg_receive.specs.SaslShown.{continue_shown, final_shown};
 ghost use Rattle.pg_receive.specs.SaslFinal.{MeansFinal, BreaksFinal, verifier_key};
 
@@ -56,6 +57,10 @@ impl ProtocolDecode for AuthenticationSaslContinue {
     fn decode(alloc: Global, buf: Bytes) -> Result<Self, Error> {
         continue_of(alloc, buf.as_slice())
     }
+
+    ghost one_value = { one_challenge };
+
+    ghost never_both = { challenge_or_fault };
 }
 
 /// The last word of the server in a SASL exchange, with items as in [`AuthenticationSaslContinue`].
@@ -81,6 +86,10 @@ impl ProtocolDecode for AuthenticationSaslFinal {
         let verifier = verifier_of(alloc, buf.as_slice())?;
         Ok(AuthenticationSaslFinal { verifier })
     }
+
+    ghost one_value = { one_verifier };
+
+    ghost never_both = { verifier_or_fault };
 }
 
 // What the items of a challenge say.

@@ -122,6 +122,10 @@ impl ProtocolDecode for Notice {
             storage: buf,
         })
     }
+
+    ghost one_value = { one_notice };
+
+    ghost never_both = { notice_or_fault };
 }
 
 impl BackendMessage for Notice {
