@@ -4,6 +4,7 @@ pub mod EndedTextLemmas
 pub mod FieldLemmas
 pub mod FieldLengthLemmas
 pub mod MechanismLemmas
+pub mod NoticeFields
 pub mod NoticeLemmas
 pub mod ReadLemmas
 pub mod NumberLemmas

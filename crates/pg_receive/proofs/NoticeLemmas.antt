@@ -4,13 +4,17 @@ use Rattle.std.specs.Prelude.{find, option_map, if◌then◌else◌}
 use Rattle.pg_base.specs.declared.error.ProtocolFault.{ProtocolFault}
 use Rattle.pg_receive.specs.declared.message.response.severity.PgSeverity.{PgSeverity}
 use Rattle.pg_receive.specs.Fields.{Field}
-use Rattle.pg_receive.specs.Last.{last, first_fault_of}
+use Rattle.pg_receive.specs.Last.{plain, last, first_fault_of}
 use Rattle.pg_receive.specs.Severity.{severity_of_word}
 use Rattle.pg_receive.specs.Notice.{Read, is_full, fronts, read_part, field_fault, code_letter, message_letter, localized_letter, severity_letter}
 
 -- the part of these fields that is read behind others with this last message and code
 pub part_behind : List ℕ → List ℕ → List Field → List Field
 part_behind message code fields = unwrap_or (find (is_full message code) (fronts fields)) fields
+
+pub part_of_all : (fields : List Field) → read_part fields ≡ part_behind [] [] fields
+unfolding part_behind read_part
+part_of_all fields = refl
 
 find-map : {X Y : Type 0} (test : Y → Bool) (f : X → Y) (xs : List X) → find test (map f xs) ≡ option_map f (find (λ x. test (f x)) xs)
 find-map test f [] = refl
@@ -25,22 +29,19 @@ unwrap_or-map f (Some y) x = refl
 abbrev pub seen : {A : Type 0} → (List ℕ → A) → A → ℕ → Field → A
 seen view default letter field = if field.0 == letter then view field.1 else default
 
-abbrev pub plain : List ℕ → List ℕ
-plain value = value
-
-part_step : (message code : List ℕ) (field : Field) (fields : List Field) → is_full message code [] ≡ false
+pub part_step : (message code : List ℕ) (field : Field) (fields : List Field) → is_full message code [] ≡ false
     → part_behind message code (field ∷ fields) ≡ field ∷ part_behind (seen plain message message_letter field) (seen plain code code_letter field) fields
 unfolding part_behind
 part_step message code field fields h =
     rw (h, find-map (is_full message code) (λ (front : List Field). field ∷ front) (fronts fields))
     (unwrap_or-map (λ (front : List Field). field ∷ front) (find (is_full (seen plain message message_letter field) (seen plain code code_letter field)) (fronts fields)) fields)
 
-part_full : (message code : List ℕ) (fields : List Field) → is_full message code [] ≡ true → part_behind message code fields ≡ []
+pub part_full : (message code : List ℕ) (fields : List Field) → is_full message code [] ≡ true → part_behind message code fields ≡ []
 unfolding part_behind
 part_full message code [] h = rw h refl
 part_full message code (field ∷ fields) h = rw h refl
 
-part_end : (message code : List ℕ) → part_behind message code [] ≡ []
+pub part_end : (message code : List ℕ) → part_behind message code [] ≡ []
 unfolding part_behind
 part_end message code = elim (is_full message code []) as (λ b. unwrap_or {T = List Field} (cond b (Some []) None) [] ≡ []) [ true ↦ refl | false ↦ refl ]
 

@@ -3,9 +3,6 @@ use Rattle.std.proofs.Common.{◌≡◌, ℕ, List}
 use Rattle.pg_receive.specs.Last.{last, first_fault_of}
 use Rattle.pg_receive.specs.SaslItems.{keyed, item_fault}
 
-abbrev pub plain : List ℕ → List ℕ
-plain value = value
-
 -- the fault of the items that are left is the first of all
 pub record LeftFaults (base64_key : ℕ) (all left : List (List ℕ)) : Type 0 where
   pub faults : first_fault_of (item_fault base64_key) left ≡ first_fault_of (item_fault base64_key) all

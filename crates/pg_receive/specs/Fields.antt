@@ -1,6 +1,7 @@
 -- The fields of an error or a notice: a letter and a text each, one after the other. Documentation:
 -- "Message Formats", ErrorResponse (B), and "Error and Notice Message Fields".
 use Rattle.std.specs.Prelude.{◌≡◌, ◌≢◌, ℕ, ◌==◌, List, [], ◌∷◌, ◌++◌, Option, Some, None, option_and_then, if◌then◌else◌}
+use Rattle.std.specs.List.{filter}
 use Rattle.std.specs.Str.{is_utf8}
 use Rattle.pg_base.specs.Reading.{HoldsNo}
 use Rattle.pg_receive.specs.EndedTexts.{texts_in}
@@ -33,6 +34,10 @@ AreFields bytes (field ∷ more) = (rest : List ℕ) × BeginsWithField bytes fi
 abbrev pub first_value : ℕ → List Field → Option (List ℕ)
 first_value letter [] = None
 first_value letter (field ∷ more) = if field.0 == letter then Some field.1 else first_value letter more
+
+-- the fields that have a letter
+abbrev pub of_letter : ℕ → List Field → List Field
+of_letter letter fields = filter (λ field. field.0 == letter) fields
 
 -- bytes as a text, where they are one
 abbrev pub text_of : List ℕ → Option (List ℕ)

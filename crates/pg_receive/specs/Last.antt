@@ -3,6 +3,10 @@ use Rattle.std.specs.Prelude.{ℕ, ◌==◌, List, [], ◌∷◌, Option, None, 
 use Rattle.std.specs.Option.{option_or}
 use Rattle.pg_base.specs.declared.error.ProtocolFault.{ProtocolFault}
 
+-- a value as it is
+abbrev pub plain : List ℕ → List ℕ
+plain value = value
+
 -- what is seen in the last value of a key, or the default where there is none
 abbrev pub last : {A : Type 0} → (List ℕ → A) → A → ℕ → List (ℕ × List ℕ) → A
 last view default key [] = default

@@ -8,7 +8,7 @@ use Rattle.pg_base.specs.declared.error.ProtocolFault.TheVariants.{NoticeNotUtf8
 use Rattle.pg_receive.specs.declared.message.response.severity.PgSeverity.{PgSeverity}
 use Rattle.pg_receive.specs.declared.message.response.severity.PgSeverity.TheVariants.{Log}
 use Rattle.pg_receive.specs.Fields.{Field, fields_in}
-use Rattle.pg_receive.specs.Last.{last, first_fault_of}
+use Rattle.pg_receive.specs.Last.{plain, last, first_fault_of}
 use Rattle.pg_receive.specs.Severity.{severity_of_word}
 
 -- the letters of the fields that decide
@@ -38,7 +38,7 @@ is_nonempty (byte ∷ bytes) = true
 -- the last message and the last code, here behind others, aren't empty
 abbrev pub is_full : List ℕ → List ℕ → List Field → Bool
 is_full message code front =
-    is_nonempty (last (λ value. value) message message_letter front) && is_nonempty (last (λ value. value) code code_letter front)
+    is_nonempty (last plain message message_letter front) && is_nonempty (last plain code code_letter front)
 
 -- the fronts of a list, the shortest first
 abbrev pub fronts : List Field → List (List Field)
@@ -72,15 +72,15 @@ abbrev pub notice_of : List Field → List Field → NoticeValue
 notice_of fields part = record {
   fields = fields;
   severity = severity_of part;
-  message = last (λ value. value) [] message_letter part;
-  code = last (λ value. value) [] code_letter part;
+  message = last plain [] message_letter part;
+  code = last plain [] code_letter part;
 }
 
 -- these are the last of the part that is read, and it has no fault
 pub record Read (fields : List Field) (message code : List ℕ) (severity localized : Option PgSeverity) : Type 0 where
   pub clean : first_fault_of field_fault (read_part fields) ≡ None
-  pub messages : message ≡ last (λ value. value) [] message_letter (read_part fields)
-  pub codes : code ≡ last (λ value. value) [] code_letter (read_part fields)
+  pub messages : message ≡ last plain [] message_letter (read_part fields)
+  pub codes : code ≡ last plain [] code_letter (read_part fields)
   pub severities : severity ≡ last severity_of_word None severity_letter (read_part fields)
   pub words : localized ≡ last severity_of_word None localized_letter (read_part fields)
 

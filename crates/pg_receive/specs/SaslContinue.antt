@@ -5,7 +5,7 @@ use Rattle.std.specs.Option.{option_or}
 use Rattle.std.specs.Str.{is_utf8}
 use Rattle.pg_base.specs.declared.error.ProtocolFault.{ProtocolFault}
 use Rattle.pg_base.specs.declared.error.ProtocolFault.TheVariants.{NotUtf8}
-use Rattle.pg_receive.specs.Last.{last, first_fault_of}
+use Rattle.pg_receive.specs.Last.{plain, last, first_fault_of}
 use Rattle.pg_receive.specs.NumberAt.{number_at}
 use Rattle.pg_receive.specs.SaslItems.{items_in, keyed, item_fault, base64_bytes}
 
@@ -35,7 +35,7 @@ pub record ContinueValue : Type 0 where
   pub message : List ℕ
 
 abbrev pub nonce_of : List (ℕ × List ℕ) → List ℕ
-nonce_of pairs = last (λ value. value) [] nonce_key pairs
+nonce_of pairs = last plain [] nonce_key pairs
 
 abbrev pub continue_of : List ℕ → ContinueValue
 continue_of bytes = record {

@@ -30,6 +30,6 @@ pub use parameter_description::ParameterDescription;
 pub use parameter_status::ParameterStatus;
 pub use ready_for_query::{ReadyForQuery, TransactionStatus};
 pub use received::{BackendMessage, ReceivedMessage};
-pub use response::{Fields, Notice, PgSeverity, fields_stand_in_order};
+pub use response::{Fields, Notice, PgSeverity, fields_stand_in_order, message_is_its_only_field};
 pub use row_description::{Field, RowDescription, columns_fit_in_their_body};
 pub use text::{split_text, str_at, text_at, utf8_text};

@@ -3,7 +3,7 @@
 ghost use Rattle.std.specs.Prelude.{◌≡◌, ◌==◌, ◌≤◌, ℕ, List, [], ◌∷◌, length, None, Some, OnOk, IfErr, string_bytes, if◌then◌else◌};
 ghost use Rattle.std.specs.Str.{is_utf8};
 ghost use Rattle.pg_base.specs.Answers.{Answers};
-ghost use Rattle.pg_receive.specs.Last.{last};
+ghost use Rattle.pg_receive.specs.Last.{plain, last};
 ghost use Rattle.pg_receive.specs.SaslItems.{keyed, item_fault, base64_bytes as bytes_of_base64};
 ghost use Rattle.pg_receive.specs.SaslContinue.{ContinueValue, MeansContinue, BreaksContinue, iterations_key, nonce_key, salt_key, iterations_of};
 ghost use Rattle.pg_receive.specs.SaslLaws.{one_challenge, challenge_or_fault, one_verifier, verifier_or_fault};
@@ -105,7 +105,7 @@ impl<'a> Challenge<'a> {
         ensures answer { Answers (λ item _. item_fault salt_key item ≡ None) (λ item fault. item_fault salt_key item ≡ Some fault) (λ _. ⊥) (λ done. done) None item.now result }
         ensures salt { OnOk result (self.new.salt.items ≡ last bytes_of_base64 self.old.salt.items salt_key (keyed (item.now ∷ []))) }
         ensures iterations { OnOk result (self.new.iterations ≡ last iterations_of self.old.iterations iterations_key (keyed (item.now ∷ []))) }
-        ensures nonce { OnOk result (self.new.nonce.now ≡ last (λ value. value) self.old.nonce.now nonce_key (keyed (item.now ∷ []))) }
+        ensures nonce { OnOk result (self.new.nonce.now ≡ last plain self.old.nonce.now nonce_key (keyed (item.now ∷ []))) }
     {
         let (key, value) = split_key(item)?;
         match key {

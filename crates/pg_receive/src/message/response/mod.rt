@@ -5,13 +5,13 @@ mod lengths;
 mod read;
 mod severity;
 
-ghost use Rattle.std.specs.Prelude.{◌≡◌, ◌≤◌, ℕ, List, length, None, option_copied};
+ghost use Rattle.std.specs.Prelude.{◌≡◌, ◌≤◌, ℕ, List, [], length, None, option_copied, unwrap_or};
 ghost use Rattle.std.specs.Str.{is_utf8};
 ghost use Rattle.pg_base.specs.Answers.{Answers};
 ghost use Rattle.pg_base.specs.declared.message.BackendMessageFormat.TheVariants as formats;
 ghost use Rattle.pg_receive.specs.FieldLengths.{HasLengths};
-ghost use Rattle.pg_receive.specs.Fields.{fields_in, first_value, first_text};
-ghost use Rattle.pg_receive.specs.Notice.{NoticeValue, MeansNotice, BreaksNotice};
+ghost use Rattle.pg_receive.specs.Fields.{fields_in, first_value, first_text, of_letter};
+ghost use Rattle.pg_receive.specs.Notice.{NoticeValue, MeansNotice, BreaksNotice, code_letter, message_letter};
 ghost use Rattle.pg_receive.specs.NoticeLaws.{one_notice, notice_or_fault};
 ghost use Rattle.pg_receive.specs.Places.{IsPlaceIn, bytes_at};
 
@@ -151,6 +151,13 @@ impl BackendMessage for Notice {
 
     ghost never_both = { notice_or_fault };
 }
+
+/// Where a body has one field `M` at most, the message is its value, or empty without it. So it is
+/// with `C` and the code.
+pub fn message_is_its_only_field()
+    ensures message { (body : List ℕ) (notice : NoticeValue) → MeansNotice body notice → length (of_letter message_letter notice.fields) ≤ 1 → notice.message ≡ unwrap_or (first_value message_letter notice.fields) [] }
+    ensures code { (body : List ℕ) (notice : NoticeValue) → MeansNotice body notice → length (of_letter code_letter notice.fields) ≤ 1 → notice.code ≡ unwrap_or (first_value code_letter notice.fields) [] }
+{}
 
 // The text at a place that was found to hold one.
 fn text_at<'a>(body: &'a [u8], place: &Range<usize>) -> &'a str

@@ -1,7 +1,8 @@
 use Rattle.std.proofs.Common.{[]}
+use Rattle.pg_receive.specs.Last.{plain}
 use Rattle.pg_receive.specs.SaslItems.{items_in, base64_bytes}
 use Rattle.pg_receive.specs.SaslContinue.{iterations_key, nonce_key, salt_key, iterations_of, default_iterations}
-use Rattle.pg_receive.proofs.SaslLemmas.{plain, LeftFaults, LeftLast}
+use Rattle.pg_receive.proofs.SaslLemmas.{LeftFaults, LeftLast}
 use Rattle.pg_receive.proofs.message.authentication.sasl.continue_of.Given as goal
 
 abbrev pub invariant-loop-item : goal.invariant-loop-item
