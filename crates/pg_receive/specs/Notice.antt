@@ -63,7 +63,7 @@ field_fault field =
     else (if field.0 == message_letter then text_fault field.1
     else (if field.0 == code_letter then text_fault field.1 else None)))
 
--- the severity, or the localized one where that is a word, or else the lowest
+-- the severity, or the localized one where that is a word, or else Log
 abbrev pub severity_of : List Field → PgSeverity
 severity_of part =
     unwrap_or (option_or (last severity_of_word None severity_letter part) (last severity_of_word None localized_letter part)) Log

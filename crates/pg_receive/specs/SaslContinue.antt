@@ -1,5 +1,5 @@
 -- The challenge of a server in a SASL exchange. Documentation: "Message Formats",
--- AuthenticationSASLContinue (B), and "SCRAM Authentication".
+-- AuthenticationSASLContinue (B), and "SCRAM-SHA-256 Authentication".
 use Rattle.std.specs.Prelude.{◌≡◌, ℕ, List, [], Option, Some, None, unwrap_or, if◌then◌else◌}
 use Rattle.std.specs.Option.{option_or}
 use Rattle.std.specs.Str.{is_utf8}

@@ -1,5 +1,5 @@
 -- The last word of a server in a SASL exchange. Documentation: "Message Formats",
--- AuthenticationSASLFinal (B), and "SCRAM Authentication".
+-- AuthenticationSASLFinal (B), and "SCRAM-SHA-256 Authentication".
 use Rattle.std.specs.Prelude.{◌≡◌, ℕ, List, [], Option, Some, None}
 use Rattle.pg_base.specs.declared.error.ProtocolFault.{ProtocolFault}
 use Rattle.pg_receive.specs.Last.{last, first_fault_of}

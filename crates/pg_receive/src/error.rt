@@ -34,7 +34,7 @@ pub mod error_codes {
 
 const TOO_MANY_CONNECTIONS: &str = "53300";
 
-/// The server is still starting.
+// The server is still starting.
 const CANNOT_CONNECT_NOW: &str = "57P03";
 
 /// Where in a query an error was found. Positions count characters from 1.

@@ -15,7 +15,9 @@ use std::alloc::Global;
 /// to name too. Documentation: "Message Formats", BackendKeyData (B).
 #[derive(Clone, Copy, Debug, PartialEq, Eq)]
 pub struct BackendKeyData {
+    /// The process.
     pub process_id: u32,
+    /// The secret.
     pub secret_key: u32,
 }
 

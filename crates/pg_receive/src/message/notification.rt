@@ -14,6 +14,9 @@ use pg_base::{BackendMessageFormat, Error};
 use std::alloc::Global;
 use std::marker::Model;
 
+// The bytes of the number of the process.
+const PROCESS_LENGTH: usize = 4;
+
 /// A notification on a channel that this session listens to. Channel and payload are any bytes but
 /// NUL. Documentation: "Message Formats", NotificationResponse (B).
 #[derive(Drop)]
@@ -92,7 +95,7 @@ impl BackendMessage for Notification {
         let (process_id, channel, payload) = parts_of(buf.as_slice())?;
         let channel_len = channel.len();
         let texts_len = channel_len + 1 + payload.len();
-        buf.advance(4);
+        buf.advance(PROCESS_LENGTH);
         buf.truncate(texts_len);
         Ok(Notification {
             process_id,
@@ -111,7 +114,7 @@ fn parts_of(body: &[u8]) -> Result<(u32, &[u8], &[u8]), Error>
     ensures { Answers MeansNotification BreaksNotification (λ _. Unit {0}) (λ parts. record { process_id = parts.0; channel = parts.1.now; payload = parts.2.now }) None body.now result }
 {
     let process_id = u32_at(body, 0)?;
-    let (channel, behind) = text_at(body, 4)?;
+    let (channel, behind) = text_at(body, PROCESS_LENGTH)?;
     let (payload, _) = text_at(body, behind)?;
     Ok((process_id, channel, payload))
 }

@@ -22,6 +22,7 @@ const TYPE_LENGTH: usize = 4;
 /// own. Documentation: "Message Formats", ParameterDescription (B).
 #[derive(Drop)]
 pub struct ParameterDescription {
+    /// The types.
     pub types: SmallVec<Oid, 6>,
 }
 

@@ -15,7 +15,9 @@ use std::alloc::Global;
 /// Documentation: "Message Formats", ParameterStatus (B).
 #[derive(Drop)]
 pub struct ParameterStatus {
+    /// The setting.
     pub name: String,
+    /// Its value.
     pub value: String,
 }
 

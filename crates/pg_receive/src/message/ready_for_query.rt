@@ -24,6 +24,7 @@ pub enum TransactionStatus {
 /// The server is ready for the next query. Documentation: "Message Formats", ReadyForQuery (B).
 #[derive(Clone, Copy, Debug, PartialEq, Eq)]
 pub struct ReadyForQuery {
+    /// Whether a transaction is open.
     pub transaction_status: TransactionStatus,
 }
 

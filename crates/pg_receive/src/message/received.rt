@@ -46,7 +46,9 @@ pub trait BackendMessage: Sized {
 /// A message from the server, whose tag and length have been read.
 #[derive(Drop)]
 pub struct ReceivedMessage {
+    /// The kind, by the tag.
     pub format: BackendMessageFormat,
+    /// The body, without tag and length.
     pub contents: Bytes,
 }
 

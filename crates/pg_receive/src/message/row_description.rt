@@ -25,21 +25,24 @@ const LEAST_COLUMN: usize = 19;
 /// The columns of the rows that follow. Documentation: "Message Formats", RowDescription (B).
 #[derive(Drop)]
 pub struct RowDescription {
+    /// The columns, in order.
     pub fields: Vec<Field>,
 }
 
 /// A column of a result.
 #[derive(Drop)]
 pub struct Field {
+    /// The name of the column.
     pub name: String,
     /// The table that the column is of, where it is of one.
     pub relation_id: Option<Oid>,
     /// The number of the column in its table, where it is of one.
     pub relation_attribute_no: Option<i16>,
+    /// The type of the column.
     pub data_type_id: Oid,
     /// The bytes of the type, below 0 where they vary.
     pub data_type_size: i16,
-    /// What the type makes of it depends on the type.
+    /// The type's modifier; its meaning depends on the type.
     pub type_modifier: i32,
     /// The format code, 0 for text and 1 for binary.
     pub format: i16,

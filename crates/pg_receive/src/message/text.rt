@@ -46,6 +46,7 @@ pub fn text_at(body: &[u8], at: usize) -> Result<(&[u8], usize), ProtocolFault>
 
 /// The text at an offset within a body, as [`text_at`], and refused with `NotUtf8` where it isn't
 /// UTF-8.
+#[tactic(auto, using(crate::proofs::Texts::not_utf8))]
 pub fn str_at(body: &[u8], at: usize) -> Result<(&str, usize), ProtocolFault>
     requires { at ≤ length body.now }
     ensures found { IfOk result (λ found. Utf8Text (drop at body.now) found.0.now (drop found.1 body.now)) }
@@ -53,8 +54,6 @@ pub fn str_at(body: &[u8], at: usize) -> Result<(&str, usize), ProtocolFault>
     ensures broken { IfErr result (BreaksText at (drop at body.now)) }
 {
     let (text, behind) = text_at(body, at)?;
-    match str::from_utf8(text) {
-        Ok(text) => Ok((text, behind)),
-        Err(_) => Err(ProtocolFault::NotUtf8),
-    }
+    let text = utf8_text(text).ok_or(ProtocolFault::NotUtf8)?;
+    Ok((text, behind))
 }

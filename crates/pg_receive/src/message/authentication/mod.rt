@@ -34,10 +34,10 @@ const SASL_CONTINUE: u32 = 11;
 
 const SASL_FINAL: u32 = 12;
 
-/// The bytes of the number of the method.
-const METHOD_LEN: usize = 4;
+// The bytes of the number of the method.
+const METHOD_LENGTH: usize = 4;
 
-const SALT_LEN: usize = 4;
+const SALT_LENGTH: usize = 4;
 
 /// How the server wants its client to show who it is, or that it has. Documentation: "Message
 /// Formats", AuthenticationOk (B) and those after it.
@@ -57,14 +57,14 @@ pub enum Authentication {
     SaslFinal(AuthenticationSaslFinal),
 }
 
-/// Documentation: "Message Formats", AuthenticationMD5Password (B).
+/// A request for an MD5 digest. Documentation: "Message Formats", AuthenticationMD5Password (B).
 #[derive(Debug, Drop)]
 pub struct AuthenticationMd5Password {
     /// What the digest is salted with.
     pub salt: [u8; 4],
 }
 
-/// Documentation: "Message Formats", AuthenticationSASL (B).
+/// A request for a SASL exchange. Documentation: "Message Formats", AuthenticationSASL (B).
 #[derive(Drop)]
 pub struct AuthenticationSasl(Bytes);
 
@@ -108,15 +108,15 @@ impl BackendMessage for Authentication {
             MD5_PASSWORD => Ok(Authentication::Md5Password(md5_password_of(body)?)),
             SASL => {
                 let mut names = buf;
-                names.advance(METHOD_LEN);
+                names.advance(METHOD_LENGTH);
                 Ok(Authentication::Sasl(AuthenticationSasl(names)))
             }
             SASL_CONTINUE => {
-                let challenge = sasl::continue_of(alloc, &body[METHOD_LEN..])?;
+                let challenge = sasl::continue_of(alloc, &body[METHOD_LENGTH..])?;
                 Ok(Authentication::SaslContinue(challenge))
             }
             SASL_FINAL => {
-                let verifier = sasl::verifier_of(alloc, &body[METHOD_LEN..])?;
+                let verifier = sasl::verifier_of(alloc, &body[METHOD_LENGTH..])?;
                 Ok(Authentication::SaslFinal(AuthenticationSaslFinal { verifier }))
             }
             method => Err(ProtocolFault::UnknownAuthentication(method).into()),
@@ -129,12 +129,12 @@ impl BackendMessage for Authentication {
 }
 
 fn md5_password_of(body: &[u8]) -> Result<AuthenticationMd5Password, ProtocolFault>
-    requires { METHOD_LEN ≤ length body.now }
-    ensures salt { IfOk result (λ password. MeansRest (drop METHOD_LEN body.now) (md5_password password.salt)) }
-    ensures short { IfErr result (λ fault. IsShort body.now METHOD_LEN SALT_LEN fault) }
+    requires { METHOD_LENGTH ≤ length body.now }
+    ensures salt { IfOk result (λ password. MeansRest (drop METHOD_LENGTH body.now) (md5_password password.salt)) }
+    ensures short { IfErr result (λ fault. IsShort body.now METHOD_LENGTH SALT_LENGTH fault) }
 {
-    let mut salt = [0; SALT_LEN];
-    salt.copy_from_slice(bytes_at(body, METHOD_LEN, SALT_LEN)?);
+    let mut salt = [0; SALT_LENGTH];
+    salt.copy_from_slice(bytes_at(body, METHOD_LENGTH, SALT_LENGTH)?);
     Ok(AuthenticationMd5Password { salt })
 }
 

@@ -30,7 +30,7 @@ const VERIFIER: u8 = b'v';
 
 /// The challenge of the server in a SASL exchange: items between commas, each a letter, `=` and a
 /// value, of which the last of a letter counts. Documentation: "Message Formats",
-/// AuthenticationSASLContinue (B), and "SCRAM Authentication".
+/// AuthenticationSASLContinue (B), and "SCRAM-SHA-256 Authentication".
 #[derive(Drop)]
 pub struct AuthenticationSaslContinue {
     /// Empty where none is given.
@@ -64,7 +64,7 @@ impl ProtocolDecode for AuthenticationSaslContinue {
 }
 
 /// The last word of the server in a SASL exchange, with items as in [`AuthenticationSaslContinue`].
-/// Documentation: "Message Formats", AuthenticationSASLFinal (B), and "SCRAM Authentication".
+/// Documentation: "Message Formats", AuthenticationSASLFinal (B), and "SCRAM-SHA-256 Authentication".
 #[derive(Drop)]
 pub struct AuthenticationSaslFinal {
     /// Empty where none is given.

@@ -30,8 +30,8 @@ use std::ops::Range;
 /// What the server wants its client to know: a warning, say. Documentation: "Message Formats",
 /// NoticeResponse (B).
 ///
-/// Its severity, code and message are read when it is decoded, up to the field behind which the
-/// last message and the last code that were read aren't empty.
+/// Its fields are read when it is decoded, until there are a message and a code that aren't empty,
+/// or to their end. Severity, code and message are the last that were read.
 #[derive(Drop)]
 pub struct Notice {
     storage: Bytes,
@@ -80,17 +80,17 @@ impl Notice {
 
     /// The first field of a letter, where it is UTF-8. Documentation: "Error and Notice Message
     /// Fields".
-    pub fn get(&self, ty: u8) -> Option<&str>
-        ensures { option_copied result ≡ first_text ty self.now.fields }
+    pub fn get(&self, wanted: u8) -> Option<&str>
+        ensures { option_copied result ≡ first_text wanted self.now.fields }
     {
-        utf8_text(self.get_raw(ty)?)
+        utf8_text(self.get_raw(wanted)?)
     }
 
     /// The bytes of the first field of a letter.
-    pub fn get_raw(&self, ty: u8) -> Option<&[u8]>
-        ensures { option_copied result ≡ first_value ty self.now.fields }
+    pub fn get_raw(&self, wanted: u8) -> Option<&[u8]>
+        ensures { option_copied result ≡ first_value wanted self.now.fields }
     {
-        value_in(self.storage.as_slice(), self.lengths.as_slice(), ty)
+        value_in(self.storage.as_slice(), self.lengths.as_slice(), wanted)
     }
 
     /// All fields, in order.

@@ -21,7 +21,7 @@ const CODE: u8 = b'C';
 
 const MESSAGE: u8 = b'M';
 
-/// The severity in the language of the server's messages.
+// The severity in the language of the server's messages.
 const LOCALIZED_SEVERITY: u8 = b'S';
 
 const SEVERITY: u8 = b'V';
@@ -43,7 +43,7 @@ impl ReadPart {
         !self.message.is_empty() && !self.code.is_empty()
     }
 
-    /// The severity, or the localized one where that is a word, or else the lowest.
+    /// The severity, or the localized one where that is a word, or else Log.
     pub(crate) fn severity(&self) -> PgSeverity
         ensures { result ≡ unwrap_or (option_or self.now.severity self.now.localized) Log }
     {
