@@ -64,7 +64,8 @@ impl ProtocolDecode for AuthenticationSaslContinue {
 }
 
 /// The last word of the server in a SASL exchange, with items as in [`AuthenticationSaslContinue`].
-/// Documentation: "Message Formats", AuthenticationSASLFinal (B), and "SCRAM-SHA-256 Authentication".
+/// Documentation: "Message Formats", AuthenticationSASLFinal (B), and "SCRAM-SHA-256
+/// Authentication".
 #[derive(Drop)]
 pub struct AuthenticationSaslFinal {
     /// Empty where none is given.
