@@ -13,6 +13,7 @@ REPORTS = [
     # the first number, and the client's query before the server's
     b"P1\0P2\0\0", b"Px\0P2\0\0", b"Px\0P2\0p3\0qq\0\0", b"P4\0p3\0qq\0\0", b"p1\0p2\0qa\0qb\0\0", b"p1\0\0",
     b"qa\0\0", b"p1\0q\xff\0qa\0\0", b"px\0p1\0qa\0\0", b"L1\0L2\0\0", b"Lx\0L2\0\0", b"Ma\0L3\0\0",
+    b"L18446744073709551615\0P18446744073709551615\0\0", b"L18446744073709551616\0P18446744073709551616\0\0",
     # the end of the fields
     b"", b"\0", b"\0Ma\0\0", b"Ma", b"Ma\0", b"Ma\0C", b"Ma\0Cb", b"M", b"Ma\0\0Cb\0",
 ]
@@ -28,7 +29,8 @@ MECHANISMS = [
 
 CHALLENGES = [
     b"r=a,r=b", b"r=a,r=", b"s=AQ==,s=Ag==", b"s=AQ==,s=", b"s=A,s=AQ==", b"i=1,i=2", b"i=1,i=x", b"i=x,i=1",
-    b"i=1x", b"i=01", b"i=,r=a", b"r=\xff,r=a", b"r=a,x=\xff", b"rxa,sxAQ==,ix7", b"R=a,S=AQ==,I=7", b"a=r=b",
+    b"i=4294967295", b"i=4294967296", b"i=42949672950", b"i=1x", b"i=01", b"i=,r=a",
+    b"r=\xff,r=a", b"r=a,x=\xff", b"rxa,sxAQ==,ix7", b"R=a,S=AQ==,I=7", b"a=r=b",
     b"r=a=b", b"xx", b"xx,r=a", b"s=AQ==\0", b"s=AQ=", b"s=AQ", b"s=AR==", b"s= AQ==", b"s=AQ==AQ==", b"s=-_8=",
 ]
 
@@ -36,13 +38,15 @@ VERIFIERS = [b"v=AQ==,v=Ag==", b"v=AQ==,v=", b"v=A,v=AQ==", b"vxAQ==", b"V=AQ=="
 
 COMMANDS = [
     b"A 1 2\0", b"A 1 \0", b"A1\0", b"1\0", b" 1", b"A 1x\0", b"A x1\0", b"A +1\0", b"A -1\0", b"A -0\0",
-    b"A +-1\0", b"A 18446744073709551615\0", b"A 18446744073709551616\0", b"A 184467440737095516150\0", b"", b" ", b"A\0 1\0",
+    b"A +-1\0", b"A 18446744073709551615\0", b"A 18446744073709551616\0", b"A 184467440737095516150\0",
+    b"", b" ", b"A\0 1\0",
 ]
 
 ROWS = [
     b"\0\0", b"\0\0x", b"\0\1\0\0\0\1ab", b"\0\1\x80\0\0\0a", b"\0\1\xff\xff\xff\xfea",
     b"\0\2\0\0\0\1a\xff\xff\xff\xff",
-    b"\0\2\xff\xff\xff\xff\0\0\0\1a", b"\0\2\0\0\0\0\0\0\0\1a", b"\0\2\0\0\0\5\0\0\0\0", b"\0\1\x7f\xff\xff\xff",
+    b"\0\2\xff\xff\xff\xff\0\0\0\1a", b"\0\2\0\0\0\0\0\0\0\1a", b"\0\2\0\0\0\5\0\0\0\0",
+    b"\0\1\x7f\xff\xff\xff",
 ]
 
 
