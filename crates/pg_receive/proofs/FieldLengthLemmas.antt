@@ -1,9 +1,9 @@
 -- The lengths of fields tell where each stands.
-use Rattle.std.proofs.Common.{◌≡◌, ◌≢◌, ℕ, suc, ◌+◌, ◌-◌, ◌<◌, List, [], ◌∷◌, ◌++◌, length, take, drop, get_or, slice_range, Option, Some, refl, sym, ap, subst, ◌∙◌, arith, length-append}
+use Rattle.std.proofs.Common.{◌≡◌, ◌≢◌, ℕ, suc, ◌+◌, ◌-◌, ◌<◌, List, [], ◌∷◌, ◌++◌, length, drop, get_or, slice_range, Some, refl, sym, ap, subst, ◌∙◌, arith, length-append}
 use Rattle.std.proofs.Math.Seq.{drop-append-add, take-append_seam}
 use Rattle.std.proofs.lemmas.Bool.{eq-eqb, ne_eqb}
 use Rattle.std.proofs.lemmas.List.{drop_more}
-use Rattle.pg_receive.specs.Fields.{BeginsWithField, fields_in, first_value}
+use Rattle.pg_receive.specs.Fields.{fields_in, first_value}
 use Rattle.pg_receive.specs.FieldLengths.{BeginsWithLength, AreLengths, HasLengths}
 use Rattle.pg_receive.proofs.FieldLemmas.{fields_at}
 

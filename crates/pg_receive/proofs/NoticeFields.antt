@@ -3,7 +3,7 @@ use Rattle.std.proofs.Common.{◌≡◌, ℕ, ◌==◌, ◌≤◌, false, List, 
 use Rattle.std.proofs.lemmas.Bool.{cases_Bool}
 use Rattle.pg_receive.specs.Fields.{Field, first_value, of_letter, fields_in}
 use Rattle.pg_receive.specs.Last.{plain, last}
-use Rattle.pg_receive.specs.Notice.{NoticeValue, MeansNotice, is_full, read_part, code_letter, message_letter}
+use Rattle.pg_receive.specs.Notice.{NoticeValue, MeansNotice, is_full, code_letter, message_letter}
 use Rattle.pg_receive.proofs.NoticeLemmas.{part_behind, part_step, part_full, part_end, part_of_all, seen}
 
 -- fields without the letter leave what was seen before them
