@@ -66,7 +66,7 @@ one_decimal bytes m n p q =
     p.is ∙ ap decimal_value (one_run p.digits q.digits p.rest q.rest p.are_digits q.are_digits p.ends q.ends (sym p.parts ∙ q.parts)) ∙ sym q.is
 
 -- bytes that begin with digits begin with a digit
-first_digit : (b : ℕ) (bs digits rest : List ℕ) → 0 < length digits → AreDigits digits → b ∷ bs ≡ digits ++ rest → IsAsciiDigit b
+pub first_digit : (b : ℕ) (bs digits rest : List ℕ) → 0 < length digits → AreDigits digits → b ∷ bs ≡ digits ++ rest → IsAsciiDigit b
 first_digit b bs [] rest some_are are e = absurd (omega (arith, some_are))
 first_digit b bs (d ∷ ds) rest some_are are e = let heads : b ≡ d = cc in rw heads are.0
 
@@ -83,7 +83,7 @@ atoi_of_nothing top unsigned n h within =
 atoi_of_nothing top plus n h within = let e = h.parts in absurd cc
 atoi_of_nothing top minus n h within = let e = h.parts in absurd cc
 
-heads_of : (a b : ℕ) (x y : List ℕ) → a ∷ x ≡ b ∷ y → a ≡ b
+pub heads_of : (a b : ℕ) (x y : List ℕ) → a ∷ x ≡ b ∷ y → a ≡ b
 heads_of a b x y e = cc
 
 behind_plus : (bs : List ℕ) (sign : Sign) (n top : ℕ) → SignedDigits (43 ∷ bs) sign n → IsWithin top sign n → Digits bs n × (n ≤ top)

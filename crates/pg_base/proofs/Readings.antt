@@ -32,12 +32,16 @@ pub holds_no : (byte : ℕ) (bytes : List ℕ) → ((k : ℕ) → k < length byt
 holds_no byte [] h = tt
 holds_no byte (b ∷ bs) h = (λ e. h 0 (omega arith) e, holds_no byte bs (λ k lt. h (suc k) (omega arith)))
 
+-- bytes without a byte aren't parted by one
+pub no_part : (byte : ℕ) (bytes front rest : List ℕ) → HoldsNo byte bytes → bytes ≡ front ++ byte ∷ rest → ⊥
+no_part byte [] [] rest h e = absurd cc
+no_part byte [] (c ∷ front) rest h e = absurd cc
+no_part byte (b ∷ bytes) [] rest h e = h.0 (let heads : b ≡ byte = cc in heads)
+no_part byte (b ∷ bytes) (c ∷ front) rest h e = no_part byte bytes front rest h.1 (let tails : bytes ≡ front ++ byte ∷ rest = cc in tails)
+
 -- bytes without a 0 begin with no text
 pub no_text : (bytes t rest : List ℕ) → HoldsNo 0 bytes → bytes ≡ t ++ 0 ∷ rest → ⊥
-no_text [] [] rest h e = absurd cc
-no_text [] (c ∷ t) rest h e = absurd cc
-no_text (b ∷ bytes) [] rest h e = h.0 (let heads : b ≡ 0 = cc in heads)
-no_text (b ∷ bytes) (c ∷ t) rest h e = no_text bytes t rest h.1 (let tails : bytes ≡ t ++ 0 ∷ rest = cc in tails)
+no_text = no_part 0
 
 -- bytes that begin with a number are as long as it and the rest
 pub number_fits : (width : ℕ) (bytes : List ℕ) (n : ℕ) (rest : List ℕ) → Number width bytes n rest → length bytes ≡ width + length rest

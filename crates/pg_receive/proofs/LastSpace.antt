@@ -5,16 +5,9 @@ use Rattle.std.proofs.lemmas.List.{take_all, length-drop, get_or-drop}
 use Rattle.memchr.specs.Find.{Nowhere, Passes, is_byte, NoneAfter}
 use Rattle.pg_base.specs.Reading.{HoldsNo}
 use Rattle.pg_base.specs.Atoi.{Atoi}
-use Rattle.pg_base.proofs.Readings.{holds_no}
+use Rattle.pg_base.proofs.Readings.{holds_no, no_part}
 use Rattle.pg_receive.specs.CommandComplete.{max_rows, BehindLastSpace, IsRowsAffected}
 use Rattle.pg_receive.proofs.Texts.{around, nowhere_holds_no}
-
--- bytes without a byte aren't parted by one
-no_part : (byte : ℕ) (bytes front rest : List ℕ) → HoldsNo byte bytes → bytes ≡ front ++ byte ∷ rest → ⊥
-no_part byte [] [] rest h e = absurd cc
-no_part byte [] (c ∷ front) rest h e = absurd cc
-no_part byte (b ∷ bytes) [] rest h e = h.0 (let heads : b ≡ byte = cc in heads)
-no_part byte (b ∷ bytes) (c ∷ front) rest h e = no_part byte bytes front rest h.1 (let tails : bytes ≡ front ++ byte ∷ rest = cc in tails)
 
 one_tail : (front other x y : List ℕ) → HoldsNo 32 x → HoldsNo 32 y → front ++ 32 ∷ x ≡ other ++ 32 ∷ y → x ≡ y
 one_tail [] [] x y p q e = cc

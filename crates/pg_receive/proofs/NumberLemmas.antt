@@ -1,9 +1,9 @@
 -- The number at the front of some bytes is one.
-use Rattle.std.proofs.Common.{◌≡◌, ℕ, ◌<◌, ◌≤◌, true, false, List, [], ◌∷◌, ◌++◌, length, Option, Some, None, inl, inr, refl, sym, ap, ◌∙◌, arith}
+use Rattle.std.proofs.Common.{◌≡◌, ℕ, ◌<◌, true, false, List, [], ◌∷◌, ◌++◌, Option, Some, None, inl, inr, refl, sym, ap, ◌∙◌, arith}
 use Rattle.std.specs.Char.{IsAsciiDigit, is_ascii_digit}
 use Rattle.std.proofs.lemmas.Bool.{cases_Bool, cases_eq, cases_lt, ne_eqb, and_parts, and_from, leb-true, le-leb, lt-leb, both_ways}
 use Rattle.pg_base.specs.Atoi.{AreDigits, BeginsWithDigit, Digits, IsDigitsUpTo, decimal_value, Sign, unsigned, plus, minus, SignedDigits, Atoi}
-use Rattle.pg_base.proofs.Decimals.{one_decimal, digits_of_run, no_run, atoi_of_nothing, atoi_of_plus, atoi_of_minus, atoi_of_no_sign}
+use Rattle.pg_base.proofs.Decimals.{first_digit, heads_of, one_decimal, digits_of_run, no_run, atoi_of_nothing, atoi_of_plus, atoi_of_minus, atoi_of_no_sign}
 use Rattle.pg_receive.specs.NumberAt.{front_digits, value_within, number_at}
 
 is_digit : (byte : ℕ) → is_ascii_digit byte ≡ true → IsAsciiDigit byte
@@ -50,16 +50,9 @@ number_is_there top (byte ∷ bytes) =
     ]
 
 -- digits begin with no sign
-first_is_digit : (byte : ℕ) (bytes digits rest : List ℕ) → 0 < length digits → AreDigits digits → byte ∷ bytes ≡ digits ++ rest → 48 ≤ byte
-first_is_digit byte bytes [] rest some_are are e = absurd (omega (arith, some_are))
-first_is_digit byte bytes (digit ∷ digits) rest some_are are e = let heads : byte ≡ digit = cc in omega (arith, heads, are.0.0)
-
 sign_is_low : (byte : ℕ) (behind bytes : List ℕ) (n : ℕ) → byte < 48 → bytes ≡ byte ∷ behind → Digits bytes n → ⊥
 sign_is_low byte behind bytes n low parts d =
-    let first = first_is_digit byte behind d.digits d.rest d.some_are_there d.are_digits (sym parts ∙ d.parts) in omega arith
-
-heads_of : (a b : ℕ) (x y : List ℕ) → a ∷ x ≡ b ∷ y → a ≡ b
-heads_of a b x y e = cc
+    let first = first_digit byte behind d.digits d.rest d.some_are_there d.are_digits (sym parts ∙ d.parts) in omega (arith, low, first.0)
 
 one_signed : (bytes : List ℕ) (s t : Sign) (m n : ℕ) → SignedDigits bytes s m → SignedDigits bytes t n → m ≡ n
 one_signed bytes unsigned unsigned m n p q = one_decimal bytes m n (rw p.parts p.digits) (rw q.parts q.digits)

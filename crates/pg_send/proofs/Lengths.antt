@@ -10,7 +10,7 @@ use Rattle.pg_base.proofs.Cuts.{cut_frame, is_cut_into}
 use Rattle.pg_send.specs.Limits.{saturated, first_fault, checked_len}
 
 -- a test that let a length pass
-passed : (b : Bool) (fault : ProtocolFault) → cond b None (Some fault) ≡ None → b ≡ true
+pub passed : (b : Bool) (fault : ProtocolFault) → cond b None (Some fault) ≡ None → b ≡ true
 passed true fault e = refl
 passed false fault e = absurd cc
 

@@ -1,5 +1,5 @@
 -- Each message that is within the limits and keeps what it must is read back, and as no other.
-use Rattle.std.proofs.Common.{◌≡◌, ℕ, ◌+◌, ◌^◌, ◌<◌, Bool, true, false, cond, leb, List, [], ◌∷◌, ◌++◌, length, Option, Some, None, Ok, Err, OnOk, refl, sym, ap, ◌∙◌, arith, length-append}
+use Rattle.std.proofs.Common.{◌≡◌, ℕ, ◌+◌, ◌^◌, ◌<◌, leb, List, [], ◌∷◌, ◌++◌, length, Option, Some, None, Ok, Err, OnOk, refl, sym, ap, ◌∙◌, arith, length-append}
 use Rattle.std.proofs.lemmas.Bool.{leb-true}
 use Rattle.std.specs.Option.{option_or}
 use Rattle.pg_base.specs.declared.error.ProtocolFault.{ProtocolFault}
@@ -19,7 +19,7 @@ use Rattle.pg_send.specs.Message.{Message, tag, body, text, fault, count_fault, 
 use Rattle.pg_send.specs.ReadBack.{kind_of, Reads, Keeps, IsReadBack}
 use Rattle.pg_send.specs.Sasl.{mechanism}
 use Rattle.pg_send.specs.Run.{Answer}
-use Rattle.pg_send.proofs.Lengths.{len_fits, accepted_fits}
+use Rattle.pg_send.proofs.Lengths.{passed, len_fits, accepted_fits}
 use Rattle.pg_send.proofs.ReadAgain.{text_alone, bind_again, one_bind, execute_again, one_execute, md5_again, one_md5, parse_again, one_parse, sasl_again, one_sasl, target_again, one_target}
 
 no_count_fault : (own : Option ProtocolFault) (len : ℕ) → first_fault own len ≡ None → own ≡ None
@@ -28,11 +28,7 @@ no_count_fault (Some f) len e = absurd (let clash : Some f ≡ None = e in cc)
 
 -- a count without a fault is one that two bytes can say
 few : (make : ℕ → ProtocolFault) (count : ℕ) → too_many make count ≡ None → count < 2 ^ 16
-few make count e = omega (arith, leb-true count max_count (tested (leb count max_count) (make count) e))
-  where
-    tested : (b : Bool) (f : ProtocolFault) → cond b None (Some f) ≡ None → b ≡ true
-    tested true f e = refl
-    tested false f e = absurd cc
+few make count e = omega (arith, leb-true count max_count (passed (leb count max_count) (make count) e))
 
 neither : (x y : Option ProtocolFault) → option_or x y ≡ None → (x ≡ None) × (y ≡ None)
 neither None y e = (refl, e)
