@@ -1,6 +1,7 @@
 -- Whole numbers in messages, highest byte first. Documentation: "Message Data Types", Intn.
-use Rattle.std.specs.Prelude.{ℕ, ◌+◌, ◌*◌, ◌^◌, List, [], ◌∷◌, length, ℤ, pos, ◌-ℤ◌, nat_lt, if◌then◌else◌}
+use Rattle.std.specs.Prelude.{ℕ, ◌+◌, ◌*◌, ◌^◌, List, [], ◌∷◌, length, map, ℤ, pos, ◌-ℤ◌, nat_lt, if◌then◌else◌}
 use Rattle.std.specs.Int.{w16, w32, to_be_bytes}
+use Rattle.pg_base.specs.declared.io.Oid.{Oid}
 
 -- a number as two bytes, and as four
 abbrev pub be16 : ℕ → List ℕ
@@ -18,3 +19,11 @@ num (b ∷ bs) = b * 256 ^ length bs + num bs
 abbrev pub int : List ℕ → ℤ
 int [] = pos 0
 int (b ∷ bs) = if nat_lt b 128 then pos (num (b ∷ bs)) else pos (num (b ∷ bs)) -ℤ pos (256 ^ length (b ∷ bs))
+
+-- the most that a count of two bytes can say; it is unsigned
+abbrev pub max_count : ℕ
+max_count = 65535
+
+-- the numbers of types
+abbrev pub numbers_of : List Oid → List ℕ
+numbers_of types = map (λ (oid : Oid). oid.0) types

@@ -1,5 +1,6 @@
 -- DataRow: the cells of a row. Documentation: "Message Formats", DataRow (B).
 use Rattle.std.specs.Prelude.{◌≡◌, ℕ, ◌+◌, ◌≤◌, pos, ◌<ℤ◌, List, ◌++◌, length, Option, Some, None, ◌⊎◌}
+use Rattle.pg_base.specs.Cutting.{max_length}
 use Rattle.pg_base.specs.declared.error.ProtocolFault.{ProtocolFault}
 use Rattle.pg_base.specs.Numbers.{int}
 use Rattle.pg_base.specs.Faults.{IsShort}
@@ -15,7 +16,7 @@ pub record SpellsValue (spelled value : List ℕ) : Type 0 where
   pub field : List ℕ
   pub wide : length field ≡ 4
   pub counts : int field ≡ pos (length value)
-  pub fits : length value ≤ 2147483647
+  pub fits : length value ≤ max_length
   pub parts : spelled ≡ field ++ value
 
 -- a cell is NULL or a value

@@ -1,5 +1,6 @@
 -- Items one after the other, each as it is spelled, behind a count of two bytes.
 use Rattle.std.specs.Prelude.{◌≡◌, ℕ, ◌+◌, ◌*◌, ◌<◌, ◌≤◌, List, [], ◌∷◌, ◌++◌, length, drop, ◌⊎◌}
+use Rattle.pg_base.specs.Numbers.{max_count}
 use Rattle.pg_base.specs.declared.error.ProtocolFault.{ProtocolFault}
 use Rattle.pg_base.specs.Reading.{Number}
 use Rattle.pg_base.specs.Faults.{IsShort}
@@ -16,7 +17,7 @@ pub record CountedItems {X : Type 0} (Spells : List ℕ → X → Type 0) (body 
   pub spelled : List ℕ
   pub rest : List ℕ
   pub count : Number 2 body (length items) behind
-  pub fits : length items ≤ 65535
+  pub fits : length items ≤ max_count
   pub are_spelled : SpellItems Spells spelled items
   pub parts : behind ≡ spelled ++ rest
 

@@ -1,8 +1,7 @@
 -- ParameterDescription: the types of a statement's parameters. Documentation: "Message Formats",
 -- ParameterDescription (B).
-use Rattle.std.specs.Prelude.{◌≡◌, ℕ, List, length, map}
+use Rattle.std.specs.Prelude.{◌≡◌, ℕ, List, length}
 use Rattle.pg_base.specs.declared.error.ProtocolFault.{ProtocolFault}
-use Rattle.pg_base.specs.declared.io.Oid.{Oid}
 use Rattle.pg_base.specs.Numbers.{num}
 use Rattle.pg_receive.specs.Items.{CountedItems, BreaksCount, AsksForNothing}
 
@@ -14,9 +13,6 @@ pub record SpellsType (spelled : List ℕ) (id : ℕ) : Type 0 where
 -- how many types have room in place
 abbrev pub types_in_place : ℕ
 types_in_place = 6
-
-abbrev pub type_numbers : List Oid → List ℕ
-type_numbers types = map (λ (id : Oid). id.0) types
 
 abbrev pub MeansTypes : List ℕ → List ℕ → Type 0
 MeansTypes body types = CountedItems SpellsType body types

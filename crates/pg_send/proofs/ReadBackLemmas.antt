@@ -7,9 +7,9 @@ use Rattle.pg_base.specs.declared.error.ProtocolFault.TheVariants.{TooManyParamF
 use Rattle.pg_base.specs.Answers.{IsAnswer}
 use Rattle.pg_base.specs.Cutting.{frame}
 use Rattle.pg_base.proofs.Cuts.{parts_at}
-use Rattle.pg_base.specs.Numbers.{be32}
+use Rattle.pg_base.specs.Numbers.{be32, max_count}
 use Rattle.pg_base.proofs.Readings.{one_text}
-use Rattle.pg_send.specs.Counted.{too_many, max_count}
+use Rattle.pg_send.specs.Counted.{too_many}
 use Rattle.pg_send.specs.Bind.{bind_count_fault}
 use Rattle.pg_send.specs.Kind as kinds
 use Rattle.pg_send.specs.Kind.{Kind}

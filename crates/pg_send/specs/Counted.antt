@@ -2,11 +2,7 @@
 use Rattle.std.specs.Prelude.{ℕ, List, ◌++◌, length, Option, Some, None, nat_le, if◌then◌else◌}
 use Rattle.std.specs.List.{flat_map}
 use Rattle.pg_base.specs.declared.error.ProtocolFault.{ProtocolFault}
-use Rattle.pg_base.specs.Numbers.{be16, be32}
-
--- the most that a count of two bytes can say; it is unsigned
-abbrev pub max_count : ℕ
-max_count = 65535
+use Rattle.pg_base.specs.Numbers.{be16, be32, max_count}
 
 -- the fault of a list that is longer, of which it tells the length
 abbrev pub too_many : (ℕ → ProtocolFault) → ℕ → Option ProtocolFault

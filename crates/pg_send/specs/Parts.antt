@@ -1,13 +1,8 @@
 -- The plain values of parts of messages.
 use Rattle.std.specs.Prelude.{ℕ, List, map}
 use Rattle.std.specs.Borrow.{Bor}
-use Rattle.pg_base.specs.declared.io.Oid.{Oid}
 use Rattle.pg_base.specs.declared.io.PgValueFormat.{PgValueFormat}
 use Rattle.pg_base.specs.declared.io.PgValueFormat.TheVariants.{Text, Binary}
-
--- the numbers of types
-abbrev pub numbers_of : List Oid → List ℕ
-numbers_of types = map (λ (oid : Oid). oid.0) types
 
 -- the code of a format
 abbrev pub code_of : PgValueFormat → ℕ

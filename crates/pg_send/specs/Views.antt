@@ -18,7 +18,8 @@ use Rattle.pg_send.specs.Execute.{ExecuteFields}
 use Rattle.pg_send.specs.Message as message
 use Rattle.pg_send.specs.Message.{Message}
 use Rattle.pg_send.specs.Parse.{ParseFields}
-use Rattle.pg_send.specs.Parts.{codes_of, numbers_of, settings_of}
+use Rattle.pg_send.specs.Parts.{codes_of, settings_of}
+use Rattle.pg_base.specs.Numbers.{numbers_of}
 use Rattle.pg_send.specs.Sasl.{SaslInitialFields}
 use Rattle.pg_send.specs.Startup.{StartupFields}
 use Rattle.pg_send.specs.Target.{Target, Statement, Portal}

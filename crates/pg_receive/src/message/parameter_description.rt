@@ -3,7 +3,8 @@
 ghost use Rattle.std.specs.Prelude.{◌≤◌, length, None};
 ghost use Rattle.pg_base.specs.Answers.{Answers};
 ghost use Rattle.pg_base.specs.declared.message.BackendMessageFormat.TheVariants as formats;
-ghost use Rattle.pg_receive.specs.ParameterDescription.{type_numbers, MeansTypes, BreaksTypes, FreeTypes};
+ghost use Rattle.pg_base.specs.Numbers.{numbers_of};
+ghost use Rattle.pg_receive.specs.ParameterDescription.{MeansTypes, BreaksTypes, FreeTypes};
 
 use crate::message::BackendMessage;
 use bytes::Bytes;
@@ -28,7 +29,8 @@ pub struct ParameterDescription {
 
 impl BackendMessage for ParameterDescription {
     ghost use Rattle.std.specs.Prelude.{ℕ, List};
-    ghost use Rattle.pg_receive.specs.ParameterDescription.{type_numbers, MeansTypes, BreaksTypes, FreeTypes};
+    ghost use Rattle.pg_base.specs.Numbers.{numbers_of};
+    ghost use Rattle.pg_receive.specs.ParameterDescription.{MeansTypes, BreaksTypes, FreeTypes};
     ghost use Rattle.pg_receive.specs.ParameterDescriptionLaws.{one_types, types_or_fault};
 
     const FORMAT: BackendMessageFormat = BackendMessageFormat::ParameterDescription;
@@ -37,7 +39,7 @@ impl BackendMessage for ParameterDescription {
 
     ghost Shown = { List ℕ };
 
-    ghost shown = { λ description. type_numbers description.types.items };
+    ghost shown = { λ description. numbers_of description.types.items };
 
     ghost Means = { MeansTypes };
 
@@ -57,7 +59,7 @@ impl BackendMessage for ParameterDescription {
 
 fn types_of(alloc: Global, body: &[u8]) -> Result<SmallVec<Oid, 6>, Error>
     requires { length body.now ≤ MAX_BODY }
-    ensures { Answers MeansTypes BreaksTypes FreeTypes (λ types. type_numbers types.items) None body.now result }
+    ensures { Answers MeansTypes BreaksTypes FreeTypes (λ types. numbers_of types.items) None body.now result }
 {
     let count = usize::from(u16_at(body, 0)?);
     bytes_at(body, FIRST_TYPE, TYPE_LENGTH * count)?;

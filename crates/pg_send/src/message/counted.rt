@@ -1,9 +1,9 @@
 //! Lists in a body, each behind its count.
 
 ghost use Rattle.std.specs.Prelude.{◌≡◌, ℕ, ◌+◌, ◌^◌, ◌<◌, ◌≤◌, ◌++◌, length, All, Some, None, nat_le, if◌then◌else◌, vec_len, vec_capacity};
-ghost use Rattle.pg_base.specs.Numbers.{be16, be32};
-ghost use Rattle.pg_send.specs.Counted.{max_count, counted16, counted32};
-ghost use Rattle.pg_send.specs.Parts.{codes_of, numbers_of};
+ghost use Rattle.pg_base.specs.Numbers.{be16, be32, numbers_of, max_count};
+ghost use Rattle.pg_send.specs.Counted.{counted16, counted32};
+ghost use Rattle.pg_send.specs.Parts.{codes_of};
 
 use crate::message::parts::{put_u16, put_u32};
 use pg_base::ProtocolFault;

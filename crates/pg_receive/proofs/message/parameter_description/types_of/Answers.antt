@@ -4,7 +4,8 @@ use Rattle.std.proofs.lemmas.List.{map_push, length_push}
 use Rattle.std.proofs.lemmas.Result.{err_from_is_err_and}
 use Rattle.pg_base.specs.declared.io.Oid.{Oid}
 use Rattle.pg_base.specs.Reading.{Number}
-use Rattle.pg_receive.specs.ParameterDescription.{SpellsType, type_numbers}
+use Rattle.pg_base.specs.Numbers.{numbers_of}
+use Rattle.pg_receive.specs.ParameterDescription.{SpellsType}
 use Rattle.pg_receive.specs.Items.{StandsAt}
 use Rattle.pg_receive.proofs.ItemLemmas.{one_more_stands, asks_for_memory}
 use Rattle.pg_receive.proofs.message.parameter_description.types_of.Goals as goal
@@ -32,9 +33,9 @@ loop-index-preserved c =
     let pushed = c.push_reserved.ensures in
     let id = c.in_ok-u32_at.field-0 in
     let next : 2 + 4 * (c.loop-index.index + 1) ≡ at + 4 = omega arith in
-    let more : type_numbers c.push_reserved.new.self.items ≡ type_numbers types ++ id ∷ [] = ap type_numbers pushed.items ∙ map_push (λ (oid : Oid). oid.0) types (record { 0 = id }) in
+    let more : numbers_of c.push_reserved.new.self.items ≡ numbers_of types ++ id ∷ [] = ap numbers_of pushed.items ∙ map_push (λ (oid : Oid). oid.0) types (record { 0 = id }) in
     record {
       counted = omega (arith, ap length pushed.items, length_push types (record { 0 = id }), c.loop-index.invariant.counted);
       room = omega (arith, pushed.capacity, c.loop-index.invariant.room);
-      stand = rw (more, next) (one_more_stands SpellsType body 2 at (at + 4) (type_numbers types) id c.loop-index.invariant.stand (type_stands body at id c.in_ok-u32_at.ensures.found));
+      stand = rw (more, next) (one_more_stands SpellsType body 2 at (at + 4) (numbers_of types) id c.loop-index.invariant.stand (type_stands body at id c.in_ok-u32_at.ensures.found));
     }

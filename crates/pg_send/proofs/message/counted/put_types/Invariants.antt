@@ -1,7 +1,6 @@
 use Rattle.std.proofs.Common.{◌≡◌, ◌^◌, ◌<◌, ◌≤◌, ◌++◌, length, take, All, vec_capacity}
 use Rattle.std.specs.List.{flat_map}
-use Rattle.pg_base.specs.Numbers.{be16, be32}
-use Rattle.pg_send.specs.Parts.{numbers_of}
+use Rattle.pg_base.specs.Numbers.{be16, be32, numbers_of}
 use Rattle.pg_send.proofs.message.counted.put_types.Given as goal
 
 abbrev pub invariant-loop-oid : goal.invariant-loop-oid
