@@ -8,6 +8,7 @@ pub mod NoticeFields
 pub mod NoticeLemmas
 pub mod ReadLemmas
 pub mod NumberLemmas
+pub mod LastLemmas
 pub mod LastSpace
 pub mod Notifications
 pub mod SaslItemLemmas

@@ -1,5 +1,5 @@
 -- Of what is keyed, the last of a key counts; of what may be wrong, the first fault.
-use Rattle.std.specs.Prelude.{ℕ, ◌==◌, List, [], ◌∷◌, Option, None, if◌then◌else◌}
+use Rattle.std.specs.Prelude.{◌≢◌, ℕ, ◌==◌, List, [], ◌∷◌, Option, None, if◌then◌else◌}
 use Rattle.std.specs.Option.{option_or}
 use Rattle.pg_base.specs.declared.error.ProtocolFault.{ProtocolFault}
 
@@ -11,6 +11,11 @@ plain value = value
 abbrev pub last : {A : Type 0} → (List ℕ → A) → A → ℕ → List (ℕ × List ℕ) → A
 last view default key [] = default
 last view default key (pair ∷ pairs) = last view (if pair.0 == key then view pair.1 else default) key pairs
+
+-- none of them has the key
+abbrev pub LacksKey : ℕ → List (ℕ × List ℕ) → Type 0
+LacksKey key [] = Unit {0}
+LacksKey key (pair ∷ pairs) = (pair.0 ≢ key) × LacksKey key pairs
 
 -- the own fault of the first, or where it has none, the fault of the others
 abbrev pub first_fault_of : {A : Type 0} → (A → Option ProtocolFault) → List A → Option ProtocolFault

@@ -56,3 +56,39 @@ power_over_saturated n = elim (cases_lt n (2 ^ 64)) [
       let e : min n (2 ^ 64 - 1) ≡ 2 ^ 64 - 1 = omega arith in
       rw e (missed 64 0 (2 ^ 64 - 1) (λ i h. omega (arith, pow_mono {i = i} {j = 63} (omega arith))) ∙ sym (missed 64 0 n (λ i h. omega (arith, pow_mono {i = i} {j = 63} (omega arith)))))
 ]
+
+-- the search goes no further than a power that is enough
+no_further : (more j k n : ℕ) → j ≤ k → k < j + more → n ≤ 2 ^ k → power_from more j n ≤ 2 ^ k
+unfolding power_from
+no_further zero j k n from to enough = absurd (omega arith)
+no_further (suc more) j k n from to enough = elim (cases_lt (2 ^ j) n) [
+  | inr here ↦ rw (le-leb n (2 ^ j) here) (pow_mono from)
+  | inl past ↦
+      let later : j + 1 ≤ k = elim (cases_lt j k) [
+        | inl before ↦ omega arith
+        | inr same ↦ absurd (let e : j ≡ k = omega arith in let here : n ≤ 2 ^ j = rw e enough in omega (arith, past, here))
+      ] in
+      rw (lt-leb n (2 ^ j) past) (no_further more (j + 1) k n later (omega arith) enough)
+]
+
+-- it ends at a power that is enough, where one of those that it tries is
+ends_at : (more j k n : ℕ) → j ≤ k → k < j + more → n ≤ 2 ^ k → (i : ℕ) × (power_from more j n ≡ 2 ^ i) × (n ≤ 2 ^ i)
+unfolding power_from
+ends_at zero j k n from to enough = absurd (omega arith)
+ends_at (suc more) j k n from to enough = elim (cases_lt (2 ^ j) n) [
+  | inr here ↦ rw (le-leb n (2 ^ j) here) (j, refl, here)
+  | inl past ↦
+      let later : j + 1 ≤ k = elim (cases_lt j k) [
+        | inl before ↦ omega arith
+        | inr same ↦ absurd (let e : j ≡ k = omega arith in let here : n ≤ 2 ^ j = rw e enough in omega (arith, past, here))
+      ] in
+      rw (lt-leb n (2 ^ j) past) (ends_at more (j + 1) k n later (omega arith) enough)
+]
+
+pub power_over-least : (k n : ℕ) → k < 64 → n ≤ 2 ^ k → power_over n ≤ 2 ^ k
+unfolding power_over
+power_over-least k n small enough = no_further 64 0 k n (omega arith) (omega (arith, small)) enough
+
+pub power_over-power : (n : ℕ) → n ≤ 2 ^ 63 → (k : ℕ) × (power_over n ≡ 2 ^ k) × (n ≤ 2 ^ k)
+unfolding power_over
+power_over-power n small = ends_at 64 0 63 n (omega arith) (omega arith) small

@@ -30,7 +30,7 @@ pub use execute::Execute;
 pub use flush::Flush;
 pub use frame::{EncodeMessage, FrontendMessage, encode_frame};
 pub use parse::Parse;
-pub use password::Password;
+pub use password::{Password, room_for_a_password_is_the_least_power};
 pub use pg_base::io::{CopyData, CopyDone};
 pub use query::Query;
 pub use sasl::{SaslInitialResponse, SaslResponse};

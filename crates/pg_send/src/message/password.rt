@@ -1,8 +1,8 @@
 //! A password, in clear or as a digest.
 
-ghost use Rattle.std.specs.Prelude.{◌≡◌, None, length};
+ghost use Rattle.std.specs.Prelude.{◌≡◌, ℕ, ◌^◌, ◌<◌, ◌≤◌, None, length};
 ghost use Rattle.hex.specs.Hex.{encode_lower};
-ghost use Rattle.pg_send.specs.Password.{md5_body, IsDigest};
+ghost use Rattle.pg_send.specs.Password.{md5_body, IsDigest, power_over};
 
 use crate::message::FrontendMessage;
 use crate::message::frame::check_len;
@@ -74,6 +74,13 @@ impl FrontendMessage for Password<'_> {
 
     ghost enough = { λ password h. enough_room password h };
 }
+
+/// The room that is reserved for a password in clear is the least power of two that holds it, so
+/// that passwords of many lengths have one.
+pub fn room_for_a_password_is_the_least_power()
+    ensures power { (n : ℕ) → n ≤ 2 ^ 63 → (k : ℕ) × (power_over n ≡ 2 ^ k) × (n ≤ 2 ^ k) }
+    ensures least { (k n : ℕ) → k < 64 → n ≤ 2 ^ k → power_over n ≤ 2 ^ k }
+{}
 
 fn md5_body_len(digest: &[u8; 16]) -> usize
     ensures { result ≡ length (md5_body digest.now) }
