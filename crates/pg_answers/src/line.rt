@@ -4,7 +4,7 @@ use crate::fault::AnswerFault;
 use hex::FromHexError;
 use std::alloc::Global;
 
-/// A tag and the body behind it.
+/// A tag and the body after it.
 #[derive(Drop)]
 pub struct TaggedBody {
     pub tag: u8,

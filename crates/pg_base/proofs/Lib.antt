@@ -1,8 +1,7 @@
-pub mod Prefixes
-pub mod Cuts
-pub mod NameLemmas
-pub mod Spelled
-pub mod Readings
-pub mod Decimals
-pub mod DecimalLength
-pub mod ReadBack
+pub mod AtoiLemmas
+pub mod BufMutLemmas
+pub mod CuttingLemmas
+pub mod IdLemmas
+pub mod NumbersLemmas
+pub mod ReadingLemmas
+pub mod RoundTripLemmas

@@ -42,9 +42,9 @@ sign_text minus = 45 ∷ []
 
 -- the bytes begin with this sign and digits of this value
 pub record SignedDigits (bytes : List ℕ) (sign : Sign) (n : ℕ) : Type 0 where
-  pub behind : List ℕ
-  pub parts : bytes ≡ sign_text sign ++ behind
-  pub digits : Digits behind n
+  pub after : List ℕ
+  pub parts : bytes ≡ sign_text sign ++ after
+  pub digits : Digits after n
 
 -- a value up to the greatest, and after a minus 0 alone
 abbrev pub IsWithin : ℕ → Sign → ℕ → Type 0

@@ -2,7 +2,7 @@
 -- Data Types".
 use Rattle.std.specs.Prelude.{◌≡◌, ◌≢◌, ◌≤◌, ◌⊎◌, ℕ, zero, suc, ℤ, pos, negsuc, List, [], ◌∷◌, ◌++◌, length}
 use Rattle.pg_base.specs.Atoi.{AreDigits, decimal_value}
-use Rattle.pg_base.specs.Names.{max_id}
+use Rattle.pg_base.specs.Id.{max_id}
 use Rattle.pg_base.specs.Numbers.{num, int}
 
 -- a number of so many bytes
@@ -52,11 +52,11 @@ abbrev pub Numbers : ℕ → List ℕ → List ℕ → List ℕ → Type 0
 Numbers width bytes [] rest = rest ≡ bytes
 Numbers width bytes (n ∷ ns) rest = (more : List ℕ) × Number width bytes n more × Numbers width more ns rest
 
--- the same behind their count in two bytes
+-- the same after their count in two bytes
 pub record Counted (width : ℕ) (bytes ns rest : List ℕ) : Type 0 where
-  pub behind : List ℕ
-  pub count : Number 2 bytes (length ns) behind
-  pub numbers : Numbers width behind ns rest
+  pub after : List ℕ
+  pub count : Number 2 bytes (length ns) after
+  pub numbers : Numbers width after ns rest
 
 -- a parameter's value: a length in four bytes and that many bytes, or -1 and none
 pub record Value (bytes rest : List ℕ) : Type 0 where

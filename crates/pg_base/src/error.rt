@@ -5,9 +5,9 @@ ghost use Rattle.pg_base.specs.declared.error.ErrorKind.{ErrorKind};
 ghost use Rattle.pg_base.specs.declared.error.ProtocolFault.{ProtocolFault};
 ghost use Rattle.pg_base.specs.declared.error.Error.{Error};
 ghost use Rattle.pg_base.specs.declared.error.Error.TheVariants.{Protocol, OutOfMemory};
-ghost use Rattle.pg_base.specs.Words.{fault_words, error_words};
+ghost use Rattle.pg_base.specs.Error.{fault_words, error_words};
 
-use crate::message::BackendMessageFormat;
+use crate::format::BackendMessageFormat;
 use std::alloc::{AllocError, AllocFailed};
 use std::fmt;
 
@@ -62,6 +62,12 @@ pub enum ProtocolFault {
     ShortSaslItem,
     /// A value of SASL data is not base64.
     Base64,
+    /// The length of a received frame doesn't even count itself: below 4.
+    BadLength(i32),
+    /// A text that the protocol ends with a NUL holds one.
+    TextHoldsNul,
+    /// The parameters of a Bind are not as many values as it says.
+    BadParams,
 }
 
 impl fmt::Display for ProtocolFault {
@@ -111,6 +117,9 @@ impl fmt::Display for ProtocolFault {
             ),
             ProtocolFault::ShortSaslItem => write!(f, "SASL item of fewer than two bytes"),
             ProtocolFault::Base64 => write!(f, "SASL value is not base64"),
+            ProtocolFault::BadLength(length) => write!(f, "bad message length: {length}"),
+            ProtocolFault::TextHoldsNul => write!(f, "text holds NUL"),
+            ProtocolFault::BadParams => write!(f, "params are not num_params values"),
         }
     }
 }

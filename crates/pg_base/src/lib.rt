@@ -3,11 +3,11 @@
 #![tactic(auto)]
 
 mod error;
+mod format;
 pub mod io;
-mod message;
 
 pub use error::{Error, ErrorKind, ProtocolFault, errors_are_equal_by_value};
-pub use message::{BackendMessageFormat, FrontendMessageFormat, formats_are_ordered_by_number};
+pub use format::{BackendMessageFormat, FrontendMessageFormat, formats_are_ordered_by_number};
 
 #[cfg(test)]
 mod tests;

@@ -82,6 +82,10 @@ fn faults_print_their_words(rt: HostRuntime) -> Result<(), Fail> {
             "SASL item of fewer than two bytes",
         ),
         (ProtocolFault::Base64, "SASL value is not base64"),
+        (ProtocolFault::BadLength(-1), "bad message length: -1"),
+        (ProtocolFault::BadLength(3), "bad message length: 3"),
+        (ProtocolFault::TextHoldsNul, "text holds NUL"),
+        (ProtocolFault::BadParams, "params are not num_params values"),
     ];
     for (fault, words) in cases {
         assert_eq!(rt; fault.to_string(rt.alloc())?.as_str(), words);

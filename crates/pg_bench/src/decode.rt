@@ -27,7 +27,7 @@ pub extern "C" fn tw_decode_stream(alloc: Global, stream: &[u8], times: usize, f
     streamed(alloc, stream, times, full != 0).unwrap_or(0)
 }
 
-// A tag and the body behind it.
+// A tag and the body after it.
 #[derive(Drop)]
 struct Frame {
     tag: u8,

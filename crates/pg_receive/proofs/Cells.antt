@@ -6,7 +6,7 @@ use Rattle.std.proofs.lemmas.List.{take-append-drop, drop-drop}
 use Rattle.pg_base.specs.Reading.{Signed}
 use Rattle.pg_receive.specs.CellEnds.{null_bit, end_of, cell_to, cells_from, last_end, start_of, EndsRise}
 use Rattle.pg_receive.specs.DataRow.{SpellsCell}
-use Rattle.pg_receive.specs.Items.{StandsAt}
+use Rattle.pg_receive.specs.Items.{IsEncodedAt}
 
 pub length-cells_from : (body : List ℕ) (start : ℕ) (ends : List ℕ) → length (cells_from body start ends) ≡ length ends
 length-cells_from body start [] = refl
@@ -55,9 +55,9 @@ cell_to-value body start entry small = rw (lt-ltb entry null_bit small) refl
 pub cell_to-null : (body : List ℕ) (start entry : ℕ) → null_bit ≤ entry → cell_to body start entry ≡ None
 cell_to-null body start entry large = rw (le-ltb entry null_bit large) refl
 
--- a value stands behind its length
+-- a value stands after its length
 pub value_stands : (body : List ℕ) (at n : ℕ) → Signed 4 (drop at body) (pos n) (drop (at + 4) body) → at + 4 + n ≤ length body → at + 4 + n < null_bit → n ≤ 2147483647
-    → StandsAt SpellsCell body at (cell_to body at (at + 4 + n)) (end_of (at + 4 + n))
+    → IsEncodedAt SpellsCell body at (cell_to body at (at + 4 + n)) (end_of (at + 4 + n))
 value_stands body at n length_is fits small max =
     let value = take n (drop (at + 4) body) in
     let size : length value ≡ n = omega (arith, length-take n (drop (at + 4) body), length-drop (at + 4) body) in
@@ -68,7 +68,7 @@ value_stands body at n length_is fits small max =
       spells = record { field = length_is.spelled; wide = length_is.wide; counts = sym length_is.is ∙ ap pos (sym size); fits = omega arith; parts = refl };
       ends = omega (arith, length-append length_is.spelled value, size, length_is.wide);
       parts =
-          let behind = drop (at + 4) body in
-          let split : behind ≡ value ++ drop (at + 4 + n) body = sym (take-append-drop n behind) ∙ ap (λ (l : List ℕ). value ++ l) (drop-drop n (at + 4) body) in
+          let after = drop (at + 4) body in
+          let split : after ≡ value ++ drop (at + 4 + n) body = sym (take-append-drop n after) ∙ ap (λ (l : List ℕ). value ++ l) (drop-drop n (at + 4) body) in
           length_is.parts ∙ ap (λ (l : List ℕ). length_is.spelled ++ l) split ∙ sym (append_assoc length_is.spelled value (drop (at + 4 + n) body));
     })

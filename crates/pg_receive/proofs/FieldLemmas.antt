@@ -1,7 +1,7 @@
 -- The fields of a body, one after the other.
 use Rattle.std.proofs.Common.{◌≡◌, ℕ, zero, suc, ◌*◌, ◌≤◌, List, [], ◌∷◌, length, inl, inr, refl, sym, ap, ◌∙◌, arith, length-append}
 use Rattle.pg_base.specs.Reading.{HoldsNo, Text}
-use Rattle.pg_base.proofs.Readings.{no_text, one_text}
+use Rattle.pg_base.proofs.ReadingLemmas.{no_text, one_text}
 use Rattle.pg_receive.specs.Fields.{Field, BeginsWithField, AreFields, fields_in, lettered}
 use Rattle.pg_receive.proofs.EndedTextLemmas.{texts_in-none, texts_at, first_text, text_is_shorter}
 
@@ -26,10 +26,10 @@ none_empty bytes rest h letter value others f =
     let e : [] ≡ letter ∷ value = (one_text bytes [] (letter ∷ value) rest others h (field_text bytes letter value others f)).0 in
     absurd cc
 
--- the fields behind a text, and the text
-behind_text : (bytes text rest : List ℕ) → Text bytes text rest → AreFields rest (fields_in rest) → AreFields bytes (fields_in bytes)
-behind_text bytes [] rest h more = rw (no_fields_empty bytes rest h) (none_empty bytes rest h)
-behind_text bytes (letter ∷ value) rest h more =
+-- the fields after a text, and the text
+after_text : (bytes text rest : List ℕ) → Text bytes text rest → AreFields rest (fields_in rest) → AreFields bytes (fields_in bytes)
+after_text bytes [] rest h more = rw (no_fields_empty bytes rest h) (none_empty bytes rest h)
+after_text bytes (letter ∷ value) rest h more =
     let field : BeginsWithField bytes letter value rest = record { lettered = h.clean.0; clean = h.clean.1; parts = h.parts } in
     rw (fields_at bytes letter value rest field) (rest, field, more)
 
@@ -40,7 +40,7 @@ are_below zero (byte ∷ bytes) le = absurd (omega (arith, le))
 are_below (suc n) bytes le =
     elim (first_text bytes) [
       | inl clean ↦ rw (no_fields_clean bytes clean) (none_clean bytes clean)
-      | inr found ↦ behind_text bytes found.0 found.1 found.2 (are_below n found.1 (let shorter = text_is_shorter bytes found.0 found.1 found.2 in omega arith))
+      | inr found ↦ after_text bytes found.0 found.1 found.2 (are_below n found.1 (let shorter = text_is_shorter bytes found.0 found.1 found.2 in omega arith))
     ]
 
 pub are_fields : (bytes : List ℕ) → AreFields bytes (fields_in bytes)

@@ -7,11 +7,11 @@ use Rattle.pg_receive.specs.Fields.{fields_in, first_value}
 use Rattle.pg_receive.specs.FieldLengths.{BeginsWithLength, AreLengths, HasLengths}
 use Rattle.pg_receive.proofs.FieldLemmas.{fields_at}
 
-pub lengths_push : (bytes lens rest : List ℕ) (len : ℕ) (behind : List ℕ) → AreLengths bytes lens rest → BeginsWithLength rest len behind → AreLengths bytes (lens ++ len ∷ []) behind
-lengths_push bytes [] rest len behind h field = rw h (behind, field, refl)
-lengths_push bytes (first ∷ lens) rest len behind h field = (h.0, h.1, lengths_push h.0 lens rest len behind h.2 field)
+pub lengths_push : (bytes lens rest : List ℕ) (len : ℕ) (after : List ℕ) → AreLengths bytes lens rest → BeginsWithLength rest len after → AreLengths bytes (lens ++ len ∷ []) after
+lengths_push bytes [] rest len after h field = rw h (after, field, refl)
+lengths_push bytes (first ∷ lens) rest len after h field = (h.0, h.1, lengths_push h.0 lens rest len after h.2 field)
 
--- a field is as long as it says, and the rest stands behind it
+-- a field is as long as it says, and the rest stands after it
 pub field_within : (bytes : List ℕ) (len : ℕ) (rest : List ℕ) → BeginsWithLength bytes len rest → length bytes ≡ len + length rest
 field_within bytes len rest h =
     omega (arith, ap length h.field.parts, length-append h.value (0 ∷ rest), h.long)
@@ -32,7 +32,7 @@ field_value bytes len rest h =
 pub fields_of_field : (bytes : List ℕ) (len : ℕ) (rest : List ℕ) (h : BeginsWithLength bytes len rest) → fields_in bytes ≡ (h.letter, h.value) ∷ fields_in rest
 fields_of_field bytes len rest h = fields_at bytes h.letter h.value rest h.field
 
--- the field of an index, and those behind it
+-- the field of an index, and those after it
 pub one_stands : (bytes lens : List ℕ) (i : ℕ) → i < length lens → HasLengths bytes (drop i lens)
     → (rest : List ℕ) × BeginsWithLength bytes (get_or lens i 0) rest × HasLengths rest (drop (i + 1) lens)
 one_stands bytes lens i h has =

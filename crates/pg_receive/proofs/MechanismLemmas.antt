@@ -3,7 +3,7 @@ use Rattle.std.proofs.Common.{◌≡◌, ◌≢◌, ℕ, zero, suc, ◌*◌, ◌
 use Rattle.std.proofs.lemmas.Bool.{cases_Bool, both_ways}
 use Rattle.std.specs.Str.{is_utf8}
 use Rattle.pg_base.specs.Reading.{HoldsNo, Text}
-use Rattle.pg_base.proofs.Readings.{no_text, one_text}
+use Rattle.pg_base.proofs.ReadingLemmas.{no_text, one_text}
 use Rattle.pg_receive.specs.Mechanisms.{is_name, names_of, mechanisms_in, BeginsWithName, AreMechanisms}
 use Rattle.pg_receive.proofs.EndedTextLemmas.{texts_in-none, texts_at, first_text, text_is_shorter}
 
@@ -28,10 +28,10 @@ none_text bytes text rest h e name others f =
     let same = (one_text bytes text name rest others h f.text).0 in
     both_ways (is_name text) e (rw same (name_passes name f.nonempty f.utf8))
 
--- the names behind a text, and the text
-behind_text : (bytes text rest : List ℕ) → Text bytes text rest → AreMechanisms rest (mechanisms_in rest) → AreMechanisms bytes (mechanisms_in bytes)
-behind_text bytes [] rest h more = rw (no_mechanisms_text bytes [] rest h refl) (none_text bytes [] rest h refl)
-behind_text bytes (byte ∷ text) rest h more =
+-- the names after a text, and the text
+after_text : (bytes text rest : List ℕ) → Text bytes text rest → AreMechanisms rest (mechanisms_in rest) → AreMechanisms bytes (mechanisms_in bytes)
+after_text bytes [] rest h more = rw (no_mechanisms_text bytes [] rest h refl) (none_text bytes [] rest h refl)
+after_text bytes (byte ∷ text) rest h more =
     elim (cases_Bool (is_utf8 (byte ∷ text))) [
       | inl utf8 ↦
           let name : BeginsWithName bytes (byte ∷ text) rest = record { nonempty = λ e. cc; utf8 = utf8; text = h } in
@@ -46,7 +46,7 @@ are_below zero (byte ∷ bytes) le = absurd (omega (arith, le))
 are_below (suc n) bytes le =
     elim (first_text bytes) [
       | inl clean ↦ rw (no_mechanisms_clean bytes clean) (none_clean bytes clean)
-      | inr found ↦ behind_text bytes found.0 found.1 found.2 (are_below n found.1 (let shorter = text_is_shorter bytes found.0 found.1 found.2 in omega arith))
+      | inr found ↦ after_text bytes found.0 found.1 found.2 (are_below n found.1 (let shorter = text_is_shorter bytes found.0 found.1 found.2 in omega arith))
     ]
 
 pub are_mechanisms : (bytes : List ℕ) → AreMechanisms bytes (mechanisms_in bytes)

@@ -4,11 +4,11 @@ use Rattle.std.proofs.lemmas.Bool.{cases_Bool}
 use Rattle.pg_receive.specs.Fields.{Field, first_value, of_letter, fields_in}
 use Rattle.pg_receive.specs.Last.{plain, last}
 use Rattle.pg_receive.specs.Notice.{NoticeValue, MeansNotice, is_full, code_letter, message_letter}
-use Rattle.pg_receive.proofs.NoticeLemmas.{part_behind, part_step, part_full, part_end, part_of_all, seen}
+use Rattle.pg_receive.proofs.NoticeLemmas.{part_after, part_step, part_full, part_end, part_of_all, seen}
 
 -- fields without the letter leave what was seen before them
 seen_before : (letter : ℕ) (before message code : List ℕ) (fields : List Field) → length (of_letter letter fields) ≡ 0
-    → last plain before letter (part_behind message code fields) ≡ before
+    → last plain before letter (part_after message code fields) ≡ before
 seen_before letter before message code [] h = rw (part_end message code) refl
 seen_before letter before message code (field ∷ fields) h =
     elim (cases_Bool (is_full message code [])) [
@@ -20,7 +20,7 @@ seen_before letter before message code (field ∷ fields) h =
     ]
 
 only_message : (code : List ℕ) (fields : List Field) → length (of_letter message_letter fields) ≤ 1
-    → last plain [] message_letter (part_behind [] code fields) ≡ unwrap_or (first_value message_letter fields) []
+    → last plain [] message_letter (part_after [] code fields) ≡ unwrap_or (first_value message_letter fields) []
 only_message code [] h = rw (part_end [] code) refl
 only_message code (field ∷ fields) h =
     elim (cases_Bool (field.0 == message_letter)) [
@@ -33,7 +33,7 @@ no_code [] = refl
 no_code (byte ∷ bytes) = refl
 
 only_code : (message : List ℕ) (fields : List Field) → length (of_letter code_letter fields) ≤ 1
-    → last plain [] code_letter (part_behind message [] fields) ≡ unwrap_or (first_value code_letter fields) []
+    → last plain [] code_letter (part_after message [] fields) ≡ unwrap_or (first_value code_letter fields) []
 only_code message [] h = rw (part_end message []) refl
 only_code message (field ∷ fields) h =
     elim (cases_Bool (field.0 == code_letter)) [

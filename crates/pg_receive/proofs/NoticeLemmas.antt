@@ -1,4 +1,4 @@
--- What the fields behind those that were read still say is what all say.
+-- What the fields after those that were read still say is what all say.
 use Rattle.std.proofs.Common.{◌≡◌, ℕ, ◌==◌, Bool, true, false, List, [], ◌∷◌, map, Option, Some, None, unwrap_or, cond, refl, sym}
 use Rattle.std.specs.Prelude.{find, option_map, if◌then◌else◌}
 use Rattle.pg_base.specs.declared.error.ProtocolFault.{ProtocolFault}
@@ -8,12 +8,12 @@ use Rattle.pg_receive.specs.Last.{plain, last, first_fault_of}
 use Rattle.pg_receive.specs.Severity.{severity_of_word}
 use Rattle.pg_receive.specs.Notice.{Read, is_full, fronts, read_part, field_fault, code_letter, message_letter, localized_letter, severity_letter}
 
--- the part of these fields that is read behind others with this last message and code
-pub part_behind : List ℕ → List ℕ → List Field → List Field
-part_behind message code fields = unwrap_or (find (is_full message code) (fronts fields)) fields
+-- the part of these fields that is read after others with this last message and code
+pub part_after : List ℕ → List ℕ → List Field → List Field
+part_after message code fields = unwrap_or (find (is_full message code) (fronts fields)) fields
 
-pub part_of_all : (fields : List Field) → read_part fields ≡ part_behind [] [] fields
-unfolding part_behind read_part
+pub part_of_all : (fields : List Field) → read_part fields ≡ part_after [] [] fields
+unfolding part_after read_part
 part_of_all fields = refl
 
 find-map : {X Y : Type 0} (test : Y → Bool) (f : X → Y) (xs : List X) → find test (map f xs) ≡ option_map f (find (λ x. test (f x)) xs)
@@ -30,31 +30,31 @@ abbrev pub seen : {A : Type 0} → (List ℕ → A) → A → ℕ → Field → 
 seen view default letter field = if field.0 == letter then view field.1 else default
 
 pub part_step : (message code : List ℕ) (field : Field) (fields : List Field) → is_full message code [] ≡ false
-    → part_behind message code (field ∷ fields) ≡ field ∷ part_behind (seen plain message message_letter field) (seen plain code code_letter field) fields
-unfolding part_behind
+    → part_after message code (field ∷ fields) ≡ field ∷ part_after (seen plain message message_letter field) (seen plain code code_letter field) fields
+unfolding part_after
 part_step message code field fields h =
     rw (h, find-map (is_full message code) (λ (front : List Field). field ∷ front) (fronts fields))
     (unwrap_or-map (λ (front : List Field). field ∷ front) (find (is_full (seen plain message message_letter field) (seen plain code code_letter field)) (fronts fields)) fields)
 
-pub part_full : (message code : List ℕ) (fields : List Field) → is_full message code [] ≡ true → part_behind message code fields ≡ []
-unfolding part_behind
+pub part_full : (message code : List ℕ) (fields : List Field) → is_full message code [] ≡ true → part_after message code fields ≡ []
+unfolding part_after
 part_full message code [] h = rw h refl
 part_full message code (field ∷ fields) h = rw h refl
 
-pub part_end : (message code : List ℕ) → part_behind message code [] ≡ []
-unfolding part_behind
+pub part_end : (message code : List ℕ) → part_after message code [] ≡ []
+unfolding part_after
 part_end message code = elim (is_full message code []) as (λ b. unwrap_or {T = List Field} (cond b (Some []) None) [] ≡ []) [ true ↦ refl | false ↦ refl ]
 
 -- with what was read so far, the fields that are left say what all say
 pub record Left (all left : List Field) (message code : List ℕ) (severity localized : Option PgSeverity) : Type 0 where
-  pub faults : first_fault_of field_fault (part_behind message code left) ≡ first_fault_of field_fault (read_part all)
-  pub messages : last plain message message_letter (part_behind message code left) ≡ last plain [] message_letter (read_part all)
-  pub codes : last plain code code_letter (part_behind message code left) ≡ last plain [] code_letter (read_part all)
-  pub severities : last severity_of_word severity severity_letter (part_behind message code left) ≡ last severity_of_word None severity_letter (read_part all)
-  pub words : last severity_of_word localized localized_letter (part_behind message code left) ≡ last severity_of_word None localized_letter (read_part all)
+  pub faults : first_fault_of field_fault (part_after message code left) ≡ first_fault_of field_fault (read_part all)
+  pub messages : last plain message message_letter (part_after message code left) ≡ last plain [] message_letter (read_part all)
+  pub codes : last plain code code_letter (part_after message code left) ≡ last plain [] code_letter (read_part all)
+  pub severities : last severity_of_word severity severity_letter (part_after message code left) ≡ last severity_of_word None severity_letter (read_part all)
+  pub words : last severity_of_word localized localized_letter (part_after message code left) ≡ last severity_of_word None localized_letter (read_part all)
 
 pub left_all : (all : List Field) → Left all all [] [] None None
-unfolding part_behind read_part
+unfolding part_after read_part
 left_all all = record { faults = refl; messages = refl; codes = refl; severities = refl; words = refl }
 
 pub left_more : (all : List Field) (field : Field) (fields : List Field) (message code : List ℕ) (severity localized : Option PgSeverity) → is_full message code [] ≡ false → field_fault field ≡ None
@@ -75,7 +75,7 @@ pub left_fault : (all : List Field) (field : Field) (fields : List Field) (messa
 left_fault all field fields message code severity localized fault h is l = sym (rw (part_step message code field fields h, is) at l.faults)
 
 -- where nothing is left to be read, all is read
-read_none : (all left : List Field) (message code : List ℕ) (severity localized : Option PgSeverity) → part_behind message code left ≡ [] → Left all left message code severity localized
+read_none : (all left : List Field) (message code : List ℕ) (severity localized : Option PgSeverity) → part_after message code left ≡ [] → Left all left message code severity localized
     → Read all message code severity localized
 read_none all left message code severity localized none l = record {
   clean = sym (rw none at l.faults);

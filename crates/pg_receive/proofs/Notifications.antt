@@ -5,9 +5,9 @@ use Rattle.pg_base.specs.Reading.{Text}
 use Rattle.pg_receive.specs.Notification.{Notified, MeansNotification}
 
 -- what is kept: the first text, its 0, and the second
-kept : (texts channel behind payload rest : List ℕ) → Text texts channel behind → Text behind payload rest
+kept : (texts channel after payload rest : List ℕ) → Text texts channel after → Text after payload rest
     → take (length channel + 1 + length payload) texts ≡ channel ++ 0 ∷ payload
-kept texts channel behind payload rest p q =
+kept texts channel after payload rest p q =
     let whole : texts ≡ (channel ++ 0 ∷ payload) ++ 0 ∷ rest =
     p.parts ∙ ap (λ (more : List ℕ). channel ++ 0 ∷ more) q.parts ∙ sym (append_assoc channel (0 ∷ payload) (0 ∷ rest)) in
     rw whole (take_at (channel ++ 0 ∷ payload) (0 ∷ rest) (length channel + 1 + length payload) (omega (arith, length-append channel (0 ∷ payload))))
@@ -17,7 +17,7 @@ pub means_kept : (body keeps : List ℕ) (v : Notified) → MeansNotification bo
     → MeansNotification body (record { process_id = v.process_id; channel = take (length v.channel) keeps; payload = drop (length v.channel + 1) keeps })
 means_kept body keeps v h is =
     let texts_are : drop 4 body ≡ h.texts = rw h.process_id.parts (drop_at h.process_id.spelled h.texts 4 h.process_id.wide) in
-    let keeps_are : keeps ≡ v.channel ++ 0 ∷ v.payload = is ∙ ap (take (length v.channel + 1 + length v.payload)) texts_are ∙ kept h.texts v.channel h.behind v.payload h.rest h.channel h.payload in
+    let keeps_are : keeps ≡ v.channel ++ 0 ∷ v.payload = is ∙ ap (take (length v.channel + 1 + length v.payload)) texts_are ∙ kept h.texts v.channel h.after v.payload h.rest h.channel h.payload in
     let channel_is : take (length v.channel) keeps ≡ v.channel = rw keeps_are (take_at v.channel (0 ∷ v.payload) (length v.channel) refl) in
     let payload_is : drop (length v.channel + 1) keeps ≡ v.payload =
     rw (keeps_are, ← append_assoc v.channel (0 ∷ []) v.payload) (drop_at (v.channel ++ 0 ∷ []) v.payload (length v.channel + 1) (length-append v.channel (0 ∷ []))) in

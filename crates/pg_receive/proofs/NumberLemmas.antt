@@ -3,7 +3,7 @@ use Rattle.std.proofs.Common.{◌≡◌, ℕ, ◌<◌, true, false, List, [], �
 use Rattle.std.specs.Char.{IsAsciiDigit, is_ascii_digit}
 use Rattle.std.proofs.lemmas.Bool.{cases_Bool, cases_eq, cases_lt, ne_eqb, and_parts, and_from, leb-true, le-leb, lt-leb, both_ways}
 use Rattle.pg_base.specs.Atoi.{AreDigits, BeginsWithDigit, Digits, IsDigitsUpTo, decimal_value, Sign, unsigned, plus, minus, SignedDigits, Atoi}
-use Rattle.pg_base.proofs.Decimals.{first_digit, heads_of, one_decimal, digits_of_run, no_run, atoi_of_nothing, atoi_of_plus, atoi_of_minus, atoi_of_no_sign}
+use Rattle.pg_base.proofs.AtoiLemmas.{first_digit, heads_of, one_decimal, digits_of_run, no_run, atoi_of_nothing, atoi_of_plus, atoi_of_minus, atoi_of_no_sign}
 use Rattle.pg_receive.specs.NumberAt.{front_digits, value_within, number_at}
 
 is_digit : (byte : ℕ) → is_ascii_digit byte ≡ true → IsAsciiDigit byte
@@ -50,20 +50,20 @@ number_is_there top (byte ∷ bytes) =
     ]
 
 -- digits begin with no sign
-sign_is_low : (byte : ℕ) (behind bytes : List ℕ) (n : ℕ) → byte < 48 → bytes ≡ byte ∷ behind → Digits bytes n → ⊥
-sign_is_low byte behind bytes n low parts d =
-    let first = first_digit byte behind d.digits d.rest d.some_are_there d.are_digits (sym parts ∙ d.parts) in omega (arith, low, first.0)
+sign_is_low : (byte : ℕ) (after bytes : List ℕ) (n : ℕ) → byte < 48 → bytes ≡ byte ∷ after → Digits bytes n → ⊥
+sign_is_low byte after bytes n low parts d =
+    let first = first_digit byte after d.digits d.rest d.some_are_there d.are_digits (sym parts ∙ d.parts) in omega (arith, low, first.0)
 
 one_signed : (bytes : List ℕ) (s t : Sign) (m n : ℕ) → SignedDigits bytes s m → SignedDigits bytes t n → m ≡ n
 one_signed bytes unsigned unsigned m n p q = one_decimal bytes m n (rw p.parts p.digits) (rw q.parts q.digits)
-one_signed bytes unsigned plus m n p q = absurd (sign_is_low 43 q.behind bytes m (omega arith) q.parts (rw p.parts p.digits))
-one_signed bytes unsigned minus m n p q = absurd (sign_is_low 45 q.behind bytes m (omega arith) q.parts (rw p.parts p.digits))
-one_signed bytes plus unsigned m n p q = absurd (sign_is_low 43 p.behind bytes n (omega arith) p.parts (rw q.parts q.digits))
-one_signed bytes minus unsigned m n p q = absurd (sign_is_low 45 p.behind bytes n (omega arith) p.parts (rw q.parts q.digits))
-one_signed bytes plus plus m n p q = let same = sym p.parts ∙ q.parts in let tails : p.behind ≡ q.behind = cc in one_decimal q.behind m n (rw (← tails) p.digits) q.digits
-one_signed bytes minus minus m n p q = let same = sym p.parts ∙ q.parts in let tails : p.behind ≡ q.behind = cc in one_decimal q.behind m n (rw (← tails) p.digits) q.digits
-one_signed bytes plus minus m n p q = absurd (omega (arith, heads_of 43 45 p.behind q.behind (sym p.parts ∙ q.parts)))
-one_signed bytes minus plus m n p q = absurd (omega (arith, heads_of 45 43 p.behind q.behind (sym p.parts ∙ q.parts)))
+one_signed bytes unsigned plus m n p q = absurd (sign_is_low 43 q.after bytes m (omega arith) q.parts (rw p.parts p.digits))
+one_signed bytes unsigned minus m n p q = absurd (sign_is_low 45 q.after bytes m (omega arith) q.parts (rw p.parts p.digits))
+one_signed bytes plus unsigned m n p q = absurd (sign_is_low 43 p.after bytes n (omega arith) p.parts (rw q.parts q.digits))
+one_signed bytes minus unsigned m n p q = absurd (sign_is_low 45 p.after bytes n (omega arith) p.parts (rw q.parts q.digits))
+one_signed bytes plus plus m n p q = let same = sym p.parts ∙ q.parts in let tails : p.after ≡ q.after = cc in one_decimal q.after m n (rw (← tails) p.digits) q.digits
+one_signed bytes minus minus m n p q = let same = sym p.parts ∙ q.parts in let tails : p.after ≡ q.after = cc in one_decimal q.after m n (rw (← tails) p.digits) q.digits
+one_signed bytes plus minus m n p q = absurd (omega (arith, heads_of 43 45 p.after q.after (sym p.parts ∙ q.parts)))
+one_signed bytes minus plus m n p q = absurd (omega (arith, heads_of 45 43 p.after q.after (sym p.parts ∙ q.parts)))
 
 one_number : (top : ℕ) (bytes : List ℕ) (r s : Option ℕ) → Atoi top bytes r → Atoi top bytes s → r ≡ s
 one_number top bytes None None p q = refl

@@ -30,15 +30,15 @@ kept_all body =
     let nowhere : IsPlaceIn body no_place = record { ordered = omega arith; within = omega arith; utf8 = IsUtf8-nil } in
     record { front = []; parts = refl; message_in = nowhere; code_in = nowhere; left = left_all (fields_in body) }
 
--- a value stands where its field does, behind the letter
-pub value_at : (body rest front : List ℕ) (letter : ℕ) (value behind : List ℕ) (start : ℕ) → body ≡ front ++ rest → BeginsWithField rest letter value behind → start ≡ length front + 1
+-- a value stands where its field does, after the letter
+pub value_at : (body rest front : List ℕ) (letter : ℕ) (value after : List ℕ) (start : ℕ) → body ≡ front ++ rest → BeginsWithField rest letter value after → start ≡ length front + 1
     → (bytes_at body (record { start = start; end = start + length value }) ≡ value) × (start + length value ≤ length body)
-value_at body rest front letter value behind start parts field is =
-    let whole : body ≡ (front ++ letter ∷ []) ++ (value ++ 0 ∷ behind) = parts ∙ ap (λ (more : List ℕ). front ++ more) field.parts ∙ sym (append_assoc front (letter ∷ []) (value ++ 0 ∷ behind)) in
+value_at body rest front letter value after start parts field is =
+    let whole : body ≡ (front ++ letter ∷ []) ++ (value ++ 0 ∷ after) = parts ∙ ap (λ (more : List ℕ). front ++ more) field.parts ∙ sym (append_assoc front (letter ∷ []) (value ++ 0 ∷ after)) in
     let long : length (front ++ letter ∷ []) ≡ start = omega (arith, length-append front (letter ∷ [])) in
     let len : start + length value - start ≡ length value = omega arith in (
-      rw (whole, drop_at (front ++ letter ∷ []) (value ++ 0 ∷ behind) start long, len) (take_at value (0 ∷ behind) (length value) refl),
-      omega (arith, ap length whole, length-append (front ++ letter ∷ []) (value ++ 0 ∷ behind), length-append value (0 ∷ behind)),
+      rw (whole, drop_at (front ++ letter ∷ []) (value ++ 0 ∷ after) start long, len) (take_at value (0 ∷ after) (length value) refl),
+      omega (arith, ap length whole, length-append (front ++ letter ∷ []) (value ++ 0 ∷ after), length-append value (0 ∷ after)),
     )
 
 clean_text : (value : List ℕ) → text_fault value ≡ None → is_utf8 value ≡ true
@@ -64,8 +64,8 @@ nonempty_length : (bytes : List ℕ) → 0 < length bytes → is_nonempty bytes 
 nonempty_length [] h = absurd (omega (arith, h))
 nonempty_length (byte ∷ bytes) h = refl
 
-regroup : (front : List ℕ) (letter : ℕ) (value behind : List ℕ) → front ++ (letter ∷ (value ++ 0 ∷ behind)) ≡ (front ++ ((letter ∷ value) ++ 0 ∷ [])) ++ behind
-regroup front letter value behind = simp append_assoc
+regroup : (front : List ℕ) (letter : ℕ) (value after : List ℕ) → front ++ (letter ∷ (value ++ 0 ∷ after)) ≡ (front ++ ((letter ∷ value) ++ 0 ∷ [])) ++ after
+regroup front letter value after = simp append_assoc
 
 nonempty_place : (body : List ℕ) (place : Place) → IsPlaceIn body place → is_nonempty (bytes_at body place) ≡ nat_lt place.start place.end
 nonempty_place body place h =
@@ -88,27 +88,27 @@ pub record Taken (letter : ℕ) (value : List ℕ) (place message code message' 
   pub message_is : message' ≡ (if letter == message_letter then place else message)
   pub code_is : code' ≡ (if letter == code_letter then place else code)
 
-pub kept_more : (body rest : List ℕ) (letter : ℕ) (value behind : List ℕ) (start : ℕ) (message code message' code' : Place) (severity localized severity' localized' : Option PgSeverity)
+pub kept_more : (body rest : List ℕ) (letter : ℕ) (value after : List ℕ) (start : ℕ) (message code message' code' : Place) (severity localized severity' localized' : Option PgSeverity)
     → is_full (bytes_at body message) (bytes_at body code) [] ≡ false → start ≡ length body - length rest + 1
-    → BeginsWithField rest letter value behind → Taken letter value (record { start = start; end = start + length value }) message code message' code' severity localized severity' localized'
-    → Kept body rest message code severity localized → Kept body behind message' code' severity' localized'
-kept_more body rest letter value behind start message code message' code' severity localized severity' localized' partial start_is field taken kept =
+    → BeginsWithField rest letter value after → Taken letter value (record { start = start; end = start + length value }) message code message' code' severity localized severity' localized'
+    → Kept body rest message code severity localized → Kept body after message' code' severity' localized'
+kept_more body rest letter value after start message code message' code' severity localized severity' localized' partial start_is field taken kept =
     let place : Place = record { start = start; end = start + length value } in
     let at_front : start ≡ length kept.front + 1 = omega (arith, ap length kept.parts, length-append kept.front rest) in
-    let there = value_at body rest kept.front letter value behind start kept.parts field at_front in
+    let there = value_at body rest kept.front letter value after start kept.parts field at_front in
     let is_in : is_utf8 value ≡ true → IsPlaceIn body place = λ utf8. record { ordered = omega arith; within = there.1; utf8 = rw there.0 (IsUtf8-from_is_utf8 value utf8) } in
     record {
       front = kept.front ++ ((letter ∷ value) ++ 0 ∷ []);
-      parts = kept.parts ∙ ap (λ (more : List ℕ). kept.front ++ more) field.parts ∙ regroup kept.front letter value behind;
+      parts = kept.parts ∙ ap (λ (more : List ℕ). kept.front ++ more) field.parts ∙ regroup kept.front letter value after;
       message_in = place_in body (letter == message_letter) place message message' kept.message_in (λ e. is_in (clean_message letter value e taken.clean)) taken.message_is;
       code_in = place_in body (letter == code_letter) place code code' kept.code_in (λ e. is_in (clean_code letter value e taken.clean)) taken.code_is;
       left =
           rw (seen_place body (letter == message_letter) value place message message' there.0 taken.message_is, seen_place body (letter == code_letter) value place code code' there.0 taken.code_is, taken.severity_is, taken.localized_is)
-          (left_more (fields_in body) (letter, value) (fields_in behind) (bytes_at body message) (bytes_at body code) severity localized partial taken.clean (rw (fields_at rest letter value behind field) at kept.left));
+          (left_more (fields_in body) (letter, value) (fields_in after) (bytes_at body message) (bytes_at body code) severity localized partial taken.clean (rw (fields_at rest letter value after field) at kept.left));
     }
 
-pub kept_fault : (body rest : List ℕ) (letter : ℕ) (value behind : List ℕ) (message code : Place) (severity localized : Option PgSeverity) (fault : ProtocolFault)
-    → is_full (bytes_at body message) (bytes_at body code) [] ≡ false → BeginsWithField rest letter value behind → field_fault (letter, value) ≡ Some fault
+pub kept_fault : (body rest : List ℕ) (letter : ℕ) (value after : List ℕ) (message code : Place) (severity localized : Option PgSeverity) (fault : ProtocolFault)
+    → is_full (bytes_at body message) (bytes_at body code) [] ≡ false → BeginsWithField rest letter value after → field_fault (letter, value) ≡ Some fault
     → Kept body rest message code severity localized → notice_fault body ≡ Some fault
-kept_fault body rest letter value behind message code severity localized fault partial field is kept =
-    left_fault (fields_in body) (letter, value) (fields_in behind) (bytes_at body message) (bytes_at body code) severity localized fault partial is (rw (fields_at rest letter value behind field) at kept.left)
+kept_fault body rest letter value after message code severity localized fault partial field is kept =
+    left_fault (fields_in body) (letter, value) (fields_in after) (bytes_at body message) (bytes_at body code) severity localized fault partial is (rw (fields_at rest letter value after field) at kept.left)

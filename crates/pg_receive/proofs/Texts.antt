@@ -7,7 +7,7 @@ use Rattle.std.proofs.lemmas.Str.{is_utf8-from_IsUtf8}
 use Rattle.std.proofs.lemmas.List.{take-append-drop, take_all, length-drop, length-take, get_or-take}
 use Rattle.memchr.specs.Find.{Nowhere, Passes, is_byte}
 use Rattle.pg_base.specs.Reading.{HoldsNo, Text}
-use Rattle.pg_base.proofs.Readings.{holds_no}
+use Rattle.pg_base.proofs.ReadingLemmas.{holds_no}
 
 -- a byte that is sought nowhere stands nowhere
 pub nowhere_holds_no : (byte : ℕ) (bytes : List ℕ) → Nowhere (Passes (is_byte byte) bytes) 0 (length bytes) → HoldsNo byte bytes
@@ -19,7 +19,7 @@ front_holds_no byte end bytes inside h =
     let below : k < end = omega (arith, length-take end bytes) in
     h k (omega arith) below (eq-eqb (get_or bytes k 0) byte (sym (get_or-take end bytes k 0 below) ∙ e)))
 
--- bytes are what stands before a place, the byte there, and what stands behind it
+-- bytes are what stands before a place, the byte there, and what stands after it
 pub around : (end : ℕ) (bytes : List ℕ) → end < length bytes → bytes ≡ take end bytes ++ get_or bytes end 0 ∷ drop (end + 1) bytes
 around end bytes inside =
     sym (take-append-drop end bytes) ∙ ap (λ (rest : List ℕ). take end bytes ++ rest) (rw add-one (drop-cons bytes end 0 inside))

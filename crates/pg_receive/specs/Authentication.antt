@@ -4,11 +4,11 @@ use Rattle.std.specs.Prelude.{◌≡◌, ℕ, ◌==◌, ◌||◌, Bool, false, L
 use Rattle.std.specs.Bool.{MatchBool}
 use Rattle.pg_base.specs.declared.error.ProtocolFault.{ProtocolFault}
 use Rattle.pg_base.specs.declared.error.ProtocolFault.TheVariants.{UnknownAuthentication}
-use Rattle.pg_base.specs.Faults.{IsShort}
+use Rattle.pg_base.specs.Error.{IsShort}
 use Rattle.pg_base.specs.Reading.{Number}
 use Rattle.pg_receive.specs.Mechanisms.{mechanisms_in}
-use Rattle.pg_receive.specs.SaslContinue.{ContinueValue, MeansContinue, BreaksContinue}
-use Rattle.pg_receive.specs.SaslFinal.{MeansFinal, BreaksFinal}
+use Rattle.pg_receive.specs.SaslContinue.{ContinueValue, MeansContinue, IsContinueFault}
+use Rattle.pg_receive.specs.SaslFinal.{MeansFinal, IsFinalFault}
 
 pub data AuthenticationValue : Type 0 where
   accepted : AuthenticationValue
@@ -27,7 +27,7 @@ method_of (sasl names) = 10
 method_of (sasl_continue challenge) = 11
 method_of (sasl_final verifier) = 12
 
--- what stands behind the number
+-- what stands after the number
 abbrev pub MeansRest : List ℕ → AuthenticationValue → Type 0
 MeansRest rest accepted = Unit {0}
 MeansRest rest cleartext_password = Unit {0}
@@ -43,16 +43,16 @@ MeansAuthentication body value = (rest : List ℕ) × Number 4 body (method_of v
 abbrev pub is_plain : ℕ → Bool
 is_plain method = method == 0 || method == 3 || method == 10
 
--- what is wrong behind the number of a method, or with the number
-abbrev pub BreaksRest : List ℕ → ℕ → List ℕ → ProtocolFault → Type 0
-BreaksRest body method rest fault =
+-- what is wrong after the number of a method, or with the number
+abbrev pub IsRestFault : List ℕ → ℕ → List ℕ → ProtocolFault → Type 0
+IsRestFault body method rest fault =
     MatchBool (is_plain method) ⊥
     (MatchBool (method == 5) (IsShort body 4 4 fault)
-    (MatchBool (method == 11) (BreaksContinue rest fault)
-    (MatchBool (method == 12) (BreaksFinal rest fault) (fault ≡ UnknownAuthentication method))))
+    (MatchBool (method == 11) (IsContinueFault rest fault)
+    (MatchBool (method == 12) (IsFinalFault rest fault) (fault ≡ UnknownAuthentication method))))
 
-abbrev pub BreaksAuthentication : List ℕ → ProtocolFault → Type 0
-BreaksAuthentication body fault = IsShort body 0 4 fault ⊎ ((method : ℕ) × (rest : List ℕ) × Number 4 body method rest × BreaksRest body method rest fault)
+abbrev pub IsAuthenticationFault : List ℕ → ProtocolFault → Type 0
+IsAuthenticationFault body fault = IsShort body 0 4 fault ⊎ ((method : ℕ) × (rest : List ℕ) × Number 4 body method rest × IsRestFault body method rest fault)
 
 -- data of a SASL exchange is copied, and nothing else
 abbrev pub IsNoSaslData : List ℕ → Type 0

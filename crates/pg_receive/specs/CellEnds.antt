@@ -1,19 +1,19 @@
 -- The cells of a row from where each ends in the body: an entry a cell, whose top bit says NULL, and
--- whose other bits are the offset behind the cell.
+-- whose other bits are the offset after the cell.
 use Rattle.std.specs.Prelude.{ℕ, zero, suc, ◌+◌, ◌%◌, ◌≤◌, List, [], ◌∷◌, Option, Some, None, slice_range, nat_lt, if◌then◌else◌}
 
 -- the top bit of an entry
 abbrev pub null_bit : ℕ
 null_bit = 2147483648
 
--- where the first cell begins, behind the count
+-- where the first cell begins, after the count
 abbrev pub first_cell : ℕ
 first_cell = 2
 
 abbrev pub end_of : ℕ → ℕ
 end_of entry = entry % null_bit
 
--- the cell that begins at an offset: its value stands behind the four bytes of its length
+-- the cell that begins at an offset: its value stands after the four bytes of its length
 abbrev pub cell_to : List ℕ → ℕ → ℕ → Option (List ℕ)
 cell_to body start entry = if nat_lt entry null_bit then Some (slice_range body (start + 4) entry) else None
 

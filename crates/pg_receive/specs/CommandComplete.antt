@@ -8,8 +8,8 @@ use Rattle.pg_base.specs.Atoi.{Atoi}
 abbrev pub max_rows : ℕ
 max_rows = 18446744073709551615
 
--- what stands behind the last space
-pub record BehindLastSpace (tag tail : List ℕ) : Type 0 where
+-- what stands after the last space
+pub record AfterLastSpace (tag tail : List ℕ) : Type 0 where
   pub front : List ℕ
   pub parts : tag ≡ front ++ 32 ∷ tail
   pub last : HoldsNo 32 tail
@@ -17,10 +17,10 @@ pub record BehindLastSpace (tag tail : List ℕ) : Type 0 where
 -- the number of rows that a tag tells
 pub record TellsRows (tag : List ℕ) (rows : ℕ) : Type 0 where
   pub tail : List ℕ
-  pub behind : BehindLastSpace tag tail
+  pub after : AfterLastSpace tag tail
   pub number : Atoi max_rows tail (Some rows)
 
--- it is the number behind the last space, and 0 where there is no space or no number
+-- it is the number after the last space, and 0 where there is no space or no number
 abbrev pub IsRowsAffected : List ℕ → ℕ → Type 0
 IsRowsAffected tag rows =
-    TellsRows tag rows ⊎ ((rows ≡ 0) × ((tail : List ℕ) → BehindLastSpace tag tail → Atoi max_rows tail None))
+    TellsRows tag rows ⊎ ((rows ≡ 0) × ((tail : List ℕ) → AfterLastSpace tag tail → Atoi max_rows tail None))

@@ -3,15 +3,15 @@ use Rattle.std.specs.Prelude.{◌≡◌, ℕ, ◌+◌, ◌≤◌, pos, ◌<ℤ�
 use Rattle.pg_base.specs.Cutting.{max_length}
 use Rattle.pg_base.specs.declared.error.ProtocolFault.{ProtocolFault}
 use Rattle.pg_base.specs.Numbers.{int}
-use Rattle.pg_base.specs.Faults.{IsShort}
-use Rattle.pg_receive.specs.Items.{SpellItems, CountedItems, BreaksItems, AsksForNothing}
+use Rattle.pg_base.specs.Error.{IsShort}
+use Rattle.pg_receive.specs.Items.{SpellItems, CountedItems, IsItemsFault, AsksForNothing}
 
 -- NULL is any negative length
 pub record SpellsNull (spelled : List ℕ) : Type 0 where
   pub wide : length spelled ≡ 4
   pub negative : int spelled <ℤ pos 0
 
--- a value stands behind its length
+-- a value stands after its length
 pub record SpellsValue (spelled value : List ℕ) : Type 0 where
   pub field : List ℕ
   pub wide : length field ≡ 4
@@ -24,19 +24,19 @@ abbrev pub SpellsCell : List ℕ → Option (List ℕ) → Type 0
 SpellsCell spelled None = SpellsNull spelled
 SpellsCell spelled (Some value) = SpellsValue spelled value
 
--- the length is there, and fewer bytes stand behind it than it says
-pub record LacksValue (body : List ℕ) (at : ℕ) (bytes : List ℕ) (fault : ProtocolFault) : Type 0 where
+-- the length is there, and fewer bytes stand after it than it says
+pub record IsTruncatedValue (body : List ℕ) (at : ℕ) (bytes : List ℕ) (fault : ProtocolFault) : Type 0 where
   pub field : List ℕ
-  pub behind : List ℕ
+  pub after : List ℕ
   pub needed : ℕ
   pub wide : length field ≡ 4
   pub counts : int field ≡ pos needed
-  pub parts : bytes ≡ field ++ behind
+  pub parts : bytes ≡ field ++ after
   pub short : IsShort body (at + 4) needed fault
 
 -- the bytes at this offset of the body begin with no cell
-abbrev pub BreaksCell : List ℕ → ℕ → List ℕ → ProtocolFault → Type 0
-BreaksCell body at bytes fault = IsShort body at 4 fault ⊎ LacksValue body at bytes fault
+abbrev pub IsCellFault : List ℕ → ℕ → List ℕ → ProtocolFault → Type 0
+IsCellFault body at bytes fault = IsShort body at 4 fault ⊎ IsTruncatedValue body at bytes fault
 
 -- the least number of bytes that spell a cell
 abbrev pub least_cell : ℕ
@@ -45,14 +45,14 @@ least_cell = 4
 abbrev pub Row : List ℕ → List (Option (List ℕ)) → Type 0
 Row body cells = CountedItems SpellsCell body cells
 
-abbrev pub BreaksRow : List ℕ → ProtocolFault → Type 0
-BreaksRow body fault = BreaksItems SpellsCell BreaksCell least_cell body fault
+abbrev pub IsRowFault : List ℕ → ProtocolFault → Type 0
+IsRowFault body fault = IsItemsFault SpellsCell IsCellFault least_cell body fault
 
-abbrev pub FreeRow : List ℕ → Type 0
-FreeRow body = AsksForNothing least_cell 0 body
+abbrev pub RowNeedsNoMemory : List ℕ → Type 0
+RowNeedsNoMemory body = AsksForNothing least_cell 0 body
 
--- a value stands in the body behind the count, the spellings of these cells, and its own length
-pub record StandsBehind (body : List ℕ) (cells : List (Option (List ℕ))) (value : List ℕ) : Type 0 where
+-- a value stands in the body after the count, the spellings of these cells, and its own length
+pub record IsAfter (body : List ℕ) (cells : List (Option (List ℕ))) (value : List ℕ) : Type 0 where
   pub count : List ℕ
   pub spelled : List ℕ
   pub field : List ℕ

@@ -4,9 +4,9 @@ use Rattle.std.proofs.Common.{refl, sym, ap, ◌∙◌, arith, inl, inr, append_
 use Rattle.std.proofs.lemmas.Int.{ints}
 use Rattle.pg_base.specs.declared.error.ProtocolFault.{ProtocolFault}
 use Rattle.pg_base.specs.Numbers.{int}
-use Rattle.pg_base.proofs.Cuts.{parts_at}
+use Rattle.pg_base.proofs.CuttingLemmas.{parts_at}
 use Rattle.pg_receive.specs.ItemsLaws.{SpellsOne, TakesAtLeast, ItemOrFault, one_items, items_or_fault, items_fit, item_between}
-use Rattle.pg_receive.specs.DataRow.{SpellsCell, BreaksCell, BreaksRow, Row, StandsBehind, least_cell}
+use Rattle.pg_receive.specs.DataRow.{SpellsCell, IsCellFault, IsRowFault, Row, IsAfter, least_cell}
 
 pub one_cell : SpellsOne SpellsCell
 one_cell s t x y None None p q e =
@@ -31,13 +31,13 @@ pub cell_takes : TakesAtLeast least_cell SpellsCell
 cell_takes s None p = omega (arith, p.wide)
 cell_takes s (Some v) p = omega (arith, p.wide, ap length p.parts, length-append p.field v)
 
-pub cell_or_fault : ItemOrFault SpellsCell BreaksCell
+pub cell_or_fault : ItemOrFault SpellsCell IsCellFault
 cell_or_fault body s x at v fault len p (inl short) = omega (arith, short.lacks, len, length-append s x, cell_takes s v p)
 cell_or_fault body s x at None fault len p (inr lacks) =
-    let both = parts_at s lacks.field x lacks.behind (p.wide ∙ sym lacks.wide) lacks.parts in
+    let both = parts_at s lacks.field x lacks.after (p.wide ∙ sym lacks.wide) lacks.parts in
     omega (arith, ints, p.negative, ap int both.0, lacks.counts)
 cell_or_fault body s x at (Some v) fault len p (inr lacks) =
-    let both = parts_at p.field lacks.field (v ++ x) lacks.behind (p.wide ∙ sym lacks.wide) (sym (append_assoc p.field v x) ∙ ap (λ (l : List ℕ). l ++ x) (sym p.parts) ∙ lacks.parts) in
+    let both = parts_at p.field lacks.field (v ++ x) lacks.after (p.wide ∙ sym lacks.wide) (sym (append_assoc p.field v x) ∙ ap (λ (l : List ℕ). l ++ x) (sym p.parts) ∙ lacks.parts) in
     let counts : pos (length v) ≡ pos lacks.needed = sym p.counts ∙ ap int both.0 ∙ lacks.counts in
     let lengths : length v ≡ lacks.needed = cc in
     omega (arith, lacks.short.lacks, lengths, len, length-append s x, ap length p.parts, length-append p.field v, p.wide)
@@ -45,20 +45,20 @@ cell_or_fault body s x at (Some v) fault len p (inr lacks) =
 pub one_row : (body : List ℕ) (v w : List (Option (List ℕ))) → Row body v → Row body w → v ≡ w
 one_row body v w p q = one_items SpellsCell one_cell body v w p q
 
-pub row_or_fault : (body : List ℕ) (v : List (Option (List ℕ))) (fault : ProtocolFault) → Row body v → BreaksRow body fault → ⊥
-row_or_fault body v fault p q = items_or_fault SpellsCell BreaksCell least_cell one_cell cell_takes cell_or_fault body v fault p q
+pub row_or_fault : (body : List ℕ) (v : List (Option (List ℕ))) (fault : ProtocolFault) → Row body v → IsRowFault body fault → ⊥
+row_or_fault body v fault p q = items_or_fault SpellsCell IsCellFault least_cell one_cell cell_takes cell_or_fault body v fault p q
 
 pub cells_fit : (body : List ℕ) (cells : List (Option (List ℕ))) → Row body cells → 2 + 4 * length cells ≤ length body
 cells_fit body cells p = items_fit least_cell SpellsCell cell_takes body cells p
 
-pub value_stands_behind : (body : List ℕ) (front : List (Option (List ℕ))) (value : List ℕ) (back : List (Option (List ℕ))) → Row body (front ++ Some value ∷ back) → StandsBehind body front value
-value_stands_behind body front value back p =
+pub value_stands_after : (body : List ℕ) (front : List (Option (List ℕ))) (value : List ℕ) (back : List (Option (List ℕ))) → Row body (front ++ Some value ∷ back) → IsAfter body front value
+value_stands_after body front value back p =
     let q = item_between SpellsCell p.spelled front (Some value) back p.are_spelled in
     let cell : q.at ++ q.after ≡ q.is_at.field ++ (value ++ q.after) = ap (λ (l : List ℕ). l ++ q.after) q.is_at.parts ∙ append_assoc q.is_at.field value q.after in
     let spelled : p.spelled ≡ q.before ++ (q.is_at.field ++ (value ++ q.after)) = q.parts ∙ ap (λ (l : List ℕ). q.before ++ l) cell in
     let inner : (q.is_at.field ++ (value ++ q.after)) ++ p.rest ≡ q.is_at.field ++ (value ++ (q.after ++ p.rest)) =
     append_assoc q.is_at.field (value ++ q.after) p.rest ∙ ap (λ (l : List ℕ). q.is_at.field ++ l) (append_assoc value q.after p.rest) in
-    let behind : p.behind ≡ q.before ++ (q.is_at.field ++ (value ++ (q.after ++ p.rest))) =
+    let after : p.after ≡ q.before ++ (q.is_at.field ++ (value ++ (q.after ++ p.rest))) =
     p.parts ∙ ap (λ (l : List ℕ). l ++ p.rest) spelled ∙ append_assoc q.before (q.is_at.field ++ (value ++ q.after)) p.rest ∙ ap (λ (l : List ℕ). q.before ++ l) inner in
     record {
       count = p.count.spelled;
@@ -68,5 +68,5 @@ value_stands_behind body front value back p =
       counted = p.count.wide;
       are_spelled = q.are_before;
       wide = q.is_at.wide;
-      parts = p.count.parts ∙ ap (λ (l : List ℕ). p.count.spelled ++ l) behind;
+      parts = p.count.parts ∙ ap (λ (l : List ℕ). p.count.spelled ++ l) after;
     }

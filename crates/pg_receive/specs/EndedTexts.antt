@@ -6,7 +6,7 @@ abbrev pub onto_first_text : ℕ → List (List ℕ) → List (List ℕ)
 onto_first_text byte [] = []
 onto_first_text byte (text ∷ texts) = (byte ∷ text) ∷ texts
 
--- the texts; what stands behind the last NUL is none
+-- the texts; what stands after the last NUL is none
 unfoldable pub texts_in : List ℕ → List (List ℕ)
 texts_in [] = []
 texts_in (byte ∷ bytes) = if byte == 0 then [] ∷ texts_in bytes else onto_first_text byte (texts_in bytes)

@@ -9,10 +9,10 @@ pub record BeginsWithLength (bytes : List ℕ) (len : ℕ) (rest : List ℕ) : T
   pub field : BeginsWithField bytes letter value rest
   pub long : len ≡ length value + 2
 
--- fields of these lengths begin the bytes, one behind the other, and leave the rest
+-- fields of these lengths begin the bytes, one after the other, and leave the rest
 abbrev pub AreLengths : List ℕ → List ℕ → List ℕ → Type 0
 AreLengths bytes [] rest = bytes ≡ rest
-AreLengths bytes (len ∷ lens) rest = (behind : List ℕ) × BeginsWithLength bytes len behind × AreLengths behind lens rest
+AreLengths bytes (len ∷ lens) rest = (after : List ℕ) × BeginsWithLength bytes len after × AreLengths after lens rest
 
 abbrev pub HasLengths : List ℕ → List ℕ → Type 0
 HasLengths bytes lens = (rest : List ℕ) × AreLengths bytes lens rest

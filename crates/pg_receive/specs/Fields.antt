@@ -10,7 +10,7 @@ use Rattle.pg_receive.specs.EndedTexts.{texts_in}
 abbrev pub Field : Type 0
 Field = ℕ × List ℕ
 
--- the texts up to the first empty one, each split behind its letter
+-- the texts up to the first empty one, each split after its letter
 abbrev pub lettered : List (List ℕ) → List Field
 lettered [] = []
 lettered ([] ∷ texts) = []

@@ -1,9 +1,9 @@
--- Items one after the other, each as it is spelled, behind a count of two bytes.
+-- Items one after the other, each as it is spelled, after a count of two bytes.
 use Rattle.std.specs.Prelude.{◌≡◌, ℕ, ◌+◌, ◌*◌, ◌<◌, ◌≤◌, List, [], ◌∷◌, ◌++◌, length, drop, ◌⊎◌}
 use Rattle.pg_base.specs.Numbers.{max_count}
 use Rattle.pg_base.specs.declared.error.ProtocolFault.{ProtocolFault}
 use Rattle.pg_base.specs.Reading.{Number}
-use Rattle.pg_base.specs.Faults.{IsShort}
+use Rattle.pg_base.specs.Error.{IsShort}
 
 -- the spellings of the items, joined
 abbrev pub SpellItems : {X : Type 0} → (List ℕ → X → Type 0) → List ℕ → List X → Type 0
@@ -11,58 +11,58 @@ SpellItems Spells spelled [] = spelled ≡ []
 SpellItems Spells spelled (item ∷ items) =
     (first : List ℕ) × (others : List ℕ) × (spelled ≡ first ++ others) × Spells first item × SpellItems Spells others items
 
--- as many items as the count says; bytes behind them are ignored
+-- as many items as the count says; bytes after them are ignored
 pub record CountedItems {X : Type 0} (Spells : List ℕ → X → Type 0) (body : List ℕ) (items : List X) : Type 0 where
-  pub behind : List ℕ
+  pub after : List ℕ
   pub spelled : List ℕ
   pub rest : List ℕ
-  pub count : Number 2 body (length items) behind
+  pub count : Number 2 body (length items) after
   pub fits : length items ≤ max_count
   pub are_spelled : SpellItems Spells spelled items
-  pub parts : behind ≡ spelled ++ rest
+  pub parts : after ≡ spelled ++ rest
 
--- the bytes behind the count can't hold so many items, of at least this many bytes each
+-- the bytes after the count can't hold so many items, of at least this many bytes each
 pub record HoldsFewer (least : ℕ) (body : List ℕ) (fault : ProtocolFault) : Type 0 where
   pub count : ℕ
-  pub behind : List ℕ
-  pub counted : Number 2 body count behind
+  pub after : List ℕ
+  pub counted : Number 2 body count after
   pub short : IsShort body 2 (least * count) fault
 
-abbrev pub BreaksCount : ℕ → List ℕ → ProtocolFault → Type 0
-BreaksCount least body fault = IsShort body 0 2 fault ⊎ HoldsFewer least body fault
+abbrev pub IsCountFault : ℕ → List ℕ → ProtocolFault → Type 0
+IsCountFault least body fault = IsShort body 0 2 fault ⊎ HoldsFewer least body fault
 
--- items are spelled, fewer than the count, and what stands behind them, at this offset of the body,
+-- items are spelled, fewer than the count, and what stands after them, at this offset of the body,
 -- begins with no item
-pub record BreaksNext {X : Type 0} (Spells : List ℕ → X → Type 0) (BreaksItem : List ℕ → ℕ → List ℕ → ProtocolFault → Type 0) (least : ℕ) (body : List ℕ) (fault : ProtocolFault) : Type 0 where
+pub record IsNextFault {X : Type 0} (Spells : List ℕ → X → Type 0) (IsItemFault : List ℕ → ℕ → List ℕ → ProtocolFault → Type 0) (least : ℕ) (body : List ℕ) (fault : ProtocolFault) : Type 0 where
   pub count : ℕ
-  pub behind : List ℕ
+  pub after : List ℕ
   pub items : List X
   pub spelled : List ℕ
   pub after : List ℕ
-  pub counted : Number 2 body count behind
-  pub holds : least * count ≤ length behind
+  pub counted : Number 2 body count after
+  pub holds : least * count ≤ length after
   pub are_spelled : SpellItems Spells spelled items
-  pub parts : behind ≡ spelled ++ after
+  pub parts : after ≡ spelled ++ after
   pub fewer : length items < count
-  pub breaks : BreaksItem body (2 + length spelled) after fault
+  pub breaks : IsItemFault body (2 + length spelled) after fault
 
 -- what is wrong with a body that isn't so many items
-abbrev pub BreaksItems : {X : Type 0} → (List ℕ → X → Type 0) → (List ℕ → ℕ → List ℕ → ProtocolFault → Type 0) → ℕ → List ℕ → ProtocolFault → Type 0
-BreaksItems Spells BreaksItem least body fault = BreaksCount least body fault ⊎ BreaksNext Spells BreaksItem least body fault
+abbrev pub IsItemsFault : {X : Type 0} → (List ℕ → X → Type 0) → (List ℕ → ℕ → List ℕ → ProtocolFault → Type 0) → ℕ → List ℕ → ProtocolFault → Type 0
+IsItemsFault Spells IsItemFault least body fault = IsCountFault least body fault ⊎ IsNextFault Spells IsItemFault least body fault
 
 -- the count is there, and the body can't hold so many items, or they need no memory
 pub record NeedsNoRoom (least inline : ℕ) (body : List ℕ) : Type 0 where
   pub count : ℕ
-  pub behind : List ℕ
-  pub counted : Number 2 body count behind
-  pub why : (length behind < least * count) ⊎ (count ≤ inline)
+  pub after : List ℕ
+  pub counted : Number 2 body count after
+  pub why : (length after < least * count) ⊎ (count ≤ inline)
 
 -- a body that asks for no memory, where so many items have room in place
 abbrev pub AsksForNothing : ℕ → ℕ → List ℕ → Type 0
 AsksForNothing least inline body = (length body < 2) ⊎ NeedsNoRoom least inline body
 
 -- an item stands in a body from one offset to another
-pub record StandsAt {X : Type 0} (Spells : List ℕ → X → Type 0) (body : List ℕ) (at : ℕ) (item : X) (end : ℕ) : Type 0 where
+pub record IsEncodedAt {X : Type 0} (Spells : List ℕ → X → Type 0) (body : List ℕ) (at : ℕ) (item : X) (end : ℕ) : Type 0 where
   pub spelled : List ℕ
   pub spells : Spells spelled item
   pub ends : end ≡ at + length spelled

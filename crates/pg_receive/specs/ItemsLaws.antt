@@ -2,8 +2,8 @@
 use Rattle.std.specs.Prelude.{◌≡◌, ℕ, ◌+◌, ◌*◌, ◌<◌, ◌≤◌, List, [], ◌∷◌, ◌++◌, length}
 use Rattle.std.proofs.Common.{refl, sym, ap, ◌∙◌, arith, inl, inr, append_assoc, length-append}
 use Rattle.pg_base.specs.declared.error.ProtocolFault.{ProtocolFault}
-use Rattle.pg_base.proofs.Readings.{one_number, number_fits}
-use Rattle.pg_receive.specs.Items.{SpellItems, CountedItems, BreaksItems}
+use Rattle.pg_base.proofs.ReadingLemmas.{one_number, number_fits}
+use Rattle.pg_receive.specs.Items.{SpellItems, CountedItems, IsItemsFault}
 
 -- equal bytes begin with one item
 abbrev pub SpellsOne : {X : Type 0} → (List ℕ → X → Type 0) → Type 0
@@ -15,8 +15,8 @@ TakesAtLeast {X} least Spells = (s : List ℕ) (v : X) → Spells s v → least 
 
 -- bytes that begin with an item have no fault
 abbrev pub ItemOrFault : {X : Type 0} → (List ℕ → X → Type 0) → (List ℕ → ℕ → List ℕ → ProtocolFault → Type 0) → Type 0
-ItemOrFault {X} Spells BreaksItem =
-    (body s x : List ℕ) (at : ℕ) (v : X) (fault : ProtocolFault) → length body ≡ at + length (s ++ x) → Spells s v → BreaksItem body at (s ++ x) fault → ⊥
+ItemOrFault {X} Spells IsItemFault =
+    (body s x : List ℕ) (at : ℕ) (v : X) (fault : ProtocolFault) → length body ≡ at + length (s ++ x) → Spells s v → IsItemFault body at (s ++ x) fault → ⊥
 
 pub one_list : {X : Type 0} (Spells : List ℕ → X → Type 0) → SpellsOne Spells → (s t x y : List ℕ) (v w : List X) → length v ≡ length w → SpellItems Spells s v → SpellItems Spells t w → s ++ x ≡ t ++ y → v ≡ w
 one_list Spells one s t x y [] [] len p q e = refl
@@ -31,7 +31,7 @@ one_list Spells one s t x y (a ∷ as') (b ∷ bs) len p q e =
 
 pub one_items : {X : Type 0} (Spells : List ℕ → X → Type 0) → SpellsOne Spells → (body : List ℕ) (v w : List X) → CountedItems Spells body v → CountedItems Spells body w → v ≡ w
 one_items Spells one body v w p q =
-    let counts = one_number 2 body (length v) (length w) p.behind q.behind p.count q.count in
+    let counts = one_number 2 body (length v) (length w) p.after q.after p.count q.count in
     one_list Spells one p.spelled q.spelled p.rest q.rest v w counts.0 p.are_spelled q.are_spelled (sym p.parts ∙ counts.1 ∙ q.parts)
 
 -- items take as many bytes as each at least
@@ -40,42 +40,42 @@ items_take least Spells takes s [] p = omega arith
 items_take least Spells takes s (a ∷ as') p =
     omega (arith, takes p.0 a p.3, items_take least Spells takes p.1 as' p.4, ap length p.2, length-append p.0 p.1)
 
--- the next item behind fewer is there
-next_is_there : {X : Type 0} (Spells : List ℕ → X → Type 0) (BreaksItem : List ℕ → ℕ → List ℕ → ProtocolFault → Type 0) → SpellsOne Spells → ItemOrFault Spells BreaksItem
+-- the next item after fewer is there
+next_is_there : {X : Type 0} (Spells : List ℕ → X → Type 0) (IsItemFault : List ℕ → ℕ → List ℕ → ProtocolFault → Type 0) → SpellsOne Spells → ItemOrFault Spells IsItemFault
     → (body s t x y : List ℕ) (at : ℕ) (v w : List X) (fault : ProtocolFault) → length body ≡ at + length (t ++ y) → length w < length v → SpellItems Spells s v → SpellItems Spells t w
-    → s ++ x ≡ t ++ y → BreaksItem body (at + length t) y fault → ⊥
-next_is_there Spells BreaksItem one apart body s t x y at [] w fault len fewer p q e breaks = omega (arith, fewer)
-next_is_there Spells BreaksItem one apart body s t x y at (a ∷ as') [] fault len fewer p q e breaks =
+    → s ++ x ≡ t ++ y → IsItemFault body (at + length t) y fault → ⊥
+next_is_there Spells IsItemFault one apart body s t x y at [] w fault len fewer p q e breaks = omega (arith, fewer)
+next_is_there Spells IsItemFault one apart body s t x y at (a ∷ as') [] fault len fewer p q e breaks =
     let whole : y ≡ p.0 ++ (p.1 ++ x) = sym (ap (λ (l : List ℕ). l ++ y) q) ∙ sym e ∙ ap (λ (l : List ℕ). l ++ x) p.2 ∙ append_assoc p.0 p.1 x in
     let long : length body ≡ at + length t + length (p.0 ++ (p.1 ++ x)) = omega (arith, len, length-append t y, ap length whole) in
     apart body p.0 (p.1 ++ x) (at + length t) a fault long p.3 (rw whole at breaks)
-next_is_there Spells BreaksItem one apart body s t x y at (a ∷ as') (b ∷ bs) fault len fewer p q e breaks =
+next_is_there Spells IsItemFault one apart body s t x y at (a ∷ as') (b ∷ bs) fault len fewer p q e breaks =
     let whole : p.0 ++ (p.1 ++ x) ≡ q.0 ++ (q.1 ++ y) =
     sym (append_assoc p.0 p.1 x) ∙ ap (λ (l : List ℕ). l ++ x) (sym p.2) ∙ e ∙ ap (λ (l : List ℕ). l ++ y) q.2 ∙ append_assoc q.0 q.1 y in
     let first = one p.0 q.0 (p.1 ++ x) (q.1 ++ y) a b p.3 q.3 whole in
     let long : length body ≡ at + length q.0 + length (q.1 ++ y) = omega (arith, len, ap length q.2, length-append t y, length-append q.0 q.1, length-append q.1 y) in
     let place : at + length t ≡ at + length q.0 + length q.1 = omega (arith, ap length q.2, length-append q.0 q.1) in
-    next_is_there Spells BreaksItem one apart body p.1 q.1 x y (at + length q.0) as' bs fault long (omega (arith, fewer)) p.4 q.4 first.1 (rw place at breaks)
+    next_is_there Spells IsItemFault one apart body p.1 q.1 x y (at + length q.0) as' bs fault long (omega (arith, fewer)) p.4 q.4 first.1 (rw place at breaks)
 
-pub items_or_fault : {X : Type 0} (Spells : List ℕ → X → Type 0) (BreaksItem : List ℕ → ℕ → List ℕ → ProtocolFault → Type 0) (least : ℕ) → SpellsOne Spells → TakesAtLeast least Spells → ItemOrFault Spells BreaksItem
-    → (body : List ℕ) (v : List X) (fault : ProtocolFault) → CountedItems Spells body v → BreaksItems Spells BreaksItem least body fault → ⊥
-items_or_fault Spells BreaksItem least one takes apart body v fault p (inl (inl short)) = omega (arith, short.lacks, number_fits 2 body (length v) p.behind p.count)
-items_or_fault Spells BreaksItem least one takes apart body v fault p (inl (inr fewer)) =
-    let counts = one_number 2 body (length v) fewer.count p.behind fewer.behind p.count fewer.counted in
+pub items_or_fault : {X : Type 0} (Spells : List ℕ → X → Type 0) (IsItemFault : List ℕ → ℕ → List ℕ → ProtocolFault → Type 0) (least : ℕ) → SpellsOne Spells → TakesAtLeast least Spells → ItemOrFault Spells IsItemFault
+    → (body : List ℕ) (v : List X) (fault : ProtocolFault) → CountedItems Spells body v → IsItemsFault Spells IsItemFault least body fault → ⊥
+items_or_fault Spells IsItemFault least one takes apart body v fault p (inl (inl short)) = omega (arith, short.lacks, number_fits 2 body (length v) p.after p.count)
+items_or_fault Spells IsItemFault least one takes apart body v fault p (inl (inr fewer)) =
+    let counts = one_number 2 body (length v) fewer.count p.after fewer.after p.count fewer.counted in
     let needs : least * length v ≡ least * fewer.count = ap (λ (n : ℕ). least * n) counts.0 in
-    omega (arith, fewer.short.lacks, needs, number_fits 2 body (length v) p.behind p.count, items_take least Spells takes p.spelled v p.are_spelled, ap length p.parts, length-append p.spelled p.rest)
-items_or_fault Spells BreaksItem least one takes apart body v fault p (inr next) =
-    let counts = one_number 2 body (length v) next.count p.behind next.behind p.count next.counted in
+    omega (arith, fewer.short.lacks, needs, number_fits 2 body (length v) p.after p.count, items_take least Spells takes p.spelled v p.are_spelled, ap length p.parts, length-append p.spelled p.rest)
+items_or_fault Spells IsItemFault least one takes apart body v fault p (inr next) =
+    let counts = one_number 2 body (length v) next.count p.after next.after p.count next.counted in
     let same : p.spelled ++ p.rest ≡ next.spelled ++ next.after = sym p.parts ∙ counts.1 ∙ next.parts in
-    let long : length body ≡ 2 + length (next.spelled ++ next.after) = omega (arith, number_fits 2 body next.count next.behind next.counted, ap length next.parts) in
-    next_is_there Spells BreaksItem one apart body p.spelled next.spelled p.rest next.after 2 v next.items fault long (omega (arith, next.fewer, counts.0)) p.are_spelled next.are_spelled same next.breaks
+    let long : length body ≡ 2 + length (next.spelled ++ next.after) = omega (arith, number_fits 2 body next.count next.after next.counted, ap length next.parts) in
+    next_is_there Spells IsItemFault one apart body p.spelled next.spelled p.rest next.after 2 v next.items fault long (omega (arith, next.fewer, counts.0)) p.are_spelled next.are_spelled same next.breaks
 
 -- so many bytes hold so many items
 pub items_fit : {X : Type 0} (least : ℕ) (Spells : List ℕ → X → Type 0) → TakesAtLeast least Spells → (body : List ℕ) (v : List X) → CountedItems Spells body v → 2 + least * length v ≤ length body
 items_fit least Spells takes body v p =
-    omega (arith, number_fits 2 body (length v) p.behind p.count, items_take least Spells takes p.spelled v p.are_spelled, ap length p.parts, length-append p.spelled p.rest)
+    omega (arith, number_fits 2 body (length v) p.after p.count, items_take least Spells takes p.spelled v p.are_spelled, ap length p.parts, length-append p.spelled p.rest)
 
--- an item stands between the spellings of those before it and of those behind it
+-- an item stands between the spellings of those before it and of those after it
 pub record Parts {X : Type 0} (Spells : List ℕ → X → Type 0) (spelled : List ℕ) (front : List X) (item : X) : Type 0 where
   pub before : List ℕ
   pub at : List ℕ

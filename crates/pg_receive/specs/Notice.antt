@@ -35,7 +35,7 @@ abbrev pub is_nonempty : List ℕ → Bool
 is_nonempty [] = false
 is_nonempty (byte ∷ bytes) = true
 
--- the last message and the last code, here behind others, aren't empty
+-- the last message and the last code, here after others, aren't empty
 abbrev pub is_full : List ℕ → List ℕ → List Field → Bool
 is_full message code front =
     is_nonempty (last plain message message_letter front) && is_nonempty (last plain code code_letter front)
@@ -90,5 +90,5 @@ notice_fault body = first_fault_of field_fault (read_part (fields_in body))
 abbrev pub MeansNotice : List ℕ → NoticeValue → Type 0
 MeansNotice body notice = (notice_fault body ≡ None) × (notice ≡ notice_of (fields_in body) (read_part (fields_in body)))
 
-abbrev pub BreaksNotice : List ℕ → ProtocolFault → Type 0
-BreaksNotice body fault = notice_fault body ≡ Some fault
+abbrev pub IsNoticeFault : List ℕ → ProtocolFault → Type 0
+IsNoticeFault body fault = notice_fault body ≡ Some fault

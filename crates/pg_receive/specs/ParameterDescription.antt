@@ -3,7 +3,7 @@
 use Rattle.std.specs.Prelude.{◌≡◌, ℕ, List, length}
 use Rattle.pg_base.specs.declared.error.ProtocolFault.{ProtocolFault}
 use Rattle.pg_base.specs.Numbers.{num}
-use Rattle.pg_receive.specs.Items.{CountedItems, BreaksCount, AsksForNothing}
+use Rattle.pg_receive.specs.Items.{CountedItems, IsCountFault, AsksForNothing}
 
 -- a type is the four bytes of its number
 pub record SpellsType (spelled : List ℕ) (id : ℕ) : Type 0 where
@@ -17,8 +17,8 @@ types_in_place = 6
 abbrev pub MeansTypes : List ℕ → List ℕ → Type 0
 MeansTypes body types = CountedItems SpellsType body types
 
-abbrev pub BreaksTypes : List ℕ → ProtocolFault → Type 0
-BreaksTypes body fault = BreaksCount 4 body fault
+abbrev pub IsTypesFault : List ℕ → ProtocolFault → Type 0
+IsTypesFault body fault = IsCountFault 4 body fault
 
-abbrev pub FreeTypes : List ℕ → Type 0
-FreeTypes body = AsksForNothing 4 types_in_place body
+abbrev pub TypesNeedsNoMemory : List ℕ → Type 0
+TypesNeedsNoMemory body = AsksForNothing 4 types_in_place body

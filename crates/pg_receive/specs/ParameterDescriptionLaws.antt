@@ -3,9 +3,9 @@ use Rattle.std.specs.Prelude.{◌≡◌, ℕ, List}
 use Rattle.std.proofs.Common.{sym, ap, ◌∙◌, arith, inl}
 use Rattle.pg_base.specs.declared.error.ProtocolFault.{ProtocolFault}
 use Rattle.pg_base.specs.Numbers.{num}
-use Rattle.pg_base.proofs.Cuts.{parts_at}
+use Rattle.pg_base.proofs.CuttingLemmas.{parts_at}
 use Rattle.pg_receive.specs.ItemsLaws.{SpellsOne, TakesAtLeast, ItemOrFault, one_items, items_or_fault}
-use Rattle.pg_receive.specs.ParameterDescription.{SpellsType, MeansTypes, BreaksTypes}
+use Rattle.pg_receive.specs.ParameterDescription.{SpellsType, MeansTypes, IsTypesFault}
 
 one_type : SpellsOne SpellsType
 one_type s t x y v w p q e =
@@ -25,5 +25,5 @@ never_apart body s x at v fault len p q = q
 pub one_types : (body v w : List ℕ) → MeansTypes body v → MeansTypes body w → v ≡ w
 one_types body v w p q = one_items SpellsType one_type body v w p q
 
-pub types_or_fault : (body v : List ℕ) (fault : ProtocolFault) → MeansTypes body v → BreaksTypes body fault → ⊥
+pub types_or_fault : (body v : List ℕ) (fault : ProtocolFault) → MeansTypes body v → IsTypesFault body fault → ⊥
 types_or_fault body v fault p q = items_or_fault SpellsType Never 4 one_type type_takes never_apart body v fault p (inl q)

@@ -2,27 +2,27 @@
 -- ParameterStatus (B).
 use Rattle.std.specs.Prelude.{◌+◌, ℕ, List, length, ◌⊎◌}
 use Rattle.pg_base.specs.declared.error.ProtocolFault.{ProtocolFault}
-use Rattle.pg_receive.specs.Strings.{Utf8Text, BreaksText}
+use Rattle.pg_receive.specs.Strings.{Utf8Text, IsTextFault}
 
 -- a setting as bytes
 pub record Setting : Type 0 where
   pub name : List ℕ
   pub value : List ℕ
 
--- two texts; bytes behind them are ignored
+-- two texts; bytes after them are ignored
 pub record MeansSetting (body : List ℕ) (setting : Setting) : Type 0 where
-  pub behind : List ℕ
+  pub after : List ℕ
   pub rest : List ℕ
-  pub name : Utf8Text body setting.name behind
-  pub value : Utf8Text behind setting.value rest
+  pub name : Utf8Text body setting.name after
+  pub value : Utf8Text after setting.value rest
 
--- the name is a text, and behind its 0 none stands
-pub record BreaksValue (body : List ℕ) (fault : ProtocolFault) : Type 0 where
+-- the name is a text, and after its 0 none stands
+pub record IsValueFault (body : List ℕ) (fault : ProtocolFault) : Type 0 where
   pub name : List ℕ
-  pub behind : List ℕ
-  pub named : Utf8Text body name behind
-  pub breaks : BreaksText (length name + 1) behind fault
+  pub after : List ℕ
+  pub named : Utf8Text body name after
+  pub breaks : IsTextFault (length name + 1) after fault
 
 -- the name is no text, or it is and the value is none
-abbrev pub BreaksSetting : List ℕ → ProtocolFault → Type 0
-BreaksSetting body fault = BreaksText 0 body fault ⊎ BreaksValue body fault
+abbrev pub IsSettingFault : List ℕ → ProtocolFault → Type 0
+IsSettingFault body fault = IsTextFault 0 body fault ⊎ IsValueFault body fault

@@ -4,7 +4,7 @@ use Rattle.std.proofs.Common.{refl, sym, ◌∙◌, arith}
 use Rattle.pg_base.specs.declared.error.ProtocolFault.{ProtocolFault}
 use Rattle.pg_receive.specs.declared.message.ready_for_query.TransactionStatus.{TransactionStatus}
 use Rattle.pg_receive.specs.declared.message.ready_for_query.TransactionStatus.TheVariants as statuses
-use Rattle.pg_receive.specs.ReadyForQuery.{letter, MeansStatus, BreaksStatus}
+use Rattle.pg_receive.specs.ReadyForQuery.{letter, MeansStatus, IsStatusFault}
 
 -- two statuses with one letter are one
 one_letter : (v w : TransactionStatus) → letter v ≡ letter w → v ≡ w
@@ -24,6 +24,6 @@ one_status body v w p q =
     let heads : letter v ≡ letter w = cc in
     one_letter v w heads
 
-pub status_or_fault : (body : List ℕ) (v : TransactionStatus) (fault : ProtocolFault) → MeansStatus body v → BreaksStatus body fault → ⊥
+pub status_or_fault : (body : List ℕ) (v : TransactionStatus) (fault : ProtocolFault) → MeansStatus body v → IsStatusFault body fault → ⊥
 status_or_fault [] v fault p q = cc (p.1)
 status_or_fault (byte ∷ rest) v fault p q = let heads : letter v ≡ byte = cc (p.1) in q.0 v heads

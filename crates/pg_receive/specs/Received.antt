@@ -1,6 +1,6 @@
 -- What reading a message by its kind answers.
 use Rattle.std.specs.Prelude.{◌≡◌, Some, Result, Ok, Err, ℕ}
-use Rattle.pg_base.specs.declared.message.BackendMessageFormat.{BackendMessageFormat}
+use Rattle.pg_base.specs.declared.format.BackendMessageFormat.{BackendMessageFormat}
 use Rattle.pg_base.specs.declared.error.Error.{Error}
 use Rattle.pg_base.specs.declared.error.Error.TheVariants.{Protocol, OutOfMemory}
 

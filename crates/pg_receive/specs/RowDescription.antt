@@ -4,9 +4,9 @@ use Rattle.pg_base.specs.declared.error.ProtocolFault.{ProtocolFault}
 use Rattle.pg_base.specs.declared.io.Oid.{Oid}
 use Rattle.pg_receive.specs.declared.message.row_description.Field.{Field}
 use Rattle.pg_base.specs.Reading.{Number, Signed}
-use Rattle.pg_base.specs.Faults.{IsShort}
-use Rattle.pg_receive.specs.Strings.{Utf8Text, BreaksText}
-use Rattle.pg_receive.specs.Items.{CountedItems, BreaksItems, AsksForNothing}
+use Rattle.pg_base.specs.Error.{IsShort}
+use Rattle.pg_receive.specs.Strings.{Utf8Text, IsTextFault}
+use Rattle.pg_receive.specs.Items.{CountedItems, IsItemsFault, AsksForNothing}
 
 -- a column as numbers and bytes
 pub record Column : Type 0 where
@@ -38,11 +38,11 @@ abbrev pub attribute : ℤ → Option ℤ
 attribute (pos n) = if n == 0 then None else Some (pos n)
 attribute (negsuc n) = Some (negsuc n)
 
--- how many bytes stand behind the name
+-- how many bytes stand after the name
 abbrev pub numbers_length : ℕ
 numbers_length = 18
 
--- the numbers behind the name
+-- the numbers after the name
 pub record SpellsNumbers (numbers : List ℕ) (column : Column) : Type 0 where
   pub table_id : ℕ
   pub attribute_no : ℤ
@@ -66,16 +66,16 @@ pub record SpellsColumn (spelled : List ℕ) (column : Column) : Type 0 where
   pub named : Utf8Text spelled column.name numbers
   pub numbered : SpellsNumbers numbers column
 
--- the name is there, and behind it not all of the numbers
-pub record LacksNumbers (body : List ℕ) (at : ℕ) (bytes : List ℕ) (fault : ProtocolFault) : Type 0 where
+-- the name is there, and after it not all of the numbers
+pub record IsTruncatedNumbers (body : List ℕ) (at : ℕ) (bytes : List ℕ) (fault : ProtocolFault) : Type 0 where
   pub name : List ℕ
-  pub behind : List ℕ
-  pub named : Utf8Text bytes name behind
+  pub after : List ℕ
+  pub named : Utf8Text bytes name after
   pub short : IsShort body (at + length name + 1) numbers_length fault
 
 -- the bytes at this offset of the body begin with no column
-abbrev pub BreaksColumn : List ℕ → ℕ → List ℕ → ProtocolFault → Type 0
-BreaksColumn body at bytes fault = BreaksText at bytes fault ⊎ LacksNumbers body at bytes fault
+abbrev pub IsColumnFault : List ℕ → ℕ → List ℕ → ProtocolFault → Type 0
+IsColumnFault body at bytes fault = IsTextFault at bytes fault ⊎ IsTruncatedNumbers body at bytes fault
 
 -- the least number of bytes that spell a column
 abbrev pub least_column : ℕ
@@ -84,8 +84,8 @@ least_column = 19
 abbrev pub Columns : List ℕ → List Column → Type 0
 Columns body columns = CountedItems SpellsColumn body columns
 
-abbrev pub BreaksColumns : List ℕ → ProtocolFault → Type 0
-BreaksColumns body fault = BreaksItems SpellsColumn BreaksColumn least_column body fault
+abbrev pub IsColumnsFault : List ℕ → ProtocolFault → Type 0
+IsColumnsFault body fault = IsItemsFault SpellsColumn IsColumnFault least_column body fault
 
-abbrev pub FreeColumns : List ℕ → Type 0
-FreeColumns body = AsksForNothing least_column 0 body
+abbrev pub ColumnsNeedsNoMemory : List ℕ → Type 0
+ColumnsNeedsNoMemory body = AsksForNothing least_column 0 body

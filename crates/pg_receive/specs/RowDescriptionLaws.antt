@@ -3,14 +3,14 @@ use Rattle.std.specs.Prelude.{◌≡◌, ℕ, ◌+◌, ◌*◌, ◌≤◌, List,
 use Rattle.std.proofs.Common.{refl, sym, ap, ◌∙◌, arith, inl, inr, append_assoc, length-append}
 use Rattle.pg_base.specs.declared.error.ProtocolFault.{ProtocolFault}
 use Rattle.pg_base.specs.Reading.{Text}
-use Rattle.pg_base.proofs.Cuts.{parts_at}
-use Rattle.pg_base.proofs.Readings.{one_number, one_signed, one_text, number_fits, signed_fits}
+use Rattle.pg_base.proofs.CuttingLemmas.{parts_at}
+use Rattle.pg_base.proofs.ReadingLemmas.{one_number, one_signed, one_text, number_fits, signed_fits}
 use Rattle.pg_receive.specs.Strings.{Utf8Text}
 use Rattle.pg_receive.specs.StringsLaws.{text_or_fault}
 use Rattle.pg_receive.specs.ItemsLaws.{SpellsOne, TakesAtLeast, ItemOrFault, one_items, items_or_fault, items_fit}
-use Rattle.pg_receive.specs.RowDescription.{Column, table, attribute, numbers_length, SpellsNumbers, SpellsColumn, BreaksColumn, Columns, BreaksColumns, least_column}
+use Rattle.pg_receive.specs.RowDescription.{Column, table, attribute, numbers_length, SpellsNumbers, SpellsColumn, IsColumnFault, Columns, IsColumnsFault, least_column}
 
--- a text keeps what stands behind it
+-- a text keeps what stands after it
 longer_text : (bytes text rest x : List ℕ) → Text bytes text rest → Text (bytes ++ x) text (rest ++ x)
 longer_text bytes text rest x p = record { clean = p.clean; parts = ap (λ (l : List ℕ). l ++ x) p.parts ∙ append_assoc text (0 ∷ rest) x }
 
@@ -66,18 +66,18 @@ column_length s v p = omega (arith, ap length p.named.ends.parts, length-append 
 pub column_takes : TakesAtLeast least_column SpellsColumn
 column_takes s v p = omega (arith, column_length s v p)
 
-pub column_or_fault : ItemOrFault SpellsColumn BreaksColumn
+pub column_or_fault : ItemOrFault SpellsColumn IsColumnFault
 column_or_fault body s x at v fault len p (inl breaks) =
     text_or_fault at (s ++ x) v.name (p.numbers ++ x) fault (longer_utf8 s v.name p.numbers x p.named) breaks
 column_or_fault body s x at v fault len p (inr lacks) =
-    let names = one_text (s ++ x) v.name lacks.name (p.numbers ++ x) lacks.behind (longer_text s v.name p.numbers x p.named.ends) lacks.named.ends in
+    let names = one_text (s ++ x) v.name lacks.name (p.numbers ++ x) lacks.after (longer_text s v.name p.numbers x p.named.ends) lacks.named.ends in
     omega (arith, lacks.short.lacks, ap length names.0, len, length-append s x, column_length s v p)
 
 pub one_description : (body : List ℕ) (v w : List Column) → Columns body v → Columns body w → v ≡ w
 one_description body v w p q = one_items SpellsColumn one_column body v w p q
 
-pub description_or_fault : (body : List ℕ) (v : List Column) (fault : ProtocolFault) → Columns body v → BreaksColumns body fault → ⊥
-description_or_fault body v fault p q = items_or_fault SpellsColumn BreaksColumn least_column one_column column_takes column_or_fault body v fault p q
+pub description_or_fault : (body : List ℕ) (v : List Column) (fault : ProtocolFault) → Columns body v → IsColumnsFault body fault → ⊥
+description_or_fault body v fault p q = items_or_fault SpellsColumn IsColumnFault least_column one_column column_takes column_or_fault body v fault p q
 
 pub columns_fit : (body : List ℕ) (columns : List Column) → Columns body columns → 2 + 19 * length columns ≤ length body
 columns_fit body columns p = items_fit least_column SpellsColumn column_takes body columns p

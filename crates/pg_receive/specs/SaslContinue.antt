@@ -56,5 +56,5 @@ continue_fault bytes =
 abbrev pub MeansContinue : List ℕ → ContinueValue → Type 0
 MeansContinue bytes value = (continue_fault bytes ≡ None) × (value ≡ continue_of bytes)
 
-abbrev pub BreaksContinue : List ℕ → ProtocolFault → Type 0
-BreaksContinue bytes fault = continue_fault bytes ≡ Some fault
+abbrev pub IsContinueFault : List ℕ → ProtocolFault → Type 0
+IsContinueFault bytes fault = continue_fault bytes ≡ Some fault

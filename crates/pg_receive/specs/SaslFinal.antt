@@ -17,5 +17,5 @@ final_fault bytes = first_fault_of (item_fault verifier_key) (items_in bytes)
 abbrev pub MeansFinal : List ℕ → List ℕ → Type 0
 MeansFinal bytes verifier = (final_fault bytes ≡ None) × (verifier ≡ verifier_of bytes)
 
-abbrev pub BreaksFinal : List ℕ → ProtocolFault → Type 0
-BreaksFinal bytes fault = final_fault bytes ≡ Some fault
+abbrev pub IsFinalFault : List ℕ → ProtocolFault → Type 0
+IsFinalFault bytes fault = final_fault bytes ≡ Some fault

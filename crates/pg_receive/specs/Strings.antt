@@ -11,7 +11,7 @@ pub record Utf8Text (bytes text rest : List ℕ) : Type 0 where
   pub utf8 : IsUtf8 text
 
 -- no 0 ends the bytes, which stand at this offset of a body
-pub record LacksNul (at : ℕ) (bytes : List ℕ) (fault : ProtocolFault) : Type 0 where
+pub record IsMissingNul (at : ℕ) (bytes : List ℕ) (fault : ProtocolFault) : Type 0 where
   pub lacks : HoldsNo 0 bytes
   pub is : fault ≡ MissingNul at
 
@@ -24,5 +24,5 @@ pub record IsNotUtf8 (bytes : List ℕ) (fault : ProtocolFault) : Type 0 where
   pub is : fault ≡ NotUtf8
 
 -- the bytes, which stand at this offset of a body, begin with no text of UTF-8
-abbrev pub BreaksText : ℕ → List ℕ → ProtocolFault → Type 0
-BreaksText at bytes fault = LacksNul at bytes fault ⊎ IsNotUtf8 bytes fault
+abbrev pub IsTextFault : ℕ → List ℕ → ProtocolFault → Type 0
+IsTextFault at bytes fault = IsMissingNul at bytes fault ⊎ IsNotUtf8 bytes fault

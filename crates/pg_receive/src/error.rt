@@ -1,10 +1,10 @@
 //! An error of the server.
 
 ghost use Rattle.std.specs.Prelude.{◌≡◌, ◌≤◌, Some, None, length, option_copied, option_map};
-ghost use Rattle.pg_base.specs.Answers.{Answers};
-ghost use Rattle.pg_base.specs.declared.message.BackendMessageFormat.TheVariants as formats;
+ghost use Rattle.pg_base.specs.Decode.{Decodes};
+ghost use Rattle.pg_base.specs.declared.format.BackendMessageFormat.TheVariants as formats;
 ghost use Rattle.pg_receive.specs.Fields.{first_text};
-ghost use Rattle.pg_receive.specs.Notice.{NoticeValue, MeansNotice, BreaksNotice};
+ghost use Rattle.pg_receive.specs.Notice.{NoticeValue, MeansNotice, IsNoticeFault};
 ghost use Rattle.pg_receive.specs.NoticeLaws.{one_notice, notice_or_fault};
 ghost use Rattle.pg_receive.specs.DatabaseError.{detail_letter, hint_letter, where_letter, schema_letter, table_letter, column_letter, data_type_letter, constraint_letter, file_letter, line_letter, routine_letter, first_number, position_of, kind_of, is_transient, database_error_words};
 
@@ -228,9 +228,9 @@ impl BackendMessage for PgDatabaseError {
 
     ghost Means = { MeansNotice };
 
-    ghost Broken = { BreaksNotice };
+    ghost IsFault = { IsNoticeFault };
 
-    ghost Free = { λ _. Unit {0} };
+    ghost NeedsNoMemory = { λ _. Unit {0} };
 
     fn decode_body(alloc: Global, buf: Bytes) -> Result<Self, Error> {
         Ok(PgDatabaseError(Notice::decode_body(alloc, buf)?))

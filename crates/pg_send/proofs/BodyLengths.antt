@@ -1,6 +1,6 @@
 -- The length of a body from those of its parts.
 use Rattle.std.proofs.Common.{◌≡◌, ℕ, ◌+◌, ◌*◌, List, ◌++◌, ◌∷◌, [], length, arith, length-append}
-use Rattle.pg_base.specs.Names.{name, named, statement_prefix, portal_prefix}
+use Rattle.pg_base.specs.Id.{name, named, statement_prefix, portal_prefix}
 use Rattle.pg_base.specs.Numbers.{be16}
 use Rattle.pg_send.specs.Counted.{counted16, counted32}
 use Rattle.pg_send.specs.Bind.{BindFields, bind_body}

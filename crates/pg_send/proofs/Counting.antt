@@ -35,7 +35,7 @@ module _ {X N : Type 0} (spell : N → List ℕ) (value : X → N) (xs : List X)
   all_more P all one =
       rw (take_more xs i d before, map_push value (take i xs) (get_or xs i d)) (All-push P (map value (take i xs)) (value (get_or xs i d)) all one)
 
--- the length of a list behind its count
+-- the length of a list after its count
 each_long : (spell : ℕ → List ℕ) (width : ℕ) → ((n : ℕ) → length (spell n) ≡ width) → (ns : List ℕ) → length (flat_map spell ns) ≡ length ns * width
 each_long spell width long [] = omega arith
 each_long spell width long (n ∷ ns) =

@@ -4,9 +4,9 @@ use Rattle.std.proofs.lemmas.Bool.{leb-true}
 use Rattle.std.proofs.lemmas.List.{append-nil}
 use Rattle.pg_base.specs.declared.error.ProtocolFault.{ProtocolFault}
 use Rattle.pg_base.specs.declared.error.ProtocolFault.TheVariants.{MessageTooLong}
-use Rattle.pg_base.specs.Answers.{IsAnswer}
+use Rattle.pg_base.specs.Encode.{IsAnswer}
 use Rattle.pg_base.specs.Cutting.{max_length, frame, IsCutInto}
-use Rattle.pg_base.proofs.Cuts.{cut_frame, is_cut_into}
+use Rattle.pg_base.proofs.CuttingLemmas.{cut_frame, is_cut_into}
 use Rattle.pg_send.specs.Limits.{saturated, first_fault, checked_len}
 
 -- a test that let a length pass

@@ -5,12 +5,12 @@ use Rattle.std.specs.List.{flat_map}
 use Rattle.std.proofs.lemmas.List.{append-nil}
 use Rattle.std.proofs.lemmas.List.Elements.{All-head, All-tail}
 use Rattle.pg_base.specs.Cutting.{max_length}
-use Rattle.pg_base.specs.Names.{name, named, max_id, statement_prefix, portal_prefix}
+use Rattle.pg_base.specs.Id.{name, named, max_id, statement_prefix, portal_prefix}
 use Rattle.pg_base.specs.Numbers.{be16, be32}
 use Rattle.pg_base.specs.Reading.{Number, HoldsNo, Text, Numbers, Counted}
-use Rattle.pg_base.proofs.Cuts.{parts_at, int_be32}
-use Rattle.pg_base.proofs.Readings.{one_number, one_signed, one_text}
-use Rattle.pg_base.proofs.ReadBack.{id_of_name, text_of_name, one_id, statement_prefix_holds_no_0, portal_prefix_holds_no_0, number_of_be16, number_of_be32, one_counted, one_values, values_before}
+use Rattle.pg_base.proofs.CuttingLemmas.{parts_at, int_be32}
+use Rattle.pg_base.proofs.ReadingLemmas.{one_number, one_signed, one_text}
+use Rattle.pg_base.proofs.RoundTripLemmas.{id_of_name, text_of_name, one_id, statement_prefix_holds_no_0, portal_prefix_holds_no_0, number_of_be16, number_of_be32, one_counted, one_values, values_before}
 use Rattle.pg_send.specs.Counted.{counted16, counted32}
 use Rattle.pg_send.specs.Bind.{BindFields, bind_body, IsBindInRange, ReadsBind, KeepsBind}
 use Rattle.pg_send.specs.Execute.{ExecuteFields, execute_body, IsExecuteInRange, ReadsExecute}
@@ -20,11 +20,11 @@ use Rattle.pg_send.specs.Parse.{ParseFields, parse_body, IsParseInRange, ReadsPa
 use Rattle.pg_send.specs.Sasl.{SaslInitialFields, mechanism, sasl_initial_body, ReadsSaslInitial}
 use Rattle.pg_send.specs.Target.{Target, Statement, Portal, target_body, IsTargetInRange, ReadsName, ReadsTarget}
 
--- a text and a NUL, with nothing behind
+-- a text and a NUL, with nothing after
 pub text_alone : (text : List ℕ) → HoldsNo 0 text → Text (text ++ 0 ∷ []) text []
 text_alone text h = record { clean = h; parts = refl }
 
--- ---- lists behind their count
+-- ---- lists after their count
 
 numbers_again : (spell : ℕ → List ℕ) (width limit : ℕ) → ((n : ℕ) (rest : List ℕ) → n < limit → Number width (spell n ++ rest) n rest) → (ns rest : List ℕ) → All (λ n. n < limit) ns → Numbers width (flat_map spell ns ++ rest) ns rest
 numbers_again spell width limit again [] rest small = refl
@@ -37,7 +37,7 @@ numbers_again spell width limit again (n ∷ ns) rest small = (
 counted_again : (spell : ℕ → List ℕ) (width limit : ℕ) → ((n : ℕ) (rest : List ℕ) → n < limit → Number width (spell n ++ rest) n rest) → (ns rest : List ℕ) → length ns < 2 ^ 16 → All (λ n. n < limit) ns
     → Counted width ((be16 (length ns) ++ flat_map spell ns) ++ rest) ns rest
 counted_again spell width limit again ns rest few small = record {
-  behind = flat_map spell ns ++ rest;
+  after = flat_map spell ns ++ rest;
   count = number_of_be16 (length ns) (flat_map spell ns ++ rest) few;
   numbers = numbers_again spell width limit again ns rest small;
 }
@@ -53,7 +53,7 @@ counted32_again = counted_again be32 4 (2 ^ 32) number_of_be32
 pub execute_again : (e : ExecuteFields) → IsExecuteInRange e → ReadsExecute (execute_body e) e
 execute_again e h = record {
   name = name portal_prefix e.portal;
-  behind_name = be32 e.limit;
+  after_name = be32 e.limit;
   first = text_of_name portal_prefix e.portal (be32 e.limit) portal_prefix_holds_no_0 h.portal;
   portal = id_of_name portal_prefix e.portal h.portal;
   limit = rw append-nil at (number_of_be32 e.limit [] h.limit);
@@ -61,9 +61,9 @@ execute_again e h = record {
 
 pub one_execute : (body : List ℕ) (d e : ExecuteFields) → ReadsExecute body d → ReadsExecute body e → d ≡ e
 one_execute body d e p q =
-    let first = one_text body p.name q.name p.behind_name q.behind_name p.first q.first in
+    let first = one_text body p.name q.name p.after_name q.after_name p.first q.first in
     let portals : d.portal ≡ e.portal = one_id portal_prefix q.name d.portal e.portal (rw first.0 at p.portal) q.portal in
-    let limits : d.limit ≡ e.limit = (one_number 4 q.behind_name d.limit e.limit [] [] (rw first.1 at p.limit) q.limit).0 in
+    let limits : d.limit ≡ e.limit = (one_number 4 q.after_name d.limit e.limit [] [] (rw first.1 at p.limit) q.limit).0 in
     λ i. record { portal = portals i; limit = limits i }
 
 -- ---- Describe and Close
@@ -71,7 +71,7 @@ one_execute body d e p q =
 name_again : (letter : ℕ) (prefix : List ℕ) (id : ℕ) → HoldsNo 0 prefix → id ≤ max_id → ReadsName (letter ∷ named prefix id) letter prefix id
 name_again letter prefix id p h = record {
   name = name prefix id;
-  behind = named prefix id;
+  after = named prefix id;
   begins = refl;
   text = rw append-nil at (text_of_name prefix id [] p h);
   is = id_of_name prefix id h;
@@ -83,14 +83,14 @@ target_again (Portal id) h = name_again 80 portal_prefix id portal_prefix_holds_
 
 one_name : (body : List ℕ) (letter : ℕ) (prefix : List ℕ) (a b : ℕ) → ReadsName body letter prefix a → ReadsName body letter prefix b → a ≡ b
 one_name body letter prefix a b p q =
-    let e : letter ∷ p.behind ≡ letter ∷ q.behind = sym p.begins ∙ q.begins in
-    let tails : p.behind ≡ q.behind = cc in
-    let texts = one_text q.behind p.name q.name [] [] (rw tails at p.text) q.text in
+    let e : letter ∷ p.after ≡ letter ∷ q.after = sym p.begins ∙ q.begins in
+    let tails : p.after ≡ q.after = cc in
+    let texts = one_text q.after p.name q.name [] [] (rw tails at p.text) q.text in
     one_id prefix q.name a b (rw texts.0 at p.is) q.is
 
 other_letter : (body : List ℕ) (m n : ℕ) (s t : List ℕ) (a b : ℕ) → m ≢ n → ReadsName body m s a → ReadsName body n t b → ⊥
 other_letter body m n s t a b ne p q =
-    let e : m ∷ p.behind ≡ n ∷ q.behind = sym p.begins ∙ q.begins in
+    let e : m ∷ p.after ≡ n ∷ q.after = sym p.begins ∙ q.begins in
     let heads : m ≡ n = cc in
     ne heads
 
@@ -104,13 +104,13 @@ one_target body (Portal a) (Portal b) p q = ap Portal (one_name body 80 portal_p
 
 pub parse_again : (p : ParseFields) → IsParseInRange p → length p.param_types < 2 ^ 16 → KeepsParse p → ReadsParse (parse_body p) p
 parse_again p h few clean =
-    let behind : List ℕ = p.query ++ 0 ∷ counted32 p.param_types in
-    let regrouped : parse_body p ≡ named statement_prefix p.statement ++ behind = simp append_assoc in
+    let after : List ℕ = p.query ++ 0 ∷ counted32 p.param_types in
+    let regrouped : parse_body p ≡ named statement_prefix p.statement ++ after = simp append_assoc in
     record {
       name = name statement_prefix p.statement;
-      behind_name = behind;
-      behind_query = counted32 p.param_types;
-      first = rw regrouped (text_of_name statement_prefix p.statement behind statement_prefix_holds_no_0 h.statement);
+      after_name = after;
+      after_query = counted32 p.param_types;
+      first = rw regrouped (text_of_name statement_prefix p.statement after statement_prefix_holds_no_0 h.statement);
       statement = id_of_name statement_prefix p.statement h.statement;
       second = record { clean = clean; parts = refl };
       types = rw append-nil at (counted32_again p.param_types [] few h.param_types);
@@ -118,10 +118,10 @@ parse_again p h few clean =
 
 pub one_parse : (body : List ℕ) (a b : ParseFields) → ReadsParse body a → ReadsParse body b → a ≡ b
 one_parse body a b p q =
-    let first = one_text body p.name q.name p.behind_name q.behind_name p.first q.first in
+    let first = one_text body p.name q.name p.after_name q.after_name p.first q.first in
     let statements : a.statement ≡ b.statement = one_id statement_prefix q.name a.statement b.statement (rw first.0 at p.statement) q.statement in
-    let second = one_text q.behind_name a.query b.query p.behind_query q.behind_query (rw first.1 at p.second) q.second in
-    let types = one_counted 4 q.behind_query a.param_types b.param_types [] [] (rw second.1 at p.types) q.types in
+    let second = one_text q.after_name a.query b.query p.after_query q.after_query (rw first.1 at p.second) q.second in
+    let types = one_counted 4 q.after_query a.param_types b.param_types [] [] (rw second.1 at p.types) q.types in
     λ i. record { statement = statements i; query = second.0 i; param_types = types.0 i }
 
 -- ---- Bind
@@ -140,11 +140,11 @@ bind_again b h few few_results values =
     record {
       portal_name = name portal_prefix b.portal;
       statement_name = name statement_prefix b.statement;
-      behind_portal = statement;
-      behind_statement = formats;
-      behind_formats = count;
-      behind_count = params;
-      behind_params = results;
+      after_portal = statement;
+      after_statement = formats;
+      after_formats = count;
+      after_count = params;
+      after_params = results;
       first = rw regrouped (text_of_name portal_prefix b.portal statement portal_prefix_holds_no_0 h.portal);
       portal = id_of_name portal_prefix b.portal h.portal;
       second = text_of_name statement_prefix b.statement formats statement_prefix_holds_no_0 h.statement;
@@ -163,15 +163,15 @@ same_front a b rest e = (parts_at a b rest rest (omega (arith, ap length e, leng
 
 pub one_bind : (body : List ℕ) (a b : BindFields) → ReadsBind body a → ReadsBind body b → a ≡ b
 one_bind body a b p q =
-    let first = one_text body p.portal_name q.portal_name p.behind_portal q.behind_portal p.first q.first in
+    let first = one_text body p.portal_name q.portal_name p.after_portal q.after_portal p.first q.first in
     let portals : a.portal ≡ b.portal = one_id portal_prefix q.portal_name a.portal b.portal (rw first.0 at p.portal) q.portal in
-    let second = one_text q.behind_portal p.statement_name q.statement_name p.behind_statement q.behind_statement (rw first.1 at p.second) q.second in
+    let second = one_text q.after_portal p.statement_name q.statement_name p.after_statement q.after_statement (rw first.1 at p.second) q.second in
     let statements : a.statement ≡ b.statement = one_id statement_prefix q.statement_name a.statement b.statement (rw second.0 at p.statement) q.statement in
-    let formats = one_counted 2 q.behind_statement a.formats b.formats p.behind_formats q.behind_formats (rw second.1 at p.formats) q.formats in
-    let count = one_number 2 q.behind_formats a.num_params b.num_params p.behind_count q.behind_count (rw formats.1 at p.count) q.count in
-    let behind : p.behind_params ≡ q.behind_params = one_values b.num_params q.behind_count p.behind_params q.behind_params (rw (count.0, count.1) at p.values) q.values in
-    let params : a.params ≡ b.params = same_front a.params b.params q.behind_params (rw behind at (sym p.params ∙ count.1 ∙ q.params)) in
-    let results = one_counted 2 q.behind_params a.result_formats b.result_formats [] [] (rw behind at p.result_formats) q.result_formats in
+    let formats = one_counted 2 q.after_statement a.formats b.formats p.after_formats q.after_formats (rw second.1 at p.formats) q.formats in
+    let count = one_number 2 q.after_formats a.num_params b.num_params p.after_count q.after_count (rw formats.1 at p.count) q.count in
+    let after : p.after_params ≡ q.after_params = one_values b.num_params q.after_count p.after_params q.after_params (rw (count.0, count.1) at p.values) q.values in
+    let params : a.params ≡ b.params = same_front a.params b.params q.after_params (rw after at (sym p.params ∙ count.1 ∙ q.params)) in
+    let results = one_counted 2 q.after_params a.result_formats b.result_formats [] [] (rw after at p.result_formats) q.result_formats in
     λ i. record { portal = portals i; statement = statements i; formats = formats.0 i; num_params = count.0 i; params = params i; result_formats = results.0 i }
 
 -- ---- SaslInitialResponse
@@ -182,7 +182,7 @@ mechanism_holds_no_0 false = (λ e. omega (arith, e), (λ e. omega (arith, e), (
 
 pub sasl_again : (s : SaslInitialFields) → length s.response ≤ max_length → ReadsSaslInitial (sasl_initial_body s) s
 sasl_again s fits = record {
-  behind_name = be32 (length s.response) ++ s.response;
+  after_name = be32 (length s.response) ++ s.response;
   name = record { clean = mechanism_holds_no_0 s.plus; parts = simp append_assoc };
   response = record { spelled = be32 (length s.response); wide = refl; is = sym (int_be32 (length s.response) fits); parts = refl };
 }
@@ -195,9 +195,9 @@ one_mechanism false false e = refl
 
 pub one_sasl : (body : List ℕ) (a b : SaslInitialFields) → ReadsSaslInitial body a → ReadsSaslInitial body b → a ≡ b
 one_sasl body a b p q =
-    let names = one_text body (mechanism a.plus) (mechanism b.plus) p.behind_name q.behind_name p.name q.name in
+    let names = one_text body (mechanism a.plus) (mechanism b.plus) p.after_name q.after_name p.name q.name in
     let pluses = one_mechanism a.plus b.plus names.0 in
-    let responses = (one_signed 4 q.behind_name (pos (length a.response)) (pos (length b.response)) a.response b.response (rw names.1 at p.response) q.response).1 in
+    let responses = (one_signed 4 q.after_name (pos (length a.response)) (pos (length b.response)) a.response b.response (rw names.1 at p.response) q.response).1 in
     λ i. record { response = responses i; plus = pluses i }
 
 -- ---- Password
@@ -259,11 +259,11 @@ one_hex digits (a ∷ as') (b ∷ bs) len p q =
     let e : p.1.high ∷ p.1.low ∷ p.0 ≡ q.1.high ∷ q.1.low ∷ q.0 = sym p.1.parts ∙ q.1.parts in
     let highs : p.1.high ≡ q.1.high = cc in
     let lows : p.1.low ≡ q.1.low = cc in
-    let behind : p.0 ≡ q.0 = cc in
+    let after : p.0 ≡ q.0 = cc in
     let high_worths = one_worth q.1.high p.1.high_worth q.1.high_worth (rw highs at p.1.high_is) q.1.high_is in
     let low_worths = one_worth q.1.low p.1.low_worth q.1.low_worth (rw lows at p.1.low_is) q.1.low_is in
     let bytes : a ≡ b = omega (arith, high_worths, low_worths, p.1.is, q.1.is) in
-    let more = one_hex q.0 as' bs (omega (arith, len)) (rw behind at p.2) q.2 in
+    let more = one_hex q.0 as' bs (omega (arith, len)) (rw after at p.2) q.2 in
     cc
 
 pub one_md5 : (body a b : List ℕ) → ReadsMd5 body a → ReadsMd5 body b → a ≡ b

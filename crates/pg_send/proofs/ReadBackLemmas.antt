@@ -4,11 +4,11 @@ use Rattle.std.proofs.lemmas.Bool.{leb-true}
 use Rattle.std.specs.Option.{option_or}
 use Rattle.pg_base.specs.declared.error.ProtocolFault.{ProtocolFault}
 use Rattle.pg_base.specs.declared.error.ProtocolFault.TheVariants.{TooManyParamFormats, TooManyResultFormats, TooManyParamTypes}
-use Rattle.pg_base.specs.Answers.{IsAnswer}
+use Rattle.pg_base.specs.Encode.{IsAnswer}
 use Rattle.pg_base.specs.Cutting.{frame}
-use Rattle.pg_base.proofs.Cuts.{parts_at}
+use Rattle.pg_base.proofs.CuttingLemmas.{parts_at}
 use Rattle.pg_base.specs.Numbers.{be32, max_count}
-use Rattle.pg_base.proofs.Readings.{one_text}
+use Rattle.pg_base.proofs.ReadingLemmas.{one_text}
 use Rattle.pg_send.specs.Counted.{too_many}
 use Rattle.pg_send.specs.Bind.{bind_count_fault}
 use Rattle.pg_send.specs.Kind as kinds

@@ -3,9 +3,9 @@ use Rattle.std.proofs.Common.{add-zero, ◌≡◌, ℕ, ◌+◌, ◌<◌, ◌≤
 use Rattle.std.proofs.lemmas.List.{append-nil, take_more, map_push}
 use Rattle.pg_base.specs.declared.error.ProtocolFault.{ProtocolFault}
 use Rattle.pg_base.specs.declared.error.Error.TheVariants.{Protocol, OutOfMemory}
-use Rattle.pg_base.specs.Answers.{IsAnswer}
+use Rattle.pg_base.specs.Encode.{IsAnswer}
 use Rattle.pg_base.specs.Cutting.{Cut, IsCutInto}
-use Rattle.pg_base.proofs.Cuts.{cut_frame, is_cut_into}
+use Rattle.pg_base.proofs.CuttingLemmas.{cut_frame, is_cut_into}
 use Rattle.pg_send.specs.Message.{Message, tag, body, count_fault, hint, fault, text}
 use Rattle.pg_send.specs.Run.{Answer, added, accepted, AreAnswers, RanOutWhereShort}
 use Rattle.pg_send.specs.declared.message.tagged.TaggedMessage.{TaggedMessage}

@@ -4,7 +4,7 @@ use Rattle.std.specs.Prelude.{ℕ, ◌^◌, ◌<◌, ◌≤◌, List, [], ◌++�
 use Rattle.std.specs.Option.{option_or}
 use Rattle.pg_base.specs.declared.error.ProtocolFault.{ProtocolFault}
 use Rattle.pg_base.specs.declared.error.ProtocolFault.TheVariants.{TooManyParamFormats, TooManyResultFormats}
-use Rattle.pg_base.specs.Names.{named, statement_prefix, portal_prefix, max_id}
+use Rattle.pg_base.specs.Id.{named, statement_prefix, portal_prefix, max_id}
 use Rattle.pg_base.specs.Numbers.{be16}
 use Rattle.pg_base.specs.Reading.{Text, Id, Number, Counted, Values}
 use Rattle.pg_send.specs.Counted.{too_many, counted16}
@@ -23,8 +23,8 @@ abbrev pub bind_count_fault : BindFields → Option ProtocolFault
 bind_count_fault b =
     option_or (too_many TooManyParamFormats (length b.formats)) (too_many TooManyResultFormats (length b.result_formats))
 
--- the names of the portal and the statement, the formats of the parameters behind their count, the
--- parameters behind theirs, and the formats of the results behind theirs
+-- the names of the portal and the statement, the formats of the parameters after their count, the
+-- parameters after theirs, and the formats of the results after theirs
 abbrev pub bind_body : BindFields → List ℕ
 bind_body b =
     named portal_prefix b.portal ++ named statement_prefix b.statement ++ counted16 b.formats ++ be16 b.num_params ++ b.params ++ counted16 b.result_formats
@@ -42,21 +42,21 @@ pub record IsBindInRange (b : BindFields) : Type 0 where
 pub record ReadsBind (body : List ℕ) (b : BindFields) : Type 0 where
   pub portal_name : List ℕ
   pub statement_name : List ℕ
-  pub behind_portal : List ℕ
-  pub behind_statement : List ℕ
-  pub behind_formats : List ℕ
-  pub behind_count : List ℕ
-  pub behind_params : List ℕ
-  pub first : Text body portal_name behind_portal
+  pub after_portal : List ℕ
+  pub after_statement : List ℕ
+  pub after_formats : List ℕ
+  pub after_count : List ℕ
+  pub after_params : List ℕ
+  pub first : Text body portal_name after_portal
   pub portal : Id portal_prefix portal_name b.portal
-  pub second : Text behind_portal statement_name behind_statement
+  pub second : Text after_portal statement_name after_statement
   pub statement : Id statement_prefix statement_name b.statement
-  pub formats : Counted 2 behind_statement b.formats behind_formats
+  pub formats : Counted 2 after_statement b.formats after_formats
   pub codes : All (λ code. code < 2) b.formats
-  pub count : Number 2 behind_formats b.num_params behind_count
-  pub params : behind_count ≡ b.params ++ behind_params
-  pub values : Values b.num_params behind_count behind_params
-  pub result_formats : Counted 2 behind_params b.result_formats []
+  pub count : Number 2 after_formats b.num_params after_count
+  pub params : after_count ≡ b.params ++ after_params
+  pub values : Values b.num_params after_count after_params
+  pub result_formats : Counted 2 after_params b.result_formats []
   pub result_codes : All (λ code. code < 2) b.result_formats
 
 -- parameters that are not just so many values aren't read back

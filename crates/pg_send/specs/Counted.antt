@@ -1,4 +1,4 @@
--- Lists in a body, each behind its count.
+-- Lists in a body, each after its count.
 use Rattle.std.specs.Prelude.{ℕ, List, ◌++◌, length, Option, Some, None, nat_le, if◌then◌else◌}
 use Rattle.std.specs.List.{flat_map}
 use Rattle.pg_base.specs.declared.error.ProtocolFault.{ProtocolFault}
@@ -8,7 +8,7 @@ use Rattle.pg_base.specs.Numbers.{be16, be32, max_count}
 abbrev pub too_many : (ℕ → ProtocolFault) → ℕ → Option ProtocolFault
 too_many fault count = if nat_le count max_count then None else Some (fault count)
 
--- numbers of two bytes each, and of four, behind their count
+-- numbers of two bytes each, and of four, after their count
 abbrev pub counted16 : List ℕ → List ℕ
 counted16 ns = be16 (length ns) ++ flat_map be16 ns
 

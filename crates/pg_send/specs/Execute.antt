@@ -1,7 +1,7 @@
 -- Execute: runs a portal. Documentation: "Message Formats", Execute (F).
 use Rattle.std.specs.Prelude.{ℕ, ◌^◌, ◌<◌, ◌≤◌, List, [], ◌++◌}
 use Rattle.pg_base.specs.Numbers.{be32}
-use Rattle.pg_base.specs.Names.{named, portal_prefix, max_id}
+use Rattle.pg_base.specs.Id.{named, portal_prefix, max_id}
 use Rattle.pg_base.specs.Reading.{Text, Id, Number}
 
 pub record ExecuteFields : Type 0 where
@@ -20,7 +20,7 @@ pub record IsExecuteInRange (e : ExecuteFields) : Type 0 where
 -- a reader takes the portal's name and the limit
 pub record ReadsExecute (body : List ℕ) (e : ExecuteFields) : Type 0 where
   pub name : List ℕ
-  pub behind_name : List ℕ
-  pub first : Text body name behind_name
+  pub after_name : List ℕ
+  pub first : Text body name after_name
   pub portal : Id portal_prefix name e.portal
-  pub limit : Number 4 behind_name e.limit []
+  pub limit : Number 4 after_name e.limit []

@@ -19,8 +19,8 @@ pub mod Target
 pub mod Views
 pub use Rattle.pg_base.specs.Answers
 pub use Rattle.pg_base.specs.Cutting
-pub use Rattle.pg_base.specs.Formats
-pub use Rattle.pg_base.specs.Names
+pub use Rattle.pg_base.specs.Format
+pub use Rattle.pg_base.specs.Id
 pub use Rattle.pg_base.specs.Numbers
 pub use Rattle.pg_base.specs.Reading
-pub use Rattle.pg_base.specs.Words
+pub use Rattle.pg_base.specs.Error

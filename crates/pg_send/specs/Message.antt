@@ -2,9 +2,9 @@
 -- "Message Formats", the messages marked (F).
 use Rattle.std.specs.Prelude.{ℕ, List, [], length, Option, None}
 use Rattle.pg_base.specs.declared.error.ProtocolFault.{ProtocolFault}
-use Rattle.pg_base.specs.declared.message.FrontendMessageFormat.TheVariants as formats
+use Rattle.pg_base.specs.declared.format.FrontendMessageFormat.TheVariants as formats
 use Rattle.pg_base.specs.Cutting.{frame}
-use Rattle.pg_base.specs.Formats.{frontend_tag}
+use Rattle.pg_base.specs.Format.{frontend_tag}
 use Rattle.pg_send.specs.Limits.{saturated, first_fault}
 use Rattle.pg_send.specs.Bind.{BindFields, bind_body, bind_count_fault, IsBindInRange}
 use Rattle.pg_send.specs.Copy.{copy_fail_body}
@@ -52,7 +52,7 @@ tag (SaslResponse bytes) = frontend_tag formats.PasswordPolymorphic
 tag Sync = frontend_tag formats.Sync
 tag Terminate = frontend_tag formats.Terminate
 
--- what stands behind the length
+-- what stands after the length
 abbrev pub body : Message → List ℕ
 body (Bind b) = bind_body b
 body (Close target) = target_body target

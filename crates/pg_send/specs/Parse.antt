@@ -2,7 +2,7 @@
 use Rattle.std.specs.Prelude.{ℕ, ◌^◌, ◌<◌, ◌≤◌, List, [], ◌∷◌, ◌++◌, length, All, Option}
 use Rattle.pg_base.specs.declared.error.ProtocolFault.{ProtocolFault}
 use Rattle.pg_base.specs.declared.error.ProtocolFault.TheVariants.{TooManyParamTypes}
-use Rattle.pg_base.specs.Names.{named, statement_prefix, max_id}
+use Rattle.pg_base.specs.Id.{named, statement_prefix, max_id}
 use Rattle.pg_base.specs.Reading.{HoldsNo, Text, Id, Counted}
 use Rattle.pg_send.specs.Counted.{too_many, counted32}
 
@@ -15,7 +15,7 @@ pub record ParseFields : Type 0 where
 abbrev pub parse_count_fault : ParseFields → Option ProtocolFault
 parse_count_fault p = too_many TooManyParamTypes (length p.param_types)
 
--- the statement's name, the query and a NUL, and the types behind their count
+-- the statement's name, the query and a NUL, and the types after their count
 abbrev pub parse_body : ParseFields → List ℕ
 parse_body p = named statement_prefix p.statement ++ (p.query ++ 0 ∷ []) ++ counted32 p.param_types
 
@@ -24,15 +24,15 @@ pub record IsParseInRange (p : ParseFields) : Type 0 where
   pub statement : p.statement ≤ max_id
   pub param_types : All (λ n. n < 2 ^ 32) p.param_types
 
--- a reader takes the statement's name, the query, and the types behind their count
+-- a reader takes the statement's name, the query, and the types after their count
 pub record ReadsParse (body : List ℕ) (p : ParseFields) : Type 0 where
   pub name : List ℕ
-  pub behind_name : List ℕ
-  pub behind_query : List ℕ
-  pub first : Text body name behind_name
+  pub after_name : List ℕ
+  pub after_query : List ℕ
+  pub first : Text body name after_name
   pub statement : Id statement_prefix name p.statement
-  pub second : Text behind_name p.query behind_query
-  pub types : Counted 4 behind_query p.param_types []
+  pub second : Text after_name p.query after_query
+  pub types : Counted 4 after_query p.param_types []
 
 -- a query that holds a NUL isn't read back
 abbrev pub KeepsParse : ParseFields → Type 0

@@ -31,8 +31,8 @@ power_over n = power_from 64 0 n
 abbrev pub IsWorth : ℕ → ℕ → Type 0
 IsWorth digit worth = ((48 ≤ digit) × (digit ≤ 57) × (digit ≡ 48 + worth)) ⊎ ((97 ≤ digit) × (digit ≤ 102) × (digit ≡ 87 + worth))
 
--- two digits, the first worth sixteen times as much, and what stands behind them
-pub record HexByte (digits : List ℕ) (byte : ℕ) (behind : List ℕ) : Type 0 where
+-- two digits, the first worth sixteen times as much, and what stands after them
+pub record HexByte (digits : List ℕ) (byte : ℕ) (after : List ℕ) : Type 0 where
   pub high : ℕ
   pub low : ℕ
   pub high_worth : ℕ
@@ -40,12 +40,12 @@ pub record HexByte (digits : List ℕ) (byte : ℕ) (behind : List ℕ) : Type 0
   pub high_is : IsWorth high high_worth
   pub low_is : IsWorth low low_worth
   pub is : byte ≡ 16 * high_worth + low_worth
-  pub parts : digits ≡ high ∷ low ∷ behind
+  pub parts : digits ≡ high ∷ low ∷ after
 
--- two digits for each byte, and none behind
+-- two digits for each byte, and none after
 abbrev pub HexBytes : List ℕ → List ℕ → Type 0
 HexBytes digits [] = digits ≡ []
-HexBytes digits (b ∷ bytes) = (behind : List ℕ) × HexByte digits b behind × HexBytes behind bytes
+HexBytes digits (b ∷ bytes) = (after : List ℕ) × HexByte digits b after × HexBytes after bytes
 
 -- a reader takes the letters md5, the digits of the sixteen bytes, and a NUL
 pub record ReadsMd5 (body digest : List ℕ) : Type 0 where

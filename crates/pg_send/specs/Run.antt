@@ -3,7 +3,7 @@ use Rattle.std.specs.Prelude.{ℕ, ◌+◌, ◌<◌, List, [], ◌∷◌, ◌++�
 use Rattle.pg_base.specs.declared.error.ProtocolFault.{ProtocolFault}
 use Rattle.pg_base.specs.declared.error.Error.{Error}
 use Rattle.pg_base.specs.declared.error.Error.TheVariants.{Protocol, OutOfMemory}
-use Rattle.pg_base.specs.Answers.{IsAnswer}
+use Rattle.pg_base.specs.Encode.{IsAnswer}
 use Rattle.pg_send.specs.Message.{Message, tag, body, hint, text}
 
 abbrev pub Answer : Type 0
@@ -31,7 +31,7 @@ AreAnswers limit (m ∷ ms) [] = ⊥
 AreAnswers limit (m ∷ ms) (answer ∷ answers) = IsAnswer (limit m) answer × AreAnswers limit ms answers
 
 -- memory ran out only where the capacity that there was before the run, and len bytes of which were
--- taken, had less room behind the messages before than the hint and five
+-- taken, had less room after the messages before than the hint and five
 abbrev pub RanOutWhereShort : ℕ → ℕ → List Message → List Answer → Type 0
 RanOutWhereShort capacity len [] answers = Unit {0}
 RanOutWhereShort capacity len (m ∷ ms) [] = Unit {0}

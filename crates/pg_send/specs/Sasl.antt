@@ -12,12 +12,12 @@ pub record SaslInitialFields : Type 0 where
 abbrev pub mechanism : Bool → List ℕ
 mechanism plus = if plus then codes "SCRAM-SHA-256-PLUS" else codes "SCRAM-SHA-256"
 
--- the mechanism and a NUL, and the response behind its length
+-- the mechanism and a NUL, and the response after its length
 abbrev pub sasl_initial_body : SaslInitialFields → List ℕ
 sasl_initial_body s = (mechanism s.plus ++ 0 ∷ []) ++ be32 (length s.response) ++ s.response
 
--- a reader takes the name of a mechanism, and the response behind its length
+-- a reader takes the name of a mechanism, and the response after its length
 pub record ReadsSaslInitial (body : List ℕ) (s : SaslInitialFields) : Type 0 where
-  pub behind_name : List ℕ
-  pub name : Text body (mechanism s.plus) behind_name
-  pub response : Signed 4 behind_name (pos (length s.response)) s.response
+  pub after_name : List ℕ
+  pub name : Text body (mechanism s.plus) after_name
+  pub response : Signed 4 after_name (pos (length s.response)) s.response

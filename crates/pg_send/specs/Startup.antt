@@ -25,6 +25,6 @@ abbrev pub startup_body : StartupFields → List ℕ
 startup_body s =
     be32 protocol_version ++ setting_where_there (codes "user") s.username ++ setting_where_there (codes "database") s.database ++ flat_map setting s.params ++ 0 ∷ []
 
--- the whole, behind its length
+-- the whole, after its length
 abbrev pub startup_text : StartupFields → List ℕ
 startup_text s = be32 (length (startup_body s) + 4) ++ startup_body s

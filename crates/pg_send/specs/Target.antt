@@ -1,7 +1,7 @@
 -- What a Describe or a Close names: a prepared statement or a portal. Documentation: "Message
 -- Formats", Describe (F) and Close (F).
 use Rattle.std.specs.Prelude.{ℕ, ◌≡◌, ◌≤◌, List, [], ◌∷◌}
-use Rattle.pg_base.specs.Names.{named, statement_prefix, portal_prefix, max_id}
+use Rattle.pg_base.specs.Id.{named, statement_prefix, portal_prefix, max_id}
 use Rattle.pg_base.specs.Reading.{Text, Id}
 
 pub data Target : Type 0 where
@@ -18,12 +18,12 @@ abbrev pub IsTargetInRange : Target → Type 0
 IsTargetInRange (Statement id) = id ≤ max_id
 IsTargetInRange (Portal id) = id ≤ max_id
 
--- a letter, and behind it a name with this prefix
+-- a letter, and after it a name with this prefix
 pub record ReadsName (body : List ℕ) (letter : ℕ) (prefix : List ℕ) (id : ℕ) : Type 0 where
   pub name : List ℕ
-  pub behind : List ℕ
-  pub begins : body ≡ letter ∷ behind
-  pub text : Text behind name []
+  pub after : List ℕ
+  pub begins : body ≡ letter ∷ after
+  pub text : Text after name []
   pub is : Id prefix name id
 
 -- a reader takes the letter and the name

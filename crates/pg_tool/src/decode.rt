@@ -12,7 +12,7 @@ use pg_receive::message::{
 };
 use std::alloc::{AllocError, Global};
 
-/// A tag and the body behind it.
+/// A tag and the body after it.
 #[derive(Drop)]
 struct TaggedBody {
     tag: u8,

@@ -85,17 +85,17 @@ impl<'a> Iterator for Frames<'a> {
     ghost remaining = { λ frames. at_most (length frames.rest.now) };
 
     fn next(&mut self) -> Option<Frame<'a>> {
-        let (tag, behind) = self.rest.split_first()?;
-        let length = u32_at(behind, 0).ok()?;
+        let (tag, after) = self.rest.split_first()?;
+        let length = u32_at(after, 0).ok()?;
         let end = length as usize;
-        if end < 4 || behind.len() < end {
+        if end < 4 || after.len() < end {
             return None;
         }
-        self.rest = &behind[end..];
+        self.rest = &after[end..];
         Some(Frame {
             tag: *tag,
             length,
-            body: &behind[4..end],
+            body: &after[4..end],
         })
     }
 }

@@ -3,8 +3,8 @@
 ghost use Rattle.std.specs.Prelude.{◌≡◌, ◌<◌, ◌≤◌, ℕ, List, ◌++◌, MatchOption};
 ghost use Rattle.pg_base.specs.Atoi.{AreDigits, BeginsWithDigit, decimal_value, IsDigitsUpTo, Atoi};
 
-/// The number that begins the bytes: an optional sign and the digits behind it, as many as there
-/// are. What stands behind them is ignored. Nothing where there is no digit, where the number
+/// The number that begins the bytes: an optional sign and the digits after it, as many as there
+/// are. What stands after them is ignored. Nothing where there is no digit, where the number
 /// passes the greatest `u32`, or where a minus stands before a number above 0.
 pub fn atoi_u32(bytes: &[u8]) -> Option<u32>
     ensures { Atoi u32.MAX bytes.now result }
@@ -29,11 +29,11 @@ pub fn atoi_usize(bytes: &[u8]) -> Option<usize>
 fn atoi_up_to(bytes: &[u8], top: u64) -> Option<u64>
     ensures { Atoi top bytes.now result }
 {
-    let (first, behind) = bytes.split_first()?;
+    let (first, after) = bytes.split_first()?;
     match first {
-        b'+' => digits_up_to(behind, top),
+        b'+' => digits_up_to(after, top),
         // After a minus 0 is the greatest.
-        b'-' => digits_up_to(behind, 0),
+        b'-' => digits_up_to(after, 0),
         _ => digits_up_to(bytes, top),
     }
 }

@@ -6,8 +6,8 @@ ghost use Rattle.pg_base.specs.declared.error.Error.TheVariants.{OutOfMemory, Pr
 ghost use Rattle.pg_base.specs.declared.error.ProtocolFault.TheVariants.{MessageTooLong};
 ghost use Rattle.pg_base.specs.Numbers.{be32};
 ghost use Rattle.pg_base.specs.Cutting.{max_length};
-ghost use Rattle.pg_base.specs.Names.{named, statement_prefix, portal_prefix, max_id};
-ghost use Rattle.pg_base.specs.Prefixed.{IsCallableOn, OnlyAppends, Fits, WhyRefused, four_zeros, prefixed};
+ghost use Rattle.pg_base.specs.Id.{named, statement_prefix, portal_prefix, max_id};
+ghost use Rattle.pg_base.specs.BufMut.{IsCallableOn, OnlyAppends, Fits, WhyRefused, four_zeros, prefixed};
 
 use crate::error::{Error, ProtocolFault};
 use crate::io::{MAX_LENGTH, PortalId, StatementId};

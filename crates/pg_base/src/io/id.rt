@@ -2,7 +2,7 @@
 
 ghost use Rattle.std.specs.Prelude.{Some, ◌≡◌, ◌≢◌, ◌==◌, ℕ, ◌+◌, ◌<◌, ◌≤◌, ◌^◌, List, [], ◌∷◌, ◌++◌, length, decimal, OnOk, OnErr, IsOkUnless, IfSome, IfNone, vec_len, vec_capacity};
 ghost use Rattle.pg_base.specs.declared.error.Error.TheVariants.{OutOfMemory};
-ghost use Rattle.pg_base.specs.Names.{name, next_id, named, statement_prefix, portal_prefix, max_id};
+ghost use Rattle.pg_base.specs.Id.{name, next_id, named, statement_prefix, portal_prefix, max_id};
 
 use crate::error::Error;
 use itoa::Buffer;
@@ -185,7 +185,7 @@ fn next_number(number: u32) -> u32
     }
 }
 
-#[tactic(auto, using(crate::proofs::NameLemmas::name_length))]
+#[tactic(auto, using(crate::proofs::IdLemmas::name_length))]
 fn name_len(prefix: &str, number: u32) -> usize
     requires { length prefix.now < 100 }
     ensures { result ≡ length (name prefix.now number) + 1 }

@@ -1,7 +1,7 @@
 //! Whole numbers in a body, highest byte first.
 
 ghost use Rattle.std.specs.Prelude.{◌≡◌, ◌+◌, ◌≤◌, length, take, drop, IfOk, IfErr};
-ghost use Rattle.pg_base.specs.Faults.{IsShort};
+ghost use Rattle.pg_base.specs.Error.{IsShort};
 ghost use Rattle.pg_base.specs.Reading.{Number, Signed};
 
 use crate::error::ProtocolFault;

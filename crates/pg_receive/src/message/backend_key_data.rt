@@ -1,9 +1,9 @@
 //! What a cancel request has to name.
 
 ghost use Rattle.std.specs.Prelude.{None};
-ghost use Rattle.pg_base.specs.Answers.{Answers};
-ghost use Rattle.pg_base.specs.declared.message.BackendMessageFormat.TheVariants as formats;
-ghost use Rattle.pg_receive.specs.BackendKeyData.{MeansKey, BreaksKey};
+ghost use Rattle.pg_base.specs.Decode.{Decodes};
+ghost use Rattle.pg_base.specs.declared.format.BackendMessageFormat.TheVariants as formats;
+ghost use Rattle.pg_receive.specs.BackendKeyData.{MeansKey, IsKeyFault};
 
 use crate::message::BackendMessage;
 use bytes::Bytes;
@@ -35,9 +35,9 @@ impl BackendMessage for BackendKeyData {
 
     ghost Means = { MeansKey };
 
-    ghost Broken = { BreaksKey };
+    ghost IsFault = { IsKeyFault };
 
-    ghost Free = { λ _. Unit {0} };
+    ghost NeedsNoMemory = { λ _. Unit {0} };
 
     fn decode_body(_alloc: Global, buf: Bytes) -> Result<Self, Error> {
         key_of(buf.as_slice())
@@ -49,7 +49,7 @@ impl BackendMessage for BackendKeyData {
 }
 
 fn key_of(body: &[u8]) -> Result<BackendKeyData, Error>
-    ensures { Answers MeansKey BreaksKey (λ _. Unit {0}) (λ key. key) None body.now result }
+    ensures { Decodes MeansKey IsKeyFault (λ _. Unit {0}) (λ key. key) None body.now result }
 {
     let process_id = u32_at(body, 0)?;
     let secret_key = u32_at(body, 4)?;

@@ -1,7 +1,7 @@
 //! A command that is done.
 
 ghost use Rattle.std.specs.Prelude.{◌≡◌, ℕ, List};
-ghost use Rattle.pg_base.specs.declared.message.BackendMessageFormat.TheVariants as formats;
+ghost use Rattle.pg_base.specs.declared.format.BackendMessageFormat.TheVariants as formats;
 ghost use Rattle.pg_receive.specs.CommandComplete.{IsRowsAffected};
 
 use crate::message::BackendMessage;
@@ -26,7 +26,7 @@ impl Model for CommandComplete {
 }
 
 impl CommandComplete {
-    /// How many rows the command had to do with: the number behind the last space of its tag, and 0
+    /// How many rows the command had to do with: the number after the last space of its tag, and 0
     /// where there is none.
     pub fn rows_affected(&self) -> u64
         ensures { IsRowsAffected self.now result }
@@ -50,9 +50,9 @@ impl BackendMessage for CommandComplete {
     // Every body is a tag.
     ghost Means = { λ body tag. tag ≡ body };
 
-    ghost Broken = { λ _ _. ⊥ };
+    ghost IsFault = { λ _ _. ⊥ };
 
-    ghost Free = { λ _. Unit {0} };
+    ghost NeedsNoMemory = { λ _. Unit {0} };
 
     fn decode_body(_alloc: Global, buf: Bytes) -> Result<Self, Error> {
         Ok(CommandComplete { tag: buf })

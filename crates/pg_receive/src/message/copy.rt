@@ -1,9 +1,9 @@
 //! The messages of a COPY.
 
 ghost use Rattle.std.specs.Prelude.{◌≡◌, ℕ, ◌≤◌, List, length, None};
-ghost use Rattle.pg_base.specs.Answers.{Answers};
-ghost use Rattle.pg_base.specs.declared.message.BackendMessageFormat.TheVariants as formats;
-ghost use Rattle.pg_receive.specs.CopyResponse.{codes_counted, formats_of as shown_formats, MeansFormats, BreaksFormats, FreeFormats};
+ghost use Rattle.pg_base.specs.Decode.{Decodes};
+ghost use Rattle.pg_base.specs.declared.format.BackendMessageFormat.TheVariants as formats;
+ghost use Rattle.pg_receive.specs.CopyResponse.{codes_counted, formats_of as shown_formats, MeansFormats, IsFormatsFault, FormatsNeedsNoMemory};
 
 use crate::message::BackendMessage;
 use bytes::Bytes;
@@ -12,7 +12,7 @@ use pg_base::io::{MAX_BODY, bytes_at, i8_at, i16_at};
 use pg_base::{BackendMessageFormat, Error};
 use std::alloc::Global;
 
-// Where the count of columns stands, and the first code behind it.
+// Where the count of columns stands, and the first code after it.
 const COLUMNS: usize = 1;
 
 const FIRST_CODE: usize = 3;
@@ -42,7 +42,7 @@ pub struct CopyOutResponse(pub CopyResponseData);
 
 impl BackendMessage for CopyData<Bytes> {
     ghost use Rattle.std.specs.Prelude.{◌≡◌, ℕ, ◌≤◌, List, length, None};
-    ghost use Rattle.pg_base.specs.Answers.{Answers};
+    ghost use Rattle.pg_base.specs.Decode.{Decodes};
     ghost use Rattle.std.proofs.Common.{◌∙◌, sym};
 
     const FORMAT: BackendMessageFormat = BackendMessageFormat::CopyData;
@@ -56,9 +56,9 @@ impl BackendMessage for CopyData<Bytes> {
     // Every body is a part of the stream.
     ghost Means = { λ body bytes. bytes ≡ body };
 
-    ghost Broken = { λ _ _. ⊥ };
+    ghost IsFault = { λ _ _. ⊥ };
 
-    ghost Free = { λ _. Unit {0} };
+    ghost NeedsNoMemory = { λ _. Unit {0} };
 
     fn decode_body(_alloc: Global, buf: Bytes) -> Result<Self, Error> {
         Ok(CopyData(buf))
@@ -83,9 +83,9 @@ impl BackendMessage for CopyDone {
     // The message says nothing more, and its body is ignored.
     ghost Means = { λ _ _. Unit {0} };
 
-    ghost Broken = { λ _ _. ⊥ };
+    ghost IsFault = { λ _ _. ⊥ };
 
-    ghost Free = { λ _. Unit {0} };
+    ghost NeedsNoMemory = { λ _. Unit {0} };
 
     fn decode_body(_alloc: Global, _buf: Bytes) -> Result<Self, Error> {
         Ok(CopyDone)
@@ -97,7 +97,7 @@ impl BackendMessage for CopyDone {
 }
 
 impl BackendMessage for CopyInResponse {
-    ghost use Rattle.pg_receive.specs.CopyResponse.{CopyFormats, formats_of as shown_formats, MeansFormats, BreaksFormats, FreeFormats};
+    ghost use Rattle.pg_receive.specs.CopyResponse.{CopyFormats, formats_of as shown_formats, MeansFormats, IsFormatsFault, FormatsNeedsNoMemory};
     ghost use Rattle.pg_receive.specs.CopyResponseLaws.{one_formats, formats_or_fault};
 
     const FORMAT: BackendMessageFormat = BackendMessageFormat::CopyInResponse;
@@ -110,9 +110,9 @@ impl BackendMessage for CopyInResponse {
 
     ghost Means = { MeansFormats };
 
-    ghost Broken = { BreaksFormats };
+    ghost IsFault = { IsFormatsFault };
 
-    ghost Free = { FreeFormats };
+    ghost NeedsNoMemory = { FormatsNeedsNoMemory };
 
     fn decode_body(alloc: Global, buf: Bytes) -> Result<Self, Error> {
         Ok(CopyInResponse(formats_of(alloc, buf.as_slice())?))
@@ -124,7 +124,7 @@ impl BackendMessage for CopyInResponse {
 }
 
 impl BackendMessage for CopyOutResponse {
-    ghost use Rattle.pg_receive.specs.CopyResponse.{CopyFormats, formats_of as shown_formats, MeansFormats, BreaksFormats, FreeFormats};
+    ghost use Rattle.pg_receive.specs.CopyResponse.{CopyFormats, formats_of as shown_formats, MeansFormats, IsFormatsFault, FormatsNeedsNoMemory};
     ghost use Rattle.pg_receive.specs.CopyResponseLaws.{one_formats, formats_or_fault};
 
     const FORMAT: BackendMessageFormat = BackendMessageFormat::CopyOutResponse;
@@ -137,9 +137,9 @@ impl BackendMessage for CopyOutResponse {
 
     ghost Means = { MeansFormats };
 
-    ghost Broken = { BreaksFormats };
+    ghost IsFault = { IsFormatsFault };
 
-    ghost Free = { FreeFormats };
+    ghost NeedsNoMemory = { FormatsNeedsNoMemory };
 
     fn decode_body(alloc: Global, buf: Bytes) -> Result<Self, Error> {
         Ok(CopyOutResponse(formats_of(alloc, buf.as_slice())?))
@@ -152,7 +152,7 @@ impl BackendMessage for CopyOutResponse {
 
 fn formats_of(alloc: Global, body: &[u8]) -> Result<CopyResponseData, Error>
     requires { length body.now ≤ MAX_BODY }
-    ensures { Answers MeansFormats BreaksFormats FreeFormats shown_formats None body.now result }
+    ensures { Decodes MeansFormats IsFormatsFault FormatsNeedsNoMemory shown_formats None body.now result }
 {
     let format = i8_at(body, 0)?;
     let num_columns = i16_at(body, COLUMNS)?;
@@ -169,7 +169,7 @@ fn formats_of(alloc: Global, body: &[u8]) -> Result<CopyResponseData, Error>
     })
 }
 
-// How many codes stand behind a count of columns.
+// How many codes stand after a count of columns.
 fn code_count(num_columns: i16) -> usize
     ensures { result ≡ codes_counted num_columns }
 {

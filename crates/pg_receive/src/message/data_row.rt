@@ -2,11 +2,11 @@
 
 ghost use Rattle.std.specs.Prelude.{◌≡◌, ℕ, ◌+◌, ◌*◌, ◌<◌, ◌≤◌, List, ◌∷◌, ◌++◌, Option, length, drop, None, Some, IfOk, IfErr, slice_get, slice_index};
 ghost use Rattle.std.specs.Option.{option_copied};
-ghost use Rattle.pg_base.specs.Answers.{Answers};
-ghost use Rattle.pg_base.specs.declared.message.BackendMessageFormat.TheVariants as formats;
+ghost use Rattle.pg_base.specs.Decode.{Decodes};
+ghost use Rattle.pg_base.specs.declared.format.BackendMessageFormat.TheVariants as formats;
 ghost use Rattle.pg_receive.specs.CellEnds.{end_of as entry_end, cell_to, cells_from, start_of, first_cell, EndsRise};
-ghost use Rattle.pg_receive.specs.DataRow.{SpellsCell, BreaksCell, Row, BreaksRow, FreeRow, StandsBehind};
-ghost use Rattle.pg_receive.specs.Items.{StandsAt};
+ghost use Rattle.pg_receive.specs.DataRow.{SpellsCell, IsCellFault, Row, IsRowFault, RowNeedsNoMemory, IsAfter};
+ghost use Rattle.pg_receive.specs.Items.{IsEncodedAt};
 
 use crate::message::BackendMessage;
 use bytes::Bytes;
@@ -18,7 +18,7 @@ use std::marker::Model;
 // The bit of an entry that says NULL; the bits below it are where the cell ends.
 const NULL: u32 = 1 << 31;
 
-// Where the first cell begins, behind the count.
+// Where the first cell begins, after the count.
 const FIRST_CELL: usize = 2;
 
 // The bytes of a cell's length.
@@ -63,7 +63,7 @@ impl DataRow {
 
 impl BackendMessage for DataRow {
     ghost use Rattle.std.specs.Prelude.{ℕ, List, Option};
-    ghost use Rattle.pg_receive.specs.DataRow.{Row, BreaksRow, FreeRow};
+    ghost use Rattle.pg_receive.specs.DataRow.{Row, IsRowFault, RowNeedsNoMemory};
     ghost use Rattle.pg_receive.specs.DataRowLaws.{one_row, row_or_fault};
 
     const FORMAT: BackendMessageFormat = BackendMessageFormat::DataRow;
@@ -76,9 +76,9 @@ impl BackendMessage for DataRow {
 
     ghost Means = { Row };
 
-    ghost Broken = { BreaksRow };
+    ghost IsFault = { IsRowFault };
 
-    ghost Free = { FreeRow };
+    ghost NeedsNoMemory = { RowNeedsNoMemory };
 
     fn decode_body(alloc: Global, buf: Bytes) -> Result<Self, Error> {
         let ends = ends_of(alloc, buf.as_slice())?;
@@ -90,11 +90,11 @@ impl BackendMessage for DataRow {
     ghost never_both = { row_or_fault };
 }
 
-/// The cells of a row stand in its body in order, each value behind the spellings of the cells
+/// The cells of a row stand in its body in order, each value after the spellings of the cells
 /// before it; so a body of n bytes has at most (n - 2) / 4 cells.
 pub fn cells_stand_in_order()
     ensures fit { (body : List ℕ) (cells : List (Option (List ℕ))) → Row body cells → 2 + 4 * length cells ≤ length body }
-    ensures order { (body : List ℕ) (front : List (Option (List ℕ))) (value : List ℕ) (back : List (Option (List ℕ))) → Row body (front ++ Some value ∷ back) → StandsBehind body front value }
+    ensures order { (body : List ℕ) (front : List (Option (List ℕ))) (value : List ℕ) (back : List (Option (List ℕ))) → Row body (front ++ Some value ∷ back) → IsAfter body front value }
 {}
 
 // Where a cell ends.
@@ -133,7 +133,7 @@ fn cell_in<'a>(body: &'a [u8], ends: &[u32], index: usize) -> Option<&'a [u8]>
 // Where each cell of the body ends.
 fn ends_of(alloc: Global, body: &[u8]) -> Result<Vec<u32>, Error>
     requires { length body.now ≤ MAX_BODY }
-    ensures answer { Answers Row BreaksRow FreeRow (λ ends. cells_from body.now first_cell ends.items) None body.now result }
+    ensures answer { Decodes Row IsRowFault RowNeedsNoMemory (λ ends. cells_from body.now first_cell ends.items) None body.now result }
     ensures rise { IfOk result (λ ends. EndsRise first_cell ends.items (length body.now)) }
 {
     let count = usize::from(u16_at(body, 0)?);
@@ -152,8 +152,8 @@ fn ends_of(alloc: Global, body: &[u8]) -> Result<Vec<u32>, Error>
 fn cell_at(body: &[u8], at: usize) -> Result<u32, ProtocolFault>
     requires within { at ≤ length body.now }
     requires short { length body.now ≤ MAX_BODY }
-    ensures cell { IfOk result (λ entry. StandsAt SpellsCell body.now at (cell_to body.now at entry) (entry_end entry)) }
-    ensures broken { IfErr result (λ fault. BreaksCell body.now at (drop at body.now) fault) }
+    ensures cell { IfOk result (λ entry. IsEncodedAt SpellsCell body.now at (cell_to body.now at entry) (entry_end entry)) }
+    ensures broken { IfErr result (λ fault. IsCellFault body.now at (drop at body.now) fault) }
 {
     let length = i32_at(body, at)?;
     let start = at + CELL_LENGTH;

@@ -2,9 +2,9 @@
 
 ghost use Rattle.std.specs.Prelude.{◌≡◌, ◌+◌, ◌<◌, ◌-◌, None, IfOk, IfErr};
 ghost use Rattle.pg_base.specs.declared.error.Error.TheVariants.{OutOfMemory};
-ghost use Rattle.pg_base.specs.Answers.{Answers};
-ghost use Rattle.pg_base.specs.declared.message.BackendMessageFormat.TheVariants as formats;
-ghost use Rattle.pg_receive.specs.Notification.{Notified, MeansNotification, BreaksNotification};
+ghost use Rattle.pg_base.specs.Decode.{Decodes};
+ghost use Rattle.pg_base.specs.declared.format.BackendMessageFormat.TheVariants as formats;
+ghost use Rattle.pg_receive.specs.Notification.{Notified, MeansNotification, IsNotificationFault};
 
 use crate::message::BackendMessage;
 use crate::message::text::text_at;
@@ -74,7 +74,7 @@ impl Notification {
 }
 
 impl BackendMessage for Notification {
-    ghost use Rattle.pg_receive.specs.Notification.{Notified, MeansNotification, BreaksNotification};
+    ghost use Rattle.pg_receive.specs.Notification.{Notified, MeansNotification, IsNotificationFault};
     ghost use Rattle.pg_receive.specs.NotificationLaws.{one_notification, notification_or_fault};
 
     const FORMAT: BackendMessageFormat = BackendMessageFormat::NotificationResponse;
@@ -87,9 +87,9 @@ impl BackendMessage for Notification {
 
     ghost Means = { MeansNotification };
 
-    ghost Broken = { BreaksNotification };
+    ghost IsFault = { IsNotificationFault };
 
-    ghost Free = { λ _. Unit {0} };
+    ghost NeedsNoMemory = { λ _. Unit {0} };
 
     fn decode_body(_alloc: Global, mut buf: Bytes) -> Result<Self, Error> {
         let (process_id, channel, payload) = parts_of(buf.as_slice())?;
@@ -111,11 +111,11 @@ impl BackendMessage for Notification {
 
 // The number of the process, the channel and the payload.
 fn parts_of(body: &[u8]) -> Result<(u32, &[u8], &[u8]), Error>
-    ensures { Answers MeansNotification BreaksNotification (λ _. Unit {0}) (λ parts. record { process_id = parts.0; channel = parts.1.now; payload = parts.2.now }) None body.now result }
+    ensures { Decodes MeansNotification IsNotificationFault (λ _. Unit {0}) (λ parts. record { process_id = parts.0; channel = parts.1.now; payload = parts.2.now }) None body.now result }
 {
     let process_id = u32_at(body, 0)?;
-    let (channel, behind) = text_at(body, PROCESS_LENGTH)?;
-    let (payload, _) = text_at(body, behind)?;
+    let (channel, after) = text_at(body, PROCESS_LENGTH)?;
+    let (payload, _) = text_at(body, after)?;
     Ok((process_id, channel, payload))
 }
 

@@ -1,10 +1,10 @@
 //! The types of a statement's parameters.
 
 ghost use Rattle.std.specs.Prelude.{◌≤◌, length, None};
-ghost use Rattle.pg_base.specs.Answers.{Answers};
-ghost use Rattle.pg_base.specs.declared.message.BackendMessageFormat.TheVariants as formats;
+ghost use Rattle.pg_base.specs.Decode.{Decodes};
+ghost use Rattle.pg_base.specs.declared.format.BackendMessageFormat.TheVariants as formats;
 ghost use Rattle.pg_base.specs.Numbers.{numbers_of};
-ghost use Rattle.pg_receive.specs.ParameterDescription.{MeansTypes, BreaksTypes, FreeTypes};
+ghost use Rattle.pg_receive.specs.ParameterDescription.{MeansTypes, IsTypesFault, TypesNeedsNoMemory};
 
 use crate::message::BackendMessage;
 use bytes::Bytes;
@@ -13,7 +13,7 @@ use pg_base::{BackendMessageFormat, Error};
 use smallvec::SmallVec;
 use std::alloc::Global;
 
-// Where the first type stands, behind the count.
+// Where the first type stands, after the count.
 const FIRST_TYPE: usize = 2;
 
 // The bytes of a type.
@@ -30,7 +30,7 @@ pub struct ParameterDescription {
 impl BackendMessage for ParameterDescription {
     ghost use Rattle.std.specs.Prelude.{ℕ, List};
     ghost use Rattle.pg_base.specs.Numbers.{numbers_of};
-    ghost use Rattle.pg_receive.specs.ParameterDescription.{MeansTypes, BreaksTypes, FreeTypes};
+    ghost use Rattle.pg_receive.specs.ParameterDescription.{MeansTypes, IsTypesFault, TypesNeedsNoMemory};
     ghost use Rattle.pg_receive.specs.ParameterDescriptionLaws.{one_types, types_or_fault};
 
     const FORMAT: BackendMessageFormat = BackendMessageFormat::ParameterDescription;
@@ -43,9 +43,9 @@ impl BackendMessage for ParameterDescription {
 
     ghost Means = { MeansTypes };
 
-    ghost Broken = { BreaksTypes };
+    ghost IsFault = { IsTypesFault };
 
-    ghost Free = { FreeTypes };
+    ghost NeedsNoMemory = { TypesNeedsNoMemory };
 
     fn decode_body(alloc: Global, buf: Bytes) -> Result<Self, Error> {
         let types = types_of(alloc, buf.as_slice())?;
@@ -59,7 +59,7 @@ impl BackendMessage for ParameterDescription {
 
 fn types_of(alloc: Global, body: &[u8]) -> Result<SmallVec<Oid, 6>, Error>
     requires { length body.now ≤ MAX_BODY }
-    ensures { Answers MeansTypes BreaksTypes FreeTypes (λ types. numbers_of types.items) None body.now result }
+    ensures { Decodes MeansTypes IsTypesFault TypesNeedsNoMemory (λ types. numbers_of types.items) None body.now result }
 {
     let count = usize::from(u16_at(body, 0)?);
     bytes_at(body, FIRST_TYPE, TYPE_LENGTH * count)?;

@@ -1,9 +1,9 @@
 //! A setting of the server.
 
 ghost use Rattle.std.specs.Prelude.{None, string_bytes};
-ghost use Rattle.pg_base.specs.Answers.{Answers};
-ghost use Rattle.pg_base.specs.declared.message.BackendMessageFormat.TheVariants as formats;
-ghost use Rattle.pg_receive.specs.ParameterStatus.{Setting, MeansSetting, BreaksSetting};
+ghost use Rattle.pg_base.specs.Decode.{Decodes};
+ghost use Rattle.pg_base.specs.declared.format.BackendMessageFormat.TheVariants as formats;
+ghost use Rattle.pg_receive.specs.ParameterStatus.{Setting, MeansSetting, IsSettingFault};
 
 use crate::message::BackendMessage;
 use crate::message::text::str_at;
@@ -23,7 +23,7 @@ pub struct ParameterStatus {
 
 impl BackendMessage for ParameterStatus {
     ghost use Rattle.std.specs.Prelude.{string_bytes};
-    ghost use Rattle.pg_receive.specs.ParameterStatus.{Setting, MeansSetting, BreaksSetting};
+    ghost use Rattle.pg_receive.specs.ParameterStatus.{Setting, MeansSetting, IsSettingFault};
     ghost use Rattle.pg_receive.specs.ParameterStatusLaws.{one_setting, setting_or_fault};
 
     const FORMAT: BackendMessageFormat = BackendMessageFormat::ParameterStatus;
@@ -36,9 +36,9 @@ impl BackendMessage for ParameterStatus {
 
     ghost Means = { MeansSetting };
 
-    ghost Broken = { BreaksSetting };
+    ghost IsFault = { IsSettingFault };
 
-    ghost Free = { λ _. ⊥ };
+    ghost NeedsNoMemory = { λ _. ⊥ };
 
     fn decode_body(alloc: Global, buf: Bytes) -> Result<Self, Error> {
         setting_of(alloc, buf.as_slice())
@@ -50,10 +50,10 @@ impl BackendMessage for ParameterStatus {
 }
 
 fn setting_of(alloc: Global, body: &[u8]) -> Result<ParameterStatus, Error>
-    ensures { Answers MeansSetting BreaksSetting (λ _. ⊥) (λ status. record { name = string_bytes status.name; value = string_bytes status.value }) None body.now result }
+    ensures { Decodes MeansSetting IsSettingFault (λ _. ⊥) (λ status. record { name = string_bytes status.name; value = string_bytes status.value }) None body.now result }
 {
-    let (name, behind) = str_at(body, 0)?;
-    let (value, _) = str_at(body, behind)?;
+    let (name, after) = str_at(body, 0)?;
+    let (value, _) = str_at(body, after)?;
     Ok(ParameterStatus {
         name: String::from_str(alloc, name)?,
         value: String::from_str(alloc, value)?,

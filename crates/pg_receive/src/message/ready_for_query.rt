@@ -1,9 +1,9 @@
 //! The server's word that it is ready for the next query.
 
 ghost use Rattle.std.specs.Prelude.{None};
-ghost use Rattle.pg_base.specs.Answers.{Answers};
-ghost use Rattle.pg_receive.specs.ReadyForQuery.{MeansStatus, BreaksStatus};
-ghost use Rattle.pg_base.specs.declared.message.BackendMessageFormat.TheVariants as formats;
+ghost use Rattle.pg_base.specs.Decode.{Decodes};
+ghost use Rattle.pg_receive.specs.ReadyForQuery.{MeansStatus, IsStatusFault};
+ghost use Rattle.pg_base.specs.declared.format.BackendMessageFormat.TheVariants as formats;
 
 use crate::message::BackendMessage;
 use bytes::Bytes;
@@ -42,9 +42,9 @@ impl BackendMessage for ReadyForQuery {
 
     ghost Means = { MeansStatus };
 
-    ghost Broken = { BreaksStatus };
+    ghost IsFault = { IsStatusFault };
 
-    ghost Free = { λ _. Unit {0} };
+    ghost NeedsNoMemory = { λ _. Unit {0} };
 
     fn decode_body(_alloc: Global, buf: Bytes) -> Result<Self, Error> {
         let transaction_status = status_of(buf.as_slice())?;
@@ -58,7 +58,7 @@ impl BackendMessage for ReadyForQuery {
 
 // The status that the first byte is the letter of.
 fn status_of(body: &[u8]) -> Result<TransactionStatus, Error>
-    ensures { Answers MeansStatus BreaksStatus (λ _. Unit {0}) (λ status. status) None body.now result }
+    ensures { Decodes MeansStatus IsStatusFault (λ _. Unit {0}) (λ status. status) None body.now result }
 {
     match body {
         [] => Err(ProtocolFault::Short {

@@ -1,11 +1,11 @@
 //! The law of a message that is received, and its decoding by kind.
 
 ghost use Rattle.std.specs.Prelude.{◌≡◌, ◌≢◌, ◌<◌, ◌≤◌, ℕ, List, Some, None, Err, length, IsErrOf};
-ghost use Rattle.pg_base.specs.declared.message.BackendMessageFormat.{BackendMessageFormat};
+ghost use Rattle.pg_base.specs.declared.format.BackendMessageFormat.{BackendMessageFormat};
 ghost use Rattle.pg_base.specs.declared.error.ProtocolFault.{ProtocolFault};
 ghost use Rattle.pg_base.specs.declared.error.ProtocolFault.TheVariants.{WrongFormat, BodyTooLong};
 ghost use Rattle.pg_base.specs.declared.error.Error.TheVariants.{Protocol, OutOfMemory};
-ghost use Rattle.pg_base.specs.Answers.{Answers};
+ghost use Rattle.pg_base.specs.Decode.{Decodes};
 ghost use Rattle.pg_receive.specs.Received.{max_body, IsValue, reading as error_reading};
 
 use bytes::Bytes;
@@ -13,7 +13,7 @@ use pg_base::io::MAX_BODY;
 use pg_base::{BackendMessageFormat, Error, ProtocolFault};
 use std::alloc::Global;
 
-/// A message that a server sends, behind a tag and a length.
+/// A message that a server sends, after a tag and a length.
 pub trait BackendMessage: Sized {
     /// The kind of message.
     const FORMAT: BackendMessageFormat;
@@ -27,20 +27,20 @@ pub trait BackendMessage: Sized {
     /// Which value a body means.
     ghost Means: { List ℕ → Shown → Type 0 };
     /// What is wrong with a body that means none: the first test that fails.
-    ghost Broken: { List ℕ → ProtocolFault → Type 0 };
+    ghost IsFault: { List ℕ → ProtocolFault → Type 0 };
     /// That a body is read without asking for memory.
-    ghost Free: { List ℕ → Type 0 };
+    ghost NeedsNoMemory: { List ℕ → Type 0 };
 
     /// Reads a body of at most [`MAX_BODY`] bytes: a value, only if the body means it; a fault of
     /// the body, only if it means none; or `OutOfMemory`.
     fn decode_body(alloc: Global, buf: Bytes) -> Result<Self, Error>
         requires { length buf ≤ MAX_BODY }
-        ensures { Answers Means Broken Free shown None buf result };
+        ensures { Decodes Means IsFault NeedsNoMemory shown None buf result };
 
     /// A body means one value.
     ghost one_value: { (body : List ℕ) (v w : Shown) → Means body v → Means body w → v ≡ w };
     /// A body with a value has no fault.
-    ghost never_both: { (body : List ℕ) (v : Shown) (fault : ProtocolFault) → Means body v → Broken body fault → ⊥ };
+    ghost never_both: { (body : List ℕ) (v : Shown) (fault : ProtocolFault) → Means body v → IsFault body fault → ⊥ };
 }
 
 /// A message from the server, whose tag and length have been read.
@@ -61,10 +61,10 @@ impl ReceivedMessage {
     pub fn decode<T: BackendMessage>(self, alloc: Global) -> Result<T, Error>
         ensures other { self.format ≢ T.FORMAT → IsErrOf result (Protocol None (WrongFormat T.FORMAT self.format)) }
         ensures long { self.format ≡ T.FORMAT → max_body < length self.contents → IsErrOf result (Protocol None (BodyTooLong (length self.contents))) }
-        ensures body { self.format ≡ T.FORMAT → length self.contents ≤ max_body → Answers T.Means T.Broken T.Free T.shown (Some self.format) self.contents result }
+        ensures body { self.format ≡ T.FORMAT → length self.contents ≤ max_body → Decodes T.Means T.IsFault T.NeedsNoMemory T.shown (Some self.format) self.contents result }
         // Where the body has a value, it is this one, unless memory ran out.
         ensures only { (v : T.Shown) → self.format ≡ T.FORMAT → length self.contents ≤ max_body → T.Means self.contents v → IsValue T.shown v result }
-        ensures free { T.Free self.contents → result ≢ Err OutOfMemory }
+        ensures free { T.NeedsNoMemory self.contents → result ≢ Err OutOfMemory }
     {
         if T::FORMAT != self.format {
             return Err(ProtocolFault::WrongFormat {

@@ -1,10 +1,10 @@
 //! The columns of a result.
 
 ghost use Rattle.std.specs.Prelude.{◌≡◌, ℕ, ◌+◌, ◌*◌, ◌≤◌, List, length, drop, map, None, IsOk, IfOk, option_map, string_bytes};
-ghost use Rattle.pg_base.specs.Answers.{Answers};
-ghost use Rattle.pg_base.specs.declared.message.BackendMessageFormat.TheVariants as formats;
-ghost use Rattle.pg_receive.specs.Items.{StandsAt};
-ghost use Rattle.pg_receive.specs.RowDescription.{Column, column_of, table, attribute, numbers_length, SpellsNumbers, SpellsColumn, BreaksColumn, Columns, BreaksColumns, FreeColumns};
+ghost use Rattle.pg_base.specs.Decode.{Decodes};
+ghost use Rattle.pg_base.specs.declared.format.BackendMessageFormat.TheVariants as formats;
+ghost use Rattle.pg_receive.specs.Items.{IsEncodedAt};
+ghost use Rattle.pg_receive.specs.RowDescription.{Column, column_of, table, attribute, numbers_length, SpellsNumbers, SpellsColumn, IsColumnFault, Columns, IsColumnsFault, ColumnsNeedsNoMemory};
 
 use crate::message::BackendMessage;
 use crate::message::text::str_at;
@@ -13,10 +13,10 @@ use pg_base::io::{MAX_BODY, Oid, bytes_at, i16_at, i32_at, u16_at, u32_at};
 use pg_base::{BackendMessageFormat, Error, ProtocolFault};
 use std::alloc::Global;
 
-// Where the first column stands, behind the count.
+// Where the first column stands, after the count.
 const FIRST_COLUMN: usize = 2;
 
-// The bytes of a column's numbers, which stand behind its name.
+// The bytes of a column's numbers, which stand after its name.
 const NUMBERS_LENGTH: usize = 18;
 
 // The least bytes of a column: the NUL of an empty name, and the numbers.
@@ -50,7 +50,7 @@ pub struct Field {
 
 impl BackendMessage for RowDescription {
     ghost use Rattle.std.specs.Prelude.{List, map};
-    ghost use Rattle.pg_receive.specs.RowDescription.{Column, column_of, Columns, BreaksColumns, FreeColumns};
+    ghost use Rattle.pg_receive.specs.RowDescription.{Column, column_of, Columns, IsColumnsFault, ColumnsNeedsNoMemory};
     ghost use Rattle.pg_receive.specs.RowDescriptionLaws.{one_description, description_or_fault};
 
     const FORMAT: BackendMessageFormat = BackendMessageFormat::RowDescription;
@@ -63,9 +63,9 @@ impl BackendMessage for RowDescription {
 
     ghost Means = { Columns };
 
-    ghost Broken = { BreaksColumns };
+    ghost IsFault = { IsColumnsFault };
 
-    ghost Free = { FreeColumns };
+    ghost NeedsNoMemory = { ColumnsNeedsNoMemory };
 
     fn decode_body(alloc: Global, buf: Bytes) -> Result<Self, Error> {
         let fields = fields_of(alloc, buf.as_slice())?;
@@ -84,7 +84,7 @@ pub fn columns_fit_in_their_body()
 
 fn fields_of(alloc: Global, body: &[u8]) -> Result<Vec<Field>, Error>
     requires { length body.now ≤ MAX_BODY }
-    ensures { Answers Columns BreaksColumns FreeColumns (λ fields. map column_of fields.items) None body.now result }
+    ensures { Decodes Columns IsColumnsFault ColumnsNeedsNoMemory (λ fields. map column_of fields.items) None body.now result }
 {
     let count = usize::from(u16_at(body, 0)?);
     bytes_at(body, FIRST_COLUMN, LEAST_COLUMN * count)?;
@@ -98,19 +98,19 @@ fn fields_of(alloc: Global, body: &[u8]) -> Result<Vec<Field>, Error>
     Ok(fields)
 }
 
-// The column at an offset, and the offset behind it.
+// The column at an offset, and the offset after it.
 fn field_at(alloc: Global, body: &[u8], at: usize) -> Result<(Field, usize), Error>
     requires within { at ≤ length body.now }
     requires short { length body.now ≤ MAX_BODY }
-    ensures { Answers (λ body found. StandsAt SpellsColumn body at (column_of found.0) found.1) (λ body fault. BreaksColumn body at (drop at body) fault) (λ _. ⊥) (λ found. found) None body.now result }
+    ensures { Decodes (λ body found. IsEncodedAt SpellsColumn body at (column_of found.0) found.1) (λ body fault. IsColumnFault body at (drop at body) fault) (λ _. ⊥) (λ found. found) None body.now result }
 {
-    let (name, behind) = str_at(body, at)?;
-    let numbers = bytes_at(body, behind, NUMBERS_LENGTH)?;
+    let (name, after) = str_at(body, at)?;
+    let numbers = bytes_at(body, after, NUMBERS_LENGTH)?;
     let field = field_of(String::from_str(alloc, name)?, numbers)?;
-    Ok((field, behind + NUMBERS_LENGTH))
+    Ok((field, after + NUMBERS_LENGTH))
 }
 
-// The column of a name and the numbers behind it.
+// The column of a name and the numbers after it.
 fn field_of(name: String, numbers: &[u8]) -> Result<Field, ProtocolFault>
     requires { length numbers.now ≡ NUMBERS_LENGTH }
     ensures whole { IsOk result }

@@ -3,13 +3,13 @@
 ghost use Rattle.std.specs.Prelude.{◌≡◌, ◌+◌, ◌≤◌, length, drop, IfSome, IfNone, IfOk, IfErr, true, false};
 ghost use Rattle.std.specs.Str.{is_utf8};
 ghost use Rattle.pg_base.specs.Reading.{HoldsNo, Text};
-ghost use Rattle.pg_receive.specs.Strings.{Utf8Text, LacksNul, BreaksText};
+ghost use Rattle.pg_receive.specs.Strings.{Utf8Text, IsMissingNul, IsTextFault};
 
 use memchr::memchr;
 use pg_base::ProtocolFault;
 use std::str;
 
-/// The text at the front of some bytes, and what stands behind its NUL. Nothing where there is no
+/// The text at the front of some bytes, and what stands after its NUL. Nothing where there is no
 /// NUL.
 pub fn split_text(bytes: &[u8]) -> Option<(&[u8], &[u8])>
     ensures found { IfSome result (λ split. Text bytes.now split.0.now split.1.now) }
@@ -30,13 +30,13 @@ pub fn utf8_text(bytes: &[u8]) -> Option<&str>
     }
 }
 
-/// The text at an offset within a body, and the offset behind its NUL. Refused with `MissingNul`
+/// The text at an offset within a body, and the offset after its NUL. Refused with `MissingNul`
 /// where there is no NUL.
 pub fn text_at(body: &[u8], at: usize) -> Result<(&[u8], usize), ProtocolFault>
     requires { at ≤ length body.now }
     ensures found { IfOk result (λ found. Text (drop at body.now) found.0.now (drop found.1 body.now)) }
-    ensures behind { IfOk result (λ found. (found.1 ≡ at + length found.0.now + 1) × (found.1 ≤ length body.now)) }
-    ensures missing { IfErr result (LacksNul at (drop at body.now)) }
+    ensures after { IfOk result (λ found. (found.1 ≡ at + length found.0.now + 1) × (found.1 ≤ length body.now)) }
+    ensures missing { IfErr result (IsMissingNul at (drop at body.now)) }
 {
     let Some((text, _)) = split_text(&body[at..]) else {
         return Err(ProtocolFault::MissingNul { at });
@@ -50,10 +50,10 @@ pub fn text_at(body: &[u8], at: usize) -> Result<(&[u8], usize), ProtocolFault>
 pub fn str_at(body: &[u8], at: usize) -> Result<(&str, usize), ProtocolFault>
     requires { at ≤ length body.now }
     ensures found { IfOk result (λ found. Utf8Text (drop at body.now) found.0.now (drop found.1 body.now)) }
-    ensures behind { IfOk result (λ found. (found.1 ≡ at + length found.0.now + 1) × (found.1 ≤ length body.now)) }
-    ensures broken { IfErr result (BreaksText at (drop at body.now)) }
+    ensures after { IfOk result (λ found. (found.1 ≡ at + length found.0.now + 1) × (found.1 ≤ length body.now)) }
+    ensures broken { IfErr result (IsTextFault at (drop at body.now)) }
 {
-    let (text, behind) = text_at(body, at)?;
+    let (text, after) = text_at(body, at)?;
     let text = utf8_text(text).ok_or(ProtocolFault::NotUtf8)?;
-    Ok((text, behind))
+    Ok((text, after))
 }

@@ -1,8 +1,8 @@
 //! A portal that is made of a prepared statement.
 
 ghost use Rattle.std.specs.Prelude.{length};
-ghost use Rattle.pg_base.specs.declared.message.FrontendMessageFormat.TheVariants as formats;
-ghost use Rattle.pg_base.specs.Formats.{frontend_tag};
+ghost use Rattle.pg_base.specs.declared.format.FrontendMessageFormat.TheVariants as formats;
+ghost use Rattle.pg_base.specs.Format.{frontend_tag};
 ghost use Rattle.pg_send.specs.Limits.{saturated};
 ghost use Rattle.pg_send.specs.Bind.{bind_body, bind_count_fault, IsBindInRange};
 
@@ -26,7 +26,7 @@ pub struct Bind<'a> {
     pub formats: &'a [PgValueFormat],
     /// How many values `params` holds.
     pub num_params: u16,
-    /// The values, each behind its length in four bytes, which is -1 for NULL. They are sent as
+    /// The values, each after its length in four bytes, which is -1 for NULL. They are sent as
     /// they are.
     pub params: &'a [u8],
     /// The formats of the result's columns, at most 65535: none where all are text, one for all of

@@ -1,8 +1,8 @@
 //! The client's part of a COPY.
 
 ghost use Rattle.std.specs.Prelude.{◌≡◌, None, [], length, string_bytes};
-ghost use Rattle.pg_base.specs.declared.message.FrontendMessageFormat.TheVariants as formats;
-ghost use Rattle.pg_base.specs.Formats.{frontend_tag};
+ghost use Rattle.pg_base.specs.declared.format.FrontendMessageFormat.TheVariants as formats;
+ghost use Rattle.pg_base.specs.Format.{frontend_tag};
 ghost use Rattle.pg_send.specs.Copy.{copy_fail_body};
 ghost use Rattle.pg_send.specs.Limits.{saturated};
 

@@ -1,4 +1,4 @@
-//! Lists in a body, each behind its count.
+//! Lists in a body, each after its count.
 
 ghost use Rattle.std.specs.Prelude.{◌≡◌, ℕ, ◌+◌, ◌^◌, ◌<◌, ◌≤◌, ◌++◌, length, All, Some, None, nat_le, if◌then◌else◌, vec_len, vec_capacity};
 ghost use Rattle.pg_base.specs.Numbers.{be16, be32, numbers_of, max_count};
@@ -22,7 +22,7 @@ pub fn too_many(count: usize, fault: ProtocolFault) -> Option<ProtocolFault>
     None
 }
 
-/// Adds the formats behind their count, in room that is there.
+/// Adds the formats after their count, in room that is there.
 pub fn put_formats(formats: &[PgValueFormat], buf: &mut Vec<u8>)
     requires count { length formats.now ≤ max_count }
     requires room { vec_len buf.old + length (counted16 (codes_of formats.now)) ≤ vec_capacity buf.old }
@@ -35,7 +35,7 @@ pub fn put_formats(formats: &[PgValueFormat], buf: &mut Vec<u8>)
     }
 }
 
-/// Adds the types behind their count, in room that is there.
+/// Adds the types after their count, in room that is there.
 pub fn put_types(types: &[Oid], buf: &mut Vec<u8>)
     requires count { length types.now ≤ max_count }
     requires room { vec_len buf.old + length (counted32 (numbers_of types.now)) ≤ vec_capacity buf.old }

@@ -1,8 +1,8 @@
 //! What a prepared statement or a portal takes and gives.
 
 ghost use Rattle.std.specs.Prelude.{None, length};
-ghost use Rattle.pg_base.specs.declared.message.FrontendMessageFormat.TheVariants as formats;
-ghost use Rattle.pg_base.specs.Formats.{frontend_tag};
+ghost use Rattle.pg_base.specs.declared.format.FrontendMessageFormat.TheVariants as formats;
+ghost use Rattle.pg_base.specs.Format.{frontend_tag};
 ghost use Rattle.pg_send.specs.Limits.{saturated};
 ghost use Rattle.pg_send.specs.Target.{target_body, IsTargetInRange};
 

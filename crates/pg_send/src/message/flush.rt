@@ -1,8 +1,8 @@
 //! A request for what the server still holds back.
 
 ghost use Rattle.std.specs.Prelude.{None, []};
-ghost use Rattle.pg_base.specs.declared.message.FrontendMessageFormat.TheVariants as formats;
-ghost use Rattle.pg_base.specs.Formats.{frontend_tag};
+ghost use Rattle.pg_base.specs.declared.format.FrontendMessageFormat.TheVariants as formats;
+ghost use Rattle.pg_base.specs.Format.{frontend_tag};
 
 use crate::message::FrontendMessage;
 use crate::message::frame::check_len;

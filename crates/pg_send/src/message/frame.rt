@@ -3,7 +3,7 @@
 ghost use Rattle.std.specs.Prelude.{◌≡◌, ◌+◌, ◌<◌, ◌≤◌, ℕ, List, [], ◌∷◌, ◌++◌, length, Option, None, Result, OnOk, OnErr, IsErrOf, IsOkUnless, vec_len, vec_capacity};
 ghost use Rattle.pg_base.specs.declared.error.ProtocolFault.{ProtocolFault};
 ghost use Rattle.pg_base.specs.declared.error.Error.TheVariants.{OutOfMemory};
-ghost use Rattle.pg_base.specs.Answers.{IsAnswer};
+ghost use Rattle.pg_base.specs.Encode.{IsAnswer};
 ghost use Rattle.pg_base.specs.Cutting.{frame, IsCutInto};
 ghost use Rattle.pg_send.specs.Limits.{first_fault, checked_len, saturated, AddsBeginning};
 
@@ -11,14 +11,14 @@ use crate::message::parts::put_u32;
 use pg_base::io::{MAX_BODY, ProtocolEncode};
 use pg_base::{Error, FrontendMessageFormat, ProtocolFault};
 
-/// A message that a client sends, behind a tag and a length.
+/// A message that a client sends, after a tag and a length.
 pub trait FrontendMessage: Sized + Drop {
     /// The kind of message, by its tag.
     const FORMAT: FrontendMessageFormat;
 
     /// The tag, as a byte.
     ghost tag: { Self → ℕ };
-    /// What stands behind the length.
+    /// What stands after the length.
     ghost body: { Self → List ℕ };
     /// The first limit on counts that the message breaks, where it breaks one.
     ghost count_fault: { Self → Option ProtocolFault };

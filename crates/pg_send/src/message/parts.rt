@@ -1,7 +1,7 @@
 //! Parts of a body, added in room that is there.
 
 ghost use Rattle.std.specs.Prelude.{◌≡◌, ◌+◌, ◌^◌, ◌<◌, ◌≤◌, ◌++◌, length, vec_len, vec_capacity};
-ghost use Rattle.pg_base.specs.Names.{named, statement_prefix, portal_prefix, max_id};
+ghost use Rattle.pg_base.specs.Id.{named, statement_prefix, portal_prefix, max_id};
 ghost use Rattle.pg_base.specs.Numbers.{be16, be32};
 
 use pg_base::io::{PortalId, StatementId};

@@ -2,7 +2,7 @@
 
 ghost use Rattle.std.specs.Prelude.{◌≡◌, ◌+◌, ◌<◌, ◌≤◌, [], ◌∷◌, ◌++◌, length, None, OnOk, OnErr, IfOk, IsErrOf, IsOkUnless, vec_len, vec_capacity};
 ghost use Rattle.pg_base.specs.declared.error.Error.TheVariants.{OutOfMemory};
-ghost use Rattle.pg_base.specs.Answers.{IsAnswer};
+ghost use Rattle.pg_base.specs.Encode.{IsAnswer};
 ghost use Rattle.pg_base.specs.Cutting.{IsCutInto};
 ghost use Rattle.pg_send.specs.Message.{Message, tag, body, fault, hint, text, IsInRange};
 ghost use Rattle.pg_send.specs.Views.{message_of, messages_of};

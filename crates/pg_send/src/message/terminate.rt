@@ -1,8 +1,8 @@
 //! The end of a session.
 
 ghost use Rattle.std.specs.Prelude.{None, []};
-ghost use Rattle.pg_base.specs.declared.message.FrontendMessageFormat.TheVariants as formats;
-ghost use Rattle.pg_base.specs.Formats.{frontend_tag};
+ghost use Rattle.pg_base.specs.declared.format.FrontendMessageFormat.TheVariants as formats;
+ghost use Rattle.pg_base.specs.Format.{frontend_tag};
 
 use crate::message::FrontendMessage;
 use crate::message::frame::check_len;

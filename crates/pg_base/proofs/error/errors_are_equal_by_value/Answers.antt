@@ -1,11 +1,11 @@
 use Rattle.std.proofs.Common.{◌≡◌, true, false, Some, None, refl, ap, rules}
 use Rattle.std.proofs.lemmas.Bool.{and_parts}
-use Rattle.pg_base.specs.declared.message.BackendMessageFormat.{BackendMessageFormat}
+use Rattle.pg_base.specs.declared.format.BackendMessageFormat.{BackendMessageFormat}
 use Rattle.pg_base.specs.declared.error.ProtocolFault.{ProtocolFault}
 use Rattle.pg_base.specs.declared.error.ProtocolFault.TheVariants as faults
 use Rattle.pg_base.specs.declared.error.Error.{Error}
 use Rattle.pg_base.specs.declared.error.Error.TheVariants.{Protocol, OutOfMemory}
-use Rattle.pg_base.specs.contracts.message.BackendMessageFormatPartialEq.TheImpl as formats-eq
+use Rattle.pg_base.specs.contracts.format.BackendMessageFormatPartialEq.TheImpl as formats-eq
 use Rattle.pg_base.specs.contracts.error.ProtocolFaultPartialEq.TheImpl as faults-eq
 use Rattle.pg_base.specs.contracts.error.ErrorPartialEq.TheImpl as errors-eq
 use Rattle.pg_base.specs.contracts.error.ProtocolFaultEq.TheImpl.Laws as faults-law
@@ -36,6 +36,9 @@ same_faults faults.NotUtf8 faults.NotUtf8 e = refl
 same_faults faults.NoticeNotUtf8 faults.NoticeNotUtf8 e = refl
 same_faults faults.ShortSaslItem faults.ShortSaslItem e = refl
 same_faults faults.Base64 faults.Base64 e = refl
+same_faults (faults.BadLength n) (faults.BadLength m) e = search rules
+same_faults faults.TextHoldsNul faults.TextHoldsNul e = refl
+same_faults faults.BadParams faults.BadParams e = refl
 same_faults a b e = absurd (let clash : false ≡ true = e in cc)
 
 same_errors : (a b : Error) → errors-eq.ghosts.eq a b ≡ true → a ≡ b

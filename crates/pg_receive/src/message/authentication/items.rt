@@ -3,7 +3,7 @@
 ghost use Rattle.std.specs.Prelude.{◌≡◌, ℕ, List, [], ◌∷◌, Some, None, IfOk, IfErr};
 ghost use Rattle.std.specs.Iterator.{YieldsFirstRef, item_count};
 ghost use Rattle.std.specs.Option.{option_map_or};
-ghost use Rattle.pg_base.specs.Answers.{Answers};
+ghost use Rattle.pg_base.specs.Decode.{Decodes};
 ghost use Rattle.pg_base.specs.declared.error.ProtocolFault.TheVariants.{ShortSaslItem, Base64};
 ghost use Rattle.pg_receive.specs.SaslItems.{items_in, AreItems, IsShortItem, base64_of};
 
@@ -48,7 +48,7 @@ impl<'a> Iterator for Items<'a> {
     }
 }
 
-// The item before the first comma, and what stands behind it.
+// The item before the first comma, and what stands after it.
 fn split_item(bytes: &[u8]) -> (&[u8], Option<&[u8]>)
     ensures { items_in bytes.now ≡ result.0.now ∷ option_map_or (λ rest. items_in rest.now) result.1 [] }
 {
@@ -71,7 +71,7 @@ pub(crate) fn split_key(item: &[u8]) -> Result<(u8, &[u8]), ProtocolFault>
 
 /// The bytes that a value is the base64 of.
 pub(crate) fn base64_bytes(alloc: Global, value: &[u8]) -> Result<Vec<u8>, Error>
-    ensures { Answers (λ value bytes. base64_of value ≡ Some bytes) (λ value fault. (base64_of value ≡ None) × (fault ≡ Base64)) (λ _. ⊥) (λ bytes. bytes.items) None value.now result }
+    ensures { Decodes (λ value bytes. base64_of value ≡ Some bytes) (λ value fault. (base64_of value ≡ None) × (fault ≡ Base64)) (λ _. ⊥) (λ bytes. bytes.items) None value.now result }
 {
     match STANDARD.decode(alloc, value) {
         Ok(bytes) => Ok(bytes),

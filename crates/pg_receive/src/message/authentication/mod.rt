@@ -5,11 +5,11 @@ mod mechanisms;
 mod sasl;
 
 ghost use Rattle.std.specs.Prelude.{◌≡◌, ◌≤◌, ℕ, ◌+◌, List, length, take, drop, None, IfOk, IfErr};
-ghost use Rattle.pg_base.specs.Answers.{Answers};
-ghost use Rattle.pg_base.specs.Faults.{IsShort};
-ghost use Rattle.pg_base.specs.declared.message.BackendMessageFormat.TheVariants as formats;
+ghost use Rattle.pg_base.specs.Decode.{Decodes};
+ghost use Rattle.pg_base.specs.Error.{IsShort};
+ghost use Rattle.pg_base.specs.declared.format.BackendMessageFormat.TheVariants as formats;
 ghost use Rattle.pg_receive.specs.Mechanisms.{mechanisms_in};
-ghost use Rattle.pg_receive.specs.Authentication.{AuthenticationValue, md5_password, MeansRest, MeansAuthentication, BreaksAuthentication, IsNoSaslData};
+ghost use Rattle.pg_receive.specs.Authentication.{AuthenticationValue, md5_password, MeansRest, MeansAuthentication, IsAuthenticationFault, IsNoSaslData};
 ghost use Rattle.pg_receive.specs.AuthenticationLaws.{one_authentication, authentication_or_fault};
 
 use crate::message::BackendMessage;
@@ -96,9 +96,9 @@ impl BackendMessage for Authentication {
 
     ghost Means = { MeansAuthentication };
 
-    ghost Broken = { BreaksAuthentication };
+    ghost IsFault = { IsAuthenticationFault };
 
-    ghost Free = { IsNoSaslData };
+    ghost NeedsNoMemory = { IsNoSaslData };
 
     fn decode_body(alloc: Global, buf: Bytes) -> Result<Self, Error> {
         let body = buf.as_slice();

@@ -2,13 +2,13 @@
 
 ghost use Rattle.std.specs.Prelude.{◌≡◌, ◌==◌, ◌≤◌, ℕ, List, [], ◌∷◌, length, None, Some, OnOk, IfErr, string_bytes, if◌then◌else◌};
 ghost use Rattle.std.specs.Str.{is_utf8};
-ghost use Rattle.pg_base.specs.Answers.{Answers};
+ghost use Rattle.pg_base.specs.Decode.{Decodes};
 ghost use Rattle.pg_receive.specs.Last.{plain, last};
 ghost use Rattle.pg_receive.specs.SaslItems.{keyed, item_fault, base64_bytes as bytes_of_base64};
-ghost use Rattle.pg_receive.specs.SaslContinue.{ContinueValue, MeansContinue, BreaksContinue, iterations_key, nonce_key, salt_key, iterations_of};
+ghost use Rattle.pg_receive.specs.SaslContinue.{ContinueValue, MeansContinue, IsContinueFault, iterations_key, nonce_key, salt_key, iterations_of};
 ghost use Rattle.pg_receive.specs.SaslLaws.{one_challenge, challenge_or_fault, one_verifier, verifier_or_fault};
 ghost use Rattle.pg_receive.specs.SaslShown.{continue_shown, final_shown};
-ghost use Rattle.pg_receive.specs.SaslFinal.{MeansFinal, BreaksFinal, verifier_key};
+ghost use Rattle.pg_receive.specs.SaslFinal.{MeansFinal, IsFinalFault, verifier_key};
 
 use crate::message::authentication::items::{Items, base64_bytes, split_key};
 use crate::message::number::u32_at_front;
@@ -50,9 +50,9 @@ impl ProtocolDecode for AuthenticationSaslContinue {
 
     ghost Means = { MeansContinue };
 
-    ghost Broken = { BreaksContinue };
+    ghost IsFault = { IsContinueFault };
 
-    ghost Free = { λ _. ⊥ };
+    ghost NeedsNoMemory = { λ _. ⊥ };
 
     fn decode(alloc: Global, buf: Bytes) -> Result<Self, Error> {
         continue_of(alloc, buf.as_slice())
@@ -79,9 +79,9 @@ impl ProtocolDecode for AuthenticationSaslFinal {
 
     ghost Means = { MeansFinal };
 
-    ghost Broken = { BreaksFinal };
+    ghost IsFault = { IsFinalFault };
 
-    ghost Free = { λ _. ⊥ };
+    ghost NeedsNoMemory = { λ _. ⊥ };
 
     fn decode(alloc: Global, buf: Bytes) -> Result<Self, Error> {
         let verifier = verifier_of(alloc, buf.as_slice())?;
@@ -103,7 +103,7 @@ struct Challenge<'a> {
 
 impl<'a> Challenge<'a> {
     fn take(&mut self, alloc: Global, item: &'a [u8]) -> Result<(), Error>
-        ensures answer { Answers (λ item _. item_fault salt_key item ≡ None) (λ item fault. item_fault salt_key item ≡ Some fault) (λ _. ⊥) (λ done. done) None item.now result }
+        ensures answer { Decodes (λ item _. item_fault salt_key item ≡ None) (λ item fault. item_fault salt_key item ≡ Some fault) (λ _. ⊥) (λ done. done) None item.now result }
         ensures salt { OnOk result (self.new.salt.items ≡ last bytes_of_base64 self.old.salt.items salt_key (keyed (item.now ∷ []))) }
         ensures iterations { OnOk result (self.new.iterations ≡ last iterations_of self.old.iterations iterations_key (keyed (item.now ∷ []))) }
         ensures nonce { OnOk result (self.new.nonce.now ≡ last plain self.old.nonce.now nonce_key (keyed (item.now ∷ []))) }
@@ -123,7 +123,7 @@ impl<'a> Challenge<'a> {
 
 /// The challenge that SASL data is.
 pub(crate) fn continue_of(alloc: Global, body: &[u8]) -> Result<AuthenticationSaslContinue, Error>
-    ensures { Answers MeansContinue BreaksContinue (λ _. ⊥) continue_shown None body.now result }
+    ensures { Decodes MeansContinue IsContinueFault (λ _. ⊥) continue_shown None body.now result }
 {
     let mut challenge = Challenge {
         salt: Vec::new(alloc),
@@ -145,7 +145,7 @@ pub(crate) fn continue_of(alloc: Global, body: &[u8]) -> Result<AuthenticationSa
 
 /// The verifier in the last word that SASL data is.
 pub(crate) fn verifier_of(alloc: Global, body: &[u8]) -> Result<Vec<u8>, Error>
-    ensures { Answers MeansFinal BreaksFinal (λ _. ⊥) (λ verifier. verifier.items) None body.now result }
+    ensures { Decodes MeansFinal IsFinalFault (λ _. ⊥) (λ verifier. verifier.items) None body.now result }
 {
     let mut verifier = Vec::new(alloc);
     for item in Items::new(body) {

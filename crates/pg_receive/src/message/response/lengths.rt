@@ -23,11 +23,11 @@ pub(crate) fn lengths_of(alloc: Global, body: &[u8]) -> SmallVec<u32, 16>
     let mut lengths = SmallVec::new(alloc);
     let mut rest = body;
     for _index in 0..KEPT {
-        let Some((_, value, behind)) = split_field(rest) else {
+        let Some((_, value, after)) = split_field(rest) else {
             break;
         };
         lengths.push_reserved((value.len() + 2) as u32);
-        rest = behind;
+        rest = after;
     }
     lengths
 }

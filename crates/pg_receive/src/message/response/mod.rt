@@ -7,11 +7,11 @@ mod severity;
 
 ghost use Rattle.std.specs.Prelude.{◌≡◌, ◌≤◌, ℕ, List, [], length, None, option_copied, unwrap_or};
 ghost use Rattle.std.specs.Str.{is_utf8};
-ghost use Rattle.pg_base.specs.Answers.{Answers};
-ghost use Rattle.pg_base.specs.declared.message.BackendMessageFormat.TheVariants as formats;
+ghost use Rattle.pg_base.specs.Decode.{Decodes};
+ghost use Rattle.pg_base.specs.declared.format.BackendMessageFormat.TheVariants as formats;
 ghost use Rattle.pg_receive.specs.FieldLengths.{HasLengths};
 ghost use Rattle.pg_receive.specs.Fields.{fields_in, first_value, first_text, of_letter};
-ghost use Rattle.pg_receive.specs.Notice.{NoticeValue, MeansNotice, BreaksNotice, code_letter, message_letter};
+ghost use Rattle.pg_receive.specs.Notice.{NoticeValue, MeansNotice, IsNoticeFault, code_letter, message_letter};
 ghost use Rattle.pg_receive.specs.NoticeLaws.{one_notice, notice_or_fault};
 ghost use Rattle.pg_receive.specs.Places.{IsPlaceIn, bytes_at};
 
@@ -108,9 +108,9 @@ impl ProtocolDecode for Notice {
 
     ghost Means = { MeansNotice };
 
-    ghost Broken = { BreaksNotice };
+    ghost IsFault = { IsNoticeFault };
 
-    ghost Free = { λ _. Unit {0} };
+    ghost NeedsNoMemory = { λ _. Unit {0} };
 
     fn decode(alloc: Global, buf: Bytes) -> Result<Self, Error> {
         let part = read::read(buf.as_slice())?;
@@ -139,9 +139,9 @@ impl BackendMessage for Notice {
 
     ghost Means = { MeansNotice };
 
-    ghost Broken = { BreaksNotice };
+    ghost IsFault = { IsNoticeFault };
 
-    ghost Free = { λ _. Unit {0} };
+    ghost NeedsNoMemory = { λ _. Unit {0} };
 
     fn decode_body(alloc: Global, buf: Bytes) -> Result<Self, Error> {
         Notice::decode(alloc, buf)

@@ -86,7 +86,7 @@ fn notice_text(value: &[u8]) -> Result<&str, ProtocolFault>
     utf8_text(value).ok_or(ProtocolFault::NoticeNotUtf8)
 }
 
-/// Reads a body up to the first field behind which the last message and the last code aren't
+/// Reads a body up to the first field after which the last message and the last code aren't
 /// empty, or else all its fields. The first fault of a field is answered.
 pub(crate) fn read(body: &[u8]) -> Result<ReadPart, ProtocolFault>
     ensures within { IfOk result (λ part. IsPlaceIn body.now part.message × IsPlaceIn body.now part.code) }
@@ -101,12 +101,12 @@ pub(crate) fn read(body: &[u8]) -> Result<ReadPart, ProtocolFault>
     };
     let mut rest = body;
     while !part.is_full() {
-        let Some((letter, value, behind)) = split_field(rest) else {
+        let Some((letter, value, after)) = split_field(rest) else {
             break;
         };
         let start = body.len() - rest.len() + 1;
         part.take(letter, value, start..start + value.len())?;
-        rest = behind;
+        rest = after;
     }
     Ok(part)
 }

@@ -58,7 +58,7 @@ fn fields_of_a_letter(rt: HostRuntime) -> Result<(), Fail> {
 
 // The lengths of sixteen fields are kept.
 #[test]
-fn fields_behind_the_sixteenth(rt: HostRuntime) -> Result<(), Fail> {
+fn fields_after_the_sixteenth(rt: HostRuntime) -> Result<(), Fail> {
     let body = Bytes::from_static(
         b"a0\0b1\0c2\0d3\0e4\0f5\0g6\0h7\0i8\0j9\0k10\0l11\0m12\0n13\0o14\0p15\0q16\0r\xFF\0\0sno\0\0",
     );

@@ -1,8 +1,8 @@
 //! Messages of any length, and one that wants more room than there is.
 
 ghost use Rattle.std.specs.Prelude.{◌^◌, None, replicate};
-ghost use Rattle.pg_base.specs.declared.message.FrontendMessageFormat.TheVariants as formats;
-ghost use Rattle.pg_base.specs.Formats.{frontend_tag};
+ghost use Rattle.pg_base.specs.declared.format.FrontendMessageFormat.TheVariants as formats;
+ghost use Rattle.pg_base.specs.Format.{frontend_tag};
 
 use crate::message::frame::check_len;
 use crate::message::{FrontendMessage, encode_frame};

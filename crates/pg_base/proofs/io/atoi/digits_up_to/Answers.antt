@@ -1,6 +1,6 @@
 use Rattle.std.proofs.Common.{◌≡◌, ℕ, zero, suc, ◌<◌, false, eqb, sym, length, arith}
 use Rattle.std.proofs.lemmas.Bool.{eqb-true}
-use Rattle.pg_base.proofs.Decimals.{no_run, digits_of_run}
+use Rattle.pg_base.proofs.AtoiLemmas.{no_run, digits_of_run}
 use Rattle.pg_base.proofs.io.atoi.digits_up_to.Goals as goal
 
 pub returns-then-is_empty : goal.returns-then-is_empty

@@ -1,6 +1,6 @@
 use Rattle.std.proofs.Common.{drop, get_or, sym}
 use Rattle.std.proofs.lemmas.List.{take-append-drop, take_more}
-use Rattle.pg_base.proofs.Decimals.{no_digit_at, AreDigits-push}
+use Rattle.pg_base.proofs.AtoiLemmas.{no_digit_at, AreDigits-push}
 use Rattle.pg_base.proofs.io.atoi.front_digits.Goals as goal
 
 pub returns-then-not-is_ascii_digit-clause-parts : goal.returns-then-not-is_ascii_digit-clause-parts

@@ -1,5 +1,5 @@
 use Rattle.std.proofs.Common.{arith, ◌+◌}
-use Rattle.pg_base.proofs.Decimals.{AreDigits-at, decimal_value-more, decimal_value-take-le}
+use Rattle.pg_base.proofs.AtoiLemmas.{AreDigits-at, decimal_value-more, decimal_value-take-le}
 use Rattle.pg_base.proofs.io.atoi.value_up_to.Goals as goal
 
 pub returns-in_err-checked_mul : goal.returns-in_err-checked_mul

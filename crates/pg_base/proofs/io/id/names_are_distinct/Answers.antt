@@ -1,4 +1,4 @@
-use Rattle.pg_base.proofs.NameLemmas.{one_name}
+use Rattle.pg_base.proofs.IdLemmas.{one_name}
 use Rattle.pg_base.proofs.io.id.names_are_distinct.Goals as goal
 
 pub returns : goal.returns

@@ -1,5 +1,5 @@
 use Rattle.std.proofs.Common.{take, drop, arith}
-use Rattle.pg_base.proofs.Spelled.{bytes_within, wide_enough, signed_value_4, signed_at}
+use Rattle.pg_base.proofs.NumbersLemmas.{bytes_within, wide_enough, signed_value_4, signed_at}
 use Rattle.pg_base.proofs.io.numbers.i32_at.Goals as goal
 
 pub returns-clause-found : goal.returns-clause-found

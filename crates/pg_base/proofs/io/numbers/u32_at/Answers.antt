@@ -1,5 +1,5 @@
 use Rattle.std.proofs.Common.{take, drop, ◌∙◌}
-use Rattle.pg_base.proofs.Spelled.{number_4, wide_enough, number_at}
+use Rattle.pg_base.proofs.NumbersLemmas.{number_4, wide_enough, number_at}
 use Rattle.pg_base.proofs.io.numbers.u32_at.Goals as goal
 
 pub returns-clause-found : goal.returns-clause-found

@@ -1,6 +1,6 @@
 use Rattle.std.proofs.Common.{drop, sym, ◌∙◌}
 use Rattle.std.proofs.lemmas.List.{take-append-drop}
-use Rattle.pg_base.proofs.Spelled.{wide_enough}
+use Rattle.pg_base.proofs.NumbersLemmas.{wide_enough}
 use Rattle.pg_receive.proofs.message.authentication.md5_password_of.Goals as goal
 
 pub returns-clause-salt : goal.returns-clause-salt

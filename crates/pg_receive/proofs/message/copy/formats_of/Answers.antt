@@ -6,7 +6,7 @@ use Rattle.std.proofs.lemmas.Bool.{false≢true}
 use Rattle.std.proofs.lemmas.Result.{err_from_is_err_and}
 use Rattle.pg_base.specs.Reading.{Signed}
 use Rattle.pg_receive.specs.CopyResponse.{SpellsCode, codes_counted, Counts}
-use Rattle.pg_receive.specs.Items.{StandsAt}
+use Rattle.pg_receive.specs.Items.{IsEncodedAt}
 use Rattle.pg_receive.proofs.ItemLemmas.{one_more_stands, codes_ask_for_memory}
 use Rattle.pg_receive.proofs.message.copy.formats_of.Goals as goal
 
@@ -22,7 +22,7 @@ returns-in_err-format_codes c =
     let not_none : c.code_count-count.result ≡ 0 → ⊥ = λ e. absurd (false≢true (c.in_err-format_codes.ensures.succeeds e)) in
     rw (p.1, p.2) (codes_ask_for_memory body count counts (omega (arith, codes_are, c.in_ok-bytes_at.ensures.found.0)) (omega (arith, codes_are)))
 
-code_stands : (body : List ℕ) (at : ℕ) (code : ℤ) → Signed 2 (drop at body) code (drop (at + 2) body) → StandsAt SpellsCode body at code (at + 2)
+code_stands : (body : List ℕ) (at : ℕ) (code : ℤ) → Signed 2 (drop at body) code (drop (at + 2) body) → IsEncodedAt SpellsCode body at code (at + 2)
 code_stands body at code p = record {
   spelled = p.spelled;
   spells = record { wide = p.wide; is = p.is };

@@ -2,7 +2,7 @@ use Rattle.std.proofs.Common.{◌≡◌, ◌+◌, ◌*◌, ◌<◌, ◌≤◌, l
 use Rattle.std.proofs.lemmas.Bool.{false≢true}
 use Rattle.std.proofs.lemmas.Result.{err_from_is_err_and}
 use Rattle.pg_receive.specs.CellEnds.{end_of, cell_to, cells_from, last_end}
-use Rattle.pg_receive.specs.DataRow.{SpellsCell, BreaksCell}
+use Rattle.pg_receive.specs.DataRow.{SpellsCell, IsCellFault}
 use Rattle.pg_receive.specs.DataRowLaws.{cell_takes}
 use Rattle.pg_receive.proofs.Cells.{length-cells_from, cells_from-push, last_end-push, ends_rise_push}
 use Rattle.pg_receive.proofs.ItemLemmas.{one_more_stands, stands_within, counted_items, next_breaks, asks_for_memory}
@@ -25,7 +25,7 @@ returns-in_err-entry-clause-answer c =
     let cells = cells_from body 2 row.ends.items in
     let holds : 2 + 4 * n ≤ length body = omega (arith, c.from-count.ensures, c.in_ok-bytes_at.ensures.found.0) in
     let fewer : length cells < n = omega (arith, length-cells_from body 2 row.ends.items, row.ends.ok.0, row.invariant.counted, c.from-count.ensures, c.loop-index-test.true) in
-    rw (p.1, p.2) (refl, next_breaks SpellsCell BreaksCell 4 body n row.at cells c.in_err-entry.field-0.0 c.in_ok-u16_at.ensures.found holds fewer row.invariant.stand c.in_err-entry.ensures.broken)
+    rw (p.1, p.2) (refl, next_breaks SpellsCell IsCellFault 4 body n row.at cells c.in_err-entry.field-0.0 c.in_ok-u16_at.ensures.found holds fewer row.invariant.stand c.in_err-entry.ensures.broken)
 
 pub loop-index-preserved : goal.loop-index-preserved
 loop-index-preserved c =

@@ -3,13 +3,13 @@ use Rattle.std.specs.declared.alloc.Global.{Global}
 use Rattle.std.proofs.lemmas.Bool.{false≢true}
 use Rattle.std.proofs.lemmas.List.{length-map, map_push}
 use Rattle.std.proofs.lemmas.Result.{err_from_is_err_and}
-use Rattle.pg_base.specs.Answers.{Answers}
+use Rattle.pg_base.specs.Decode.{Decodes}
 use Rattle.pg_base.specs.Reading.{Number}
 use Rattle.pg_base.specs.declared.error.Error.{Error}
 use Rattle.pg_base.specs.declared.error.Error.TheVariants.{Protocol, OutOfMemory}
 use Rattle.pg_receive.specs.declared.message.row_description.Field.{Field}
-use Rattle.pg_receive.specs.RowDescription.{Column, column_of, SpellsColumn, BreaksColumn, Columns, BreaksColumns, FreeColumns}
-use Rattle.pg_receive.specs.Items.{SpellItems, StandsAt}
+use Rattle.pg_receive.specs.RowDescription.{Column, column_of, SpellsColumn, IsColumnFault, Columns, IsColumnsFault, ColumnsNeedsNoMemory}
+use Rattle.pg_receive.specs.Items.{SpellItems, IsEncodedAt}
 use Rattle.pg_receive.proofs.ItemLemmas.{one_more_stands, stands_within, next_breaks, asks_for_memory}
 use Rattle.pg_receive.proofs.message.row_description.fields_of.Goals as goal
 
@@ -22,11 +22,11 @@ returns-in_err-fields c =
     rw (p.1, p.2) (asks_for_memory 19 0 c.args.body.now n c.in_ok-u16_at.ensures.found (omega (arith, c.from-count.ensures, c.in_ok-bytes_at.ensures.found.0)) some_are_there)
 
 -- what is wrong with a column is wrong with the body
-broken : (body : List ℕ) (n at : ℕ) (columns : List Column) (e : Error) → Number 2 body n (drop 2 body) → 2 + 19 * n ≤ length body → length columns < n → StandsAt (SpellItems SpellsColumn) body 2 columns at
-    → Answers {A = Field × ℕ} {V = Field × ℕ} (λ b found. StandsAt SpellsColumn b at (column_of found.0) found.1) (λ b fault. BreaksColumn b at (drop at b) fault) (λ _. ⊥) (λ found. found) None body (Err e)
-    → Answers {A = Vec Field Global} Columns BreaksColumns FreeColumns (λ fields. map column_of fields.items) None body (Err e)
+broken : (body : List ℕ) (n at : ℕ) (columns : List Column) (e : Error) → Number 2 body n (drop 2 body) → 2 + 19 * n ≤ length body → length columns < n → IsEncodedAt (SpellItems SpellsColumn) body 2 columns at
+    → Decodes {A = Field × ℕ} {V = Field × ℕ} (λ b found. IsEncodedAt SpellsColumn b at (column_of found.0) found.1) (λ b fault. IsColumnFault b at (drop at b) fault) (λ _. ⊥) (λ found. found) None body (Err e)
+    → Decodes {A = Vec Field Global} Columns IsColumnsFault ColumnsNeedsNoMemory (λ fields. map column_of fields.items) None body (Err e)
 broken body n at columns (Protocol reading fault) counted holds fewer p h =
-    (h.0, next_breaks SpellsColumn BreaksColumn 19 body n at columns fault counted holds fewer p h.1)
+    (h.0, next_breaks SpellsColumn IsColumnFault 19 body n at columns fault counted holds fewer p h.1)
 broken body n at columns OutOfMemory counted holds fewer p h =
     asks_for_memory 19 0 body n counted holds (omega (arith, fewer))
 
@@ -48,7 +48,7 @@ loop-index-preserved c =
     let fields = row.fields.items in
     let field = c.in_ok-field.field in
     let end = c.in_ok-field.end in
-    let stands : StandsAt SpellsColumn body row.at (column_of field) end = c.in_ok-field.ensures in
+    let stands : IsEncodedAt SpellsColumn body row.at (column_of field) end = c.in_ok-field.ensures in
     let pushed = c.push_reserved.ensures in
     let more : map column_of c.push_reserved.new.self.items ≡ map column_of fields ++ column_of field ∷ [] = ap (map column_of) pushed.items ∙ map_push column_of fields field in
     record {

@@ -2,8 +2,8 @@ use Rattle.std.proofs.Common.{ℕ, None, inl, inr, arith, ap, ◌∙◌, ◌++�
 use Rattle.std.proofs.lemmas.Result.{IfOk-weaker, IfErr-weaker}
 use Rattle.pg_base.specs.declared.error.Error.TheVariants.{Protocol}
 use Rattle.pg_base.specs.declared.error.ProtocolFault.TheVariants.{MessageTooLong}
-use Rattle.pg_base.specs.Prefixed.{four_zeros}
-use Rattle.pg_base.proofs.Prefixes.{Holds, len_is, take_old, is_prefixed}
+use Rattle.pg_base.specs.BufMut.{four_zeros}
+use Rattle.pg_base.proofs.BufMutLemmas.{Holds, len_is, take_old, is_prefixed}
 use Rattle.pg_base.proofs.io.buf_mut.VecU8PgBufMutExt.put_length_prefixed.Given.{Over}
 use Rattle.pg_base.proofs.io.buf_mut.VecU8PgBufMutExt.put_length_prefixed.Goals.{After-finish}
 use Rattle.pg_base.proofs.io.buf_mut.VecU8PgBufMutExt.put_length_prefixed.Goals as goal

@@ -8,10 +8,10 @@ loop-index-preserved c =
     let walk = c.loop-index in
     let len = length c.in-Some.value.now + 2 in
     let pushed = c.push_reserved.ensures in
-    let field : BeginsWithLength walk.rest.now len c.in-Some.behind.now = record { letter = c.in-Some.field-0-0; value = c.in-Some.value.now; field = c.in-Some.ensures.found; long = refl } in
+    let field : BeginsWithLength walk.rest.now len c.in-Some.after.now = record { letter = c.in-Some.field-0-0; value = c.in-Some.value.now; field = c.in-Some.ensures.found; long = refl } in
     record {
-      are = rw pushed.items (lengths_push c.args.body.now walk.lengths.items walk.rest.now len c.in-Some.behind.now walk.invariant.are field);
-      short = omega (arith, field_within walk.rest.now len c.in-Some.behind.now field, walk.invariant.short);
+      are = rw pushed.items (lengths_push c.args.body.now walk.lengths.items walk.rest.now len c.in-Some.after.now walk.invariant.are field);
+      short = omega (arith, field_within walk.rest.now len c.in-Some.after.now field, walk.invariant.short);
       count = omega (arith, ap length pushed.items, length-append walk.lengths.items (len ∷ []), walk.invariant.count);
       capacity = pushed.capacity ∙ walk.invariant.capacity;
     }

@@ -16,7 +16,7 @@ loop-rest-preserved c =
     let field = c.in-Some in
     let taken = c.in_ok-take.ensures in
     let partial = full_places c.args.body.now part.message part.code kept.message_in kept.code_in ∙ sym c.loop-rest-test.ensures in
-    kept_more c.args.body.now c.loop-rest.rest.now field.letter field.value.now field.behind.now _ part.message part.code _ _ part.severity part.localized _ _ partial refl field.ensures.found
+    kept_more c.args.body.now c.loop-rest.rest.now field.letter field.value.now field.after.now _ part.message part.code _ _ part.severity part.localized _ _ partial refl field.ensures.found
     (record { clean = taken.clean; severity_is = taken.severity; localized_is = taken.localized; message_is = taken.message; code_is = taken.code }) kept
 
 pub returns-in_err-take-clause-fault : goal.returns-in_err-take-clause-fault
@@ -26,7 +26,7 @@ returns-in_err-take-clause-fault c =
     let field = c.in-Some in
     let partial = full_places c.args.body.now part.message part.code kept.message_in kept.code_in ∙ sym c.loop-rest-test.ensures in
     let p = err_from_is_err_and c.from_residual.result c.from_residual.ensures.1 in
-    rw (p.1, p.2) (kept_fault c.args.body.now c.loop-rest.rest.now field.letter field.value.now field.behind.now part.message part.code part.severity part.localized _ partial field.ensures.found c.in_err-take.ensures.fault kept)
+    rw (p.1, p.2) (kept_fault c.args.body.now c.loop-rest.rest.now field.letter field.value.now field.after.now part.message part.code part.severity part.localized _ partial field.ensures.found c.in_err-take.ensures.fault kept)
 
 pub returns-after-loop-rest-clause-reads : goal.returns-after-loop-rest-clause-reads
 returns-after-loop-rest-clause-reads c =

@@ -3,10 +3,10 @@
 ghost use Rattle.std.specs.Prelude.{◌≡◌, ◌≢◌, Some, None, Ok, IfOk, IfErr, OnErr};
 ghost use Rattle.pg_base.specs.declared.error.Error.TheVariants.{Protocol};
 ghost use Rattle.pg_base.specs.declared.error.ProtocolFault.TheVariants.{UnknownMessageType};
-ghost use Rattle.pg_base.specs.declared.message.FrontendMessageFormat.{FrontendMessageFormat};
-ghost use Rattle.pg_base.specs.declared.message.BackendMessageFormat.{BackendMessageFormat};
+ghost use Rattle.pg_base.specs.declared.format.FrontendMessageFormat.{FrontendMessageFormat};
+ghost use Rattle.pg_base.specs.declared.format.BackendMessageFormat.{BackendMessageFormat};
 ghost use Rattle.std.specs.Ordering.{nat_cmp};
-ghost use Rattle.pg_base.specs.Formats.{frontend_tag, backend_tag, backend_number, format_name, IsBackendTag};
+ghost use Rattle.pg_base.specs.Format.{frontend_tag, backend_tag, backend_number, format_name, IsBackendTag};
 
 use crate::error::{Error, ProtocolFault};
 

@@ -1,9 +1,9 @@
 -- The tags and names of the kinds of message. Documentation: "Message Formats".
 use Rattle.std.specs.Prelude.{◌≡◌, ℕ, List, codes}
-use Rattle.pg_base.specs.declared.message.FrontendMessageFormat.{FrontendMessageFormat}
-use Rattle.pg_base.specs.declared.message.FrontendMessageFormat.TheVariants as frontend
-use Rattle.pg_base.specs.declared.message.BackendMessageFormat.{BackendMessageFormat}
-use Rattle.pg_base.specs.declared.message.BackendMessageFormat.TheVariants as backend
+use Rattle.pg_base.specs.declared.format.FrontendMessageFormat.{FrontendMessageFormat}
+use Rattle.pg_base.specs.declared.format.FrontendMessageFormat.TheVariants as frontend
+use Rattle.pg_base.specs.declared.format.BackendMessageFormat.{BackendMessageFormat}
+use Rattle.pg_base.specs.declared.format.BackendMessageFormat.TheVariants as backend
 
 -- the first byte of a message from a client
 abbrev pub frontend_tag : FrontendMessageFormat → ℕ

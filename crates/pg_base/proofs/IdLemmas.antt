@@ -1,12 +1,18 @@
 -- A name tells which id it is of.
-use Rattle.std.proofs.Common.{◌≡◌, ◌≢◌, ℕ, ◌+◌, ◌*◌, ◌^◌, ◌<◌, ◌≤◌, List, [], ◌++◌, length, decimal, refl, sym, ap, ◌∙◌, arith, length-append, zero, suc}
+use Rattle.std.proofs.Common.{◌≡◌, ◌≢◌, ℕ, ◌+◌, ◌*◌, ◌/◌, ◌%◌, ◌^◌, ◌<◌, ◌≤◌, List, [], ◌∷◌, ◌++◌, length, decimal, refl, sym, ap, ◌∙◌, arith, length-append, zero, suc}
 use Rattle.std.specs.Str.Parse.{digits_value}
-use Rattle.std.proofs.lemmas.Fmt.{decimal_is_IsNumeral, decimal_nonempty}
+use Rattle.std.proofs.lemmas.Fmt.{decimal_is_IsNumeral, decimal_nonempty, decimal_digit, decimal_step}
 use Rattle.std.proofs.lemmas.Bool.{ne_eqb}
-use Rattle.pg_base.specs.Names.{name, max_id}
-use Rattle.pg_base.proofs.Cuts.{parts_at}
-use Rattle.pg_base.proofs.Decimals.{ten_pos}
-use Rattle.pg_base.proofs.DecimalLength.{decimal_length}
+use Rattle.pg_base.specs.Id.{name, max_id}
+use Rattle.pg_base.proofs.CuttingLemmas.{parts_at}
+use Rattle.pg_base.proofs.AtoiLemmas.{ten_pos}
+
+-- a number has one digit more than its logarithm
+pub decimal_length : (k n : ℕ) → 10 ^ k ≤ n → n < 10 * 10 ^ k → n < 2 ^ 64 → length (decimal n) ≡ k + 1
+decimal_length zero n low high small = ap length (decimal_digit n (omega (arith, high)))
+decimal_length (suc k) n low high small =
+    let rest = decimal_length k (n / 10) (omega (arith, low)) (omega (arith, high)) (omega (arith, small)) in
+    omega (arith, ap length (decimal_step n (omega (arith, low, ten_pos k)) small), length-append (decimal (n / 10)) ((48 + n % 10) ∷ []), rest)
 
 pub one_decimal : (a b : ℕ) → a < 2 ^ 64 → b < 2 ^ 64 → decimal a ≡ decimal b → a ≡ b
 one_decimal a b p q e = sym (decimal_is_IsNumeral a p).1 ∙ ap (digits_value 10) e ∙ (decimal_is_IsNumeral b q).1

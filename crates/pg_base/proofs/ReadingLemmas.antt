@@ -2,7 +2,7 @@
 use Rattle.std.proofs.Common.{◌≡◌, ◌≢◌, ℕ, suc, ◌+◌, ◌<◌, ℤ, List, [], ◌∷◌, ◌++◌, length, get_or, refl, sym, ap, ◌∙◌, arith, length-append}
 use Rattle.pg_base.specs.Numbers.{num, int}
 use Rattle.pg_base.specs.Reading.{Number, Signed, HoldsNo, Text}
-use Rattle.pg_base.proofs.Cuts.{parts_at}
+use Rattle.pg_base.proofs.CuttingLemmas.{parts_at}
 
 pub one_number : (width : ℕ) (bytes : List ℕ) (m n : ℕ) (x y : List ℕ) → Number width bytes m x → Number width bytes n y → (m ≡ n) × (x ≡ y)
 one_number width bytes m n x y p q =

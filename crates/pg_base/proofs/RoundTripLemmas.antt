@@ -2,13 +2,13 @@
 use Rattle.std.proofs.Common.{◌≡◌, ◌≢◌, ◌⊎◌, inl, inr, ℕ, zero, suc, ◌+◌, ◌/◌, ◌%◌, ◌^◌, ◌<◌, ◌≤◌, ℤ, pos, negsuc, List, [], ◌∷◌, ◌++◌, length, decimal, refl, sym, ap, ◌∙◌, arith, append_assoc, length-append}
 use Rattle.std.proofs.lemmas.Fmt.{decimal_by_steps}
 use Rattle.pg_base.specs.Atoi.{AreDigits, decimal_value}
-use Rattle.pg_base.specs.Names.{name, named, max_id, statement_prefix, portal_prefix}
+use Rattle.pg_base.specs.Id.{name, named, max_id, statement_prefix, portal_prefix}
 use Rattle.pg_base.specs.Numbers.{int, be16, be32}
 use Rattle.pg_base.specs.Reading.{Number, HoldsNo, Text, BeginsWith, Id, Numbers, Counted, Value, Values}
-use Rattle.pg_base.proofs.Cuts.{parts_at}
-use Rattle.pg_base.proofs.Decimals.{AreDigits-push, decimal_value-push}
-use Rattle.pg_base.proofs.NameLemmas.{name_of_other}
-use Rattle.pg_base.proofs.Readings.{one_number}
+use Rattle.pg_base.proofs.CuttingLemmas.{parts_at}
+use Rattle.pg_base.proofs.AtoiLemmas.{AreDigits-push, decimal_value-push}
+use Rattle.pg_base.proofs.IdLemmas.{name_of_other}
+use Rattle.pg_base.proofs.ReadingLemmas.{one_number}
 
 -- ---- digits
 
@@ -119,8 +119,8 @@ one_numbers width (m ∷ ms) (n ∷ ns) bytes x y len p q =
 
 pub one_counted : (width : ℕ) (bytes ms ns x y : List ℕ) → Counted width bytes ms x → Counted width bytes ns y → (ms ≡ ns) × (x ≡ y)
 one_counted width bytes ms ns x y p q =
-    let count = one_number 2 bytes (length ms) (length ns) p.behind q.behind p.count q.count in
-    one_numbers width ms ns q.behind x y count.0 (rw count.1 at p.numbers) q.numbers
+    let count = one_number 2 bytes (length ms) (length ns) p.after q.after p.count q.count in
+    one_numbers width ms ns q.after x y count.0 (rw count.1 at p.numbers) q.numbers
 
 -- ---- values
 
@@ -157,7 +157,7 @@ value_before bytes rest more p = record {
   parts = ap (λ (l : List ℕ). l ++ more) p.parts ∙ append_assoc (p.field ++ p.value) rest more;
 }
 
--- what stands behind values doesn't change them
+-- what stands after values doesn't change them
 pub values_before : (k : ℕ) (bytes rest more : List ℕ) → Values k bytes rest → Values k (bytes ++ more) (rest ++ more)
 values_before zero bytes rest more p = ap (λ (l : List ℕ). l ++ more) p
 values_before (suc k) bytes rest more p = (p.0 ++ more, value_before bytes p.0 more p.1, values_before k p.0 rest more p.2)

@@ -86,37 +86,37 @@ atoi_of_nothing top minus n h within = let e = h.parts in absurd cc
 pub heads_of : (a b : ℕ) (x y : List ℕ) → a ∷ x ≡ b ∷ y → a ≡ b
 heads_of a b x y e = cc
 
-behind_plus : (bs : List ℕ) (sign : Sign) (n top : ℕ) → SignedDigits (43 ∷ bs) sign n → IsWithin top sign n → Digits bs n × (n ≤ top)
-behind_plus bs unsigned n top h within = absurd (omega (arith, (digit_of 43 bs n (rw h.parts h.digits)).0))
-behind_plus bs plus n top h within = (let e = h.parts in let tails : bs ≡ h.behind = cc in rw tails h.digits, within)
-behind_plus bs minus n top h within = absurd (omega (arith, heads_of 43 45 bs h.behind h.parts))
+after_plus : (bs : List ℕ) (sign : Sign) (n top : ℕ) → SignedDigits (43 ∷ bs) sign n → IsWithin top sign n → Digits bs n × (n ≤ top)
+after_plus bs unsigned n top h within = absurd (omega (arith, (digit_of 43 bs n (rw h.parts h.digits)).0))
+after_plus bs plus n top h within = (let e = h.parts in let tails : bs ≡ h.after = cc in rw tails h.digits, within)
+after_plus bs minus n top h within = absurd (omega (arith, heads_of 43 45 bs h.after h.parts))
 
-behind_minus : (bs : List ℕ) (sign : Sign) (n top : ℕ) → SignedDigits (45 ∷ bs) sign n → IsWithin top sign n → Digits bs n × (n ≤ 0)
-behind_minus bs unsigned n top h within = absurd (omega (arith, (digit_of 45 bs n (rw h.parts h.digits)).0))
-behind_minus bs plus n top h within = absurd (omega (arith, heads_of 45 43 bs h.behind h.parts))
-behind_minus bs minus n top h within = (let e = h.parts in let tails : bs ≡ h.behind = cc in rw tails h.digits, omega (arith, within))
+after_minus : (bs : List ℕ) (sign : Sign) (n top : ℕ) → SignedDigits (45 ∷ bs) sign n → IsWithin top sign n → Digits bs n × (n ≤ 0)
+after_minus bs unsigned n top h within = absurd (omega (arith, (digit_of 45 bs n (rw h.parts h.digits)).0))
+after_minus bs plus n top h within = absurd (omega (arith, heads_of 45 43 bs h.after h.parts))
+after_minus bs minus n top h within = (let e = h.parts in let tails : bs ≡ h.after = cc in rw tails h.digits, omega (arith, within))
 
-behind_no_sign : (b : ℕ) (bs : List ℕ) (sign : Sign) (n top : ℕ) → ¬ (b ≡ 43) → ¬ (b ≡ 45) → SignedDigits (b ∷ bs) sign n → IsWithin top sign n → Digits (b ∷ bs) n × (n ≤ top)
-behind_no_sign b bs unsigned n top np nm h within = (rw h.parts h.digits, within)
-behind_no_sign b bs plus n top np nm h within = absurd (np (let e = h.parts in cc))
-behind_no_sign b bs minus n top np nm h within = absurd (nm (let e = h.parts in cc))
+after_no_sign : (b : ℕ) (bs : List ℕ) (sign : Sign) (n top : ℕ) → ¬ (b ≡ 43) → ¬ (b ≡ 45) → SignedDigits (b ∷ bs) sign n → IsWithin top sign n → Digits (b ∷ bs) n × (n ≤ top)
+after_no_sign b bs unsigned n top np nm h within = (rw h.parts h.digits, within)
+after_no_sign b bs plus n top np nm h within = absurd (np (let e = h.parts in cc))
+after_no_sign b bs minus n top np nm h within = absurd (nm (let e = h.parts in cc))
 
 pub atoi_of_plus : (top : ℕ) (bs : List ℕ) (result : Option ℕ) → IsDigitsUpTo top bs result → Atoi top (43 ∷ bs) result
-atoi_of_plus top bs (Some n) h = (plus, record { behind = bs; parts = refl; digits = h.0 }, h.1)
+atoi_of_plus top bs (Some n) h = (plus, record { after = bs; parts = refl; digits = h.0 }, h.1)
 atoi_of_plus top bs None h = λ sign n signed within.
-    let found = behind_plus bs sign n top signed within in
+    let found = after_plus bs sign n top signed within in
     omega (arith, h n found.0, found.1)
 
 pub atoi_of_minus : (top : ℕ) (bs : List ℕ) (result : Option ℕ) → IsDigitsUpTo 0 bs result → Atoi top (45 ∷ bs) result
-atoi_of_minus top bs (Some n) h = (minus, record { behind = bs; parts = refl; digits = h.0 }, omega (arith, h.1))
+atoi_of_minus top bs (Some n) h = (minus, record { after = bs; parts = refl; digits = h.0 }, omega (arith, h.1))
 atoi_of_minus top bs None h = λ sign n signed within.
-    let found = behind_minus bs sign n top signed within in
+    let found = after_minus bs sign n top signed within in
     omega (arith, h n found.0, found.1)
 
 pub atoi_of_no_sign : (top b : ℕ) (bs : List ℕ) (result : Option ℕ) → ¬ (b ≡ 43) → ¬ (b ≡ 45) → IsDigitsUpTo top (b ∷ bs) result → Atoi top (b ∷ bs) result
-atoi_of_no_sign top b bs (Some n) np nm h = (unsigned, record { behind = b ∷ bs; parts = refl; digits = h.0 }, h.1)
+atoi_of_no_sign top b bs (Some n) np nm h = (unsigned, record { after = b ∷ bs; parts = refl; digits = h.0 }, h.1)
 atoi_of_no_sign top b bs None np nm h = λ sign n signed within.
-    let found = behind_no_sign b bs sign n top np nm signed within in
+    let found = after_no_sign b bs sign n top np nm signed within in
     omega (arith, h n found.0, found.1)
 
 -- a run of digits, and what was found of its value

@@ -36,8 +36,8 @@ pub one_first : (bytes : List ℕ) (s t : ℕ) (a b x y : List ℕ) → Begins b
 one_first bytes s t a b x y p q =
     let e : s ∷ (p.field ++ a ++ x) ≡ t ∷ (q.field ++ b ++ y) = sym p.parts ∙ q.parts in
     let tags : s ≡ t = cc in
-    let behind : p.field ++ a ++ x ≡ q.field ++ b ++ y = cc in
-    let fields = parts_at p.field q.field (a ++ x) (b ++ y) (p.wide ∙ sym q.wide) (sym (append_assoc p.field a x) ∙ behind ∙ append_assoc q.field b y) in
+    let after : p.field ++ a ++ x ≡ q.field ++ b ++ y = cc in
+    let fields = parts_at p.field q.field (a ++ x) (b ++ y) (p.wide ∙ sym q.wide) (sym (append_assoc p.field a x) ∙ after ∙ append_assoc q.field b y) in
     let counts : pos (4 + length a) ≡ pos (4 + length b) = sym p.counts ∙ ap int fields.0 ∙ q.counts in
     let lengths : 4 + length a ≡ 4 + length b = cc in
     let bodies = parts_at a b x y (omega (arith, lengths)) fields.1 in

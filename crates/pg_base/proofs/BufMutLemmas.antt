@@ -1,8 +1,8 @@
--- A length is set before what was written behind four zeros.
+-- A length is set before what was written after four zeros.
 use Rattle.std.proofs.Common.{◌≡◌, ℕ, ◌+◌, ◌-◌, List, ◌++◌, length, take, drop, ap, arith, append_assoc, length-append}
 use Rattle.std.proofs.lemmas.List.{take_at, drop_at}
 use Rattle.pg_base.specs.Numbers.{be32}
-use Rattle.pg_base.specs.Prefixed.{four_zeros, prefixed}
+use Rattle.pg_base.specs.BufMut.{four_zeros, prefixed}
 
 -- a buffer holds its old bytes, four zeros, and what was added
 pub record Holds (old added whole : List ℕ) (offset len : ℕ) : Type 0 where
