@@ -1,5 +1,5 @@
 -- A length before what a closure appends.
-use Rattle.std.specs.Prelude.{◌≡◌, ℕ, ◌+◌, ◌<◌, List, [], ◌∷◌, ◌++◌, length, None, Result, Ok, Err, ◌⊎◌, Vec}
+use Rattle.std.specs.Prelude.{◌≡◌, ℕ, ◌+◌, ◌<◌, ◌≤◌, List, [], ◌∷◌, ◌++◌, length, None, Result, Ok, Err, ◌⊎◌, Vec, vec_capacity}
 use Rattle.std.specs.declared.alloc.Global.{Global}
 use Rattle.std.specs.Borrow.{MutBor}
 use Rattle.std.specs.Fn.{Once, FnOnceTakesAtMut, FnOnceReturnsAtMut}
@@ -30,6 +30,10 @@ module _ {F : Type 0} (g : Once F (MutBor Buffer × Unit {0}) (Result (Unit {0})
   OnlyAppends = (before after : Buffer) (answer : Result (Unit {0}) Error) → before.items ≡ bytes → FnOnceReturnsAtMut g write before answer after
       → (added : List ℕ) × (after.items ≡ bytes ++ added)
 
+  -- and it gives no room back
+  abbrev pub KeepsRoom : Type 0
+  KeepsRoom = (before after : Buffer) (answer : Result (Unit {0}) Error) → before.items ≡ bytes → FnOnceReturnsAtMut g write before answer after → vec_capacity before ≤ vec_capacity after
+
   -- a call on a buffer of these bytes may give this answer and add this
   pub record Wrote (answer : Result (Unit {0}) Error) (added : List ℕ) : Type 0 where
     pub before : Buffer
@@ -52,5 +56,5 @@ module _ {F : Type 0} (g : Once F (MutBor Buffer × Unit {0}) (Result (Unit {0})
 
   -- the four bytes of the length found no room; or the closure refused; or it wrote too much
   abbrev pub WhyRefused : Type 0 → Error → Type 0
-  WhyRefused LacksRoom error =
-      (LacksRoom × (error ≡ OutOfMemory)) ⊎ ((added : List ℕ) × Wrote (Err error) added) ⊎ PassesLength error
+  WhyRefused FoundNoRoom error =
+      (FoundNoRoom × (error ≡ OutOfMemory)) ⊎ ((added : List ℕ) × Wrote (Err error) added) ⊎ PassesLength error

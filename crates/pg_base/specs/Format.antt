@@ -1,9 +1,12 @@
--- The tags and names of the kinds of message. Documentation: "Message Formats".
-use Rattle.std.specs.Prelude.{◌≡◌, ℕ, List, codes}
+-- The tags and names of the kinds of message, and the codes of the formats of values. Documentation:
+-- "Message Formats", and "Formats and Format Codes".
+use Rattle.std.specs.Prelude.{◌≡◌, ℕ, List, map, codes}
 use Rattle.pg_base.specs.declared.format.FrontendMessageFormat.{FrontendMessageFormat}
 use Rattle.pg_base.specs.declared.format.FrontendMessageFormat.TheVariants as frontend
 use Rattle.pg_base.specs.declared.format.BackendMessageFormat.{BackendMessageFormat}
 use Rattle.pg_base.specs.declared.format.BackendMessageFormat.TheVariants as backend
+use Rattle.pg_base.specs.declared.io.PgValueFormat.{PgValueFormat}
+use Rattle.pg_base.specs.declared.io.PgValueFormat.TheVariants as values
 
 -- the first byte of a message from a client
 abbrev pub frontend_tag : FrontendMessageFormat → ℕ
@@ -95,3 +98,11 @@ format_name backend.ParseComplete = codes "ParseComplete"
 format_name backend.PortalSuspended = codes "PortalSuspended"
 format_name backend.ReadyForQuery = codes "ReadyForQuery"
 format_name backend.RowDescription = codes "RowDescription"
+
+-- how a value is spelled, as a number
+abbrev pub format_code : PgValueFormat → ℕ
+format_code values.Text = 0
+format_code values.Binary = 1
+
+abbrev pub format_codes : List PgValueFormat → List ℕ
+format_codes formats = map format_code formats

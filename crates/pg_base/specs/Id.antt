@@ -1,5 +1,6 @@
 -- The names of prepared statements and portals, and the order in which they are handed out.
-use Rattle.std.specs.Prelude.{ℕ, ◌+◌, ◌==◌, List, [], ◌∷◌, ◌++◌, codes, decimal, if◌then◌else◌}
+use Rattle.std.specs.Prelude.{ℕ, ◌+◌, ◌==◌, List, [], ◌++◌, codes, decimal, if◌then◌else◌}
+use Rattle.pg_base.specs.Text.{ended}
 
 -- the greatest id; 0 is the one without a name
 abbrev pub max_id : ℕ
@@ -17,7 +18,7 @@ name prefix id = if id == 0 then [] else prefix ++ decimal id
 
 -- the name as a text of a message
 abbrev pub named : List ℕ → ℕ → List ℕ
-named prefix id = name prefix id ++ 0 ∷ []
+named prefix id = ended (name prefix id)
 
 -- the id that is handed out after another
 abbrev pub next_id : ℕ → ℕ

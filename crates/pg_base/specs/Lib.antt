@@ -8,3 +8,4 @@ pub mod Format
 pub mod Id
 pub mod Numbers
 pub mod Reading
+pub mod Text

@@ -1,6 +1,6 @@
 -- How a reader takes bytes apart: of these bytes, this value, and that rest. Documentation: "Message
 -- Data Types".
-use Rattle.std.specs.Prelude.{◌≡◌, ◌≢◌, ◌≤◌, ◌⊎◌, ℕ, zero, suc, ℤ, pos, negsuc, List, [], ◌∷◌, ◌++◌, length}
+use Rattle.std.specs.Prelude.{◌≡◌, ◌≢◌, ◌≤◌, ◌⊎◌, ℕ, zero, suc, ℤ, pos, negsuc, List, [], ◌∷◌, ◌++◌, length, codes}
 use Rattle.pg_base.specs.Atoi.{AreDigits, decimal_value}
 use Rattle.pg_base.specs.Id.{max_id}
 use Rattle.pg_base.specs.Numbers.{num, int}
@@ -46,6 +46,13 @@ pub record NamesId (prefix text : List ℕ) (id : ℕ) : Type 0 where
 
 abbrev pub Id : List ℕ → List ℕ → ℕ → Type 0
 Id prefix text id = ((text ≡ []) × (id ≡ 0)) ⊎ NamesId prefix text id
+
+-- a text that names a prepared statement, and one that names a portal
+abbrev pub StatementName : List ℕ → ℕ → Type 0
+StatementName text id = Id (codes "sqlx_s_") text id
+
+abbrev pub PortalName : List ℕ → ℕ → Type 0
+PortalName text id = Id (codes "sqlx_p_") text id
 
 -- numbers of so many bytes each, one after the other
 abbrev pub Numbers : ℕ → List ℕ → List ℕ → List ℕ → Type 0

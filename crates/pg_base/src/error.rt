@@ -1,9 +1,6 @@
 //! What can be wrong with a message, and the words for it.
 
-ghost use Rattle.std.specs.Prelude.{◌≡◌, Decides, Some, None};
-ghost use Rattle.pg_base.specs.declared.error.ErrorKind.{ErrorKind};
-ghost use Rattle.pg_base.specs.declared.error.ProtocolFault.{ProtocolFault};
-ghost use Rattle.pg_base.specs.declared.error.Error.{Error};
+ghost use Rattle.std.specs.Prelude.{◌≡◌, Some, None};
 ghost use Rattle.pg_base.specs.declared.error.Error.TheVariants.{Protocol, OutOfMemory};
 ghost use Rattle.pg_base.specs.Error.{fault_words, error_words};
 
@@ -142,13 +139,6 @@ pub enum ErrorKind {
     /// Any other error.
     Other,
 }
-
-/// Faults, errors and kinds of error are equal where they are the same.
-pub fn errors_are_equal_by_value()
-    ensures faults { (a b : ProtocolFault) → Decides (⟦<ProtocolFault as PartialEq>⟧.eq a b) (a ≡ b) }
-    ensures errors { (a b : Error) → Decides (⟦<Error as PartialEq>⟧.eq a b) (a ≡ b) }
-    ensures kinds { (a b : ErrorKind) → Decides (⟦<ErrorKind as PartialEq>⟧.eq a b) (a ≡ b) }
-{}
 
 /// Why a call of this layer gave no answer.
 #[derive(Clone, Copy, Debug, PartialEq, Eq)]

@@ -3,10 +3,7 @@
 ghost use Rattle.std.specs.Prelude.{◌≡◌, ◌≢◌, Some, None, Ok, IfOk, IfErr, OnErr};
 ghost use Rattle.pg_base.specs.declared.error.Error.TheVariants.{Protocol};
 ghost use Rattle.pg_base.specs.declared.error.ProtocolFault.TheVariants.{UnknownMessageType};
-ghost use Rattle.pg_base.specs.declared.format.FrontendMessageFormat.{FrontendMessageFormat};
-ghost use Rattle.pg_base.specs.declared.format.BackendMessageFormat.{BackendMessageFormat};
-ghost use Rattle.std.specs.Ordering.{nat_cmp};
-ghost use Rattle.pg_base.specs.Format.{frontend_tag, backend_tag, backend_number, format_name, IsBackendTag};
+ghost use Rattle.pg_base.specs.Format.{backend_tag, format_name, IsBackendTag};
 
 use crate::error::{Error, ProtocolFault};
 
@@ -119,9 +116,3 @@ impl BackendMessageFormat {
         }
     }
 }
-
-/// The order of both kinds of formats is that of their numbers.
-pub fn formats_are_ordered_by_number()
-    ensures frontend { (a b : FrontendMessageFormat) → ⟦<FrontendMessageFormat as Ord>⟧.cmp a b ≡ nat_cmp (frontend_tag a) (frontend_tag b) }
-    ensures backend { (a b : BackendMessageFormat) → ⟦<BackendMessageFormat as Ord>⟧.cmp a b ≡ nat_cmp (backend_number a) (backend_number b) }
-{}

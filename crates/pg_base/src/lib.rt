@@ -5,9 +5,10 @@
 mod error;
 mod format;
 pub mod io;
+pub mod laws;
 
-pub use error::{Error, ErrorKind, ProtocolFault, errors_are_equal_by_value};
-pub use format::{BackendMessageFormat, FrontendMessageFormat, formats_are_ordered_by_number};
+pub use error::{Error, ErrorKind, ProtocolFault};
+pub use format::{BackendMessageFormat, FrontendMessageFormat};
 
 #[cfg(test)]
 mod tests;

@@ -2,12 +2,17 @@
 -- "Message Formats", Bind (F).
 use Rattle.std.specs.Prelude.{ℕ, ◌^◌, ◌<◌, ◌≤◌, List, [], ◌++◌, ◌≡◌, length, All, Option}
 use Rattle.std.specs.Option.{option_or}
+use Rattle.pg_base.specs.declared.format.FrontendMessageFormat.TheVariants as formats
 use Rattle.pg_base.specs.declared.error.ProtocolFault.{ProtocolFault}
 use Rattle.pg_base.specs.declared.error.ProtocolFault.TheVariants.{TooManyParamFormats, TooManyResultFormats}
 use Rattle.pg_base.specs.Id.{named, statement_prefix, portal_prefix, max_id}
+use Rattle.pg_base.specs.Format.{format_codes}
 use Rattle.pg_base.specs.Numbers.{be16}
-use Rattle.pg_base.specs.Reading.{Text, Id, Number, Counted, Values}
+use Rattle.pg_base.specs.Reading.{Text, StatementName, PortalName, Number, Counted, Values}
+use Rattle.pg_send.specs.declared.message.bind.Bind.{Bind}
 use Rattle.pg_send.specs.Counted.{too_many, counted16}
+use Rattle.pg_send.specs.Frame.{Law, saturated}
+use Rattle.pg_send.specs.Kind as kinds
 
 -- the formats are their codes, and the values of the parameters are as the caller spelled them
 pub record BindFields : Type 0 where
@@ -48,9 +53,9 @@ pub record ReadsBind (body : List ℕ) (b : BindFields) : Type 0 where
   pub after_count : List ℕ
   pub after_params : List ℕ
   pub first : Text body portal_name after_portal
-  pub portal : Id portal_prefix portal_name b.portal
+  pub portal : PortalName portal_name b.portal
   pub second : Text after_portal statement_name after_statement
-  pub statement : Id statement_prefix statement_name b.statement
+  pub statement : StatementName statement_name b.statement
   pub formats : Counted 2 after_statement b.formats after_formats
   pub codes : All (λ code. code < 2) b.formats
   pub count : Number 2 after_formats b.num_params after_count
@@ -59,6 +64,25 @@ pub record ReadsBind (body : List ℕ) (b : BindFields) : Type 0 where
   pub result_formats : Counted 2 after_params b.result_formats []
   pub result_codes : All (λ code. code < 2) b.result_formats
 
--- parameters that are not just so many values aren't read back
-abbrev pub KeepsBind : BindFields → Type 0
-KeepsBind b = Values b.num_params b.params []
+-- parameters that are not as many values as it says aren't read back
+abbrev pub bind_law : BindFields → Law
+bind_law b = record {
+  kind = kinds.Bind;
+  format = formats.Bind;
+  body = bind_body b;
+  count_fault = bind_count_fault b;
+  room_for = saturated;
+  IsInRange = IsBindInRange b;
+  Reads = λ bytes. ReadsBind bytes b;
+  CanRoundTrip = Values b.num_params b.params [];
+}
+
+abbrev pub bind_fields : Bind → BindFields
+bind_fields b = record {
+  portal = b.portal;
+  statement = b.statement;
+  formats = format_codes b.formats.now;
+  num_params = b.num_params;
+  params = b.params.now;
+  result_formats = format_codes b.result_formats.now;
+}

@@ -1,22 +1,29 @@
--- A message to the server as a plain value: which kind it is, and its fields. Documentation:
--- "Message Formats", the messages marked (F).
-use Rattle.std.specs.Prelude.{ℕ, List, [], length, Option, None}
+-- Any tagged message to the server as a plain value, and what its law says of it.
+use Rattle.std.specs.Prelude.{◌≡◌, ℕ, List, Option}
 use Rattle.pg_base.specs.declared.error.ProtocolFault.{ProtocolFault}
-use Rattle.pg_base.specs.declared.format.FrontendMessageFormat.TheVariants as formats
-use Rattle.pg_base.specs.Cutting.{frame}
-use Rattle.pg_base.specs.Format.{frontend_tag}
-use Rattle.pg_send.specs.Limits.{saturated, first_fault}
-use Rattle.pg_send.specs.Bind.{BindFields, bind_body, bind_count_fault, IsBindInRange}
-use Rattle.pg_send.specs.Copy.{copy_fail_body}
-use Rattle.pg_send.specs.Execute.{ExecuteFields, execute_body, IsExecuteInRange}
-use Rattle.pg_send.specs.Parse.{ParseFields, parse_body, parse_count_fault, IsParseInRange}
-use Rattle.pg_send.specs.Password.{cleartext_body, md5_body, IsDigest, power_over}
-use Rattle.pg_send.specs.Query.{query_body}
-use Rattle.pg_send.specs.Sasl.{SaslInitialFields, sasl_initial_body}
-use Rattle.pg_send.specs.Target.{Target, target_body, IsTargetInRange}
+use Rattle.pg_send.specs.Bind.{BindFields, bind_law}
+use Rattle.pg_send.specs.Close.{close_law}
+use Rattle.pg_send.specs.CopyData.{copy_data_law}
+use Rattle.pg_send.specs.CopyDone.{copy_done_law}
+use Rattle.pg_send.specs.CopyFail.{copy_fail_law}
+use Rattle.pg_send.specs.Describe.{describe_law}
+use Rattle.pg_send.specs.Execute.{ExecuteFields, execute_law}
+use Rattle.pg_send.specs.Flush.{flush_law}
+use Rattle.pg_send.specs.Frame as law
+use Rattle.pg_send.specs.Frame.{Law}
+use Rattle.pg_send.specs.Kind.{Kind}
+use Rattle.pg_send.specs.Parse.{ParseFields, parse_law}
+use Rattle.pg_send.specs.Password.{cleartext_law, md5_law}
+use Rattle.pg_send.specs.Query.{query_law}
+use Rattle.pg_send.specs.SaslInitialResponse.{SaslInitialFields, sasl_initial_law}
+use Rattle.pg_send.specs.SaslResponse.{sasl_response_law}
+use Rattle.pg_send.specs.Sync.{sync_law}
+use Rattle.pg_send.specs.Target.{Target}
+use Rattle.pg_send.specs.Terminate.{terminate_law}
 
 pub data Message : Type 0 where
   Bind : BindFields → Message
+  CleartextPassword : List ℕ → Message
   Close : Target → Message
   CopyData : List ℕ → Message
   CopyDone : Message
@@ -24,78 +31,63 @@ pub data Message : Type 0 where
   Describe : Target → Message
   Execute : ExecuteFields → Message
   Flush : Message
-  Parse : ParseFields → Message
-  CleartextPassword : List ℕ → Message
   Md5Password : List ℕ → Message
+  Parse : ParseFields → Message
   Query : List ℕ → Message
   SaslInitialResponse : SaslInitialFields → Message
   SaslResponse : List ℕ → Message
   Sync : Message
   Terminate : Message
 
--- the first byte
+abbrev pub law_of : Message → Law
+law_of (Bind b) = bind_law b
+law_of (CleartextPassword text) = cleartext_law text
+law_of (Close target) = close_law target
+law_of (CopyData bytes) = copy_data_law bytes
+law_of CopyDone = copy_done_law
+law_of (CopyFail text) = copy_fail_law text
+law_of (Describe target) = describe_law target
+law_of (Execute e) = execute_law e
+law_of Flush = flush_law
+law_of (Md5Password digest) = md5_law digest
+law_of (Parse p) = parse_law p
+law_of (Query text) = query_law text
+law_of (SaslInitialResponse s) = sasl_initial_law s
+law_of (SaslResponse bytes) = sasl_response_law bytes
+law_of Sync = sync_law
+law_of Terminate = terminate_law
+
+-- ---- what its law says of a message
+
+abbrev pub kind_of : Message → Kind
+kind_of m = (law_of m).kind
+
 abbrev pub tag : Message → ℕ
-tag (Bind b) = frontend_tag formats.Bind
-tag (Close target) = frontend_tag formats.Close
-tag (CopyData bytes) = frontend_tag formats.CopyData
-tag CopyDone = frontend_tag formats.CopyDone
-tag (CopyFail text) = frontend_tag formats.CopyFail
-tag (Describe target) = frontend_tag formats.Describe
-tag (Execute e) = frontend_tag formats.Execute
-tag Flush = frontend_tag formats.Flush
-tag (Parse p) = frontend_tag formats.Parse
-tag (CleartextPassword text) = frontend_tag formats.PasswordPolymorphic
-tag (Md5Password digest) = frontend_tag formats.PasswordPolymorphic
-tag (Query text) = frontend_tag formats.Query
-tag (SaslInitialResponse s) = frontend_tag formats.PasswordPolymorphic
-tag (SaslResponse bytes) = frontend_tag formats.PasswordPolymorphic
-tag Sync = frontend_tag formats.Sync
-tag Terminate = frontend_tag formats.Terminate
+tag m = law.tag (law_of m)
 
--- what stands after the length
 abbrev pub body : Message → List ℕ
-body (Bind b) = bind_body b
-body (Close target) = target_body target
-body (CopyData bytes) = bytes
-body CopyDone = []
-body (CopyFail text) = copy_fail_body text
-body (Describe target) = target_body target
-body (Execute e) = execute_body e
-body Flush = []
-body (Parse p) = parse_body p
-body (CleartextPassword text) = cleartext_body text
-body (Md5Password digest) = md5_body digest
-body (Query text) = query_body text
-body (SaslInitialResponse s) = sasl_initial_body s
-body (SaslResponse bytes) = bytes
-body Sync = []
-body Terminate = []
+body m = (law_of m).body
 
--- the first limit on counts that it breaks
-abbrev pub count_fault : Message → Option ProtocolFault
-count_fault (Bind b) = bind_count_fault b
-count_fault (Parse p) = parse_count_fault p
-count_fault m = None
-
--- how much room is reserved for the body
-abbrev pub hint : Message → ℕ
-hint (CleartextPassword text) = power_over (length (cleartext_body text))
-hint m = saturated (length (body m))
-
--- its numbers are in the ranges of their types
-abbrev pub IsInRange : Message → Type 0
-IsInRange (Bind b) = IsBindInRange b
-IsInRange (Close target) = IsTargetInRange target
-IsInRange (Describe target) = IsTargetInRange target
-IsInRange (Execute e) = IsExecuteInRange e
-IsInRange (Parse p) = IsParseInRange p
-IsInRange (Md5Password digest) = IsDigest digest
-IsInRange m = Unit {0}
-
--- the first limit that it breaks
 abbrev pub fault : Message → Option ProtocolFault
-fault m = first_fault (count_fault m) (length (body m))
+fault m = law.fault (law_of m)
 
--- the whole message on the stream
+abbrev pub hint : Message → ℕ
+hint m = law.hint (law_of m)
+
 abbrev pub text : Message → List ℕ
-text m = frame (tag m) (body m)
+text m = law.text (law_of m)
+
+abbrev pub IsInRange : Message → Type 0
+IsInRange m = (law_of m).IsInRange
+
+abbrev pub CanRoundTrip : Message → Type 0
+CanRoundTrip m = (law_of m).CanRoundTrip
+
+-- a reader that is given the kind takes the bytes apart into this message, with nothing left
+abbrev pub Reads : Kind → List ℕ → Message → Type 0
+Reads kind bytes m = (kind_of m ≡ kind) × (law_of m).Reads bytes
+
+-- it gets the message back from its body, and no other message of its kind
+pub record RoundTrips (m : Message) : Type 0 where
+  pub reads : Reads (kind_of m) (body m) m
+  pub only : (other : Message) → Reads (kind_of m) (body m) other → other ≡ m

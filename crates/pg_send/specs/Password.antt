@@ -1,15 +1,17 @@
 -- Password: answers a request for a password, in clear or with its digest. Documentation: "Message
 -- Formats", PasswordMessage (F).
-use Rattle.std.specs.Prelude.{◌≤◌, ◌*◌, ◌⊎◌, ◌≡◌, ℕ, zero, suc, ◌+◌, ◌-◌, ◌^◌, ◌<◌, List, [], ◌∷◌, ◌++◌, length, codes, All, nat_le, if◌then◌else◌}
+use Rattle.std.specs.Prelude.{◌≤◌, ◌*◌, ◌⊎◌, ◌≡◌, ℕ, zero, suc, ◌+◌, ◌-◌, ◌^◌, ◌<◌, List, [], ◌∷◌, ◌++◌, length, codes, All, None, nat_le, if◌then◌else◌}
 use Rattle.hex.specs.Hex.{encode_lower}
-
--- the text and a NUL
-abbrev pub cleartext_body : List ℕ → List ℕ
-cleartext_body text = text ++ 0 ∷ []
+use Rattle.pg_base.specs.declared.format.FrontendMessageFormat.TheVariants as formats
+use Rattle.pg_base.specs.Text.{ended}
+use Rattle.pg_send.specs.Frame.{Law, saturated}
+use Rattle.pg_send.specs.Kind as kinds
+use Rattle.pg_send.specs.Shapes.{text_law}
+pub mod Laws
 
 -- the letters md5, each byte of the digest as two lower hexadecimal digits, and a NUL
 abbrev pub md5_body : List ℕ → List ℕ
-md5_body digest = codes "md5" ++ encode_lower digest ++ 0 ∷ []
+md5_body digest = codes "md5" ++ ended (encode_lower digest)
 
 -- sixteen bytes
 pub record IsDigest (digest : List ℕ) : Type 0 where
@@ -52,4 +54,21 @@ pub record ReadsMd5 (body digest : List ℕ) : Type 0 where
   pub digits : List ℕ
   pub long : length digest ≡ 16
   pub spelled : HexBytes digits digest
-  pub parts : body ≡ codes "md5" ++ digits ++ 0 ∷ []
+  pub parts : body ≡ 109 ∷ 100 ∷ 53 ∷ (digits ++ 0 ∷ [])
+
+-- in clear: the room that is reserved doesn't tell the length
+abbrev pub cleartext_law : List ℕ → Law
+cleartext_law text = text_law kinds.CleartextPassword formats.PasswordPolymorphic power_over text
+
+-- as a digest
+abbrev pub md5_law : List ℕ → Law
+md5_law digest = record {
+  kind = kinds.Md5Password;
+  format = formats.PasswordPolymorphic;
+  body = md5_body digest;
+  count_fault = None;
+  room_for = saturated;
+  IsInRange = IsDigest digest;
+  Reads = λ bytes. ReadsMd5 bytes digest;
+  CanRoundTrip = Unit {0};
+}

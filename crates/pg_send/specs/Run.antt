@@ -1,10 +1,12 @@
 -- A run of messages into one buffer, each with its answer.
-use Rattle.std.specs.Prelude.{ℕ, ◌+◌, ◌<◌, List, [], ◌∷◌, ◌++◌, length, Option, Result, Ok, Err}
+use Rattle.std.specs.Prelude.{◌≡◌, ℕ, ◌+◌, ◌<◌, ◌≤◌, Vec, vec_len, vec_capacity, List, [], ◌∷◌, ◌++◌, length, Option, Result, Ok, Err}
 use Rattle.pg_base.specs.declared.error.ProtocolFault.{ProtocolFault}
 use Rattle.pg_base.specs.declared.error.Error.{Error}
 use Rattle.pg_base.specs.declared.error.Error.TheVariants.{Protocol, OutOfMemory}
+use Rattle.std.specs.declared.alloc.Global.{Global}
+use Rattle.pg_base.specs.Cutting.{IsCutInto}
 use Rattle.pg_base.specs.Encode.{IsAnswer}
-use Rattle.pg_send.specs.Message.{Message, tag, body, hint, text}
+use Rattle.pg_send.specs.Message.{Message, tag, body, hint, fault, text, CanRoundTrip, RoundTrips}
 
 abbrev pub Answer : Type 0
 Answer = Result (Unit {0}) Error
@@ -16,6 +18,11 @@ added (m ∷ ms) [] = []
 added (m ∷ ms) (Ok _ ∷ answers) = text m ++ added ms answers
 added (m ∷ ms) (Err _ ∷ answers) = added ms answers
 
+-- what the answer to one message adds
+abbrev pub added_by : Message → Answer → List ℕ
+added_by m (Ok _) = text m
+added_by m (Err _) = []
+
 -- the accepted messages, each as its tag and body
 abbrev pub accepted : List Message → List Answer → List (ℕ × List ℕ)
 accepted [] answers = []
@@ -23,12 +30,23 @@ accepted (m ∷ ms) [] = []
 accepted (m ∷ ms) (Ok _ ∷ answers) = (tag m, body m) ∷ accepted ms answers
 accepted (m ∷ ms) (Err _ ∷ answers) = accepted ms answers
 
--- one answer a message, refused for a limit exactly where it breaks one
-abbrev pub AreAnswers : (Message → Option ProtocolFault) → List Message → List Answer → Type 0
-AreAnswers limit [] [] = Unit {0}
-AreAnswers limit [] (answer ∷ answers) = ⊥
-AreAnswers limit (m ∷ ms) [] = ⊥
-AreAnswers limit (m ∷ ms) (answer ∷ answers) = IsAnswer (limit m) answer × AreAnswers limit ms answers
+-- one answer a message, each as its rule says
+abbrev pub AreAnswers : (Message → Answer → Type 0) → List Message → List Answer → Type 0
+AreAnswers IsAnswerTo [] [] = Unit {0}
+AreAnswers IsAnswerTo [] (answer ∷ answers) = ⊥
+AreAnswers IsAnswerTo (m ∷ ms) [] = ⊥
+AreAnswers IsAnswerTo (m ∷ ms) (answer ∷ answers) = IsAnswerTo m answer × AreAnswers IsAnswerTo ms answers
+
+-- refused exactly where it breaks a limit, for the first that it breaks
+abbrev pub IsLimitAnswer : Message → Answer → Type 0
+IsLimitAnswer m answer = IsAnswer (fault m) answer
+
+-- each accepted message that can make the round trip makes it
+abbrev pub AllRoundTrip : List Message → List Answer → Type 0
+AllRoundTrip [] answers = Unit {0}
+AllRoundTrip (m ∷ ms) [] = Unit {0}
+AllRoundTrip (m ∷ ms) (Ok _ ∷ answers) = (CanRoundTrip m → RoundTrips m) × AllRoundTrip ms answers
+AllRoundTrip (m ∷ ms) (Err _ ∷ answers) = AllRoundTrip ms answers
 
 -- memory ran out only where the capacity that there was before the run, and len bytes of which were
 -- taken, had less room after the messages before than the hint and five
@@ -38,3 +56,39 @@ RanOutWhereShort capacity len (m ∷ ms) [] = Unit {0}
 RanOutWhereShort capacity len (m ∷ ms) (Ok _ ∷ answers) = RanOutWhereShort capacity (len + length (text m)) ms answers
 RanOutWhereShort capacity len (m ∷ ms) (Err (Protocol _ _) ∷ answers) = RanOutWhereShort capacity len ms answers
 RanOutWhereShort capacity len (m ∷ ms) (Err OutOfMemory ∷ answers) = (capacity < len + (hint m + 5)) × RanOutWhereShort capacity len ms answers
+
+-- the spare room that the messages within the limits ask for: those that were accepted, or would have
+-- been but for memory
+abbrev pub run_room : List Message → List Answer → ℕ
+run_room [] answers = 0
+run_room (m ∷ ms) [] = 0
+run_room (m ∷ ms) (Ok _ ∷ answers) = hint m + 5 + run_room ms answers
+run_room (m ∷ ms) (Err (Protocol _ _) ∷ answers) = run_room ms answers
+run_room (m ∷ ms) (Err OutOfMemory ∷ answers) = hint m + 5 + run_room ms answers
+
+-- the room that one of them asks for
+abbrev pub room_by : Message → Answer → ℕ
+room_by m (Ok _) = hint m + 5
+room_by m (Err (Protocol _ _)) = 0
+room_by m (Err OutOfMemory) = hint m + 5
+
+-- no answer is out of memory
+abbrev pub NoneRanOut : List Answer → Type 0
+NoneRanOut [] = Unit {0}
+NoneRanOut (Ok _ ∷ answers) = NoneRanOut answers
+NoneRanOut (Err (Protocol _ _) ∷ answers) = NoneRanOut answers
+NoneRanOut (Err OutOfMemory ∷ answers) = ⊥
+
+-- What a run gives. The buffer gains the texts of exactly the accepted messages; each message has its
+-- answer; tags and lengths cut what was added into the accepted messages, and into no others; a reader
+-- that is given the kinds gets back each accepted message that can make the round trip; memory ran out
+-- only where the room that there was at first was short, and not where it was enough for all; and no
+-- room is given back.
+pub record EncodesRun (IsAnswerTo : Message → Answer → Type 0) (ms : List Message) (answers : List Answer) (old new : Vec ℕ Global) : Type 0 where
+  pub adds : new.items ≡ old.items ++ added ms answers
+  pub answered : AreAnswers IsAnswerTo ms answers
+  pub cut : IsCutInto (added ms answers) (accepted ms answers)
+  pub round_trip : AllRoundTrip ms answers
+  pub room : RanOutWhereShort (vec_capacity old) (vec_len old) ms answers
+  pub spare : vec_len old + run_room ms answers ≤ vec_capacity old → NoneRanOut answers
+  pub capacity : vec_capacity old ≤ vec_capacity new

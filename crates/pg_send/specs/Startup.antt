@@ -1,7 +1,10 @@
 -- Startup: opens a session; it has no tag. Documentation: "Message Formats", StartupMessage (F).
-use Rattle.std.specs.Prelude.{ℕ, ◌+◌, List, [], ◌∷◌, ◌++◌, length, codes, Option, Some, None}
+use Rattle.std.specs.Prelude.{ℕ, ◌+◌, List, [], ◌∷◌, ◌++◌, map, length, codes, option_copied, Option, Some, None}
+use Rattle.std.specs.Borrow.{Bor}
 use Rattle.std.specs.List.{flat_map}
 use Rattle.pg_base.specs.Numbers.{be32}
+use Rattle.pg_base.specs.Text.{ended}
+use Rattle.pg_send.specs.declared.message.startup.Startup.{Startup}
 
 pub record StartupFields : Type 0 where
   pub username : Option (List ℕ)
@@ -14,7 +17,7 @@ protocol_version = 196608
 
 -- a name and its value, each ended by a NUL
 abbrev pub setting : List ℕ × List ℕ → List ℕ
-setting (name, value) = (name ++ 0 ∷ []) ++ (value ++ 0 ∷ [])
+setting (name, value) = ended name ++ ended value
 
 abbrev pub setting_where_there : List ℕ → Option (List ℕ) → List ℕ
 setting_where_there name (Some value) = setting (name, value)
@@ -28,3 +31,13 @@ startup_body s =
 -- the whole, after its length
 abbrev pub startup_text : StartupFields → List ℕ
 startup_text s = be32 (length (startup_body s) + 4) ++ startup_body s
+
+-- a name and a value as the program borrows them
+abbrev pub setting_of : Bor (List ℕ) × Bor (List ℕ) → List ℕ × List ℕ
+setting_of pair = (pair.0.now, pair.1.now)
+
+abbrev pub settings_of : List (Bor (List ℕ) × Bor (List ℕ)) → List (List ℕ × List ℕ)
+settings_of params = map setting_of params
+
+abbrev pub startup_fields : Startup → StartupFields
+startup_fields s = record { username = option_copied s.username; database = option_copied s.database; params = settings_of s.params.now }

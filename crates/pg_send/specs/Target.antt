@@ -1,8 +1,10 @@
--- What a Describe or a Close names: a prepared statement or a portal. Documentation: "Message
--- Formats", Describe (F) and Close (F).
-use Rattle.std.specs.Prelude.{ℕ, ◌≡◌, ◌≤◌, List, [], ◌∷◌}
+-- What a Describe or a Close names: a prepared statement or a portal.
+use Rattle.std.specs.Prelude.{◌≡◌, ◌≤◌, ℕ, List, [], ◌∷◌, None}
+use Rattle.pg_base.specs.declared.format.FrontendMessageFormat.{FrontendMessageFormat}
 use Rattle.pg_base.specs.Id.{named, statement_prefix, portal_prefix, max_id}
-use Rattle.pg_base.specs.Reading.{Text, Id}
+use Rattle.pg_base.specs.Reading.{Text, StatementName, PortalName}
+use Rattle.pg_send.specs.Frame.{Law, saturated}
+use Rattle.pg_send.specs.Kind.{Kind}
 
 pub data Target : Type 0 where
   Statement : ℕ → Target
@@ -18,15 +20,28 @@ abbrev pub IsTargetInRange : Target → Type 0
 IsTargetInRange (Statement id) = id ≤ max_id
 IsTargetInRange (Portal id) = id ≤ max_id
 
--- a letter, and after it a name with this prefix
-pub record ReadsName (body : List ℕ) (letter : ℕ) (prefix : List ℕ) (id : ℕ) : Type 0 where
+-- a letter, and after it a name of this kind
+pub record ReadsName (body : List ℕ) (letter : ℕ) (Names : List ℕ → ℕ → Type 0) (id : ℕ) : Type 0 where
   pub name : List ℕ
   pub after : List ℕ
   pub begins : body ≡ letter ∷ after
   pub text : Text after name []
-  pub is : Id prefix name id
+  pub is : Names name id
 
 -- a reader takes the letter and the name
 abbrev pub ReadsTarget : List ℕ → Target → Type 0
-ReadsTarget body (Statement id) = ReadsName body 83 statement_prefix id
-ReadsTarget body (Portal id) = ReadsName body 80 portal_prefix id
+ReadsTarget body (Statement id) = ReadsName body 83 StatementName id
+ReadsTarget body (Portal id) = ReadsName body 80 PortalName id
+
+-- a message that names a target
+abbrev pub target_law : Kind → FrontendMessageFormat → Target → Law
+target_law kind format target = record {
+  kind = kind;
+  format = format;
+  body = target_body target;
+  count_fault = None;
+  room_for = saturated;
+  IsInRange = IsTargetInRange target;
+  Reads = λ bytes. ReadsTarget bytes target;
+  CanRoundTrip = Unit {0};
+}

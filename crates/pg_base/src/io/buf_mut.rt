@@ -7,74 +7,97 @@ ghost use Rattle.pg_base.specs.declared.error.ProtocolFault.TheVariants.{Message
 ghost use Rattle.pg_base.specs.Numbers.{be32};
 ghost use Rattle.pg_base.specs.Cutting.{max_length};
 ghost use Rattle.pg_base.specs.Id.{named, statement_prefix, portal_prefix, max_id};
-ghost use Rattle.pg_base.specs.BufMut.{IsCallableOn, OnlyAppends, Fits, WhyRefused, four_zeros, prefixed};
+ghost use Rattle.pg_base.specs.BufMut.{IsCallableOn, OnlyAppends, KeepsRoom, Fits, WhyRefused, four_zeros, prefixed};
 
 use crate::error::{Error, ProtocolFault};
 use crate::io::{MAX_LENGTH, PortalId, StatementId};
+use std::alloc::AllocError;
+
+// The bytes of a length field.
+const LENGTH_SIZE: usize = 4;
 
 /// Writes parts of a message at the end of a buffer.
+///
+/// Every refusal leaves the bytes of the buffer as they were, and no call gives room back that the
+/// buffer had.
 pub trait PgBufMutExt {
     /// The bytes of the buffer.
     ghost bytes: { Self → List ℕ };
+    /// How many bytes it holds without asking for memory.
+    ghost capacity: { Self → ℕ };
 
     /// Adds four bytes of length, which counts itself and what the closure then appends, and that.
+    ///
+    /// Refused with `OutOfMemory` where the four bytes found no room, and then the closure isn't
+    /// called; with what the closure answered; or with `MessageTooLong` where the length would pass
+    /// 2147483647.
     fn put_length_prefixed<F>(&mut self, write_contents: F) -> Result<(), Error>
     where
         F: FnOnce(&mut Vec<u8>) -> Result<(), Error> + Drop,
         requires callable { IsCallableOn F.FnOnce write_contents (bytes self.old ++ four_zeros) }
-        requires appends { OnlyAppends F.FnOnce write_contents (bytes self.old ++ four_zeros) };
+        requires appends { OnlyAppends F.FnOnce write_contents (bytes self.old ++ four_zeros) }
+        ensures ok { OnOk result ((added : List ℕ) × Fits F.FnOnce write_contents (bytes self.old ++ four_zeros) added × (bytes self.new ≡ bytes self.old ++ prefixed added)) }
+        ensures err { OnErr result (bytes self.new ≡ bytes self.old) }
+        ensures why { IfErr result (WhyRefused F.FnOnce write_contents (bytes self.old ++ four_zeros) ((capacity self.old < length (bytes self.old) + 4) × (capacity self.new ≡ capacity self.old))) }
+        ensures capacity { KeepsRoom F.FnOnce write_contents (bytes self.old ++ four_zeros) → capacity self.old ≤ capacity self.new };
 
-    /// Adds the name of a statement and a NUL.
-    fn put_statement_name(&mut self, id: StatementId) -> Result<(), Error>;
+    /// Adds the name of a statement and a NUL. Refused with `OutOfMemory`, only where the room was
+    /// short.
+    fn put_statement_name(&mut self, id: StatementId) -> Result<(), Error>
+        ensures ok { OnOk result (bytes self.new ≡ bytes self.old ++ named statement_prefix id) }
+        ensures err { OnErr result (bytes self.new ≡ bytes self.old) }
+        ensures memory { IsOkUnless result OutOfMemory }
+        ensures room { OnErr result (capacity self.old < length (bytes self.old) + length (named statement_prefix id)) }
+        ensures capacity { capacity self.old ≤ capacity self.new }
+        ensures range { id ≤ max_id };
 
-    /// Adds the name of a portal and a NUL.
-    fn put_portal_name(&mut self, id: PortalId) -> Result<(), Error>;
+    /// Adds the name of a portal and a NUL. Refused with `OutOfMemory`, only where the room was
+    /// short.
+    fn put_portal_name(&mut self, id: PortalId) -> Result<(), Error>
+        ensures ok { OnOk result (bytes self.new ≡ bytes self.old ++ named portal_prefix id) }
+        ensures err { OnErr result (bytes self.new ≡ bytes self.old) }
+        ensures memory { IsOkUnless result OutOfMemory }
+        ensures room { OnErr result (capacity self.old < length (bytes self.old) + length (named portal_prefix id)) }
+        ensures capacity { capacity self.old ≤ capacity self.new }
+        ensures range { id ≤ max_id };
 }
 
 impl PgBufMutExt for Vec<u8> {
     ghost bytes = { λ buf. buf.items };
 
-    /// Every refusal leaves the bytes of the buffer as they were: `OutOfMemory` where the four
-    /// bytes found no room, and then the closure isn't called; what the closure answered; or
-    /// `MessageTooLong` where the length would pass 2147483647.
+    ghost capacity = { λ buf. vec_capacity buf };
+
     fn put_length_prefixed<F>(&mut self, write_contents: F) -> Result<(), Error>
     where
         F: FnOnce(&mut Vec<u8>) -> Result<(), Error> + Drop,
-        requires callable { IsCallableOn F.FnOnce write_contents (self.old.items ++ four_zeros) }
-        requires appends { OnlyAppends F.FnOnce write_contents (self.old.items ++ four_zeros) }
-        ensures ok { OnOk result ((added : List ℕ) × Fits F.FnOnce write_contents (self.old.items ++ four_zeros) added × (self.new.items ≡ self.old.items ++ prefixed added)) }
-        ensures err { OnErr result (self.new.items ≡ self.old.items) }
-        ensures why { IfErr result (WhyRefused F.FnOnce write_contents (self.old.items ++ four_zeros) (vec_capacity self.old < vec_len self.old + 4)) }
     {
         let offset = self.len();
-        self.extend_from_slice(&[0; 4])?;
+        put_zeros(self)?;
         let written = call(write_contents, self);
         finish(self, offset, written)
     }
 
-    /// `OutOfMemory`, only where the room was short, leaves the bytes of the buffer as they were.
-    fn put_statement_name(&mut self, id: StatementId) -> Result<(), Error>
-        ensures ok { OnOk result (self.new.items ≡ self.old.items ++ named statement_prefix id) }
-        ensures err { OnErr result (self.new.items ≡ self.old.items) }
-        ensures memory { IsOkUnless result OutOfMemory }
-        ensures room { OnErr result (vec_capacity self.old < vec_len self.old + length (named statement_prefix id)) }
-        ensures capacity { vec_capacity self.old ≤ vec_capacity self.new }
-        ensures range { id ≤ max_id }
-    {
+    fn put_statement_name(&mut self, id: StatementId) -> Result<(), Error> {
         id.put_name_with_nul(self)
     }
 
-    /// `OutOfMemory`, only where the room was short, leaves the bytes of the buffer as they were.
-    fn put_portal_name(&mut self, id: PortalId) -> Result<(), Error>
-        ensures ok { OnOk result (self.new.items ≡ self.old.items ++ named portal_prefix id) }
-        ensures err { OnErr result (self.new.items ≡ self.old.items) }
-        ensures memory { IsOkUnless result OutOfMemory }
-        ensures room { OnErr result (vec_capacity self.old < vec_len self.old + length (named portal_prefix id)) }
-        ensures capacity { vec_capacity self.old ≤ vec_capacity self.new }
-        ensures range { id ≤ max_id }
-    {
+    fn put_portal_name(&mut self, id: PortalId) -> Result<(), Error> {
         id.put_name_with_nul(self)
     }
+}
+
+// Adds the bytes in which the length is then set.
+fn put_zeros(buf: &mut Vec<u8>) -> Result<(), AllocError>
+    ensures ok { OnOk result (buf.new.items ≡ buf.old.items ++ four_zeros) }
+    ensures err { OnErr result (buf.new.items ≡ buf.old.items) }
+    ensures same { OnErr result (vec_capacity buf.new ≡ vec_capacity buf.old) }
+    ensures room { OnErr result (vec_capacity buf.old < vec_len buf.old + 4) }
+    ensures capacity { vec_capacity buf.old ≤ vec_capacity buf.new }
+{
+    buf.reserve(LENGTH_SIZE)?;
+    let added = buf.extend_from_slice(&[0; LENGTH_SIZE]);
+    prove!(added.is_ok());
+    Ok(())
 }
 
 fn call<F>(write_contents: F, buf: &mut Vec<u8>) -> Result<(), Error>
@@ -91,6 +114,7 @@ fn finish(buf: &mut Vec<u8>, offset: usize, written: Result<(), Error>) -> Resul
     requires { offset + 4 ≤ vec_len buf.old }
     ensures ok { OnOk result ((written ≡ Ok tt) × (vec_len buf.old - offset ≤ max_length) × (buf.new.items ≡ take offset buf.old.items ++ be32 (vec_len buf.old - offset) ++ drop (offset + 4) buf.old.items)) }
     ensures err { OnErr result (buf.new.items ≡ take offset buf.old.items) }
+    ensures capacity { vec_capacity buf.old ≤ vec_capacity buf.new }
     ensures why { IfErr result (λ error. (written ≡ Err error) ⊎ ((written ≡ Ok tt) × (max_length < vec_len buf.old - offset) × (error ≡ Protocol None (MessageTooLong (vec_len buf.old - offset))))) }
 {
     let size = buf.len() - offset;
@@ -103,6 +127,6 @@ fn finish(buf: &mut Vec<u8>, offset: usize, written: Result<(), Error>) -> Resul
         buf.truncate(offset);
         return Err(error);
     }
-    buf[offset..offset + 4].copy_from_slice(&(size as u32).to_be_bytes());
+    buf[offset..offset + LENGTH_SIZE].copy_from_slice(&(size as u32).to_be_bytes());
     Ok(())
 }

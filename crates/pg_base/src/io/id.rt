@@ -75,6 +75,17 @@ impl StatementId {
         Ok(())
     }
 
+    /// Adds the name and a NUL to the buffer, in room that is there.
+    #[inline]
+    pub fn push_name_reserved(&self, buf: &mut Vec<u8>)
+        requires { vec_len buf.old + length (named statement_prefix self.now) ≤ vec_capacity buf.old }
+        ensures items { buf.new.items ≡ buf.old.items ++ named statement_prefix self.now }
+        ensures capacity { vec_capacity buf.old ≤ vec_capacity buf.new }
+        ensures range { self.now ≤ max_id }
+    {
+        push_name_reserved(STATEMENT_PREFIX, self.0, buf)
+    }
+
     /// The name of a named statement, to be printed.
     pub fn display(&self) -> Option<DisplayId>
         ensures named { IfSome result (λ text. (self.now ≢ 0) × (text ≡ name statement_prefix self.now)) }
@@ -150,6 +161,17 @@ impl PortalId {
         put_name_with_nul(PORTAL_PREFIX, self.0, buf)?;
         Ok(())
     }
+
+    /// Adds the name and a NUL to the buffer, in room that is there.
+    #[inline]
+    pub fn push_name_reserved(&self, buf: &mut Vec<u8>)
+        requires { vec_len buf.old + length (named portal_prefix self.now) ≤ vec_capacity buf.old }
+        ensures items { buf.new.items ≡ buf.old.items ++ named portal_prefix self.now }
+        ensures capacity { vec_capacity buf.old ≤ vec_capacity buf.new }
+        ensures range { self.now ≤ max_id }
+    {
+        push_name_reserved(PORTAL_PREFIX, self.0, buf)
+    }
 }
 
 /// A name without its NUL.
@@ -207,40 +229,36 @@ fn put_name_with_nul(prefix: &str, number: u32, buf: &mut Vec<u8>) -> Result<(),
     ensures room { OnErr result (vec_capacity buf.old < vec_len buf.old + length (named prefix.now number)) }
     ensures capacity { vec_capacity buf.old ≤ vec_capacity buf.new }
 {
-    if number == 0 {
-        return Ok(buf.push(0)?);
-    }
-    put_named(prefix, number, buf)
+    buf.reserve(name_len(prefix, number))?;
+    push_name_reserved(prefix, number, buf);
+    Ok(())
 }
 
-// The name of a number that isn't 0.
+#[inline]
+fn push_name_reserved(prefix: &str, number: u32, buf: &mut Vec<u8>)
+    requires { vec_len buf.old + length (named prefix.now number) ≤ vec_capacity buf.old }
+    ensures items { buf.new.items ≡ buf.old.items ++ named prefix.now number }
+    ensures capacity { vec_capacity buf.old ≤ vec_capacity buf.new }
+{
+    if number != 0 {
+        push_prefixed(prefix, number, buf);
+    }
+    buf.push_reserved(0);
+}
+
+// The prefix and the digits of a number.
 #[inline(never)]
-fn put_named(prefix: &str, number: u32, buf: &mut Vec<u8>) -> Result<(), AllocError>
-    requires { (length prefix.now < 100) × (number ≢ 0) }
-    ensures ok { OnOk result (buf.new.items ≡ buf.old.items ++ named prefix.now number) }
-    ensures err { OnErr result (buf.new.items ≡ buf.old.items) }
-    ensures room { OnErr result (vec_capacity buf.old < vec_len buf.old + length (named prefix.now number)) }
+fn push_prefixed(prefix: &str, number: u32, buf: &mut Vec<u8>)
+    requires { vec_len buf.old + length (prefix.now ++ decimal number) ≤ vec_capacity buf.old }
+    ensures items { buf.new.items ≡ buf.old.items ++ (prefix.now ++ decimal number) }
     ensures capacity { vec_capacity buf.old ≤ vec_capacity buf.new }
 {
     let mut digits = Buffer::new();
     let digits = digits.format(number);
-    buf.reserve(prefix.len() + digits.len() + 1)?;
-    buf.extend_from_slice(prefix.as_bytes())?;
+    let added = buf.extend_from_slice(prefix.as_bytes());
+    prove!(added.is_ok());
     // One by one, since a copy of several waits for digits that were just written.
     for digit in digits.as_bytes() {
         buf.push_reserved(*digit);
     }
-    buf.push_reserved(0);
-    Ok(())
 }
-
-/// Ids are equal where their numbers are.
-pub fn ids_are_equal_by_number()
-    ensures statements { (a b : ℕ) → ⟦<StatementId as PartialEq>⟧.eq a b ≡ (a == b) }
-    ensures portals { (a b : ℕ) → ⟦<PortalId as PartialEq>⟧.eq a b ≡ (a == b) }
-{}
-
-/// Two ids with one name are one id.
-pub fn names_are_distinct()
-    ensures { (prefix : List ℕ) (a b : ℕ) → a ≤ max_id → b ≤ max_id → name prefix a ≡ name prefix b → a ≡ b }
-{}

@@ -8,16 +8,12 @@ mod encode;
 mod id;
 mod numbers;
 
-ghost use Rattle.std.specs.Prelude.{◌≡◌, Decides};
-ghost use Rattle.pg_base.specs.declared.io.Oid.{Oid};
-ghost use Rattle.pg_base.specs.declared.io.PgValueFormat.{PgValueFormat};
-
 pub use atoi::{atoi_u32, atoi_u64, atoi_usize};
 pub use buf_mut::PgBufMutExt;
 pub use copy::{CopyData, CopyDone, LendBytes};
 pub use decode::ProtocolDecode;
 pub use encode::ProtocolEncode;
-pub use id::{DisplayId, PortalId, StatementId, ids_are_equal_by_number, names_are_distinct};
+pub use id::{DisplayId, PortalId, StatementId};
 pub use numbers::{bytes_at, i8_at, i16_at, i32_at, u16_at, u32_at};
 
 /// The greatest length that a message's length field can say, in bytes: it is a signed number of
@@ -38,12 +34,6 @@ pub enum PgValueFormat {
     Text = 0,
     Binary = 1,
 }
-
-/// Types and formats are equal where they are the same.
-pub fn types_and_formats_are_equal_by_value()
-    ensures types { (a b : Oid) → Decides (⟦<Oid as PartialEq>⟧.eq a b) (a ≡ b) }
-    ensures formats { (a b : PgValueFormat) → Decides (⟦<PgValueFormat as PartialEq>⟧.eq a b) (a ≡ b) }
-{}
 
 #[cfg(test)]
 mod tests;

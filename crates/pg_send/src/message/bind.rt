@@ -1,17 +1,12 @@
 //! A portal that is made of a prepared statement.
 
-ghost use Rattle.std.specs.Prelude.{length};
-ghost use Rattle.pg_base.specs.declared.format.FrontendMessageFormat.TheVariants as formats;
-ghost use Rattle.pg_base.specs.Format.{frontend_tag};
-ghost use Rattle.pg_send.specs.Limits.{saturated};
-ghost use Rattle.pg_send.specs.Bind.{bind_body, bind_count_fault, IsBindInRange};
+ghost use Rattle.pg_send.specs.Bind.{bind_law, bind_fields};
 
 use crate::message::FrontendMessage;
 use crate::message::counted::{put_formats, too_many};
-use crate::message::frame::check_len;
-use crate::message::parts::{put_portal_name, put_slice, put_statement_name, put_u16};
+use crate::message::parts::{put_slice, put_u16};
 use pg_base::io::{PgValueFormat, PortalId, StatementId};
-use pg_base::{Error, FrontendMessageFormat, ProtocolFault};
+use pg_base::{FrontendMessageFormat, ProtocolFault};
 
 /// Asks the server to make a portal of a prepared statement and the values of its parameters.
 /// Documentation: "Message Formats", Bind (F).
@@ -35,25 +30,15 @@ pub struct Bind<'a> {
 }
 
 impl FrontendMessage for Bind<'_> {
-    ghost use Rattle.pg_send.specs.Views.{bind_of};
-
     const FORMAT: FrontendMessageFormat = FrontendMessageFormat::Bind;
 
-    ghost tag = { λ _. frontend_tag formats.Bind };
-
-    ghost body = { λ bind. bind_body (bind_of bind) };
-
-    ghost count_fault = { λ bind. bind_count_fault (bind_of bind) };
-
-    ghost hint = { λ bind. saturated (length (bind_body (bind_of bind))) };
-
-    ghost in_range = { λ bind. IsBindInRange (bind_of bind) };
+    ghost law = { λ bind. bind_law (bind_fields bind) };
 
     fn tag(&self) -> u8 {
         Self::FORMAT as u8
     }
 
-    fn body_size_hint(&self) -> usize {
+    fn body_len(&self) -> usize {
         let portal = self.portal.name_len();
         let statement = self.statement.name_len();
         let formats = self.formats.len().saturating_mul(2);
@@ -66,19 +51,22 @@ impl FrontendMessage for Bind<'_> {
             .saturating_add(6)
     }
 
-    fn checked_body_len(&self) -> Result<usize, Error> {
+    fn count_fault(&self) -> Option<ProtocolFault> {
         let formats = self.formats.len();
         let result_formats = self.result_formats.len();
-        let fault = too_many(formats, ProtocolFault::TooManyParamFormats(formats)).or(too_many(
+        too_many(formats, ProtocolFault::TooManyParamFormats(formats)).or(too_many(
             result_formats,
             ProtocolFault::TooManyResultFormats(result_formats),
-        ));
-        check_len(fault, self.body_size_hint())
+        ))
+    }
+
+    fn room_for(&self, len: usize) -> usize {
+        len
     }
 
     fn put_body(&self, buf: &mut Vec<u8>) {
-        put_portal_name(self.portal, buf);
-        put_statement_name(self.statement, buf);
+        self.portal.push_name_reserved(buf);
+        self.statement.push_name_reserved(buf);
         put_formats(self.formats, buf);
         put_u16(self.num_params, buf);
         put_slice(self.params, buf);

@@ -1,19 +1,14 @@
-//! A prepared statement or a portal that is let go.
+//! A prepared statement or a portal that is closed.
 
-ghost use Rattle.std.specs.Prelude.{None, length};
-ghost use Rattle.pg_base.specs.declared.format.FrontendMessageFormat.TheVariants as formats;
-ghost use Rattle.pg_base.specs.Format.{frontend_tag};
-ghost use Rattle.pg_send.specs.Limits.{saturated};
-ghost use Rattle.pg_send.specs.Target.{target_body, IsTargetInRange};
+ghost use Rattle.pg_send.specs.Close.{close_law, close_target};
 
 use crate::message::FrontendMessage;
-use crate::message::frame::check_len;
-use crate::message::target::{put_portal, put_statement};
+use crate::message::target::{portal_len, put_portal, put_statement, statement_len};
 use pg_base::io::{PortalId, StatementId};
-use pg_base::{Error, FrontendMessageFormat};
+use pg_base::{FrontendMessageFormat, ProtocolFault};
 
-/// Asks the server to let go of a prepared statement or a portal. Documentation: "Message Formats",
-/// Close (F).
+/// Asks the server to close a prepared statement or a portal. Documentation: "Message Formats", Close
+/// (F).
 #[derive(Debug, Drop)]
 pub enum Close {
     Statement(StatementId),
@@ -21,33 +16,27 @@ pub enum Close {
 }
 
 impl FrontendMessage for Close {
-    ghost use Rattle.pg_send.specs.Views.{close_of};
-
     const FORMAT: FrontendMessageFormat = FrontendMessageFormat::Close;
 
-    ghost tag = { λ _. frontend_tag formats.Close };
-
-    ghost body = { λ close. target_body (close_of close) };
-
-    ghost count_fault = { λ _. None };
-
-    ghost hint = { λ close. saturated (length (target_body (close_of close))) };
-
-    ghost in_range = { λ close. IsTargetInRange (close_of close) };
+    ghost law = { λ close. close_law (close_target close) };
 
     fn tag(&self) -> u8 {
         Self::FORMAT as u8
     }
 
-    fn body_size_hint(&self) -> usize {
+    fn body_len(&self) -> usize {
         match self {
-            Close::Statement(id) => id.name_len().saturating_add(1),
-            Close::Portal(id) => id.name_len().saturating_add(1),
+            Close::Statement(id) => statement_len(*id),
+            Close::Portal(id) => portal_len(*id),
         }
     }
 
-    fn checked_body_len(&self) -> Result<usize, Error> {
-        check_len(None, self.body_size_hint())
+    fn count_fault(&self) -> Option<ProtocolFault> {
+        None
+    }
+
+    fn room_for(&self, len: usize) -> usize {
+        len
     }
 
     fn put_body(&self, buf: &mut Vec<u8>) {

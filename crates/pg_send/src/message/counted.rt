@@ -1,9 +1,9 @@
 //! Lists in a body, each after its count.
 
 ghost use Rattle.std.specs.Prelude.{◌≡◌, ℕ, ◌+◌, ◌^◌, ◌<◌, ◌≤◌, ◌++◌, length, All, Some, None, nat_le, if◌then◌else◌, vec_len, vec_capacity};
+ghost use Rattle.pg_base.specs.Format.{format_codes};
 ghost use Rattle.pg_base.specs.Numbers.{be16, be32, numbers_of, max_count};
 ghost use Rattle.pg_send.specs.Counted.{counted16, counted32};
-ghost use Rattle.pg_send.specs.Parts.{codes_of};
 
 use crate::message::parts::{put_u16, put_u32};
 use pg_base::ProtocolFault;
@@ -25,9 +25,9 @@ pub fn too_many(count: usize, fault: ProtocolFault) -> Option<ProtocolFault>
 /// Adds the formats after their count, in room that is there.
 pub fn put_formats(formats: &[PgValueFormat], buf: &mut Vec<u8>)
     requires count { length formats.now ≤ max_count }
-    requires room { vec_len buf.old + length (counted16 (codes_of formats.now)) ≤ vec_capacity buf.old }
-    ensures items { buf.new.items ≡ buf.old.items ++ counted16 (codes_of formats.now) }
-    ensures capacity { vec_capacity buf.new ≡ vec_capacity buf.old }
+    requires room { vec_len buf.old + length (counted16 (format_codes formats.now)) ≤ vec_capacity buf.old }
+    ensures items { buf.new.items ≡ buf.old.items ++ counted16 (format_codes formats.now) }
+    ensures capacity { vec_capacity buf.old ≤ vec_capacity buf.new }
 {
     put_u16(formats.len() as u16, buf);
     for format in formats {

@@ -1,16 +1,11 @@
 //! A portal that is run.
 
-ghost use Rattle.std.specs.Prelude.{None, length};
-ghost use Rattle.pg_base.specs.declared.format.FrontendMessageFormat.TheVariants as formats;
-ghost use Rattle.pg_base.specs.Format.{frontend_tag};
-ghost use Rattle.pg_send.specs.Limits.{saturated};
-ghost use Rattle.pg_send.specs.Execute.{execute_body, IsExecuteInRange};
+ghost use Rattle.pg_send.specs.Execute.{execute_law, execute_fields};
 
 use crate::message::FrontendMessage;
-use crate::message::frame::check_len;
-use crate::message::parts::{put_portal_name, put_u32};
+use crate::message::parts::put_u32;
 use pg_base::io::PortalId;
-use pg_base::{Error, FrontendMessageFormat};
+use pg_base::{FrontendMessageFormat, ProtocolFault};
 
 /// Asks the server to run a portal. Documentation: "Message Formats", Execute (F).
 #[derive(Drop)]
@@ -22,34 +17,28 @@ pub struct Execute {
 }
 
 impl FrontendMessage for Execute {
-    ghost use Rattle.pg_send.specs.Views.{execute_of};
-
     const FORMAT: FrontendMessageFormat = FrontendMessageFormat::Execute;
 
-    ghost tag = { λ _. frontend_tag formats.Execute };
-
-    ghost body = { λ execute. execute_body (execute_of execute) };
-
-    ghost count_fault = { λ _. None };
-
-    ghost hint = { λ execute. saturated (length (execute_body (execute_of execute))) };
-
-    ghost in_range = { λ execute. IsExecuteInRange (execute_of execute) };
+    ghost law = { λ execute. execute_law (execute_fields execute) };
 
     fn tag(&self) -> u8 {
         Self::FORMAT as u8
     }
 
-    fn body_size_hint(&self) -> usize {
+    fn body_len(&self) -> usize {
         self.portal.name_len().saturating_add(4)
     }
 
-    fn checked_body_len(&self) -> Result<usize, Error> {
-        check_len(None, self.body_size_hint())
+    fn count_fault(&self) -> Option<ProtocolFault> {
+        None
+    }
+
+    fn room_for(&self, len: usize) -> usize {
+        len
     }
 
     fn put_body(&self, buf: &mut Vec<u8>) {
-        put_portal_name(self.portal, buf);
+        self.portal.push_name_reserved(buf);
         put_u32(self.limit, buf);
     }
 

@@ -1,12 +1,9 @@
 //! A request for what the server still holds back.
 
-ghost use Rattle.std.specs.Prelude.{None, []};
-ghost use Rattle.pg_base.specs.declared.format.FrontendMessageFormat.TheVariants as formats;
-ghost use Rattle.pg_base.specs.Format.{frontend_tag};
+ghost use Rattle.pg_send.specs.Flush.{flush_law};
 
 use crate::message::FrontendMessage;
-use crate::message::frame::check_len;
-use pg_base::{Error, FrontendMessageFormat};
+use pg_base::{FrontendMessageFormat, ProtocolFault};
 
 /// Asks the server to send what it holds back. Documentation: "Message Formats", Flush (F).
 #[derive(Debug, Drop)]
@@ -15,26 +12,22 @@ pub struct Flush;
 impl FrontendMessage for Flush {
     const FORMAT: FrontendMessageFormat = FrontendMessageFormat::Flush;
 
-    ghost tag = { λ _. frontend_tag formats.Flush };
-
-    ghost body = { λ _. [] };
-
-    ghost count_fault = { λ _. None };
-
-    ghost hint = { λ _. 0 };
-
-    ghost in_range = { λ _. Unit {0} };
+    ghost law = { λ _. flush_law };
 
     fn tag(&self) -> u8 {
         Self::FORMAT as u8
     }
 
-    fn body_size_hint(&self) -> usize {
+    fn body_len(&self) -> usize {
         0
     }
 
-    fn checked_body_len(&self) -> Result<usize, Error> {
-        check_len(None, 0)
+    fn count_fault(&self) -> Option<ProtocolFault> {
+        None
+    }
+
+    fn room_for(&self, len: usize) -> usize {
+        len
     }
 
     fn put_body(&self, _buf: &mut Vec<u8>) {}

@@ -1,16 +1,15 @@
 //! Parts of a body, added in room that is there.
 
 ghost use Rattle.std.specs.Prelude.{◌≡◌, ◌+◌, ◌^◌, ◌<◌, ◌≤◌, ◌++◌, length, vec_len, vec_capacity};
-ghost use Rattle.pg_base.specs.Id.{named, statement_prefix, portal_prefix, max_id};
 ghost use Rattle.pg_base.specs.Numbers.{be16, be32};
-
-use pg_base::io::{PortalId, StatementId};
+ghost use Rattle.pg_base.specs.Text.{ended};
+ghost use Rattle.pg_send.specs.Frame.{saturated};
 
 /// Adds a number as two bytes, highest byte first.
 pub fn put_u16(number: u16, buf: &mut Vec<u8>)
     requires { vec_len buf.old + 2 ≤ vec_capacity buf.old }
     ensures items { buf.new.items ≡ buf.old.items ++ be16 number }
-    ensures capacity { vec_capacity buf.new ≡ vec_capacity buf.old }
+    ensures capacity { vec_capacity buf.old ≤ vec_capacity buf.new }
     ensures range { number < 2 ^ 16 }
 {
     let [high, low] = number.to_be_bytes();
@@ -38,24 +37,19 @@ pub fn put_slice(bytes: &[u8], buf: &mut Vec<u8>)
     prove!(added.is_ok());
 }
 
-/// Adds the name of a statement and a NUL.
-pub fn put_statement_name(id: StatementId, buf: &mut Vec<u8>)
-    requires { vec_len buf.old + length (named statement_prefix id) ≤ vec_capacity buf.old }
-    ensures items { buf.new.items ≡ buf.old.items ++ named statement_prefix id }
-    ensures capacity { vec_capacity buf.old ≤ vec_capacity buf.new }
-    ensures range { id ≤ max_id }
+/// The length of a text and its NUL, in bytes; it saturates.
+pub fn text_len(text: &str) -> usize
+    ensures { result ≡ saturated (length (ended text.now)) }
 {
-    let added = id.put_name_with_nul(buf);
-    prove!(added.is_ok());
+    text.len().saturating_add(1)
 }
 
-/// Adds the name of a portal and a NUL.
-pub fn put_portal_name(id: PortalId, buf: &mut Vec<u8>)
-    requires { vec_len buf.old + length (named portal_prefix id) ≤ vec_capacity buf.old }
-    ensures items { buf.new.items ≡ buf.old.items ++ named portal_prefix id }
+/// Adds a text and a NUL.
+pub fn put_text(text: &str, buf: &mut Vec<u8>)
+    requires { vec_len buf.old + length (ended text.now) ≤ vec_capacity buf.old }
+    ensures items { buf.new.items ≡ buf.old.items ++ ended text.now }
     ensures capacity { vec_capacity buf.old ≤ vec_capacity buf.new }
-    ensures range { id ≤ max_id }
 {
-    let added = id.put_name_with_nul(buf);
-    prove!(added.is_ok());
+    put_slice(text.as_bytes(), buf);
+    buf.push_reserved(0);
 }

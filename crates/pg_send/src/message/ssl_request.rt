@@ -3,6 +3,7 @@
 ghost use Rattle.std.specs.Prelude.{None};
 ghost use Rattle.pg_send.specs.SslRequest.{ssl_request_text};
 
+use crate::message::parts::put_u32;
 use pg_base::Error;
 use pg_base::io::ProtocolEncode;
 
@@ -26,8 +27,8 @@ impl ProtocolEncode for SslRequest {
 
     fn encode(&self, buf: &mut Vec<u8>) -> Result<(), Error> {
         buf.reserve(LENGTH as usize)?;
-        buf.extend_from_slice(&LENGTH.to_be_bytes())?;
-        buf.extend_from_slice(&SSL_REQUEST.to_be_bytes())?;
+        put_u32(LENGTH, buf);
+        put_u32(SSL_REQUEST, buf);
         Ok(())
     }
 }

@@ -2,11 +2,10 @@
 
 ghost use Rattle.std.specs.Prelude.{◌≡◌, ◌+◌, ◌≤◌, ◌++◌, None, codes, length, option_copied, vec_len, vec_capacity};
 ghost use Rattle.std.specs.List.{flat_map};
-ghost use Rattle.pg_send.specs.Limits.{first_fault, saturated};
-ghost use Rattle.pg_send.specs.Parts.{settings_of};
-ghost use Rattle.pg_send.specs.Startup.{setting, setting_where_there, startup_body, startup_text};
+ghost use Rattle.pg_send.specs.Frame.{first_fault, saturated};
+ghost use Rattle.pg_send.specs.Startup.{setting, setting_where_there, settings_of, startup_body, startup_text};
 
-use crate::message::parts::put_u32;
+use crate::message::parts::{put_text, put_u32};
 use pg_base::io::{MAX_LENGTH, ProtocolEncode};
 use pg_base::{Error, ProtocolFault};
 
@@ -28,11 +27,11 @@ pub struct Startup<'a> {
 }
 
 impl Startup<'_> {
-    ghost use Rattle.pg_send.specs.Views.{startup_of};
+    ghost use Rattle.pg_send.specs.Startup.{startup_fields};
 
     // The length of the whole in bytes, which saturates.
     fn text_len(&self) -> usize
-        ensures { result ≡ saturated (length (startup_body (startup_of self.now)) + 4) }
+        ensures { result ≡ saturated (length (startup_body (startup_fields self.now)) + 4) }
     {
         EMPTY_LENGTH
             .saturating_add(optional_len("user", self.username))
@@ -42,13 +41,13 @@ impl Startup<'_> {
 }
 
 impl ProtocolEncode for Startup<'_> {
-    ghost use Rattle.pg_send.specs.Views.{startup_of};
+    ghost use Rattle.pg_send.specs.Startup.{startup_fields};
 
-    ghost text = { λ startup. startup_text (startup_of startup) };
+    ghost text = { λ startup. startup_text (startup_fields startup) };
 
-    ghost fault = { λ startup. first_fault None (length (startup_body (startup_of startup))) };
+    ghost fault = { λ startup. first_fault None (length (startup_body (startup_fields startup))) };
 
-    ghost room = { λ startup. length (startup_text (startup_of startup)) };
+    ghost room = { λ startup. length (startup_text (startup_fields startup)) };
 
     fn encode(&self, buf: &mut Vec<u8>) -> Result<(), Error> {
         let len = self.text_len();
@@ -94,10 +93,8 @@ fn put_setting(name: &str, value: &str, buf: &mut Vec<u8>)
     ensures items { buf.new.items ≡ buf.old.items ++ setting (name.now, value.now) }
     ensures capacity { vec_capacity buf.old ≤ vec_capacity buf.new }
 {
-    buf.extend_from_slice(name.as_bytes()).unwrap();
-    buf.push_reserved(0);
-    buf.extend_from_slice(value.as_bytes()).unwrap();
-    buf.push_reserved(0);
+    put_text(name, buf);
+    put_text(value, buf);
 }
 
 // Adds a name and its value where there is one, in room that is there.

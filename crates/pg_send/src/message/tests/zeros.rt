@@ -1,10 +1,8 @@
 //! Messages of any length, and one that wants more room than there is.
 
-ghost use Rattle.std.specs.Prelude.{◌^◌, None, replicate};
-ghost use Rattle.pg_base.specs.declared.format.FrontendMessageFormat.TheVariants as formats;
-ghost use Rattle.pg_base.specs.Format.{frontend_tag};
+ghost use Rattle.std.specs.Prelude.{◌^◌, [], ◌∷◌, replicate};
+ghost use Rattle.pg_send.specs.CopyData.{copy_data_law};
 
-use crate::message::frame::check_len;
 use crate::message::{FrontendMessage, encode_frame};
 use pg_base::{Error, FrontendMessageFormat, ProtocolFault};
 use std::test::Fail;
@@ -16,26 +14,22 @@ struct Zeros(usize);
 impl FrontendMessage for Zeros {
     const FORMAT: FrontendMessageFormat = FrontendMessageFormat::CopyData;
 
-    ghost tag = { λ _. frontend_tag formats.CopyData };
-
-    ghost body = { λ zeros. replicate zeros.0 0 };
-
-    ghost count_fault = { λ _. None };
-
-    ghost hint = { λ zeros. zeros.0 };
-
-    ghost in_range = { λ _. Unit {0} };
+    ghost law = { λ zeros. copy_data_law (replicate zeros.0 0) };
 
     fn tag(&self) -> u8 {
         Self::FORMAT as u8
     }
 
-    fn body_size_hint(&self) -> usize {
+    fn body_len(&self) -> usize {
         self.0
     }
 
-    fn checked_body_len(&self) -> Result<usize, Error> {
-        check_len(None, self.0)
+    fn count_fault(&self) -> Option<ProtocolFault> {
+        None
+    }
+
+    fn room_for(&self, len: usize) -> usize {
+        len
     }
 
     fn put_body(&self, buf: &mut Vec<u8>) {
@@ -61,8 +55,8 @@ fn a_frame_of_zeros(rt: HostRuntime) -> Result<(), Fail> {
 fn too_many_zeros(rt: HostRuntime) -> Result<(), Fail> {
     let mut buf = Vec::from_slice(rt.alloc(), b"\xaa")?;
     let capacity = buf.capacity();
-    for (len, told) in [(2147483644, 2147483648), (usize::MAX, usize::MAX)] {
-        let fault = ProtocolFault::MessageTooLong(told);
+    for (len, reported) in [(2147483644, 2147483648), (usize::MAX, usize::MAX)] {
+        let fault = ProtocolFault::MessageTooLong(reported);
         assert_eq!(rt; encode_frame(&Zeros(len), &mut buf), Err(fault.into()));
         assert_eq!(rt; buf.as_slice(), b"\xaa".as_slice());
         assert_eq!(rt; buf.capacity(), capacity);
@@ -77,26 +71,22 @@ struct Spacious;
 impl FrontendMessage for Spacious {
     const FORMAT: FrontendMessageFormat = FrontendMessageFormat::CopyData;
 
-    ghost tag = { λ _. frontend_tag formats.CopyData };
-
-    ghost body = { λ _. replicate 1 0 };
-
-    ghost count_fault = { λ _. None };
-
-    ghost hint = { λ _. 2 ^ 62 };
-
-    ghost in_range = { λ _. Unit {0} };
+    ghost law = { λ _. record (copy_data_law (0 ∷ [])) { room_for = λ len. 2 ^ 62 } };
 
     fn tag(&self) -> u8 {
         Self::FORMAT as u8
     }
 
-    fn body_size_hint(&self) -> usize {
-        1 << 62
+    fn body_len(&self) -> usize {
+        1
     }
 
-    fn checked_body_len(&self) -> Result<usize, Error> {
-        check_len(None, 1)
+    fn count_fault(&self) -> Option<ProtocolFault> {
+        None
+    }
+
+    fn room_for(&self, _len: usize) -> usize {
+        1 << 62
     }
 
     fn put_body(&self, buf: &mut Vec<u8>) {

@@ -1,7 +1,7 @@
 use Rattle.std.proofs.Common.{◌^◌, ◌<◌, length, vec_capacity, arith}
 use Rattle.pg_base.specs.declared.io.Oid.{Oid}
 use Rattle.pg_base.specs.Numbers.{be16, be32}
-use Rattle.pg_send.proofs.Counting.{one_more, room_for_one, all_more}
+use Rattle.pg_send.proofs.CountedLemmas.{one_more, room_for_one, all_more}
 use Rattle.pg_send.proofs.message.counted.put_types.Goals as goal
 
 pub put_u32-requires : goal.put_u32-requires

@@ -1,8 +1,12 @@
-use Rattle.std.proofs.Common.{sym, ◌∙◌}
-use Rattle.pg_send.proofs.Lengths.{frame_is_cut}
+use Rattle.std.proofs.Common.{sym, ◌∙◌, rules}
+use Rattle.pg_send.specs.Frame.{tag}
+use Rattle.pg_send.proofs.FrameLemmas.{frame_is_cut}
 use Rattle.pg_send.proofs.message.frame.encode_frame.Goals as goal
 
-pub returns-clause-cut : goal.returns-clause-cut
-returns-clause-cut g c =
-    let m = c.args.message.now in
-    frame_is_cut (g.F.FrontendMessage.count_fault m) (g.F.FrontendMessage.tag m) (g.F.FrontendMessage.body m) c.in_ok-len.len (sym c.checked_body_len.ensures ∙ c.in_ok-len.was)
+pub returns-clause-encodes : goal.returns-clause-encodes
+returns-clause-encodes g c =
+    let law = g.F.FrontendMessage.law c.args.message.now in
+    record {
+      encodes = search rules;
+      cut = frame_is_cut law.count_fault (tag law) law.body c.in_ok-len.len (sym c.checked_body_len.ensures ∙ c.in_ok-len.was);
+    }

@@ -1,7 +1,7 @@
 use Rattle.std.proofs.Common.{◌≡◌, length, take}
 use Rattle.std.specs.List.{flat_map}
-use Rattle.pg_send.specs.Limits.{saturated}
-use Rattle.pg_send.specs.Parts.{settings_of}
+use Rattle.pg_send.specs.Frame.{saturated}
+use Rattle.pg_send.specs.Startup.{settings_of}
 use Rattle.pg_send.specs.Startup.{setting}
 use Rattle.pg_send.proofs.message.startup.params_len.Given as goal
 

@@ -1,7 +1,7 @@
 use Rattle.std.proofs.Common.{ℕ, List, [], Bor, vec_capacity, arith}
-use Rattle.pg_send.specs.Parts.{setting_of}
+use Rattle.pg_send.specs.Startup.{setting_of}
 use Rattle.pg_send.specs.Startup.{setting}
-use Rattle.pg_send.proofs.Counting.{room_for_one}
+use Rattle.pg_send.proofs.CountedLemmas.{room_for_one}
 use Rattle.pg_send.proofs.message.startup.put_params.Goals as goal
 
 pub put_setting-requires : goal.put_setting-requires

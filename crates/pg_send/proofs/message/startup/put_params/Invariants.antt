@@ -1,6 +1,6 @@
 use Rattle.std.proofs.Common.{◌≡◌, ◌≤◌, ◌++◌, take, vec_capacity}
 use Rattle.std.specs.List.{flat_map}
-use Rattle.pg_send.specs.Parts.{settings_of}
+use Rattle.pg_send.specs.Startup.{settings_of}
 use Rattle.pg_send.specs.Startup.{setting}
 use Rattle.pg_send.proofs.message.startup.put_params.Given as goal
 

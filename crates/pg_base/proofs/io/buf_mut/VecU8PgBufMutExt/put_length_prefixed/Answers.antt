@@ -10,13 +10,13 @@ use Rattle.pg_base.proofs.io.buf_mut.VecU8PgBufMutExt.put_length_prefixed.Goals 
 
 pub finish-requires : goal.finish-requires
 finish-requires g c =
-    let a = c.requires.appends c.extend_from_slice.new.self c.call-written.new.buf c.call-written.result c.in_ok-extend_from_slice.ensures.items c.call-written.ensures in
+    let a = c.requires.appends c.put_zeros.new.buf c.call-written.new.buf c.call-written.result c.in_ok-put_zeros.ensures.ok c.call-written.ensures in
     omega (arith, ap length a.1, length-append (c.args.self.now.items ++ four_zeros) a.0, length-append c.args.self.now.items four_zeros, c.len-offset.ensures, c.args.self.now.ok.0, c.call-written.new.buf.ok.0)
 
 -- what the closure added, and where it stands
-stands : (g : Over) (c : After-finish g) → Holds c.args.self.now.items (c.requires.appends c.extend_from_slice.new.self c.call-written.new.buf c.call-written.result c.in_ok-extend_from_slice.ensures.items c.call-written.ensures).0 c.call-written.new.buf.items c.len-offset.result (vec_len c.call-written.new.buf)
+stands : (g : Over) (c : After-finish g) → Holds c.args.self.now.items (c.requires.appends c.put_zeros.new.buf c.call-written.new.buf c.call-written.result c.in_ok-put_zeros.ensures.ok c.call-written.ensures).0 c.call-written.new.buf.items c.len-offset.result (vec_len c.call-written.new.buf)
 stands g c =
-    let a = c.requires.appends c.extend_from_slice.new.self c.call-written.new.buf c.call-written.result c.in_ok-extend_from_slice.ensures.items c.call-written.ensures in
+    let a = c.requires.appends c.put_zeros.new.buf c.call-written.new.buf c.call-written.result c.in_ok-put_zeros.ensures.ok c.call-written.ensures in
     record {
       parts = a.1;
       starts = omega (arith, c.len-offset.ensures, c.args.self.now.ok.0);
@@ -25,14 +25,14 @@ stands g c =
 
 pub returns-clause-ok : goal.returns-clause-ok
 returns-clause-ok g c =
-    let a = c.requires.appends c.extend_from_slice.new.self c.call-written.new.buf c.call-written.result c.in_ok-extend_from_slice.ensures.items c.call-written.ensures in
+    let a = c.requires.appends c.put_zeros.new.buf c.call-written.new.buf c.call-written.result c.in_ok-put_zeros.ensures.ok c.call-written.ensures in
     let h = stands g c in
     IfOk-weaker c.finish.result _ _ (λ e k. (
       a.0,
       record {
         wrote = record {
-          before = c.extend_from_slice.new.self;
-          shows = c.in_ok-extend_from_slice.ensures.items;
+          before = c.put_zeros.new.buf;
+          shows = c.in_ok-put_zeros.ensures.ok;
           after = c.call-written.new.buf;
           met = rw k.0 at c.call-written.ensures;
           adds = a.1;
@@ -49,15 +49,15 @@ returns-clause-err g c =
 
 pub returns-clause-why : goal.returns-clause-why
 returns-clause-why g c =
-    let a = c.requires.appends c.extend_from_slice.new.self c.call-written.new.buf c.call-written.result c.in_ok-extend_from_slice.ensures.items c.call-written.ensures in
+    let a = c.requires.appends c.put_zeros.new.buf c.call-written.new.buf c.call-written.result c.in_ok-put_zeros.ensures.ok c.call-written.ensures in
     let h = stands g c in
     let e = len_is _ _ _ _ _ h in
     IfErr-weaker c.finish.result _ _ (λ error k. elim k [
       | inl own ↦ inr (inl (
         a.0,
         record {
-          before = c.extend_from_slice.new.self;
-          shows = c.in_ok-extend_from_slice.ensures.items;
+          before = c.put_zeros.new.buf;
+          shows = c.in_ok-put_zeros.ensures.ok;
           after = c.call-written.new.buf;
           met = rw own at c.call-written.ensures;
           adds = a.1;
@@ -66,8 +66,8 @@ returns-clause-why g c =
       | inr long ↦ inr (inr (record {
         added = a.0;
         wrote = record {
-          before = c.extend_from_slice.new.self;
-          shows = c.in_ok-extend_from_slice.ensures.items;
+          before = c.put_zeros.new.buf;
+          shows = c.in_ok-put_zeros.ensures.ok;
           after = c.call-written.new.buf;
           met = rw long.0 at c.call-written.ensures;
           adds = a.1;
@@ -76,3 +76,7 @@ returns-clause-why g c =
         is = long.2 ∙ ap (λ (n : ℕ). Protocol None (MessageTooLong n)) (omega (arith, e));
       }))
     ]) c.finish.ensures.why
+
+pub returns-clause-capacity : goal.returns-clause-capacity
+returns-clause-capacity g c = λ keeps.
+    omega (arith, keeps c.put_zeros.new.buf c.call-written.new.buf c.call-written.result c.in_ok-put_zeros.ensures.ok c.call-written.ensures, c.in_ok-put_zeros.ensures.capacity, c.finish.ensures.capacity)

@@ -1,0 +1,38 @@
+-- The plain value of each tagged message of the program.
+use Rattle.std.specs.Prelude.{List, map, string_bytes}
+use Rattle.pg_send.specs.declared.message.password.Password.{Password}
+use Rattle.pg_send.specs.declared.message.password.Password.TheVariants as password
+use Rattle.pg_send.specs.declared.message.tagged.TaggedMessage.{TaggedMessage}
+use Rattle.pg_send.specs.declared.message.tagged.TaggedMessage.TheVariants as tagged
+use Rattle.pg_send.specs.Bind.{bind_fields}
+use Rattle.pg_send.specs.Close.{close_target}
+use Rattle.pg_send.specs.Describe.{describe_target}
+use Rattle.pg_send.specs.Execute.{execute_fields}
+use Rattle.pg_send.specs.Message as message
+use Rattle.pg_send.specs.Message.{Message}
+use Rattle.pg_send.specs.Parse.{parse_fields}
+use Rattle.pg_send.specs.SaslInitialResponse.{sasl_initial_fields}
+
+abbrev pub password_message : Password → Message
+password_message (password.Cleartext text) = message.CleartextPassword text.now
+password_message (password.Md5 digest) = message.Md5Password digest
+
+abbrev pub message_of : TaggedMessage → Message
+message_of (tagged.Bind bind) = message.Bind (bind_fields bind)
+message_of (tagged.Close close) = message.Close (close_target close)
+message_of (tagged.CopyData copy) = message.CopyData copy.0.now
+message_of (tagged.CopyDone copy) = message.CopyDone
+message_of (tagged.CopyFail copy) = message.CopyFail (string_bytes copy.now.message)
+message_of (tagged.Describe describe) = message.Describe (describe_target describe)
+message_of (tagged.Execute execute) = message.Execute (execute_fields execute)
+message_of (tagged.Flush flush) = message.Flush
+message_of (tagged.Parse parse) = message.Parse (parse_fields parse)
+message_of (tagged.Password password) = password_message password
+message_of (tagged.Query query) = message.Query query.0.now
+message_of (tagged.SaslInitialResponse sasl) = message.SaslInitialResponse (sasl_initial_fields sasl)
+message_of (tagged.SaslResponse sasl) = message.SaslResponse sasl.0.now
+message_of (tagged.Sync sync) = message.Sync
+message_of (tagged.Terminate terminate) = message.Terminate
+
+abbrev pub messages_of : List TaggedMessage → List Message
+messages_of messages = map message_of messages
