@@ -1,7 +1,7 @@
 """The answers of the two programs that are compared.
 
-The original's program is called with the words `decode more`, and then also tells why it refused a
-body and where it panicked; ours is called without words. Both answer the lines of `bodies.py`.
+The original's program is called with the words `decode more`, and then also reports why it refused a
+body and where it panicked; ours is called without words. Both read the lines of `bodies.py`.
 """
 
 import subprocess
@@ -28,7 +28,7 @@ def without_reasons(answer):
 
 
 def both(programs, bodies):
-    """Each body with the original's answer, its reasons behind it, and with ours."""
+    """Each body with the original's answer, reasons included, and with ours."""
     original, ours = programs
     commands = ([original, "decode", "more"], [ours])
     with ThreadPoolExecutor() as pool:

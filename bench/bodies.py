@@ -4,7 +4,7 @@
     bodies.py tags                   every byte as a tag, of no bytes and of one
     bodies.py short                  all bodies of 0 to 2 bytes of the fifteen tags that a type decodes
     bodies.py alphabets              all short bodies over a few bytes that matter to the message
-    bodies.py telling                bodies by hand in which it counts which of two parts is taken
+    bodies.py handmade               bodies that show which of two parts is used
     bodies.py large                  bodies with the greatest counts, whole and without their last byte
     bodies.py good SEED COUNT        COUNT good bodies of every tag
     bodies.py damaged SEED COUNT     COUNT damaged copies of good bodies
@@ -17,9 +17,9 @@ import sys
 sys.dont_write_bytecode = True
 
 from good_bodies import TYPED, UNTYPED
-from telling_bodies import telling
+from handmade_bodies import handmade
 
-# Of a tag: the front of its bodies, the bytes behind it, and how many of them at most.
+# Of a tag: the front of its bodies, the bytes after it, and how many of them at most.
 ALPHABETS = [
     ("R", b"\0\0\0\x0a", b"\0a\xc3\xa4", 8), ("R", b"\0\0\0\x0b", b",=ris+7\xff", 6),
     ("R", b"\0\0\0\x0b", b"i=,-09", 7), ("R", b"\0\0\0\x0bs=", b"AQ/=,\0", 7),
@@ -133,7 +133,7 @@ def truncated(rng, body):
 
 
 def extended(rng, body):
-    """Bytes behind the end."""
+    """Bytes after the end."""
     return body + rng.randbytes(rng.randint(1, 4))
 
 
@@ -181,8 +181,8 @@ def cases(words):
             return short()
         case ["alphabets"]:
             return alphabets()
-        case ["telling"]:
-            return telling()
+        case ["handmade"]:
+            return handmade()
         case ["large"]:
             return large()
         case ["good", seed, count]:

@@ -1,6 +1,6 @@
 """The classes of difference between the original's answers and ours.
 
-A class is told by the body and by both answers; a difference that fits none is a fault of one side.
+A class is determined by the body and both answers; a difference that fits none is a fault of one side.
 """
 
 import re
@@ -33,8 +33,8 @@ def has_short_item(tag, body):
     return tag == "R" and number(">I", body, 0) in (11, 12) and any(len(item) < 2 for item in items)
 
 
-def last_value_is_cut(tag, body):
-    """Whether every length of a row is there, and the last value ends behind the body."""
+def last_value_is_truncated(tag, body):
+    """Whether every length of a row is there, and the last value ends past the body."""
     if tag != "D" or len(body) < 2:
         return False
     end = 2
@@ -47,7 +47,7 @@ def last_value_is_cut(tag, body):
 
 
 def has_bare_sign(value):
-    """Whether a number is asked of a sign without a digit behind it."""
+    """Whether a number is asked of a sign without a digit after it."""
     return value[:1] in (b"+", b"-") and not value[1:2].isdigit()
 
 
@@ -94,14 +94,14 @@ def is_bare_sign(tag, body, original, ours):
 PANICS = {
     "short body: the original panics in decoding": ("decode:", is_short),
     "SASL item of fewer than two bytes: the original panics in decoding": ("decode:", has_short_item),
-    "last value of a row cut off: the original panics in an accessor": ("access:", last_value_is_cut),
+    "truncated last value of a row: the original panics in an accessor": ("access:", last_value_is_truncated),
 }
 BARE_SIGN = "sign without a digit: 0 for the original, no number for ours"
 CLASSES = [*PANICS, BARE_SIGN]
 
 
 def class_of(tag, body, original, ours):
-    """The class of a difference, or None. `original` has the place of a panic behind it."""
+    """The class of a difference, or None. `original` ends with the place of a panic."""
     words = original.split(" ")
     if words[1] == "panic":
         for name, (place, holds) in PANICS.items():

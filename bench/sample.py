@@ -1,10 +1,10 @@
 #!/usr/bin/env python3
-"""Writes the kept sample: crates/pg_answers/stdin and stdout.
+"""Writes the stored sample: crates/pg_answers/stdin and stdout.
 
     sample.py ORIGINAL OURS
 
 Keeps bodies on which the two programs (`answers.py`) agree, and for each what the original answers.
-They are those of `tags` and `telling`; and from one seed good ones of each tag; each front of a good one
+They are those of `tags` and `handmade`; and from one seed good ones of each tag; each front of a good one
 of each tag, and that one with each byte changed; and of many damaged ones, the short ones first, those
 with a form of a part of an answer that few before them show.
 """
@@ -19,7 +19,7 @@ sys.dont_write_bytecode = True
 from answers import both, lines_of, without_reasons
 from bodies import TAGS, damaged, line, tags
 from good_bodies import TYPED, UNTYPED
-from telling_bodies import telling
+from handmade_bodies import handmade
 
 SEED = 20261122
 
@@ -97,7 +97,7 @@ def sample(programs):
     """The tags and bodies that are kept."""
     rng = random.Random(SEED)
     good = good_bodies(rng)
-    first = [*tags(), *telling()]
+    first = [*tags(), *handmade()]
     first += [(tag, body) for tag, bodies in good.items() for body in bodies]
     first += [(tag, body) for tag, bodies in good.items()
               for body in with_one_change(rng, bodies[GOOD // 2])]

@@ -1,7 +1,7 @@
-// Refuses requests for memory in a test process.
+// Refuses requests for memory in the process that it is loaded into.
 //
-// REFUSE_AT=N refuses the Nth request, and then makes the file REFUSE_MARK. A request of SWITCH bytes, which no test means, turns
-// the refusal of every request on, and the next one off again; it is refused itself.
+// REFUSE_AT=N refuses the Nth request and then makes the file REFUSE_MARK. A test has requests
+// refused by a request of a size of its own, as README.md says; such a request isn't counted.
 #define _GNU_SOURCE
 #include <dlfcn.h>
 #include <errno.h>
@@ -9,44 +9,69 @@
 #include <stdlib.h>
 #include <unistd.h>
 
-#define SWITCH ((size_t)0x524546555345)
+// sizes that no request has but by intent: from here on every request is refused, or again none
+#define REFUSE_ALL ((size_t)0x524546555345)
+// with n added, the nth request from here on is refused; alone, it asks whether one was
+#define REFUSE_NTH ((size_t)0x5245465553450000)
+#define MOST_NTH ((size_t)0xffff)
 
 static void *(*real_malloc)(size_t);
 static void *(*real_realloc)(void *, size_t);
-static long requests, refused_at = -1;
-static int refuses_all;
+static size_t requests, refused_at, refused_by_test;
+static int refuses_all, has_refused;
 
 static void prepare(void) {
     if (real_malloc) return;
     real_malloc = dlsym(RTLD_NEXT, "malloc");
     real_realloc = dlsym(RTLD_NEXT, "realloc");
     const char *at = getenv("REFUSE_AT");
-    refused_at = at ? atol(at) : 0;
+    refused_at = at ? strtoul(at, NULL, 10) : 0;
 }
 
-static int is_refused(size_t size) {
-    prepare();
-    if (size == SWITCH) {
-        refuses_all = !refuses_all;
-        errno = ENOMEM;
-        return 1;
-    }
+static void mark(void) {
+    const char *path = getenv("REFUSE_MARK");
+    if (path) close(open(path, O_CREAT | O_WRONLY, 0600));
+}
+
+static int is_refused(void) {
     requests += 1;
-    if (requests == refused_at) {
-        const char *mark = getenv("REFUSE_MARK");
-        if (mark) close(open(mark, O_CREAT | O_WRONLY, 0600));
+    int is_meant = requests == refused_at;
+    if (is_meant) mark();
+    if (!is_meant && !refuses_all && requests != refused_by_test) return 0;
+    has_refused = 1;
+    return 1;
+}
+
+// Whether a request of a size is granted.
+static int grants(size_t size) {
+    prepare();
+    if (size == REFUSE_ALL) {
+        refuses_all = !refuses_all;
+        return 0;
     }
-    if (refuses_all || requests == refused_at) {
-        errno = ENOMEM;
-        return 1;
+    if (size == REFUSE_NTH) {
+        refused_by_test = 0;
+        return has_refused;
     }
-    return 0;
+    if (size > REFUSE_NTH && size - REFUSE_NTH <= MOST_NTH) {
+        refused_by_test = requests + (size - REFUSE_NTH);
+        has_refused = 0;
+        return 0;
+    }
+    return !is_refused();
+}
+
+static void *refused(void) {
+    errno = ENOMEM;
+    return NULL;
 }
 
 void *malloc(size_t size) {
-    return is_refused(size) ? NULL : real_malloc(size);
+    if (!grants(size)) return refused();
+    // nobody touches the bytes of an answer
+    return real_malloc(size == REFUSE_NTH ? 1 : size);
 }
 
 void *realloc(void *old, size_t size) {
-    return is_refused(size) ? NULL : real_realloc(old, size);
+    return grants(size) ? real_realloc(old, size) : refused();
 }

@@ -1,4 +1,4 @@
-//! What the program answers to a tag and a body.
+//! The line that the program prints for a tag and a body.
 
 use crate::fault::AnswerFault;
 use crate::line::TaggedBody;
@@ -12,14 +12,14 @@ use pg_receive::message::{
 };
 use std::alloc::{AllocError, Global};
 
-/// A message that tells what it was decoded to.
+/// A decoded message whose parts can be printed.
 pub trait Answer {
-    /// Adds a space, a key, `=` and a value for each of its parts, in order.
+    /// Appends a space, a key, `=` and a value for each part, in order.
     fn push_parts(&self, output: &mut String) -> Result<(), AllocError>;
 }
 
-/// Adds the name of a message, and `ok` and its parts, or `err`, or `untyped` where no type decodes
-/// it. A tag that no message has is `UNKNOWN err`.
+/// Appends the name of a message, and `ok` and its parts, or `err`, or `untyped` where no type decodes
+/// it. An unknown tag is `UNKNOWN err`.
 pub fn push_answer(
     alloc: Global,
     message: TaggedBody,

@@ -42,7 +42,7 @@ fn push_position(error: &PgDatabaseError, output: &mut String) -> Result<(), All
     }
 }
 
-// What it is about.
+// The objects that it names.
 fn push_object(error: &PgDatabaseError, output: &mut String) -> Result<(), AllocError> {
     write!(
         output,
@@ -66,7 +66,7 @@ fn push_source(error: &PgDatabaseError, output: &mut String) -> Result<(), Alloc
     )
 }
 
-// What follows from the code, and the words for the whole.
+// What the code implies, and the text of Display.
 fn push_meaning(error: &PgDatabaseError, output: &mut String) -> Result<(), AllocError> {
     let words = error.to_string(*output.allocator())?;
     write!(

@@ -1,18 +1,18 @@
-//! Why the program gives up.
+//! Errors of the program.
 
 use std::alloc::{AllocError, AllocFailed};
 use std::{fmt, io};
 
-/// Why the program gives up.
+/// Why the program stops.
 #[derive(Clone, Copy, Debug, PartialEq, Eq)]
 pub enum AnswerFault {
-    /// A line fits no form: its number, from 1.
+    /// A line is malformed: its number, from 1.
     BadLine(usize),
     /// The input can't be read, or is not UTF-8.
     Input,
     /// The output can't be written.
     Output,
-    /// There was no memory for a body, for what it decodes to, or for the output.
+    /// Out of memory for a body, for what it decodes to, or for the output.
     OutOfMemory,
 }
 
@@ -30,7 +30,7 @@ impl fmt::Display for AnswerFault {
 impl std::error::Error for AnswerFault {}
 
 impl AnswerFault {
-    /// The exit status that tells it: 1 for a bad line, 3 for the others.
+    /// The exit status: 1 for a bad line, 3 for the others.
     pub fn status(self) -> u8 {
         match self {
             AnswerFault::BadLine(_) => 1,
@@ -38,7 +38,7 @@ impl AnswerFault {
         }
     }
 
-    /// What a failed read means: want of memory for what was read, or a fault of the input.
+    /// The fault for a failed read: out of memory for the bytes read, or a fault of the input.
     pub fn of_read(error: io::Error) -> AnswerFault {
         match error.kind() {
             io::ErrorKind::OutOfMemory => AnswerFault::OutOfMemory,

@@ -11,7 +11,7 @@ pub struct TaggedBody {
     pub body: Vec<u8>,
 }
 
-/// The tag and the body that a line spells, and none where it fits the form not.
+/// The tag and the body of a line, or None where it is malformed.
 pub fn tagged_body(alloc: Global, line: &str) -> Result<Option<TaggedBody>, AnswerFault> {
     let Some((tag, body)) = line.split_once(' ') else {
         return Ok(None);
@@ -23,14 +23,14 @@ pub fn tagged_body(alloc: Global, line: &str) -> Result<Option<TaggedBody>, Answ
     Ok(body.map(|body| TaggedBody { tag, body }))
 }
 
-// The byte that two hexadecimal digits spell.
+// The byte that two hexadecimal digits encode.
 fn tag_of(word: &str) -> Option<u8> {
     let mut byte = [0];
     hex::decode_to_slice(word, &mut byte).ok()?;
     Some(byte[0])
 }
 
-// The bytes that hexadecimal digits spell, or `-` for no bytes.
+// The bytes that hexadecimal digits encode, or `-` for no bytes.
 fn body_of(alloc: Global, word: &str) -> Result<Option<Vec<u8>>, AnswerFault> {
     if word == "-" {
         return Ok(Some(Vec::new(alloc)));

@@ -1,4 +1,4 @@
-//! Answers what each body from the server decodes to, and all that its accessors say of it.
+//! Prints what each received body decodes to, and what every accessor returns.
 #![tactic(auto)]
 
 mod answer;

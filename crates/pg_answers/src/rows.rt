@@ -33,7 +33,7 @@ impl Answer for DataRow {
     }
 }
 
-// A column, with colons between its parts.
+// A column, its parts separated by colons.
 #[derive(Clone, Copy)]
 struct Column<'a>(&'a Field);
 

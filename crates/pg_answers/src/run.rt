@@ -6,8 +6,8 @@ use crate::line::tagged_body;
 use std::alloc::Global;
 use std::io::{Read, Write, read_to_string};
 
-/// Runs the program, and gives its exit status: 0, 1 for a bad line, 3 for other faults. A fault is
-/// told on `errors`, and a write that fails there is passed over.
+/// Runs the program, and returns its exit status: 0, 1 for a bad line, 3 for other faults. A fault is
+/// reported on `errors`; a write that fails there is ignored.
 pub fn start<R: Read + Drop, W: Write, E: Write>(
     alloc: Global,
     input: R,
@@ -37,7 +37,7 @@ pub fn run<R: Read + Drop, W: Write>(
     output.flush().map_err(|_| AnswerFault::Output)
 }
 
-/// A line for each line of the input: the name of the message, and what it answers.
+/// A line for each line of the input: the name of the message, and what its accessors return.
 pub fn answers(alloc: Global, input: &str) -> Result<String, AnswerFault> {
     let mut output = String::new(alloc);
     for (index, line) in input.lines().enumerate() {

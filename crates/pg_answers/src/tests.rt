@@ -1,10 +1,10 @@
-//! The program over memory: bad lines, and what a failing input or output leaves. What it answers is
-//! compared with the stored run.
+//! The program over input and output in memory: bad lines, and what a failing input or output leaves.
+//! What it answers is compared with the stored run. A test is an error only where memory ran out.
 
 use crate::fault::AnswerFault;
-use crate::run::{answers, run, start};
+use crate::run::{run, start};
+use std::alloc::AllocError;
 use std::io::{self, Read, Write};
-use std::test::Fail;
 
 /// Fails at once.
 #[derive(Drop)]
@@ -39,58 +39,113 @@ impl Write for FailingWriter {
     }
 }
 
+// The outcome of a run, or the end of the test where memory ran out.
+fn unless_out_of_memory(
+    outcome: Result<(), AnswerFault>,
+) -> Result<Result<(), AnswerFault>, AllocError> {
+    match outcome {
+        Err(AnswerFault::OutOfMemory) => Err(AllocError),
+        other => Ok(other),
+    }
+}
+
 #[test]
-fn bad_lines_are_told_by_their_number(rt: HostRuntime) -> Result<(), Fail> {
+fn bad_lines_are_reported_by_their_number(rt: HostRuntime) -> Result<(), AllocError> {
     let cases = [
         "", "5a", "5a ", "5 -", "5a4 -", "zz -", "5a 4", "5a 4g", " 5a 49", "5a 49 ",
     ];
     for line in cases {
         let input = format!(in rt.alloc(); "5a 49\n{line}\n")?;
         let mut output = Vec::new(rt.alloc());
-        let mut errors = Vec::new(rt.alloc());
-        let status = start(rt.alloc(), input.as_bytes(), &mut output, &mut errors);
-        assert_eq!(rt; status, 1, "status of {line:?}");
+        let outcome = run(rt.alloc(), input.as_bytes(), &mut output);
         assert!(rt; output.is_empty());
-        assert_eq!(rt; errors.as_slice(), b"line 2: bad command\n".as_slice());
+        let bad = Err(AnswerFault::BadLine(2));
+        assert_eq!(rt; unless_out_of_memory(outcome)?, bad, "{line:?}");
     }
     Ok(())
 }
 
 #[test]
-fn a_last_line_without_its_line_feed_counts(rt: HostRuntime) -> Result<(), Fail> {
-    let output = answers(rt.alloc(), "31 -\n5A 49")?;
-    let lines = "ParseComplete untyped\nReadyForQuery ok transaction_status=73\n";
-    assert_eq!(rt; output.as_str(), lines);
-    assert!(rt; answers(rt.alloc(), "")?.is_empty());
+fn a_fault_is_a_line_on_the_error_stream(rt: HostRuntime) -> Result<(), AllocError> {
+    let mut output = Vec::new(rt.alloc());
+    let mut errors = Vec::with_capacity(rt.alloc(), 64)?;
+    let status = start(rt.alloc(), b"5a\n".as_slice(), &mut output, &mut errors);
+    assert!(rt; output.is_empty());
+    if status == 3 {
+        assert_eq!(rt; errors.as_slice(), b"out of memory\n".as_slice());
+        return Err(AllocError);
+    }
+    assert_eq!(rt; status, 1);
+    assert_eq!(rt; errors.as_slice(), b"line 1: bad command\n".as_slice());
     Ok(())
 }
 
 #[test]
-fn a_failed_read_is_told_and_nothing_is_written(rt: HostRuntime) {
-    let mut output = Vec::new(rt.alloc());
-    let result = run(rt.alloc(), FailingReader, &mut output);
-    assert_eq!(rt; result, Err(AnswerFault::Input));
-    assert!(rt; output.is_empty());
-    let result = run(rt.alloc(), b"31 \xFF\n".as_slice(), &mut output);
-    assert_eq!(rt; result, Err(AnswerFault::Input));
+fn a_last_line_without_its_line_feed_counts(rt: HostRuntime) -> Result<(), AllocError> {
+    let lines = b"ParseComplete untyped\nReadyForQuery ok transaction_status=73\n";
+    let mut output = Vec::with_capacity(rt.alloc(), lines.len())?;
+    let outcome = run(rt.alloc(), b"31 -\n5A 49".as_slice(), &mut output);
+    assert_eq!(rt; unless_out_of_memory(outcome)?, Ok(()));
+    assert_eq!(rt; output.as_slice(), lines.as_slice());
+    Ok(())
 }
 
 #[test]
-fn a_failed_write_leaves_a_beginning_of_the_output(rt: HostRuntime) {
+fn a_failed_read_is_reported_and_nothing_is_written(rt: HostRuntime) -> Result<(), AllocError> {
+    let mut output = Vec::new(rt.alloc());
+    let outcome = run(rt.alloc(), FailingReader, &mut output);
+    assert!(rt; output.is_empty());
+    assert_eq!(rt; unless_out_of_memory(outcome)?, Err(AnswerFault::Input));
+    let outcome = run(rt.alloc(), b"31 \xFF\n".as_slice(), &mut output);
+    assert!(rt; output.is_empty());
+    assert_eq!(rt; unless_out_of_memory(outcome)?, Err(AnswerFault::Input));
+    Ok(())
+}
+
+#[test]
+fn a_failed_write_leaves_a_beginning_of_the_output(rt: HostRuntime) -> Result<(), AllocError> {
     let whole = b"CopyDone ok\n";
     for room in 0..whole.len() {
         let mut writer = FailingWriter {
             taken: Vec::new(rt.alloc()),
             room,
         };
-        let result = run(rt.alloc(), b"63 -\n".as_slice(), &mut writer);
+        let outcome = run(rt.alloc(), b"63 -\n".as_slice(), &mut writer);
         assert!(rt; whole.starts_with(writer.taken.as_slice()));
-        assert_eq!(rt; result, Err(AnswerFault::Output));
+        assert_eq!(rt; unless_out_of_memory(outcome)?, Err(AnswerFault::Output));
     }
+    Ok(())
+}
+
+// A request of `REFUSE_NTH` bytes and n more has the nth request from then on refused, and one of
+// `REFUSE_NTH` bytes is granted where a request was: tests/refused/README.md.
+const REFUSE_NTH: usize = 0x5245_4655_5345_0000;
+
+#[test]
+fn out_of_memory_writes_nothing(rt: HostRuntime) -> Result<(), AllocError> {
+    for nth in 1..100 {
+        let mut output = Vec::with_capacity(rt.alloc(), 128)?;
+        let _ = Vec::<u8>::with_capacity(rt.alloc(), REFUSE_NTH + nth);
+        let outcome = run(
+            rt.alloc(),
+            b"44 00010000000161\n5a 49\n".as_slice(),
+            &mut output,
+        );
+        let was_refused = Vec::<u8>::with_capacity(rt.alloc(), REFUSE_NTH).is_ok();
+        if !was_refused {
+            let lines = b"DataRow ok len=1 cells=[61]\nReadyForQuery ok transaction_status=73\n";
+            assert_eq!(rt; unless_out_of_memory(outcome)?, Ok(()));
+            assert_eq!(rt; output.as_slice(), lines.as_slice());
+            return Ok(());
+        }
+        assert_eq!(rt; outcome, Err(AnswerFault::OutOfMemory));
+        assert!(rt; output.is_empty());
+    }
+    panic!(rt; "requests without end")
 }
 
 #[test]
-fn statuses_and_words_of_faults(rt: HostRuntime) -> Result<(), Fail> {
+fn statuses_and_words_of_faults(rt: HostRuntime) -> Result<(), AllocError> {
     let cases = [
         (AnswerFault::BadLine(7), 1, "line 7: bad command"),
         (AnswerFault::Input, 3, "input failed"),

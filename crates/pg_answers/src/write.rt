@@ -1,4 +1,4 @@
-//! How bytes, missing values and lists are written.
+//! Bytes, optional values and lists as text.
 
 ghost use Rattle.std.specs.Iterator.{IsFinite};
 
@@ -21,7 +21,7 @@ impl<'a> fmt::Display for Hex<'a> {
     }
 }
 
-/// A text as the digits of its bytes.
+/// The bytes of a string as hexadecimal digits.
 pub fn text(text: &str) -> Hex<'_> {
     Hex(text.as_bytes())
 }
@@ -39,12 +39,12 @@ impl<T: fmt::Display> fmt::Display for OrNone<T> {
     }
 }
 
-/// A text as the digits of its bytes, or `none`.
+/// The bytes of a string as hexadecimal digits, or `none`.
 pub fn text_or_none(value: Option<&str>) -> OrNone<Hex<'_>> {
     OrNone(value.map(text))
 }
 
-/// Adds items in brackets, with commas between them.
+/// Appends items in brackets, separated by commas.
 pub fn push_list<T: fmt::Display + Drop, I: Iterator<Item = T> + Drop>(
     items: I,
     output: &mut String,

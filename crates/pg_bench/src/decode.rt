@@ -1,7 +1,7 @@
-//! A stream of frames, decoded again and again, and each accessor asked.
+//! Decodes a stream of frames repeatedly and calls each accessor.
 //!
-//! Each call answers the sum of all that was read in all passes: 0 where the stream is not whole
-//! frames, a message is refused or is none of the six kinds of `add`, or memory runs out.
+//! Each call returns the sum of everything read in all passes, or 0 where the stream is truncated, a
+//! message is refused or is none of the six kinds of `add`, or memory runs out.
 
 ghost use Rattle.std.specs.Prelude.{◌≤◌, length, IfSome};
 
@@ -15,13 +15,13 @@ use pg_receive::message::{
 };
 use std::alloc::Global;
 
-/// Cuts the frames once into tags and shared bodies; each pass decodes a clone of each body.
+/// Splits the frames once into tags and shared bodies; each pass decodes a clone of each body.
 #[unsafe(no_mangle)]
 pub extern "C" fn tw_decode_prepared(alloc: Global, stream: &[u8], times: usize, full: u8) -> u64 {
     prepared(alloc, stream, times, full != 0).unwrap_or(0)
 }
 
-/// Each pass appends the stream to a buffer, and decodes the frames that it cuts from it.
+/// Each pass appends the stream to a buffer, and decodes the frames that it splits off.
 #[unsafe(no_mangle)]
 pub extern "C" fn tw_decode_stream(alloc: Global, stream: &[u8], times: usize, full: u8) -> u64 {
     streamed(alloc, stream, times, full != 0).unwrap_or(0)
@@ -101,7 +101,7 @@ fn head_of(stream: &[u8]) -> Option<(u8, usize)>
     Some((stream[0], end))
 }
 
-// Adds the tag and all that the message says.
+// Adds the tag and everything that the message's accessors return.
 fn add(alloc: Global, tag: u8, contents: Bytes, sum: &mut Sum) -> Option<()> {
     let format = BackendMessageFormat::try_from_u8(tag).ok()?;
     let message = ReceivedMessage { format, contents };

@@ -1,14 +1,14 @@
-//! A script's messages, encoded again and again into one buffer.
+//! Encodes the messages of a script repeatedly into one buffer.
 //!
-//! Each call clears the buffer before each pass, copies what the last pass made to `out`, and
-//! answers its length in bytes: 0 where the script can't be read, a message is refused, memory runs
-//! out, or `out` has no room.
+//! Each call clears the buffer before each pass, copies the result of the last pass to `out`, and
+//! returns its length in bytes, or 0 where the script is malformed, a message is refused, memory runs
+//! out, or `out` is too short.
 
 use crate::script::Script;
 use pg_send::message::{TaggedMessage, encode_all};
 use std::alloc::Global;
 
-/// Reads the script once, and encodes its messages one by one.
+/// Parses the script once, and encodes its messages one by one.
 #[unsafe(no_mangle)]
 pub extern "C" fn tw_encode_prepared(
     alloc: Global,
@@ -19,7 +19,7 @@ pub extern "C" fn tw_encode_prepared(
     give(prepared(alloc, script, times), out)
 }
 
-/// Reads the script once, and encodes its messages by one call a pass.
+/// Parses the script once, and encodes its messages with one call per pass.
 #[unsafe(no_mangle)]
 pub extern "C" fn tw_encode_all(
     alloc: Global,
@@ -30,7 +30,7 @@ pub extern "C" fn tw_encode_all(
     give(all(alloc, script, times), out)
 }
 
-/// Reads the script in each pass, and encodes each message as it is read.
+/// Parses the script in each pass, and encodes each message as it is parsed.
 #[unsafe(no_mangle)]
 pub extern "C" fn tw_encode_script(
     alloc: Global,

@@ -1,5 +1,5 @@
-//! Both directions as functions for a C program, which times them beside other message layers:
-//! `bench/README.md` says how, and what a script, a stream and a sum are.
+//! Encoding and decoding as functions for the benchmark, a C program that times several message
+//! layers: see `bench/README.md`.
 #![tactic(auto)]
 
 pub mod decode;

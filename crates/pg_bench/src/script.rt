@@ -1,4 +1,4 @@
-//! A script: the messages to encode, as records of a kind and its fields.
+//! Parses a script: the messages to encode, each a letter and its fields.
 
 ghost use Rattle.std.specs.Prelude.{◌≡◌, ◌<◌, length, IfSome, vec_len, vec_capacity};
 
@@ -21,14 +21,14 @@ const TYPES: &[Oid] = &[
     Oid(2950),
 ];
 
-/// What is left of a script.
+/// The rest of a script.
 #[derive(Drop)]
 pub struct Script<'a> {
     pub rest: &'a [u8],
 }
 
 impl<'a> Script<'a> {
-    /// Encodes the next message as it is read. None where it can't be read or is refused.
+    /// Encodes the next message as it is parsed. None where it is malformed or refused.
     pub fn encode_next(&mut self, buf: &mut Vec<u8>) -> Option<()> {
         match self.u8()? {
             b'B' => self.encode_bind(buf),
@@ -42,7 +42,7 @@ impl<'a> Script<'a> {
         }
     }
 
-    /// Adds the next message to those that are to be encoded later. None where it can't be read.
+    /// Appends the next message to those to be encoded later. None where it is malformed.
     pub fn push_next(&mut self, messages: &mut Vec<TaggedMessage<'a>>) -> Option<()> {
         messages.reserve(1).ok()?;
         match self.u8()? {
@@ -129,7 +129,7 @@ impl<'a> Script<'a> {
         })
     }
 
-    // A format, and how many of it.
+    // A format code, and how often it is repeated.
     #[inline(always)]
     fn formats(&mut self) -> Option<&'a [PgValueFormat]> {
         let formats = match self.u8()? {

@@ -1,10 +1,10 @@
-//! What a decoder answers for all that it read, so that two of them can be compared.
+//! A checksum of everything that was decoded, so that two decoders can be compared.
 
-/// A number that depends on each value that was added, and on their order.
+/// A checksum of the values that were added, in their order.
 #[derive(Drop)]
 pub struct Sum {
     pub value: u64,
-    /// Whether each byte of some bytes counts, or only their first and their last.
+    /// Whether each byte of a slice counts, or only the first and the last.
     pub full: bool,
 }
 
@@ -14,12 +14,12 @@ impl Sum {
         self.value = (self.value.rotate_left(5) ^ number).wrapping_mul(0x9E37_79B9_7F4A_7C15);
     }
 
-    /// Adds what stands for nothing.
+    /// Adds the mark of a missing value.
     pub fn nothing(&mut self) {
         self.mix(u64::MAX);
     }
 
-    /// Adds how many bytes there are, and the bytes that count.
+    /// Adds the length of a slice, and the bytes that count.
     pub fn touch(&mut self, bytes: &[u8]) {
         self.mix(bytes.len() as u64);
         if self.full {
@@ -32,7 +32,7 @@ impl Sum {
         }
     }
 
-    /// Adds bytes, or nothing.
+    /// Adds a slice, or the mark of a missing value.
     pub fn touch_option(&mut self, bytes: Option<&[u8]>) {
         match bytes {
             Some(bytes) => self.touch(bytes),
@@ -40,7 +40,7 @@ impl Sum {
         }
     }
 
-    /// Adds a text, or nothing.
+    /// Adds a string, or the mark of a missing value.
     pub fn text(&mut self, text: Option<&str>) {
         self.touch_option(text.map(str::as_bytes));
     }

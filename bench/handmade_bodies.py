@@ -1,9 +1,9 @@
-"""Bodies by hand in which it counts which of two parts is taken, and where the reading stops."""
+"""Bodies written by hand that show which of two parts is used, and where reading stops."""
 
 REPORTS = [
     # the last message and the last code that are read
     b"Ma\0Mb\0Cc\0\0", b"Ca\0Cb\0Mm\0\0", b"Ma\0Cb\0Mc\0Cd\0\0", b"M\0Cc\0Mm\0Mx\0\0", b"Ma\0M\0Cc\0Mm\0\0",
-    # behind which nothing is read, be it no text or no severity
+    # after them nothing is read, not even a field that is not UTF-8 or not a severity
     b"Ma\0Cb\0M\xff\0\0", b"Ma\0Cb\0S\xff\0\0", b"Ma\0Cb\0Vno\0\0", b"Ma\0Cb\0VERROR\0\0", b"Ma\0C\0Vno\0\0",
     # the last severity that is read, and before it that of V
     b"SERROR\0SFATAL\0\0", b"VERROR\0VFATAL\0\0", b"VDEBUG\0SERROR\0\0", b"SERROR\0VDEBUG\0\0",
@@ -50,7 +50,7 @@ ROWS = [
 ]
 
 
-def telling():
+def handmade():
     """The tag and the body of each."""
     yield from ((tag, body) for body in REPORTS for tag in "EN")
     for method, bodies in ((10, MECHANISMS), (11, CHALLENGES), (12, VERIFIERS)):
