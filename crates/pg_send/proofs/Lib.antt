@@ -6,6 +6,7 @@ pub mod MessageLemmas
 pub mod ParseLemmas
 pub mod PasswordLemmas
 pub mod PowerLemmas
+pub mod RoundTripLemmas
 pub mod RunLemmas
 pub mod SaslInitialResponseLemmas
 pub mod TargetLemmas

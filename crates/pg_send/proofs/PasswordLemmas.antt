@@ -1,5 +1,5 @@
 -- A password's digest makes the round trip.
-use Rattle.std.specs.Prelude.{slice_index, codes}
+use Rattle.std.specs.Prelude.{slice_index}
 use Rattle.std.proofs.Common.{◌≡◌, inl, inr, ℕ, zero, suc, ◌/◌, ◌%◌, ◌<◌, All, List, [], ◌∷◌, ◌++◌, length, refl, sym, ◌∙◌, arith}
 use Rattle.std.proofs.lemmas.List.Elements.{All-head, All-tail}
 use Rattle.hex.specs.Hex.{lower_digits, encode_with, encode_lower}

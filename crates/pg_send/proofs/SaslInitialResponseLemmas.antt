@@ -1,5 +1,5 @@
 -- A SASLInitialResponse makes the round trip.
-use Rattle.std.proofs.Common.{◌≡◌, ℕ, ◌≤◌, pos, Bool, true, false, List, ◌++◌, length, refl, sym, ap, ◌∙◌, arith, append_assoc}
+use Rattle.std.proofs.Common.{◌≡◌, ℕ, ◌≤◌, pos, Bool, true, false, List, ◌++◌, length, refl, sym, ap, arith, append_assoc}
 use Rattle.pg_base.specs.Cutting.{max_length}
 use Rattle.pg_base.specs.Numbers.{be32}
 use Rattle.pg_base.specs.Reading.{HoldsNo}

@@ -1,10 +1,10 @@
 -- Bind: makes a portal of a prepared statement and the values of its parameters. Documentation:
 -- "Message Formats", Bind (F).
-use Rattle.std.specs.Prelude.{ℕ, ◌^◌, ◌<◌, ◌≤◌, List, [], ◌++◌, ◌≡◌, length, All, Option}
+use Rattle.std.specs.Prelude.{ℕ, ◌^◌, ◌<◌, ◌≤◌, List, [], ◌++◌, ◌≡◌, length, All, Option, Some}
 use Rattle.std.specs.Option.{option_or}
 use Rattle.pg_base.specs.declared.format.FrontendMessageFormat.TheVariants as formats
 use Rattle.pg_base.specs.declared.error.ProtocolFault.{ProtocolFault}
-use Rattle.pg_base.specs.declared.error.ProtocolFault.TheVariants.{TooManyParamFormats, TooManyResultFormats}
+use Rattle.pg_base.specs.declared.error.ProtocolFault.TheVariants.{TooManyParamFormats, TooManyResultFormats, BadParams}
 use Rattle.pg_base.specs.Id.{named, statement_prefix, portal_prefix, max_id}
 use Rattle.pg_base.specs.Format.{format_codes}
 use Rattle.pg_base.specs.Numbers.{be16}
@@ -75,6 +75,7 @@ bind_law b = record {
   IsInRange = IsBindInRange b;
   Reads = λ bytes. ReadsBind bytes b;
   CanRoundTrip = Values b.num_params b.params [];
+  round_trip_fault = Some BadParams;
 }
 
 abbrev pub bind_fields : Bind → BindFields

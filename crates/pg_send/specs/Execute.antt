@@ -39,6 +39,7 @@ execute_law e = record {
   IsInRange = IsExecuteInRange e;
   Reads = λ bytes. ReadsExecute bytes e;
   CanRoundTrip = Unit {0};
+  round_trip_fault = None;
 }
 
 abbrev pub execute_fields : Execute → ExecuteFields

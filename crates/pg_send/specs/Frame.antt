@@ -36,8 +36,8 @@ pub record AddsBeginning (old new text : List ℕ) : Type 0 where
 
 -- all that is said of a message: its kind and the format whose tag opens it; its body; the first limit
 -- on counts that it breaks; the room that is reserved for a body of so many bytes; that its numbers
--- are in the ranges of their types; which bytes a reader takes apart into it; and what it needs so
--- that a reader gets it back
+-- are in the ranges of their types; which bytes a reader takes apart into it; what it needs so that
+-- a reader gets it back; and the fault of one that lacks that, of a kind that can lack it
 pub record Law : Type 1 where
   pub kind : Kind
   pub format : FrontendMessageFormat
@@ -47,6 +47,7 @@ pub record Law : Type 1 where
   pub IsInRange : Type 0
   pub Reads : List ℕ → Type 0
   pub CanRoundTrip : Type 0
+  pub round_trip_fault : Option ProtocolFault
 
 -- the first byte
 abbrev pub tag : Law → ℕ

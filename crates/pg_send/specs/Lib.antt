@@ -1,4 +1,5 @@
 pub mod Bind
+pub mod BindValues
 pub mod Close
 pub mod CopyData
 pub mod CopyDone

@@ -83,6 +83,9 @@ IsInRange m = (law_of m).IsInRange
 abbrev pub CanRoundTrip : Message → Type 0
 CanRoundTrip m = (law_of m).CanRoundTrip
 
+abbrev pub round_trip_fault : Message → Option ProtocolFault
+round_trip_fault m = (law_of m).round_trip_fault
+
 -- a reader that is given the kind takes the bytes apart into this message, with nothing left
 abbrev pub Reads : Kind → List ℕ → Message → Type 0
 Reads kind bytes m = (kind_of m ≡ kind) × (law_of m).Reads bytes

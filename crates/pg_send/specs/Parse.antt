@@ -1,8 +1,8 @@
 -- Parse: prepares a statement. Documentation: "Message Formats", Parse (F).
-use Rattle.std.specs.Prelude.{ℕ, ◌^◌, ◌<◌, ◌≤◌, List, [], ◌++◌, length, All, Option}
+use Rattle.std.specs.Prelude.{ℕ, ◌^◌, ◌<◌, ◌≤◌, List, [], ◌++◌, length, All, Option, Some}
 use Rattle.pg_base.specs.declared.format.FrontendMessageFormat.TheVariants as formats
 use Rattle.pg_base.specs.declared.error.ProtocolFault.{ProtocolFault}
-use Rattle.pg_base.specs.declared.error.ProtocolFault.TheVariants.{TooManyParamTypes}
+use Rattle.pg_base.specs.declared.error.ProtocolFault.TheVariants.{TooManyParamTypes, TextHoldsNul}
 use Rattle.pg_base.specs.Id.{named, statement_prefix, max_id}
 use Rattle.pg_base.specs.Reading.{HoldsNo, Text, StatementName, Counted}
 use Rattle.pg_base.specs.Numbers.{numbers_of}
@@ -51,6 +51,7 @@ parse_law p = record {
   IsInRange = IsParseInRange p;
   Reads = λ bytes. ReadsParse bytes p;
   CanRoundTrip = HoldsNo 0 p.query;
+  round_trip_fault = Some TextHoldsNul;
 }
 
 abbrev pub parse_fields : Parse → ParseFields

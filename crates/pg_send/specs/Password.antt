@@ -71,4 +71,5 @@ md5_law digest = record {
   IsInRange = IsDigest digest;
   Reads = λ bytes. ReadsMd5 bytes digest;
   CanRoundTrip = Unit {0};
+  round_trip_fault = None;
 }

@@ -44,6 +44,7 @@ sasl_initial_law s = record {
   IsInRange = Unit {0};
   Reads = λ bytes. ReadsSaslInitial bytes s;
   CanRoundTrip = Unit {0};
+  round_trip_fault = None;
 }
 
 abbrev pub sasl_initial_fields : SaslInitialResponse → SaslInitialFields

@@ -1,6 +1,7 @@
 -- The laws of messages that differ in kind and tag alone.
-use Rattle.std.specs.Prelude.{◌≡◌, ℕ, List, [], None}
+use Rattle.std.specs.Prelude.{◌≡◌, ℕ, List, [], Some, None}
 use Rattle.pg_base.specs.declared.format.FrontendMessageFormat.{FrontendMessageFormat}
+use Rattle.pg_base.specs.declared.error.ProtocolFault.TheVariants.{TextHoldsNul}
 use Rattle.pg_base.specs.Reading.{HoldsNo, Text}
 use Rattle.pg_base.specs.Text.{ended}
 use Rattle.pg_send.specs.Frame.{Law, saturated}
@@ -17,6 +18,7 @@ empty_law kind format = record {
   IsInRange = Unit {0};
   Reads = λ bytes. bytes ≡ [];
   CanRoundTrip = Unit {0};
+  round_trip_fault = None;
 }
 
 -- a message whose body is some bytes
@@ -30,6 +32,7 @@ bytes_law kind format sent = record {
   IsInRange = Unit {0};
   Reads = λ bytes. bytes ≡ sent;
   CanRoundTrip = Unit {0};
+  round_trip_fault = None;
 }
 
 -- a message whose body is a text and a NUL; one with a NUL in its text isn't read back
@@ -43,4 +46,5 @@ text_law kind format room_for text = record {
   IsInRange = Unit {0};
   Reads = λ bytes. Text bytes text [];
   CanRoundTrip = HoldsNo 0 text;
+  round_trip_fault = Some TextHoldsNul;
 }

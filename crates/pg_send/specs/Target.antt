@@ -44,4 +44,5 @@ target_law kind format target = record {
   IsInRange = IsTargetInRange target;
   Reads = λ bytes. ReadsTarget bytes target;
   CanRoundTrip = Unit {0};
+  round_trip_fault = None;
 }

@@ -1,10 +1,12 @@
 //! A portal that is made of a prepared statement.
 
+ghost use Rattle.std.specs.Prelude.{◌≡◌, Some, OnOk, IfErr};
 ghost use Rattle.pg_send.specs.Bind.{bind_law, bind_fields};
 
 use crate::message::FrontendMessage;
 use crate::message::counted::{put_formats, too_many};
 use crate::message::parts::{put_slice, put_u16};
+use crate::message::round_trip::check_values;
 use pg_base::io::{PgValueFormat, PortalId, StatementId};
 use pg_base::{FrontendMessageFormat, ProtocolFault};
 
@@ -27,6 +29,17 @@ pub struct Bind<'a> {
     /// The formats of the result's columns, at most 65535: none where all are text, one for all of
     /// them, or one each.
     pub result_formats: &'a [PgValueFormat],
+}
+
+impl Bind<'_> {
+    /// Whether a reader would get the message back: refused with `BadParams` where `params` is not
+    /// `num_params` values.
+    pub fn check_round_trip(&self) -> Result<(), ProtocolFault>
+        ensures ok { OnOk result (bind_law (bind_fields self.now)).CanRoundTrip }
+        ensures fault { IfErr result (λ fault. ((bind_law (bind_fields self.now)).round_trip_fault ≡ Some fault) × ¬ (bind_law (bind_fields self.now)).CanRoundTrip) }
+    {
+        check_values(self.num_params, self.params)
+    }
 }
 
 impl FrontendMessage for Bind<'_> {

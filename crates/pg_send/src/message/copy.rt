@@ -1,12 +1,13 @@
 //! The client's part of a COPY.
 
-ghost use Rattle.std.specs.Prelude.{◌≡◌, string_bytes};
+ghost use Rattle.std.specs.Prelude.{◌≡◌, Some, OnOk, IfErr, string_bytes};
 ghost use Rattle.pg_send.specs.CopyData.{copy_data_law};
 ghost use Rattle.pg_send.specs.CopyDone.{copy_done_law};
 ghost use Rattle.pg_send.specs.CopyFail.{copy_fail_law};
 
 use crate::message::FrontendMessage;
 use crate::message::parts::{put_slice, put_text, text_len};
+use crate::message::round_trip::check_text;
 use pg_base::io::{CopyData, CopyDone, LendBytes};
 use pg_base::{FrontendMessageFormat, ProtocolFault};
 
@@ -23,6 +24,16 @@ impl CopyFail {
         ensures { result.message ≡ msg }
     {
         CopyFail { message: msg }
+    }
+}
+
+impl CopyFail {
+    /// Whether a reader would get the message back: refused with `TextHoldsNul` where it holds a NUL.
+    pub fn check_round_trip(&self) -> Result<(), ProtocolFault>
+        ensures ok { OnOk result (copy_fail_law (string_bytes self.now.message)).CanRoundTrip }
+        ensures fault { IfErr result (λ fault. ((copy_fail_law (string_bytes self.now.message)).round_trip_fault ≡ Some fault) × ¬ (copy_fail_law (string_bytes self.now.message)).CanRoundTrip) }
+    {
+        check_text(self.message.as_str())
     }
 }
 

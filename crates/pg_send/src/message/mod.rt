@@ -1,6 +1,7 @@
 //! What a message to the server is, and how one is written.
 
 mod bind;
+mod bind_values;
 mod close;
 mod copy;
 mod counted;
@@ -12,6 +13,7 @@ mod parse;
 mod parts;
 mod password;
 mod query;
+mod round_trip;
 mod run;
 mod sasl;
 mod ssl_request;
@@ -24,6 +26,7 @@ mod terminate;
 mod tests;
 
 pub use bind::Bind;
+pub use bind_values::BindValues;
 pub use close::Close;
 pub use copy::CopyFail;
 pub use describe::Describe;
@@ -34,7 +37,7 @@ pub use parse::Parse;
 pub use password::Password;
 pub use pg_base::io::{CopyData, CopyDone};
 pub use query::Query;
-pub use run::encode_all;
+pub use run::{encode_all, encode_strict};
 pub use sasl::{SaslInitialResponse, SaslResponse};
 pub use ssl_request::SslRequest;
 pub use startup::Startup;

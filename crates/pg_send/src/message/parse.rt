@@ -1,10 +1,12 @@
 //! A statement that is prepared.
 
+ghost use Rattle.std.specs.Prelude.{◌≡◌, Some, OnOk, IfErr};
 ghost use Rattle.pg_send.specs.Parse.{parse_law, parse_fields};
 
 use crate::message::FrontendMessage;
 use crate::message::counted::{put_types, too_many};
 use crate::message::parts::put_text;
+use crate::message::round_trip::check_text;
 use pg_base::io::{Oid, StatementId};
 use pg_base::{FrontendMessageFormat, ProtocolFault};
 
@@ -18,6 +20,17 @@ pub struct Parse<'a> {
     /// The types of the parameters from the first on, at most 65535; the server infers those that
     /// are 0 or missing.
     pub param_types: &'a [Oid],
+}
+
+impl Parse<'_> {
+    /// Whether a reader would get the message back: refused with `TextHoldsNul` where its query holds a
+    /// NUL.
+    pub fn check_round_trip(&self) -> Result<(), ProtocolFault>
+        ensures ok { OnOk result (parse_law (parse_fields self.now)).CanRoundTrip }
+        ensures fault { IfErr result (λ fault. ((parse_law (parse_fields self.now)).round_trip_fault ≡ Some fault) × ¬ (parse_law (parse_fields self.now)).CanRoundTrip) }
+    {
+        check_text(self.query)
+    }
 }
 
 impl FrontendMessage for Parse<'_> {

@@ -1,11 +1,12 @@
 //! A password, in clear or as a digest.
 
-ghost use Rattle.std.specs.Prelude.{◌≡◌, length};
+ghost use Rattle.std.specs.Prelude.{◌≡◌, Some, OnOk, IfErr, length};
 ghost use Rattle.hex.specs.Hex.{encode_lower};
 ghost use Rattle.pg_send.specs.Password.{md5_body, IsDigest};
 
 use crate::message::FrontendMessage;
 use crate::message::parts::{put_slice, put_text, text_len};
+use crate::message::round_trip::check_text;
 use pg_base::{FrontendMessageFormat, ProtocolFault};
 
 const MD5_PREFIX: &str = "md5";
@@ -16,6 +17,23 @@ pub enum Password<'a> {
     Cleartext(&'a str),
     /// The MD5 digest of the password with the user's name and the salt.
     Md5 { digest: [u8; 16] },
+}
+
+impl Password<'_> {
+    ghost use Rattle.pg_send.specs.Message.{law_of};
+    ghost use Rattle.pg_send.specs.TaggedMessage.{password_message};
+
+    /// Whether a reader would get the message back: refused with `TextHoldsNul` where a password in
+    /// clear holds a NUL.
+    pub fn check_round_trip(&self) -> Result<(), ProtocolFault>
+        ensures ok { OnOk result (law_of (password_message self.now)).CanRoundTrip }
+        ensures fault { IfErr result (λ fault. ((law_of (password_message self.now)).round_trip_fault ≡ Some fault) × ¬ (law_of (password_message self.now)).CanRoundTrip) }
+    {
+        match self {
+            Password::Cleartext(password) => check_text(password),
+            Password::Md5 { .. } => Ok(()),
+        }
+    }
 }
 
 impl FrontendMessage for Password<'_> {

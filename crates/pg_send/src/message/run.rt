@@ -1,10 +1,10 @@
 //! Runs of messages into one buffer.
 
-ghost use Rattle.std.specs.Prelude.{◌≡◌, ◌+◌, ◌≤◌, [], ◌∷◌, ◌++◌, length, None, OnOk, OnErr, IfOk, IsOkUnless, vec_len, vec_capacity};
+ghost use Rattle.std.specs.Prelude.{◌≡◌, ◌+◌, ◌<◌, ◌≤◌, [], ◌∷◌, ◌++◌, length, None, OnOk, OnErr, IfOk, IsErrOf, IsOkUnless, vec_len, vec_capacity};
 ghost use Rattle.pg_base.specs.declared.error.Error.TheVariants.{OutOfMemory};
 ghost use Rattle.pg_send.specs.Frame.{saturated};
-ghost use Rattle.pg_send.specs.Message.{body, fault, CanRoundTrip, RoundTrips};
-ghost use Rattle.pg_send.specs.Run.{added, added_by, room_by, run_room, AreAnswers, IsLimitAnswer, AllRoundTrip, NoneRanOut, RanOutWhereShort, EncodesRun};
+ghost use Rattle.pg_send.specs.Message.{body, fault, hint, text, CanRoundTrip, RoundTrips};
+ghost use Rattle.pg_send.specs.Run.{added, added_by, room_by, run_room, AreAnswers, IsLimitAnswer, IsStrictAnswer, IsAnswerOf, EachRoundTrips, AllRoundTrip, NoneRanOut, RanOutWhereShort, EncodesRun};
 ghost use Rattle.pg_send.specs.TaggedMessage.{message_of, messages_of};
 
 use crate::message::TaggedMessage;
@@ -26,8 +26,39 @@ pub fn encode_all(
     ensures memory { IsOkUnless result OutOfMemory }
     ensures err { OnErr result (buf.new ≡ buf.old) }
 {
-    let mut run = plan_run(alloc, messages)?;
-    write_run(messages, &mut run.answers, run.room, buf);
+    encode_run(alloc, messages, false, buf)
+}
+
+/// As [`encode_all`], and refuses also each message that a reader wouldn't get back from its bytes,
+/// as [`TaggedMessage::check_round_trip`] does: after the limits, and before memory is asked for.
+pub fn encode_strict(
+    alloc: Global,
+    messages: &[TaggedMessage<'_>],
+    buf: &mut Vec<u8>,
+) -> Result<Vec<Result<(), Error>>, Error>
+    ensures run { IfOk result (λ answers. EncodesRun IsStrictAnswer (messages_of messages.now) answers.items buf.old buf.new) }
+    // A reader that is given the kinds gets back each accepted message.
+    ensures round_trip { IfOk result (λ answers. EachRoundTrips (messages_of messages.now) answers.items) }
+    ensures memory { IsOkUnless result OutOfMemory }
+    ensures err { OnErr result (buf.new ≡ buf.old) }
+{
+    encode_run(alloc, messages, true, buf)
+}
+
+// The run that both make, which is strict or not.
+#[inline(always)]
+fn encode_run(
+    alloc: Global,
+    messages: &[TaggedMessage<'_>],
+    strict: bool,
+    buf: &mut Vec<u8>,
+) -> Result<Vec<Result<(), Error>>, Error>
+    ensures run { IfOk result (λ answers. EncodesRun (IsAnswerOf strict) (messages_of messages.now) answers.items buf.old buf.new) }
+    ensures memory { IsOkUnless result OutOfMemory }
+    ensures err { OnErr result (buf.new ≡ buf.old) }
+{
+    let mut run = plan_run(alloc, messages, strict)?;
+    write_run(messages, strict, &mut run, buf);
     Ok(run.answers)
 }
 
@@ -40,8 +71,9 @@ struct Plan {
 }
 
 // Finds each message's answer, and adds up the room of the accepted ones.
-fn plan_run(alloc: Global, messages: &[TaggedMessage<'_>]) -> Result<Plan, AllocError>
-    ensures answered { IfOk result (λ run. AreAnswers IsLimitAnswer (messages_of messages.now) run.answers.items) }
+#[inline(always)]
+fn plan_run(alloc: Global, messages: &[TaggedMessage<'_>], strict: bool) -> Result<Plan, AllocError>
+    ensures answered { IfOk result (λ run. AreAnswers (IsAnswerOf strict) (messages_of messages.now) run.answers.items) }
     ensures none_ran_out { IfOk result (λ run. NoneRanOut run.answers.items) }
     ensures room { IfOk result (λ run. run.room ≡ saturated (run_room (messages_of messages.now) run.answers.items)) }
     ensures capacity { IfOk result (λ run. length messages.now ≤ vec_capacity run.answers) }
@@ -49,50 +81,58 @@ fn plan_run(alloc: Global, messages: &[TaggedMessage<'_>]) -> Result<Plan, Alloc
     let mut answers = Vec::with_capacity(alloc, messages.len())?;
     let mut room: usize = 0;
     for message in messages {
-        let (answer, needed) = plan_message(message);
+        let (answer, needed) = plan_message(message, strict);
         room = room.saturating_add(needed);
         answers.push_reserved(answer);
     }
     Ok(Plan { answers, room })
 }
 
+// The answer to a message where memory doesn't run out, and the room that it asks for then.
 #[inline(always)]
-fn plan_message(message: &TaggedMessage<'_>) -> (Result<(), Error>, usize)
-    ensures answer { IsLimitAnswer (message_of message.now) result.0 }
+fn plan_message(message: &TaggedMessage<'_>, strict: bool) -> (Result<(), Error>, usize)
+    ensures answer { IsAnswerOf strict (message_of message.now) result.0 }
     ensures none_ran_out { NoneRanOut (result.0 ∷ []) }
     ensures room { result.1 ≡ saturated (room_by (message_of message.now) result.0) }
 {
-    match message.frame_room() {
-        Ok(room) => (Ok(()), room),
-        Err(error) => (Err(error), 0),
+    let room = match message.frame_room() {
+        Ok(room) => room,
+        Err(error) => return (Err(error), 0),
+    };
+    if strict {
+        if let Err(fault) = message.check_round_trip() {
+            return (Err(fault.into()), 0);
+        }
     }
+    (Ok(()), room)
 }
 
 // Adds the messages of a planned run: with one reservation, or where that is refused with one for
 // each, which may change answers.
-fn write_run(
-    messages: &[TaggedMessage<'_>],
-    answers: &mut Vec<Result<(), Error>>,
-    room: usize,
-    buf: &mut Vec<u8>,
-)
-    requires answered { AreAnswers IsLimitAnswer (messages_of messages.now) answers.old.items }
-    requires none_ran_out { NoneRanOut answers.old.items }
-    requires room { room ≡ saturated (run_room (messages_of messages.now) answers.old.items) }
-    requires capacity { length messages.now ≤ vec_capacity answers.old }
-    ensures { EncodesRun IsLimitAnswer (messages_of messages.now) answers.new.items buf.old buf.new }
+fn write_run(messages: &[TaggedMessage<'_>], strict: bool, run: &mut Plan, buf: &mut Vec<u8>)
+    requires answered { AreAnswers (IsAnswerOf strict) (messages_of messages.now) run.old.answers.items }
+    requires none_ran_out { NoneRanOut run.old.answers.items }
+    requires room { run.old.room ≡ saturated (run_room (messages_of messages.now) run.old.answers.items) }
+    requires capacity { length messages.now ≤ vec_capacity run.old.answers }
+    ensures { EncodesRun (IsAnswerOf strict) (messages_of messages.now) run.new.answers.items buf.old buf.new }
 {
-    if buf.reserve(room).is_ok() {
-        put_accepted(messages, answers.as_slice(), buf);
+    if buf.reserve(run.room).is_ok() {
+        put_accepted(messages, strict, run.answers.as_slice(), buf);
         return;
     }
-    answers.clear();
-    encode_each(messages, answers, buf);
+    run.answers.clear();
+    encode_each(messages, strict, &mut run.answers, buf);
 }
 
 // Adds the accepted messages in room that is there for all of them.
-fn put_accepted(messages: &[TaggedMessage<'_>], answers: &[Result<(), Error>], buf: &mut Vec<u8>)
-    requires answered { AreAnswers IsLimitAnswer (messages_of messages.now) answers.now }
+// `strict` is the rule by which the answers were found.
+fn put_accepted(
+    messages: &[TaggedMessage<'_>],
+    _strict: bool,
+    answers: &[Result<(), Error>],
+    buf: &mut Vec<u8>,
+)
+    requires answered { AreAnswers (IsAnswerOf _strict) (messages_of messages.now) answers.now }
     requires one_each { length answers.now ≡ length messages.now }
     requires room { vec_len buf.old + run_room (messages_of messages.now) answers.now ≤ vec_capacity buf.old }
     ensures added { buf.new.items ≡ buf.old.items ++ added (messages_of messages.now) answers.now }
@@ -121,18 +161,33 @@ fn put_if_accepted(message: &TaggedMessage<'_>, answer: &Result<(), Error>, buf:
 // Adds each message with a reservation of its own, and collects the answers.
 fn encode_each(
     messages: &[TaggedMessage<'_>],
+    strict: bool,
     answers: &mut Vec<Result<(), Error>>,
     buf: &mut Vec<u8>,
 )
     requires empty { answers.old.items ≡ [] }
     requires capacity { length messages.now ≤ vec_capacity answers.old }
     ensures added { buf.new.items ≡ buf.old.items ++ added (messages_of messages.now) answers.new.items }
-    ensures answered { AreAnswers IsLimitAnswer (messages_of messages.now) answers.new.items }
+    ensures answered { AreAnswers (IsAnswerOf strict) (messages_of messages.now) answers.new.items }
     ensures round_trip { AllRoundTrip (messages_of messages.now) answers.new.items }
     ensures room { RanOutWhereShort (vec_capacity buf.old) (vec_len buf.old) (messages_of messages.now) answers.new.items }
     ensures capacity { vec_capacity buf.old ≤ vec_capacity buf.new }
 {
     for message in messages {
-        answers.push_reserved(message.encode(buf));
+        answers.push_reserved(encode_by_rule(message, strict, buf));
     }
+}
+
+#[inline(always)]
+fn encode_by_rule(message: &TaggedMessage<'_>, strict: bool, buf: &mut Vec<u8>) -> Result<(), Error>
+    ensures ok { OnOk result (buf.new.items ≡ buf.old.items ++ text (message_of message.now)) }
+    ensures err { OnErr result (buf.new.items ≡ buf.old.items) }
+    ensures answer { IsAnswerOf strict (message_of message.now) result }
+    ensures round_trip { OnOk result (CanRoundTrip (message_of message.now) → RoundTrips (message_of message.now)) }
+    ensures memory { IsErrOf result OutOfMemory → vec_capacity buf.old < vec_len buf.old + (hint (message_of message.now) + 5) }
+    ensures capacity { vec_capacity buf.old ≤ vec_capacity buf.new }
+{
+    let (planned, _room) = plan_message(message, strict);
+    planned?;
+    message.encode(buf)
 }

@@ -1,15 +1,15 @@
 //! Any message that has a tag.
 
-ghost use Rattle.std.specs.Prelude.{◌≡◌, ◌+◌, ◌≤◌, ◌++◌, length, None, OnOk, vec_len, vec_capacity};
+ghost use Rattle.std.specs.Prelude.{◌≡◌, ◌+◌, ◌≤◌, ◌++◌, length, Some, None, OnOk, IfErr, vec_len, vec_capacity};
 ghost use Rattle.pg_send.specs.Frame.{EncodesMessage, room_or_fault};
-ghost use Rattle.pg_send.specs.Message.{law_of, body, fault, hint, text, IsInRange, CanRoundTrip, RoundTrips};
+ghost use Rattle.pg_send.specs.Message.{law_of, body, fault, hint, text, IsInRange, CanRoundTrip, round_trip_fault, RoundTrips};
 ghost use Rattle.pg_send.specs.TaggedMessage.{message_of};
 
 use crate::message::{
     Bind, Close, CopyData, CopyDone, CopyFail, Describe, Execute, Flush, FrontendMessage, Parse,
     Password, Query, SaslInitialResponse, SaslResponse, Sync, Terminate, encode_frame,
 };
-use pg_base::Error;
+use pg_base::{Error, ProtocolFault};
 
 /// Any message that has a tag.
 #[derive(Drop)]
@@ -85,6 +85,32 @@ impl TaggedMessage<'_> {
         ensures { result ≡ room_or_fault (fault (message_of self.now)) (hint (message_of self.now)) }
     {
         held!(self, message => message.frame_room())
+    }
+
+    /// Whether a reader would get the message back from its bytes: refused with `TextHoldsNul` for a
+    /// Query, a CopyFail, a password in clear or the query of a Parse that holds a NUL, and with
+    /// `BadParams` for a Bind whose parameters are not as many values as it says.
+    pub fn check_round_trip(&self) -> Result<(), ProtocolFault>
+        ensures ok { OnOk result (CanRoundTrip (message_of self.now)) }
+        ensures fault { IfErr result (λ fault. (round_trip_fault (message_of self.now) ≡ Some fault) × ¬ (CanRoundTrip (message_of self.now))) }
+    {
+        match self {
+            TaggedMessage::Bind(message) => message.check_round_trip(),
+            TaggedMessage::CopyFail(message) => message.check_round_trip(),
+            TaggedMessage::Parse(message) => message.check_round_trip(),
+            TaggedMessage::Password(message) => message.check_round_trip(),
+            TaggedMessage::Query(message) => message.check_round_trip(),
+            TaggedMessage::Close(_)
+            | TaggedMessage::CopyData(_)
+            | TaggedMessage::CopyDone(_)
+            | TaggedMessage::Describe(_)
+            | TaggedMessage::Execute(_)
+            | TaggedMessage::Flush(_)
+            | TaggedMessage::SaslInitialResponse(_)
+            | TaggedMessage::SaslResponse(_)
+            | TaggedMessage::Sync(_)
+            | TaggedMessage::Terminate(_) => Ok(()),
+        }
     }
 
     /// Adds a message within the limits, in room that is there.

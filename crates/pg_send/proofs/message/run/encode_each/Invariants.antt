@@ -1,11 +1,12 @@
 use Rattle.std.proofs.Common.{◌≡◌, ◌≤◌, length, take, vec_len, vec_capacity}
 use Rattle.pg_send.specs.TaggedMessage.{messages_of}
-use Rattle.pg_send.proofs.RunLemmas.{Ran}
+use Rattle.pg_send.specs.Run.{IsAnswerOf}
+use Rattle.pg_send.proofs.RunLemmas.{answers_fit, Ran}
 use Rattle.pg_send.proofs.message.run.encode_each.Given as goal
 
 abbrev pub invariant-loop-message : goal.invariant-loop-message
 invariant-loop-message l = record {
-  run : Ran (messages_of (take l.message-index l.messages)) l.answers.items l.fn.buf.items l.buf.items (vec_capacity l.fn.buf) (vec_len l.fn.buf);
+  run : Ran (IsAnswerOf l.strict) (answers_fit l.strict) (messages_of (take l.message-index l.messages)) l.answers.items l.fn.buf.items l.buf.items (vec_capacity l.fn.buf) (vec_len l.fn.buf);
   grows : vec_capacity l.fn.buf ≤ vec_capacity l.buf;
   one_each : vec_len l.answers ≡ l.message-index;
   room : length l.messages ≤ vec_capacity l.answers;
