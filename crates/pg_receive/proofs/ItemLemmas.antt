@@ -48,7 +48,7 @@ next_breaks Spells IsItemFault least body n at items fault counted holds fewer p
   after = drop 2 body;
   items = items;
   spelled = p.spelled;
-  after = drop at body;
+  left = drop at body;
   counted = counted;
   holds = omega (arith, holds, length-drop 2 body);
   are_spelled = p.spells;

@@ -38,13 +38,13 @@ pub record IsNextFault {X : Type 0} (Spells : List ℕ → X → Type 0) (IsItem
   pub after : List ℕ
   pub items : List X
   pub spelled : List ℕ
-  pub after : List ℕ
+  pub left : List ℕ
   pub counted : Number 2 body count after
   pub holds : least * count ≤ length after
   pub are_spelled : SpellItems Spells spelled items
-  pub parts : after ≡ spelled ++ after
+  pub parts : after ≡ spelled ++ left
   pub fewer : length items < count
-  pub breaks : IsItemFault body (2 + length spelled) after fault
+  pub breaks : IsItemFault body (2 + length spelled) left fault
 
 -- what is wrong with a body that isn't so many items
 abbrev pub IsItemsFault : {X : Type 0} → (List ℕ → X → Type 0) → (List ℕ → ℕ → List ℕ → ProtocolFault → Type 0) → ℕ → List ℕ → ProtocolFault → Type 0

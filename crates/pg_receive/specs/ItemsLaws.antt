@@ -66,9 +66,9 @@ items_or_fault Spells IsItemFault least one takes apart body v fault p (inl (inr
     omega (arith, fewer.short.lacks, needs, number_fits 2 body (length v) p.after p.count, items_take least Spells takes p.spelled v p.are_spelled, ap length p.parts, length-append p.spelled p.rest)
 items_or_fault Spells IsItemFault least one takes apart body v fault p (inr next) =
     let counts = one_number 2 body (length v) next.count p.after next.after p.count next.counted in
-    let same : p.spelled ++ p.rest ≡ next.spelled ++ next.after = sym p.parts ∙ counts.1 ∙ next.parts in
-    let long : length body ≡ 2 + length (next.spelled ++ next.after) = omega (arith, number_fits 2 body next.count next.after next.counted, ap length next.parts) in
-    next_is_there Spells IsItemFault one apart body p.spelled next.spelled p.rest next.after 2 v next.items fault long (omega (arith, next.fewer, counts.0)) p.are_spelled next.are_spelled same next.breaks
+    let same : p.spelled ++ p.rest ≡ next.spelled ++ next.left = sym p.parts ∙ counts.1 ∙ next.parts in
+    let long : length body ≡ 2 + length (next.spelled ++ next.left) = omega (arith, number_fits 2 body next.count next.after next.counted, ap length next.parts) in
+    next_is_there Spells IsItemFault one apart body p.spelled next.spelled p.rest next.left 2 v next.items fault long (omega (arith, next.fewer, counts.0)) p.are_spelled next.are_spelled same next.breaks
 
 -- so many bytes hold so many items
 pub items_fit : {X : Type 0} (least : ℕ) (Spells : List ℕ → X → Type 0) → TakesAtLeast least Spells → (body : List ℕ) (v : List X) → CountedItems Spells body v → 2 + least * length v ≤ length body

@@ -41,9 +41,8 @@ pub mod RowDescription
 pub mod RowDescriptionLaws
 pub mod Strings
 pub mod StringsLaws
-pub use Rattle.pg_base.specs.Answers
+pub use Rattle.pg_base.specs.Decode
 pub use Rattle.pg_base.specs.Error
 pub use Rattle.pg_base.specs.Format
 pub use Rattle.pg_base.specs.Numbers
 pub use Rattle.pg_base.specs.Reading
-pub use Rattle.pg_base.specs.Error
