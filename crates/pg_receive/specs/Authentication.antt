@@ -1,14 +1,20 @@
 -- What a server asks of a client that opens a session. Documentation: "Message Formats",
 -- AuthenticationOk (B) and those after it.
+pub mod Laws
+pub mod Mechanisms
+pub mod SaslContinue
+pub mod SaslFinal
+pub mod SaslItems
+pub mod Shown
 use Rattle.std.specs.Prelude.{◌≡◌, ℕ, ◌==◌, ◌||◌, Bool, false, List, ◌++◌, length, ◌⊎◌}
 use Rattle.std.specs.Bool.{MatchBool}
 use Rattle.pg_base.specs.declared.error.ProtocolFault.{ProtocolFault}
 use Rattle.pg_base.specs.declared.error.ProtocolFault.TheVariants.{UnknownAuthentication}
 use Rattle.pg_base.specs.Error.{IsShort}
 use Rattle.pg_base.specs.Reading.{Number}
-use Rattle.pg_receive.specs.Mechanisms.{mechanisms_in}
-use Rattle.pg_receive.specs.SaslContinue.{ContinueValue, MeansContinue, IsContinueFault}
-use Rattle.pg_receive.specs.SaslFinal.{MeansFinal, IsFinalFault}
+use Rattle.pg_receive.specs.Authentication.Mechanisms.{mechanisms_in}
+use Rattle.pg_receive.specs.Authentication.SaslContinue.{ContinueValue, MeansContinue, IsContinueFault}
+use Rattle.pg_receive.specs.Authentication.SaslFinal.{MeansFinal, IsFinalFault}
 
 pub data AuthenticationValue : Type 0 where
   accepted : AuthenticationValue

@@ -15,7 +15,7 @@ pub record AfterLastSpace (tag tail : List ℕ) : Type 0 where
   pub last : HoldsNo 32 tail
 
 -- the number of rows that a tag tells
-pub record TellsRows (tag : List ℕ) (rows : ℕ) : Type 0 where
+pub record HasRowCount (tag : List ℕ) (rows : ℕ) : Type 0 where
   pub tail : List ℕ
   pub after : AfterLastSpace tag tail
   pub number : Atoi max_rows tail (Some rows)
@@ -23,4 +23,4 @@ pub record TellsRows (tag : List ℕ) (rows : ℕ) : Type 0 where
 -- it is the number after the last space, and 0 where there is no space or no number
 abbrev pub IsRowsAffected : List ℕ → ℕ → Type 0
 IsRowsAffected tag rows =
-    TellsRows tag rows ⊎ ((rows ≡ 0) × ((tail : List ℕ) → AfterLastSpace tag tail → Atoi max_rows tail None))
+    HasRowCount tag rows ⊎ ((rows ≡ 0) × ((tail : List ℕ) → AfterLastSpace tag tail → Atoi max_rows tail None))

@@ -1,10 +1,11 @@
 -- NotificationResponse: a notification from another session. Documentation: "Message Formats",
 -- NotificationResponse (B).
+pub mod Laws
 use Rattle.std.specs.Prelude.{◌+◌, ℕ, List, length, ◌⊎◌}
 use Rattle.pg_base.specs.declared.error.ProtocolFault.{ProtocolFault}
 use Rattle.pg_base.specs.Error.{IsShort}
 use Rattle.pg_base.specs.Reading.{Number, Text}
-use Rattle.pg_receive.specs.Strings.{IsMissingNul}
+use Rattle.pg_receive.specs.Text.{IsMissingNul}
 
 -- who notified, and what
 pub record Notified : Type 0 where

@@ -1,8 +1,9 @@
 -- ParameterStatus: a setting of the server and its value. Documentation: "Message Formats",
 -- ParameterStatus (B).
+pub mod Laws
 use Rattle.std.specs.Prelude.{◌+◌, ℕ, List, length, ◌⊎◌}
 use Rattle.pg_base.specs.declared.error.ProtocolFault.{ProtocolFault}
-use Rattle.pg_receive.specs.Strings.{Utf8Text, IsTextFault}
+use Rattle.pg_receive.specs.Text.{Utf8Text, IsTextFault}
 
 -- a setting as bytes
 pub record Setting : Type 0 where

@@ -4,9 +4,9 @@ ghost use Rattle.std.specs.Prelude.{◌≡◌, ℕ, ◌+◌, ◌*◌, ◌<◌, �
 ghost use Rattle.std.specs.Option.{option_copied};
 ghost use Rattle.pg_base.specs.Decode.{Decodes};
 ghost use Rattle.pg_base.specs.declared.format.BackendMessageFormat.TheVariants as formats;
-ghost use Rattle.pg_receive.specs.CellEnds.{end_of as entry_end, cell_to, cells_from, start_of, first_cell, EndsRise};
-ghost use Rattle.pg_receive.specs.DataRow.{SpellsCell, IsCellFault, Row, IsRowFault, RowNeedsNoMemory, IsAfter};
-ghost use Rattle.pg_receive.specs.Items.{IsEncodedAt};
+ghost use Rattle.pg_receive.specs.DataRow.CellEnds.{end_of as entry_end, cell_to, cells_from, start_of, first_cell, EndsRise};
+ghost use Rattle.pg_receive.specs.DataRow.{SpellsCell, IsCellFault, MeansRow, IsRowFault, RowNeedsNoMemory, IsAfter};
+ghost use Rattle.pg_receive.specs.CountedItems.{IsEncodedAt};
 
 use crate::message::BackendMessage;
 use bytes::Bytes;
@@ -35,7 +35,7 @@ pub struct DataRow {
 
 impl Model for DataRow {
     ghost use Rattle.std.specs.Prelude.{ℕ, List, Option, length};
-    ghost use Rattle.pg_receive.specs.CellEnds.{cells_from, first_cell, EndsRise};
+    ghost use Rattle.pg_receive.specs.DataRow.CellEnds.{cells_from, first_cell, EndsRise};
 
     ghost Value = { List (Option (List ℕ)) };
 
@@ -63,8 +63,8 @@ impl DataRow {
 
 impl BackendMessage for DataRow {
     ghost use Rattle.std.specs.Prelude.{ℕ, List, Option};
-    ghost use Rattle.pg_receive.specs.DataRow.{Row, IsRowFault, RowNeedsNoMemory};
-    ghost use Rattle.pg_receive.specs.DataRowLaws.{one_row, row_or_fault};
+    ghost use Rattle.pg_receive.specs.DataRow.{MeansRow, IsRowFault, RowNeedsNoMemory};
+    ghost use Rattle.pg_receive.specs.DataRow.Laws.{one_row, row_or_fault};
 
     const FORMAT: BackendMessageFormat = BackendMessageFormat::DataRow;
 
@@ -74,7 +74,7 @@ impl BackendMessage for DataRow {
 
     ghost shown = { λ row. row };
 
-    ghost Means = { Row };
+    ghost Means = { MeansRow };
 
     ghost IsFault = { IsRowFault };
 
@@ -89,13 +89,6 @@ impl BackendMessage for DataRow {
 
     ghost never_both = { row_or_fault };
 }
-
-/// The cells of a row stand in its body in order, each value after the spellings of the cells
-/// before it; so a body of n bytes has at most (n - 2) / 4 cells.
-pub fn cells_stand_in_order()
-    ensures fit { (body : List ℕ) (cells : List (Option (List ℕ))) → Row body cells → 2 + 4 * length cells ≤ length body }
-    ensures order { (body : List ℕ) (front : List (Option (List ℕ))) (value : List ℕ) (back : List (Option (List ℕ))) → Row body (front ++ Some value ∷ back) → IsAfter body front value }
-{}
 
 // Where a cell ends.
 fn end_of(entry: u32) -> usize
@@ -133,7 +126,7 @@ fn cell_in<'a>(body: &'a [u8], ends: &[u32], index: usize) -> Option<&'a [u8]>
 // Where each cell of the body ends.
 fn ends_of(alloc: Global, body: &[u8]) -> Result<Vec<u32>, Error>
     requires { length body.now ≤ MAX_BODY }
-    ensures answer { Decodes Row IsRowFault RowNeedsNoMemory (λ ends. cells_from body.now first_cell ends.items) None body.now result }
+    ensures answer { Decodes MeansRow IsRowFault RowNeedsNoMemory (λ ends. cells_from body.now first_cell ends.items) None body.now result }
     ensures rise { IfOk result (λ ends. EndsRise first_cell ends.items (length body.now)) }
 {
     let count = usize::from(u16_at(body, 0)?);

@@ -3,7 +3,7 @@
 ghost use Rattle.std.specs.Prelude.{◌≡◌, ◌+◌, ◌≤◌, length, drop, IfSome, IfNone, IfOk, IfErr, true, false};
 ghost use Rattle.std.specs.Str.{is_utf8};
 ghost use Rattle.pg_base.specs.Reading.{HoldsNo, Text};
-ghost use Rattle.pg_receive.specs.Strings.{Utf8Text, IsMissingNul, IsTextFault};
+ghost use Rattle.pg_receive.specs.Text.{Utf8Text, IsMissingNul, IsTextFault};
 
 use memchr::memchr;
 use pg_base::ProtocolFault;
@@ -46,7 +46,7 @@ pub fn text_at(body: &[u8], at: usize) -> Result<(&[u8], usize), ProtocolFault>
 
 /// The text at an offset within a body, as [`text_at`], and refused with `NotUtf8` where it isn't
 /// UTF-8.
-#[tactic(auto, using(crate::proofs::Texts::not_utf8))]
+#[tactic(auto, using(crate::proofs::TextLemmas::not_utf8))]
 pub fn str_at(body: &[u8], at: usize) -> Result<(&str, usize), ProtocolFault>
     requires { at ≤ length body.now }
     ensures found { IfOk result (λ found. Utf8Text (drop at body.now) found.0.now (drop found.1 body.now)) }

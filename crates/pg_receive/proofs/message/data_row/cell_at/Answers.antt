@@ -4,7 +4,7 @@ use Rattle.std.proofs.lemmas.Int.{to_z-of_z}
 use lib.IntN.{nat_abs}
 use mir.Val.{SFits, to_z, of_z}
 use Rattle.pg_base.specs.Reading.{Signed}
-use Rattle.pg_receive.proofs.Cells.{value_stands}
+use Rattle.pg_receive.proofs.DataRowLemmas.{value_stands}
 use Rattle.pg_receive.proofs.message.data_row.cell_at.Goals as goal
 
 from_0 : (z : ℤ) → FitsUnsignedBits 64 z → z ≡ pos (nat_abs z)

@@ -1,5 +1,5 @@
 use Rattle.std.proofs.Common.{ℕ, ◌+◌, ◌-◌, get_or, length, take, drop, Some, ap, ◌∙◌, sym, arith}
-use Rattle.pg_receive.proofs.Cells.{slice_get-cells_from, ends_rise_at, cell_to-value, cell_to-null}
+use Rattle.pg_receive.proofs.DataRowLemmas.{slice_get-cells_from, ends_rise_at, cell_to-value, cell_to-null}
 use Rattle.pg_receive.proofs.message.data_row.cell_in.Goals as goal
 
 pub returns-then-entry-ge-NULL : goal.returns-then-entry-ge-NULL

@@ -1,6 +1,6 @@
 use Rattle.std.proofs.Common.{◌≡◌, ◌-◌, suc, sym, ap, ◌∙◌, arith}
-use Rattle.pg_receive.specs.CellEnds.{start_of}
-use Rattle.pg_receive.proofs.Cells.{start_of-zero, start_of-suc}
+use Rattle.pg_receive.specs.DataRow.CellEnds.{start_of}
+use Rattle.pg_receive.proofs.DataRowLemmas.{start_of-zero, start_of-suc}
 use Rattle.pg_receive.proofs.message.data_row.cell_start.Goals as goal
 
 pub returns-then-index-eq0 : goal.returns-then-index-eq0

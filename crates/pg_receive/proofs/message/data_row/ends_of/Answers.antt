@@ -1,11 +1,11 @@
 use Rattle.std.proofs.Common.{◌≡◌, ◌+◌, ◌*◌, ◌<◌, ◌≤◌, length, refl, sym, ap, ◌∙◌, arith}
 use Rattle.std.proofs.lemmas.Bool.{false≢true}
 use Rattle.std.proofs.lemmas.Result.{err_from_is_err_and}
-use Rattle.pg_receive.specs.CellEnds.{end_of, cell_to, cells_from, last_end}
+use Rattle.pg_receive.specs.DataRow.CellEnds.{end_of, cell_to, cells_from, last_end}
 use Rattle.pg_receive.specs.DataRow.{SpellsCell, IsCellFault}
-use Rattle.pg_receive.specs.DataRowLaws.{cell_takes}
-use Rattle.pg_receive.proofs.Cells.{length-cells_from, cells_from-push, last_end-push, ends_rise_push}
-use Rattle.pg_receive.proofs.ItemLemmas.{one_more_stands, stands_within, counted_items, next_breaks, asks_for_memory}
+use Rattle.pg_receive.specs.DataRow.Laws.{cell_takes}
+use Rattle.pg_receive.proofs.DataRowLemmas.{length-cells_from, cells_from-push, last_end-push, ends_rise_push}
+use Rattle.pg_receive.proofs.CountedItemsLemmas.{one_more_stands, stands_within, counted_items, next_breaks, asks_for_memory}
 use Rattle.pg_receive.proofs.message.data_row.ends_of.Goals as goal
 
 pub returns-in_err-ends-clause-answer : goal.returns-in_err-ends-clause-answer

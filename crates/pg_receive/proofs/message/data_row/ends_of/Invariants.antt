@@ -1,7 +1,7 @@
 use Rattle.std.proofs.Common.{◌≡◌, ◌≤◌, length, vec_len, vec_capacity}
-use Rattle.pg_receive.specs.CellEnds.{cells_from, last_end, first_cell, EndsRise}
+use Rattle.pg_receive.specs.DataRow.CellEnds.{cells_from, last_end, first_cell, EndsRise}
 use Rattle.pg_receive.specs.DataRow.{SpellsCell}
-use Rattle.pg_receive.specs.Items.{SpellItems, IsEncodedAt}
+use Rattle.pg_receive.specs.CountedItems.{SpellItems, IsEncodedAt}
 use Rattle.pg_receive.proofs.message.data_row.ends_of.Given as goal
 
 abbrev pub invariant-loop-index : goal.invariant-loop-index

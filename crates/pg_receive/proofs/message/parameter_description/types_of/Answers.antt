@@ -6,8 +6,8 @@ use Rattle.pg_base.specs.declared.io.Oid.{Oid}
 use Rattle.pg_base.specs.Reading.{Number}
 use Rattle.pg_base.specs.Numbers.{numbers_of}
 use Rattle.pg_receive.specs.ParameterDescription.{SpellsType}
-use Rattle.pg_receive.specs.Items.{IsEncodedAt}
-use Rattle.pg_receive.proofs.ItemLemmas.{one_more_stands, asks_for_memory}
+use Rattle.pg_receive.specs.CountedItems.{IsEncodedAt}
+use Rattle.pg_receive.proofs.CountedItemsLemmas.{one_more_stands, asks_for_memory}
 use Rattle.pg_receive.proofs.message.parameter_description.types_of.Goals as goal
 
 pub returns-in_err-reserve : goal.returns-in_err-reserve

@@ -2,7 +2,7 @@ use Rattle.std.proofs.Common.{◌≡◌, ◌+◌, ◌*◌, ◌≤◌}
 use Rattle.smallvec.specs.SmallVec.{small_vec_len}
 use Rattle.pg_base.specs.Numbers.{numbers_of}
 use Rattle.pg_receive.specs.ParameterDescription.{SpellsType}
-use Rattle.pg_receive.specs.Items.{SpellItems, IsEncodedAt}
+use Rattle.pg_receive.specs.CountedItems.{SpellItems, IsEncodedAt}
 use Rattle.pg_receive.proofs.message.parameter_description.types_of.Given as goal
 
 abbrev pub invariant-loop-index : goal.invariant-loop-index

@@ -1,6 +1,6 @@
 use Rattle.std.proofs.Common.{◌∙◌}
 use Rattle.pg_receive.specs.RowDescription.{column_of}
-use Rattle.pg_receive.proofs.Columns.{length-numbers, column_stands}
+use Rattle.pg_receive.proofs.RowDescriptionLemmas.{length-numbers, column_stands}
 use Rattle.pg_receive.proofs.message.row_description.field_at.Goals as goal
 
 pub field_of-requires : goal.field_of-requires

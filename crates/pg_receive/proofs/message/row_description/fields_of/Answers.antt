@@ -8,9 +8,9 @@ use Rattle.pg_base.specs.Reading.{Number}
 use Rattle.pg_base.specs.declared.error.Error.{Error}
 use Rattle.pg_base.specs.declared.error.Error.TheVariants.{Protocol, OutOfMemory}
 use Rattle.pg_receive.specs.declared.message.row_description.Field.{Field}
-use Rattle.pg_receive.specs.RowDescription.{Column, column_of, SpellsColumn, IsColumnFault, Columns, IsColumnsFault, ColumnsNeedsNoMemory}
-use Rattle.pg_receive.specs.Items.{SpellItems, IsEncodedAt}
-use Rattle.pg_receive.proofs.ItemLemmas.{one_more_stands, stands_within, next_breaks, asks_for_memory}
+use Rattle.pg_receive.specs.RowDescription.{Column, column_of, SpellsColumn, IsColumnFault, MeansColumns, IsColumnsFault, ColumnsNeedsNoMemory}
+use Rattle.pg_receive.specs.CountedItems.{SpellItems, IsEncodedAt}
+use Rattle.pg_receive.proofs.CountedItemsLemmas.{one_more_stands, stands_within, next_breaks, asks_for_memory}
 use Rattle.pg_receive.proofs.message.row_description.fields_of.Goals as goal
 
 pub returns-in_err-fields : goal.returns-in_err-fields
@@ -24,7 +24,7 @@ returns-in_err-fields c =
 -- what is wrong with a column is wrong with the body
 broken : (body : List ℕ) (n at : ℕ) (columns : List Column) (e : Error) → Number 2 body n (drop 2 body) → 2 + 19 * n ≤ length body → length columns < n → IsEncodedAt (SpellItems SpellsColumn) body 2 columns at
     → Decodes {A = Field × ℕ} {V = Field × ℕ} (λ b found. IsEncodedAt SpellsColumn b at (column_of found.0) found.1) (λ b fault. IsColumnFault b at (drop at b) fault) (λ _. ⊥) (λ found. found) None body (Err e)
-    → Decodes {A = Vec Field Global} Columns IsColumnsFault ColumnsNeedsNoMemory (λ fields. map column_of fields.items) None body (Err e)
+    → Decodes {A = Vec Field Global} MeansColumns IsColumnsFault ColumnsNeedsNoMemory (λ fields. map column_of fields.items) None body (Err e)
 broken body n at columns (Protocol reading fault) counted holds fewer p h =
     (h.0, next_breaks SpellsColumn IsColumnFault 19 body n at columns fault counted holds fewer p h.1)
 broken body n at columns OutOfMemory counted holds fewer p h =

@@ -1,6 +1,6 @@
 use Rattle.std.proofs.Common.{◌≡◌, ◌≤◌, length, map, vec_len, vec_capacity}
 use Rattle.pg_receive.specs.RowDescription.{SpellsColumn, column_of}
-use Rattle.pg_receive.specs.Items.{SpellItems, IsEncodedAt}
+use Rattle.pg_receive.specs.CountedItems.{SpellItems, IsEncodedAt}
 use Rattle.pg_receive.proofs.message.row_description.fields_of.Given as goal
 
 abbrev pub invariant-loop-index : goal.invariant-loop-index

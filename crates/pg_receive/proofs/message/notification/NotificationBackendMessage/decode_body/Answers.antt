@@ -1,5 +1,5 @@
 use Rattle.std.proofs.Common.{◌≡◌, ◌+◌, ◌∙◌, ap, length, take}
-use Rattle.pg_receive.proofs.Notifications.{means_kept}
+use Rattle.pg_receive.proofs.NotificationLemmas.{means_kept}
 use Rattle.pg_receive.proofs.message.notification.NotificationBackendMessage.decode_body.Goals as goal
 
 pub returns : goal.returns

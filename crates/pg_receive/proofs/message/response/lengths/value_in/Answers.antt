@@ -1,6 +1,6 @@
 use Rattle.std.proofs.Common.{sym, ◌∙◌, length, arith}
 use Rattle.std.proofs.lemmas.Slice.{between_to_end}
-use Rattle.pg_receive.proofs.FieldLengthLemmas.{one_stands, found_here, found_later, field_rest}
+use Rattle.pg_receive.proofs.ResponseLengthsLemmas.{one_stands, found_here, found_later, field_rest}
 use Rattle.pg_receive.proofs.message.response.lengths.value_in.Goals as goal
 
 pub returns-then-rest-wanted : goal.returns-then-rest-wanted
