@@ -1,10 +1,10 @@
--- The cells of a row, as their ends tell them.
-use Rattle.std.proofs.Common.{◌≡◌, ℕ, zero, suc, ◌+◌, ◌-◌, ◌%◌, ◌<◌, ◌≤◌, pos, List, [], ◌∷◌, ◌++◌, Option, Some, None, length, get_or, take, drop, refl, sym, ap, ◌∙◌, arith, append_assoc, length-append, length-take, length-drop}
+-- The cells of a row, from where they end.
+use Rattle.std.proofs.Common.{◌≡◌, ℕ, zero, suc, ◌+◌, ◌-◌, ◌%◌, ◌<◌, ◌≤◌, pos, List, [], ◌∷◌, ◌++◌, Option, Some, None, length, get_or, take, drop, false, true, inl, inr, refl, sym, ap, ◌∙◌, arith, append_assoc, length-append, length-take, length-drop}
 use Rattle.std.specs.Prelude.{slice_get, slice_range}
-use Rattle.std.proofs.lemmas.Bool.{lt-ltb, le-ltb}
+use Rattle.std.proofs.lemmas.Bool.{cases_lt, both_ways, le-leb, lt-leb}
 use Rattle.std.proofs.lemmas.List.{take-append-drop, drop-drop}
 use Rattle.pg_base.specs.Reading.{Signed}
-use Rattle.pg_receive.specs.DataRow.CellEnds.{null_bit, end_of, cell_to, cells_from, last_end, start_of, EndsRise}
+use Rattle.pg_receive.specs.DataRow.CellEnd.{null_bit, is_null, end_of, cell_to, cells_from, last_end, start_of, EndsRise}
 use Rattle.pg_receive.specs.DataRow.{SpellsCell}
 use Rattle.pg_receive.specs.CountedItems.{IsEncodedAt}
 
@@ -48,14 +48,21 @@ pub ends_rise_push : (start : ℕ) (ends : List ℕ) (entry len : ℕ) → EndsR
 ends_rise_push start [] entry len h rises within = (rises, within)
 ends_rise_push start (first ∷ ends) entry len h rises within = (h.0, ends_rise_push (end_of first) ends entry len h.1 rises within)
 
--- an entry below the top bit is the end of a value
-pub cell_to-value : (body : List ℕ) (start entry : ℕ) → entry < null_bit → cell_to body start entry ≡ Some (slice_range body (start + 4) entry)
-cell_to-value body start entry small = rw (lt-ltb entry null_bit small) refl
+-- the end of a value is below the top bit
+pub value_end : (entry : ℕ) → is_null entry ≡ false → end_of entry ≡ entry
+value_end entry value =
+    elim (cases_lt entry null_bit) [
+      | inl small ↦ omega (arith, small)
+      | inr large ↦ absurd (both_ways (is_null entry) value (le-leb null_bit entry large))
+    ]
 
-pub cell_to-null : (body : List ℕ) (start entry : ℕ) → null_bit ≤ entry → cell_to body start entry ≡ None
-cell_to-null body start entry large = rw (le-ltb entry null_bit large) refl
+pub cell_to-value : (body : List ℕ) (start entry : ℕ) → is_null entry ≡ false → cell_to body start entry ≡ Some (slice_range body (start + 4) (end_of entry))
+cell_to-value body start entry value = rw (value_end entry value, value) refl
 
--- a value stands after its length
+pub cell_to-null : (body : List ℕ) (start entry : ℕ) → is_null entry ≡ true → cell_to body start entry ≡ None
+cell_to-null body start entry null = rw null refl
+
+-- a value follows its length
 pub value_stands : (body : List ℕ) (at n : ℕ) → Signed 4 (drop at body) (pos n) (drop (at + 4) body) → at + 4 + n ≤ length body → at + 4 + n < null_bit → n ≤ 2147483647
     → IsEncodedAt SpellsCell body at (cell_to body at (at + 4 + n)) (end_of (at + 4 + n))
 value_stands body at n length_is fits small max =
@@ -63,7 +70,7 @@ value_stands body at n length_is fits small max =
     let size : length value ≡ n = omega (arith, length-take n (drop (at + 4) body), length-drop (at + 4) body) in
     let end_is : (at + 4 + n) % null_bit ≡ at + 4 + n = omega arith in
     let count_is : at + 4 + n - (at + 4) ≡ n = omega arith in
-    rw (cell_to-value body at (at + 4 + n) small, end_is, count_is) (record {
+    rw (lt-leb null_bit (at + 4 + n) small, end_is, count_is) (record {
       spelled = length_is.spelled ++ value;
       spells = record { field = length_is.spelled; wide = length_is.wide; counts = sym length_is.is ∙ ap pos (sym size); fits = omega arith; parts = refl };
       ends = omega (arith, length-append length_is.spelled value, size, length_is.wide);

@@ -1,5 +1,5 @@
 -- DataRow: the cells of a row. Documentation: "Message Formats", DataRow (B).
-pub mod CellEnds
+pub mod CellEnd
 pub mod Laws
 use Rattle.std.specs.Prelude.{◌≡◌, ℕ, ◌+◌, ◌≤◌, pos, ◌<ℤ◌, List, ◌++◌, length, Option, Some, None, ◌⊎◌}
 use Rattle.pg_base.specs.Cutting.{max_length}

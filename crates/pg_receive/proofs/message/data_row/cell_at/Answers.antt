@@ -20,4 +20,4 @@ returns-in_ok-bytes_at-in-Ok-clause-cell c =
     let is : z ≡ pos n = sym (to_z-of_z w32 z in_range) ∙ from_0 (to_z w32 (of_z w32 z)) c.in-Ok.ensures.0 ∙ ap pos (sym c.in-Ok.ensures.1) in
     let stands : Signed 4 (drop c.args.at body) (pos n) (drop (c.args.at + 4) body) = rw is at c.in_ok-length.ensures.found in
     let fits = c.in_ok-bytes_at-in-Ok.ensures.found.0 in
-    value_stands body c.args.at n stands fits (omega (arith, fits)) (omega (arith, fits))
+    rw c.of_value.ensures (value_stands body c.args.at n stands fits (omega (arith, fits)) (omega (arith, fits)))

@@ -1,5 +1,5 @@
 use Rattle.std.proofs.Common.{◌≡◌, ◌≤◌, length, vec_len, vec_capacity}
-use Rattle.pg_receive.specs.DataRow.CellEnds.{cells_from, last_end, first_cell, EndsRise}
+use Rattle.pg_receive.specs.DataRow.CellEnd.{cells_from, last_end, first_cell, EndsRise}
 use Rattle.pg_receive.specs.DataRow.{SpellsCell}
 use Rattle.pg_receive.specs.CountedItems.{SpellItems, IsEncodedAt}
 use Rattle.pg_receive.proofs.message.data_row.ends_of.Given as goal

@@ -1,8 +1,8 @@
--- The cells of a row from where each ends in the body: an entry a cell, whose top bit says NULL, and
--- whose other bits are the offset after the cell.
-use Rattle.std.specs.Prelude.{ℕ, zero, suc, ◌+◌, ◌%◌, ◌≤◌, List, [], ◌∷◌, Option, Some, None, slice_range, nat_lt, if◌then◌else◌}
+-- Where the cells of a row end in its body: a number for each cell, whose top bit says NULL, and whose
+-- other bits are the offset after the cell.
+use Rattle.std.specs.Prelude.{ℕ, zero, suc, ◌+◌, ◌%◌, ◌≤◌, List, [], ◌∷◌, Option, Some, None, slice_range, nat_le, Bool, if◌then◌else◌}
 
--- the top bit of an entry
+-- the top bit
 abbrev pub null_bit : ℕ
 null_bit = 2147483648
 
@@ -10,12 +10,15 @@ null_bit = 2147483648
 abbrev pub first_cell : ℕ
 first_cell = 2
 
+abbrev pub is_null : ℕ → Bool
+is_null entry = nat_le null_bit entry
+
 abbrev pub end_of : ℕ → ℕ
 end_of entry = entry % null_bit
 
--- the cell that begins at an offset: its value stands after the four bytes of its length
+-- the cell that begins at an offset: its value follows the four bytes of its length
 abbrev pub cell_to : List ℕ → ℕ → ℕ → Option (List ℕ)
-cell_to body start entry = if nat_lt entry null_bit then Some (slice_range body (start + 4) entry) else None
+cell_to body start entry = if is_null entry then None else Some (slice_range body (start + 4) entry)
 
 abbrev pub cells_from : List ℕ → ℕ → List ℕ → List (Option (List ℕ))
 cells_from body start [] = []
