@@ -1,4 +1,4 @@
--- What stands after the last of a byte.
+-- What follows the last space.
 use Rattle.std.proofs.Common.{◌≡◌, ℕ, unwrap_or, ◌+◌, ◌-◌, eqb, true, List, [], ◌∷◌, ◌++◌, Option, Some, None, length, get_or, take, drop, refl, sym, ◌∙◌, arith, inl, inr}
 use Rattle.std.proofs.lemmas.Bool.{eqb-true, eq-eqb}
 use Rattle.std.proofs.lemmas.List.{take_all, length-drop, get_or-drop}

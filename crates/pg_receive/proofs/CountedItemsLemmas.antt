@@ -12,21 +12,21 @@ SpellItems-push Spells s t [] item p q = (t, [], ap (λ (l : List ℕ). l ++ t) 
 SpellItems-push Spells s t (first ∷ items) item p q =
     (p.0, p.1 ++ t, ap (λ (l : List ℕ). l ++ t) p.2 ∙ append_assoc p.0 p.1 t, p.3, SpellItems-push Spells p.1 t items item p.4 q)
 
-pub none_stand : {X : Type 0} (Spells : List ℕ → X → Type 0) (body : List ℕ) (at : ℕ) → IsEncodedAt (SpellItems Spells) body at [] at
-none_stand Spells body at = record { spelled = []; spells = refl; ends = omega arith; parts = refl }
+pub none_are_at : {X : Type 0} (Spells : List ℕ → X → Type 0) (body : List ℕ) (at : ℕ) → IsEncodedAt (SpellItems Spells) body at [] at
+none_are_at Spells body at = record { spelled = []; spells = refl; ends = omega arith; parts = refl }
 
-pub one_more_stands : {X : Type 0} (Spells : List ℕ → X → Type 0) (body : List ℕ) (first at end : ℕ) (items : List X) (item : X)
+pub one_more_is_at : {X : Type 0} (Spells : List ℕ → X → Type 0) (body : List ℕ) (first at end : ℕ) (items : List X) (item : X)
     → IsEncodedAt (SpellItems Spells) body first items at → IsEncodedAt Spells body at item end → IsEncodedAt (SpellItems Spells) body first (items ++ item ∷ []) end
-one_more_stands Spells body first at end items item p q = record {
+one_more_is_at Spells body first at end items item p q = record {
   spelled = p.spelled ++ q.spelled;
   spells = SpellItems-push Spells p.spelled q.spelled items item p.spells q.spells;
   ends = omega (arith, p.ends, q.ends, length-append p.spelled q.spelled);
   parts = p.parts ∙ ap (λ (l : List ℕ). p.spelled ++ l) q.parts ∙ sym (append_assoc p.spelled q.spelled (drop end body));
 }
 
--- an item that stands after an offset within the body ends within it
-pub stands_within : {X : Type 0} (Spells : List ℕ → X → Type 0) (body : List ℕ) (at end : ℕ) (item : X) → at ≤ length body → IsEncodedAt Spells body at item end → end ≤ length body
-stands_within Spells body at end item within p =
+-- an item encoded at an offset within the body ends within it
+pub ends_within : {X : Type 0} (Spells : List ℕ → X → Type 0) (body : List ℕ) (at end : ℕ) (item : X) → at ≤ length body → IsEncodedAt Spells body at item end → end ≤ length body
+ends_within Spells body at end item within p =
     omega (arith, p.ends, ap length p.parts, length-append p.spelled (drop end body), length-drop at body, length-drop end body)
 
 pub counted_items : {X : Type 0} (Spells : List ℕ → X → Type 0) (body : List ℕ) (n end : ℕ) (items : List X)

@@ -63,9 +63,9 @@ pub cell_to-null : (body : List ℕ) (start entry : ℕ) → is_null entry ≡ t
 cell_to-null body start entry null = rw null refl
 
 -- a value follows its length
-pub value_stands : (body : List ℕ) (at n : ℕ) → Signed 4 (drop at body) (pos n) (drop (at + 4) body) → at + 4 + n ≤ length body → at + 4 + n < null_bit → n ≤ 2147483647
+pub value_is_at : (body : List ℕ) (at n : ℕ) → Signed 4 (drop at body) (pos n) (drop (at + 4) body) → at + 4 + n ≤ length body → at + 4 + n < null_bit → n ≤ 2147483647
     → IsEncodedAt SpellsCell body at (cell_to body at (at + 4 + n)) (end_of (at + 4 + n))
-value_stands body at n length_is fits small max =
+value_is_at body at n length_is fits small max =
     let value = take n (drop (at + 4) body) in
     let size : length value ≡ n = omega (arith, length-take n (drop (at + 4) body), length-drop (at + 4) body) in
     let end_is : (at + 4 + n) % null_bit ≡ at + 4 + n = omega arith in

@@ -1,4 +1,4 @@
--- What the fields after those that were read still say is what all say.
+-- What is read of the fields that are left is what is read of all.
 use Rattle.std.proofs.Common.{◌≡◌, ℕ, ◌==◌, Bool, true, false, List, [], ◌∷◌, map, Option, Some, None, unwrap_or, cond, refl, sym}
 use Rattle.std.specs.Prelude.{find, option_map, if◌then◌else◌}
 use Rattle.pg_base.specs.declared.error.ProtocolFault.{ProtocolFault}

@@ -1,4 +1,4 @@
--- The lengths of fields tell where each stands.
+-- Where each field is, by the lengths of fields.
 use Rattle.std.proofs.Common.{◌≡◌, ◌≢◌, ℕ, suc, ◌+◌, ◌-◌, ◌<◌, List, [], ◌∷◌, ◌++◌, length, drop, get_or, slice_range, Some, refl, sym, ap, subst, ◌∙◌, arith, length-append}
 use Rattle.std.proofs.Math.Seq.{drop-append-add, take-append_seam}
 use Rattle.std.proofs.lemmas.Bool.{eq-eqb, ne_eqb}
@@ -11,7 +11,7 @@ pub lengths_push : (bytes lens rest : List ℕ) (len : ℕ) (after : List ℕ) �
 lengths_push bytes [] rest len after h field = rw h (after, field, refl)
 lengths_push bytes (first ∷ lens) rest len after h field = (h.0, h.1, lengths_push h.0 lens rest len after h.2 field)
 
--- a field is as long as it says, and the rest stands after it
+-- a field is as long as it says, and the rest follows it
 pub field_within : (bytes : List ℕ) (len : ℕ) (rest : List ℕ) → BeginsWithLength bytes len rest → length bytes ≡ len + length rest
 field_within bytes len rest h =
     omega (arith, ap length h.field.parts, length-append h.value (0 ∷ rest), h.long)
@@ -33,9 +33,9 @@ pub fields_of_field : (bytes : List ℕ) (len : ℕ) (rest : List ℕ) (h : Begi
 fields_of_field bytes len rest h = fields_at bytes h.letter h.value rest h.field
 
 -- the field of an index, and those after it
-pub one_stands : (bytes lens : List ℕ) (i : ℕ) → i < length lens → HasLengths bytes (drop i lens)
+pub field_of_index : (bytes lens : List ℕ) (i : ℕ) → i < length lens → HasLengths bytes (drop i lens)
     → (rest : List ℕ) × BeginsWithLength bytes (get_or lens i 0) rest × HasLengths rest (drop (i + 1) lens)
-one_stands bytes lens i h has =
+field_of_index bytes lens i h has =
     let split : HasLengths bytes (get_or lens i 0 ∷ drop (i + 1) lens) = subst (λ (xs : List ℕ). HasLengths bytes xs) (drop_more lens i 0 h) has in
     (split.1.0, split.1.1, (split.0, split.1.2))
 

@@ -30,7 +30,7 @@ kept_all body =
     let nowhere : IsPlaceIn body no_place = record { ordered = omega arith; within = omega arith; utf8 = IsUtf8-nil } in
     record { front = []; parts = refl; message_in = nowhere; code_in = nowhere; left = left_all (fields_in body) }
 
--- a value stands where its field does, after the letter
+-- a value is where its field is, after the letter
 pub value_at : (body rest front : List ℕ) (letter : ℕ) (value after : List ℕ) (start : ℕ) → body ≡ front ++ rest → BeginsWithField rest letter value after → start ≡ length front + 1
     → (bytes_in body (record { start = start; end = start + length value }) ≡ value) × (start + length value ≤ length body)
 value_at body rest front letter value after start parts field is =
@@ -50,7 +50,7 @@ clean_message letter value e h = clean_text value (rw (eqb-true letter message_l
 clean_code : (letter : ℕ) (value : List ℕ) → (letter == code_letter) ≡ true → field_fault (letter, value) ≡ None → is_utf8 value ≡ true
 clean_code letter value e h = clean_text value (rw (eqb-true letter code_letter e) at h)
 
--- the place of the last value, and what stands there
+-- the place of the last value, and what is there
 seen_place : (body : List ℕ) (taken : Bool) (value : List ℕ) (place old new : Place) → bytes_in body place ≡ value → new ≡ (if taken then place else old)
     → bytes_in body new ≡ (if taken then value else bytes_in body old)
 seen_place body true value place old new at e = rw e at
@@ -76,7 +76,7 @@ nonempty_place body place h =
       | inr none_are ↦ let none : place.end - place.start ≡ 0 = omega arith in rw (le-ltb place.start place.end none_are, none) refl
     ]
 
--- the two places tell whether enough was read
+-- enough was read where neither place is empty
 pub full_places : (body : List ℕ) (message code : Place) → IsPlaceIn body message → IsPlaceIn body code
     → is_full (bytes_in body message) (bytes_in body code) [] ≡ (nat_lt message.start message.end && nat_lt code.start code.end)
 full_places body message code m c = rw (nonempty_place body message m, nonempty_place body code c) refl

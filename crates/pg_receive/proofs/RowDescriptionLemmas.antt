@@ -1,4 +1,4 @@
--- A column stands in a body after an offset.
+-- A column is encoded in a body at an offset.
 use Rattle.std.proofs.Common.{◌≡◌, ℕ, ◌+◌, ◌≤◌, List, ◌∷◌, ◌++◌, length, take, drop, refl, sym, ap, ◌∙◌, arith, append_assoc, length-append, length-take, length-drop}
 use Rattle.std.proofs.lemmas.List.{take-append-drop, drop-drop}
 use Rattle.pg_receive.specs.Text.{Utf8Text}
@@ -8,9 +8,9 @@ use Rattle.pg_receive.specs.CountedItems.{IsEncodedAt}
 pub length-numbers : (body numbers : List ℕ) (after : ℕ) → after + 18 ≤ length body → numbers ≡ take 18 (drop after body) → length numbers ≡ 18
 length-numbers body numbers after fits are = omega (arith, ap length are, length-take 18 (drop after body), length-drop after body)
 
-pub column_stands : (body : List ℕ) (at after : ℕ) (name numbers : List ℕ) (column : Column) → Utf8Text (drop at body) name (drop after body) → after ≡ at + length name + 1
+pub column_is_at : (body : List ℕ) (at after : ℕ) (name numbers : List ℕ) (column : Column) → Utf8Text (drop at body) name (drop after body) → after ≡ at + length name + 1
     → after + 18 ≤ length body → numbers ≡ take 18 (drop after body) → column.name ≡ name → SpellsNumbers numbers column → IsEncodedAt SpellsColumn body at column (after + 18)
-column_stands body at after name numbers column named place fits are name_is numbered =
+column_is_at body at after name numbers column named place fits are name_is numbered =
     let split : drop after body ≡ numbers ++ drop (after + 18) body =
     sym (take-append-drop 18 (drop after body)) ∙ ap (λ (l : List ℕ). l ++ drop 18 (drop after body)) (sym are) ∙ ap (λ (l : List ℕ). numbers ++ l) (drop-drop 18 after body) in
     let text : Utf8Text (name ++ 0 ∷ numbers) name numbers = record { ends = record { clean = named.ends.clean; parts = refl }; utf8 = named.utf8 } in

@@ -33,7 +33,7 @@ method_of (sasl names) = 10
 method_of (sasl_continue challenge) = 11
 method_of (sasl_final verifier) = 12
 
--- what stands after the number
+-- what follows the number
 abbrev pub MeansRest : List ℕ → AuthenticationValue → Type 0
 MeansRest rest accepted = Unit {0}
 MeansRest rest cleartext_password = Unit {0}

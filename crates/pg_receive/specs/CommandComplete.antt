@@ -8,13 +8,13 @@ use Rattle.pg_base.specs.Atoi.{Atoi}
 abbrev pub max_rows : ℕ
 max_rows = 18446744073709551615
 
--- what stands after the last space
+-- what follows the last space
 pub record AfterLastSpace (tag tail : List ℕ) : Type 0 where
   pub front : List ℕ
   pub parts : tag ≡ front ++ 32 ∷ tail
   pub last : HoldsNo 32 tail
 
--- the number of rows that a tag tells
+-- the tag has a number of rows
 pub record HasRowCount (tag : List ℕ) (rows : ℕ) : Type 0 where
   pub tail : List ℕ
   pub after : AfterLastSpace tag tail

@@ -37,14 +37,14 @@ pub record MeansFormats (body : List ℕ) (formats : CopyFormats) : Type 0 where
   pub are_spelled : SpellItems SpellsCode spelled formats.format_codes
   pub parts : after ≡ spelled ++ rest
 
--- a format and a count stand in front of the bytes after
+-- the body begins with a format and this count
 pub record Counts (body : List ℕ) (count : ℤ) (after : List ℕ) : Type 0 where
   pub format : ℤ
   pub columns : List ℕ
   pub formatted : Signed 1 body format columns
   pub counted : Signed 2 columns count after
 
--- fewer codes stand after the count than it says
+-- fewer codes follow the count than it says
 pub record IsTruncatedCodes (body : List ℕ) (fault : ProtocolFault) : Type 0 where
   pub count : ℤ
   pub after : List ℕ

@@ -32,7 +32,7 @@ pub record IsTruncatedItems (least : ℕ) (body : List ℕ) (fault : ProtocolFau
 abbrev pub IsCountFault : ℕ → List ℕ → ProtocolFault → Type 0
 IsCountFault least body fault = IsShort body 0 2 fault ⊎ IsTruncatedItems least body fault
 
--- items are spelled, fewer than the count, and what stands after them, at this offset of the body,
+-- items are spelled, fewer than the count, and what follows them, at this offset of the body,
 -- begins with no item
 pub record IsNextFault {X : Type 0} (Spells : List ℕ → X → Type 0) (IsItemFault : List ℕ → ℕ → List ℕ → ProtocolFault → Type 0) (least : ℕ) (body : List ℕ) (fault : ProtocolFault) : Type 0 where
   pub count : ℕ
@@ -62,7 +62,7 @@ pub record CountNeedsNoMemory (least inline : ℕ) (body : List ℕ) : Type 0 wh
 abbrev pub ItemsNeedNoMemory : ℕ → ℕ → List ℕ → Type 0
 ItemsNeedNoMemory least inline body = (length body < 2) ⊎ CountNeedsNoMemory least inline body
 
--- an item stands in a body from one offset to another
+-- an item is encoded in a body from one offset to another
 pub record IsEncodedAt {X : Type 0} (Spells : List ℕ → X → Type 0) (body : List ℕ) (at : ℕ) (item : X) (end : ℕ) : Type 0 where
   pub spelled : List ℕ
   pub spells : Spells spelled item

@@ -13,7 +13,7 @@ pub record SpellsNull (spelled : List ℕ) : Type 0 where
   pub wide : length spelled ≡ 4
   pub negative : int spelled <ℤ pos 0
 
--- a value stands after its length
+-- a value follows its length
 pub record SpellsValue (spelled value : List ℕ) : Type 0 where
   pub field : List ℕ
   pub wide : length field ≡ 4
@@ -26,7 +26,7 @@ abbrev pub SpellsCell : List ℕ → Option (List ℕ) → Type 0
 SpellsCell spelled None = SpellsNull spelled
 SpellsCell spelled (Some value) = SpellsValue spelled value
 
--- the length is there, and fewer bytes stand after it than it says
+-- the length is there, and fewer bytes follow it than it says
 pub record IsTruncatedValue (body : List ℕ) (at : ℕ) (bytes : List ℕ) (fault : ProtocolFault) : Type 0 where
   pub field : List ℕ
   pub after : List ℕ
@@ -53,7 +53,7 @@ IsRowFault body fault = IsItemsFault SpellsCell IsCellFault least_cell body faul
 abbrev pub RowNeedsNoMemory : List ℕ → Type 0
 RowNeedsNoMemory body = ItemsNeedNoMemory least_cell 0 body
 
--- a value stands in the body after the count, the spellings of these cells, and its own length
+-- in the body a value follows the count, the spellings of these cells, and its own length
 pub record IsAfter (body : List ℕ) (cells : List (Option (List ℕ))) (value : List ℕ) : Type 0 where
   pub count : List ℕ
   pub spelled : List ℕ

@@ -13,7 +13,7 @@ abbrev pub value_within : ℕ → List ℕ → Option ℕ
 value_within top [] = None
 value_within top (digit ∷ digits) = if nat_le (decimal_value (digit ∷ digits)) top then Some (decimal_value (digit ∷ digits)) else None
 
--- a sign may stand before them; after a minus 0 is the greatest
+-- a sign may precede them; after a minus 0 is the greatest
 unfoldable pub leading_decimal : ℕ → List ℕ → Option ℕ
 leading_decimal top [] = None
 leading_decimal top (byte ∷ bytes) =

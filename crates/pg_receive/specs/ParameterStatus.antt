@@ -17,7 +17,7 @@ pub record MeansSetting (body : List ℕ) (setting : Setting) : Type 0 where
   pub name : Utf8Text body setting.name after
   pub value : Utf8Text after setting.value rest
 
--- the name is a text, and after its 0 none stands
+-- the name is a text, and no text follows its 0
 pub record IsValueFault (body : List ℕ) (fault : ProtocolFault) : Type 0 where
   pub name : List ℕ
   pub after : List ℕ

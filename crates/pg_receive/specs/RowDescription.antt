@@ -39,7 +39,7 @@ abbrev pub attribute : ℤ → Option ℤ
 attribute (pos n) = if n == 0 then None else Some (pos n)
 attribute (negsuc n) = Some (negsuc n)
 
--- how many bytes stand after the name
+-- how many bytes follow the name
 abbrev pub numbers_length : ℕ
 numbers_length = 18
 

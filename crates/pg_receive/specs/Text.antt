@@ -1,4 +1,4 @@
--- Texts of UTF-8 in a body, and what is wrong where one has to stand. Documentation: "Message Data
+-- Texts of UTF-8 in a body, and what is wrong where one is missing. Documentation: "Message Data
 -- Types", String.
 pub mod Laws
 use Rattle.std.specs.Prelude.{◌≡◌, ℕ, List, ◌⊎◌, IsUtf8}
@@ -11,9 +11,9 @@ pub record Utf8Text (bytes text rest : List ℕ) : Type 0 where
   pub ends : Text bytes text rest
   pub utf8 : IsUtf8 text
 
--- no 0 ends the bytes, which stand at this offset of a body
+-- no 0 ends the bytes, which are at this offset of a body
 pub record IsMissingNul (at : ℕ) (bytes : List ℕ) (fault : ProtocolFault) : Type 0 where
-  pub lacks : HoldsNo 0 bytes
+  pub no_nul : HoldsNo 0 bytes
   pub is : fault ≡ MissingNul at
 
 -- the bytes begin with a text that isn't UTF-8
@@ -24,6 +24,6 @@ pub record IsNotUtf8 (bytes : List ℕ) (fault : ProtocolFault) : Type 0 where
   pub not_utf8 : ¬ (IsUtf8 text)
   pub is : fault ≡ NotUtf8
 
--- the bytes, which stand at this offset of a body, begin with no text of UTF-8
+-- the bytes, which are at this offset of a body, begin with no text of UTF-8
 abbrev pub IsTextFault : ℕ → List ℕ → ProtocolFault → Type 0
 IsTextFault at bytes fault = IsMissingNul at bytes fault ⊎ IsNotUtf8 bytes fault

@@ -17,7 +17,7 @@ use std::alloc::Global;
 use std::fmt;
 use std::marker::Model;
 
-/// The codes of the errors that [`PgDatabaseError::kind`] tells apart. Documentation: "PostgreSQL
+/// The codes that [`PgDatabaseError::kind`] knows. Documentation: "PostgreSQL
 /// Error Codes", class 23.
 pub mod error_codes {
     /// A unique or primary key is violated.

@@ -1,4 +1,4 @@
--- The last word of a server in a SASL exchange. Documentation: "Message Formats",
+-- The server-final-message of a SASL exchange. Documentation: "Message Formats",
 -- AuthenticationSASLFinal (B), and "SCRAM-SHA-256 Authentication".
 pub mod Laws
 pub mod Shown

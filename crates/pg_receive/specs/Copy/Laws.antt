@@ -1,4 +1,4 @@
--- A body tells the formats of one COPY, or has a fault.
+-- A body means one list of formats, or has a fault.
 use Rattle.std.specs.Prelude.{◌≡◌, ℕ, ℤ, List, length}
 use Rattle.std.proofs.Common.{sym, ap, ◌∙◌, arith, inl, inr, length-append}
 use Rattle.pg_base.specs.declared.error.ProtocolFault.{ProtocolFault}
@@ -38,8 +38,8 @@ formats_or_fault body v fault p breaks =
     elim breaks [
       | inl short ↦ omega (arith, short.lacks, format)
       | inr (inl short) ↦ omega (arith, short.1.lacks, format, count)
-      | inr (inr lacks) ↦
-          let told : Counts body v.num_columns p.after = record { format = v.format; columns = p.columns; formatted = p.format; counted = p.count } in
-          let counts = one_count body v.num_columns lacks.count p.after lacks.after told lacks.counts in
-          omega (arith, lacks.short.lacks, ap codes_counted counts.0, p.counted, format, count, items_take 2 SpellsCode code_takes p.spelled v.format_codes p.are_spelled, ap length p.parts, length-append p.spelled p.rest)
+      | inr (inr truncated) ↦
+          let counts_are : Counts body v.num_columns p.after = record { format = v.format; columns = p.columns; formatted = p.format; counted = p.count } in
+          let counts = one_count body v.num_columns truncated.count p.after truncated.after counts_are truncated.counts in
+          omega (arith, truncated.short.lacks, ap codes_counted counts.0, p.counted, format, count, items_take 2 SpellsCode code_takes p.spelled v.format_codes p.are_spelled, ap length p.parts, length-append p.spelled p.rest)
     ]

@@ -75,7 +75,7 @@ pub items_fit : {X : Type 0} (least : ℕ) (Spells : List ℕ → X → Type 0) 
 items_fit least Spells takes body v p =
     omega (arith, number_fits 2 body (length v) p.after p.count, items_take least Spells takes p.spelled v p.are_spelled, ap length p.parts, length-append p.spelled p.rest)
 
--- an item stands between the spellings of those before it and of those after it
+-- an item is between the spellings of those before it and of those after it
 pub record Parts {X : Type 0} (Spells : List ℕ → X → Type 0) (spelled : List ℕ) (front : List X) (item : X) : Type 0 where
   pub before : List ℕ
   pub at : List ℕ

@@ -33,14 +33,14 @@ cell_takes s (Some v) p = omega (arith, p.wide, ap length p.parts, length-append
 
 pub cell_or_fault : ItemOrFault SpellsCell IsCellFault
 cell_or_fault body s x at v fault len p (inl short) = omega (arith, short.lacks, len, length-append s x, cell_takes s v p)
-cell_or_fault body s x at None fault len p (inr lacks) =
-    let both = parts_at s lacks.field x lacks.after (p.wide ∙ sym lacks.wide) lacks.parts in
-    omega (arith, ints, p.negative, ap int both.0, lacks.counts)
-cell_or_fault body s x at (Some v) fault len p (inr lacks) =
-    let both = parts_at p.field lacks.field (v ++ x) lacks.after (p.wide ∙ sym lacks.wide) (sym (append_assoc p.field v x) ∙ ap (λ (l : List ℕ). l ++ x) (sym p.parts) ∙ lacks.parts) in
-    let counts : pos (length v) ≡ pos lacks.needed = sym p.counts ∙ ap int both.0 ∙ lacks.counts in
-    let lengths : length v ≡ lacks.needed = cc in
-    omega (arith, lacks.short.lacks, lengths, len, length-append s x, ap length p.parts, length-append p.field v, p.wide)
+cell_or_fault body s x at None fault len p (inr truncated) =
+    let both = parts_at s truncated.field x truncated.after (p.wide ∙ sym truncated.wide) truncated.parts in
+    omega (arith, ints, p.negative, ap int both.0, truncated.counts)
+cell_or_fault body s x at (Some v) fault len p (inr truncated) =
+    let both = parts_at p.field truncated.field (v ++ x) truncated.after (p.wide ∙ sym truncated.wide) (sym (append_assoc p.field v x) ∙ ap (λ (l : List ℕ). l ++ x) (sym p.parts) ∙ truncated.parts) in
+    let counts : pos (length v) ≡ pos truncated.needed = sym p.counts ∙ ap int both.0 ∙ truncated.counts in
+    let lengths : length v ≡ truncated.needed = cc in
+    omega (arith, truncated.short.lacks, lengths, len, length-append s x, ap length p.parts, length-append p.field v, p.wide)
 
 pub one_row : (body : List ℕ) (v w : List (Option (List ℕ))) → MeansRow body v → MeansRow body w → v ≡ w
 one_row body v w p q = one_items SpellsCell one_cell body v w p q
@@ -51,8 +51,8 @@ row_or_fault body v fault p q = items_or_fault SpellsCell IsCellFault least_cell
 pub cells_fit : (body : List ℕ) (cells : List (Option (List ℕ))) → MeansRow body cells → 2 + 4 * length cells ≤ length body
 cells_fit body cells p = items_fit least_cell SpellsCell cell_takes body cells p
 
-pub value_stands_after : (body : List ℕ) (front : List (Option (List ℕ))) (value : List ℕ) (back : List (Option (List ℕ))) → MeansRow body (front ++ Some value ∷ back) → IsAfter body front value
-value_stands_after body front value back p =
+pub value_is_after : (body : List ℕ) (front : List (Option (List ℕ))) (value : List ℕ) (back : List (Option (List ℕ))) → MeansRow body (front ++ Some value ∷ back) → IsAfter body front value
+value_is_after body front value back p =
     let q = item_between SpellsCell p.spelled front (Some value) back p.are_spelled in
     let cell : q.at ++ q.after ≡ q.is_at.field ++ (value ++ q.after) = ap (λ (l : List ℕ). l ++ q.after) q.is_at.parts ∙ append_assoc q.is_at.field value q.after in
     let spelled : p.spelled ≡ q.before ++ (q.is_at.field ++ (value ++ q.after)) = q.parts ∙ ap (λ (l : List ℕ). q.before ++ l) cell in

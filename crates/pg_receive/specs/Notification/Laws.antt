@@ -18,9 +18,9 @@ one_notification body v w p q =
 pub notification_or_fault : (body : List ℕ) (v : Notified) (fault : ProtocolFault) → MeansNotification body v → IsNotificationFault body fault → ⊥
 notification_or_fault body v fault p (inl short) = omega (arith, short.lacks, number_fits 4 body v.process_id p.texts p.process_id)
 notification_or_fault body v fault p (inr (inl breaks)) =
-    let ids = one_number 4 body v.process_id breaks.process_id p.texts breaks.texts p.process_id breaks.told in
-    text_or_no_nul 4 breaks.texts v.channel p.after fault (rw (← ids.1) p.channel) breaks.lacks
+    let ids = one_number 4 body v.process_id breaks.process_id p.texts breaks.texts p.process_id breaks.number in
+    text_or_no_nul 4 breaks.texts v.channel p.after fault (rw (← ids.1) p.channel) breaks.missing
 notification_or_fault body v fault p (inr (inr breaks)) =
-    let ids = one_number 4 body v.process_id breaks.process_id p.texts breaks.texts p.process_id breaks.told in
+    let ids = one_number 4 body v.process_id breaks.process_id p.texts breaks.texts p.process_id breaks.number in
     let channels = one_text breaks.texts v.channel breaks.channel p.after breaks.after (rw (← ids.1) p.channel) breaks.named in
-    text_or_no_nul (4 + length breaks.channel + 1) breaks.after v.payload p.rest fault (rw (← channels.1) p.payload) breaks.lacks
+    text_or_no_nul (4 + length breaks.channel + 1) breaks.after v.payload p.rest fault (rw (← channels.1) p.payload) breaks.missing

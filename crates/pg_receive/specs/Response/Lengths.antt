@@ -1,4 +1,4 @@
--- The fields at the front of a body by their lengths: how an error keeps where its fields stand.
+-- The fields at the front of a body by their lengths: how an error keeps where its fields are.
 use Rattle.std.specs.Prelude.{◌≡◌, ℕ, ◌+◌, List, [], ◌∷◌, length}
 use Rattle.pg_receive.specs.Response.Fields.{BeginsWithField}
 

@@ -10,7 +10,7 @@ Place = Range ℕ
 abbrev pub bytes_in : List ℕ → Place → List ℕ
 bytes_in body place = slice_range body place.start place.end
 
--- the place is within the body, and a text stands there
+-- the place is within the body, and a text is there
 pub record IsPlaceIn (body : List ℕ) (place : Place) : Type 0 where
   pub ordered : place.start ≤ place.end
   pub within : place.end ≤ length body

@@ -10,7 +10,7 @@ use Rattle.pg_receive.specs.Text.Laws.{text_or_fault}
 use Rattle.pg_receive.specs.CountedItems.Laws.{SpellsOne, TakesAtLeast, ItemOrFault, one_items, items_or_fault, items_fit}
 use Rattle.pg_receive.specs.RowDescription.{Column, table, attribute, numbers_length, SpellsNumbers, SpellsColumn, IsColumnFault, MeansColumns, IsColumnsFault, least_column}
 
--- a text keeps what stands after it
+-- a text with more bytes after it
 longer_text : (bytes text rest x : List ℕ) → Text bytes text rest → Text (bytes ++ x) text (rest ++ x)
 longer_text bytes text rest x p = record { clean = p.clean; parts = ap (λ (l : List ℕ). l ++ x) p.parts ∙ append_assoc text (0 ∷ rest) x }
 
@@ -69,9 +69,9 @@ column_takes s v p = omega (arith, column_length s v p)
 pub column_or_fault : ItemOrFault SpellsColumn IsColumnFault
 column_or_fault body s x at v fault len p (inl breaks) =
     text_or_fault at (s ++ x) v.name (p.numbers ++ x) fault (longer_utf8 s v.name p.numbers x p.named) breaks
-column_or_fault body s x at v fault len p (inr lacks) =
-    let names = one_text (s ++ x) v.name lacks.name (p.numbers ++ x) lacks.after (longer_text s v.name p.numbers x p.named.ends) lacks.named.ends in
-    omega (arith, lacks.short.lacks, ap length names.0, len, length-append s x, column_length s v p)
+column_or_fault body s x at v fault len p (inr truncated) =
+    let names = one_text (s ++ x) v.name truncated.name (p.numbers ++ x) truncated.after (longer_text s v.name p.numbers x p.named.ends) truncated.named.ends in
+    omega (arith, truncated.short.lacks, ap length names.0, len, length-append s x, column_length s v p)
 
 pub one_description : (body : List ℕ) (v w : List Column) → MeansColumns body v → MeansColumns body w → v ≡ w
 one_description body v w p q = one_items SpellsColumn one_column body v w p q

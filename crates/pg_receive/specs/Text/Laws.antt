@@ -7,7 +7,7 @@ use Rattle.pg_base.proofs.ReadingLemmas.{one_text, no_text}
 use Rattle.pg_receive.specs.Text.{Utf8Text, IsMissingNul, IsTextFault}
 
 pub text_or_no_nul : (at : ℕ) (bytes text rest : List ℕ) (fault : ProtocolFault) → Text bytes text rest → IsMissingNul at bytes fault → ⊥
-text_or_no_nul at bytes text rest fault p q = no_text bytes text rest q.lacks p.parts
+text_or_no_nul at bytes text rest fault p q = no_text bytes text rest q.no_nul p.parts
 
 pub text_or_fault : (at : ℕ) (bytes text rest : List ℕ) (fault : ProtocolFault) → Utf8Text bytes text rest → IsTextFault at bytes fault → ⊥
 text_or_fault at bytes text rest fault p (inl q) = text_or_no_nul at bytes text rest fault p.ends q

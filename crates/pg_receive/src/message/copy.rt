@@ -12,7 +12,7 @@ use pg_base::io::{MAX_BODY, bytes_at, i8_at, i16_at};
 use pg_base::{BackendMessageFormat, Error};
 use std::alloc::Global;
 
-// Where the count of columns stands, and the first code after it.
+// The offsets of the count of columns and of the first code.
 const COLUMNS: usize = 1;
 
 const FIRST_CODE: usize = 3;
@@ -25,7 +25,7 @@ const CODE_LENGTH: usize = 2;
 pub struct CopyResponseData {
     /// The format of the data as a whole.
     pub format: i8,
-    /// How many columns there are. Below 0 it stands for none.
+    /// How many columns there are. A count below 0 means none.
     pub num_columns: i16,
     /// The format of each column.
     pub format_codes: Vec<i16>,
@@ -169,7 +169,7 @@ fn decode_formats(alloc: Global, body: &[u8]) -> Result<CopyResponseData, Error>
     })
 }
 
-// How many codes stand after a count of columns.
+// How many codes follow a count of columns.
 fn code_count(num_columns: i16) -> usize
     ensures { result ≡ codes_counted num_columns }
 {

@@ -24,8 +24,8 @@ const FIRST_CELL: usize = 2;
 // The bytes of a cell's length.
 const CELL_LENGTH: usize = 4;
 
-/// The values of a row, each as bytes in the format that was asked for, or NULL. They are lent from
-/// the body of the message. Documentation: "Message Formats", DataRow (B).
+/// The values of a row, each as bytes in the format that was asked for, or NULL. They are
+/// borrowed from the body of the message. Documentation: "Message Formats", DataRow (B).
 #[derive(Drop)]
 pub struct DataRow {
     storage: Bytes,

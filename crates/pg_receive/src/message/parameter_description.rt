@@ -13,7 +13,7 @@ use pg_base::{BackendMessageFormat, Error};
 use smallvec::SmallVec;
 use std::alloc::Global;
 
-// Where the first type stands, after the count.
+// The offset of the first type, after the count.
 const FIRST_TYPE: usize = 2;
 
 // The bytes of a type.

@@ -11,7 +11,7 @@ use bytes::Bytes;
 use pg_base::{BackendMessageFormat, Error};
 use std::alloc::Global;
 
-/// A setting of the server and its value, told at the start and whenever it changes.
+/// A setting of the server and its value, reported at the start and whenever it changes.
 /// Documentation: "Message Formats", ParameterStatus (B).
 #[derive(Drop)]
 pub struct ParameterStatus {

@@ -13,10 +13,10 @@ use pg_base::io::{MAX_BODY, Oid, bytes_at, i16_at, i32_at, u16_at, u32_at};
 use pg_base::{BackendMessageFormat, Error, ProtocolFault};
 use std::alloc::Global;
 
-// Where the first column stands, after the count.
+// The offset of the first column, after the count.
 const FIRST_COLUMN: usize = 2;
 
-// The bytes of a column's numbers, which stand after its name.
+// The bytes of a column's numbers, which follow its name.
 const NUMBERS_LENGTH: usize = 18;
 
 // The least bytes of a column: the NUL of an empty name, and the numbers.

@@ -9,8 +9,7 @@ use memchr::memchr;
 use pg_base::ProtocolFault;
 use std::str;
 
-/// The text at the front of some bytes, and what stands after its NUL. Nothing where there is no
-/// NUL.
+/// The text at the front of some bytes, and what follows its NUL. `None` where there is no NUL.
 pub fn split_text(bytes: &[u8]) -> Option<(&[u8], &[u8])>
     ensures found { IfSome result (λ split. Text bytes.now split.0.now split.1.now) }
     ensures none { IfNone result (HoldsNo 0 bytes.now) }

@@ -45,7 +45,7 @@ impl<'a> Iterator for SaslMechanisms<'a> {
     }
 }
 
-// The name at the front of some bytes, and what stands after its NUL.
+// The name at the front of some bytes, and what follows its NUL.
 fn split_name(bytes: &[u8]) -> Option<(&str, &[u8])>
     ensures found { IfSome result (λ name. BeginsWithName bytes.now name.0.now name.1.now) }
     ensures none { IfNone result (mechanisms_in bytes.now ≡ []) }

@@ -54,7 +54,7 @@ pub enum Authentication {
     Sasl(AuthenticationSasl),
     /// The challenge in a SASL exchange.
     SaslContinue(AuthenticationSaslContinue),
-    /// The last word in a SASL exchange.
+    /// The server-final-message of a SASL exchange.
     SaslFinal(AuthenticationSaslFinal),
 }
 

@@ -48,7 +48,7 @@ impl<'a> Iterator for SaslItems<'a> {
     }
 }
 
-// The item before the first comma, and what stands after it.
+// The item before the first comma, and what follows it.
 fn split_item(bytes: &[u8]) -> (&[u8], Option<&[u8]>)
     ensures { items_in bytes.now ≡ result.0.now ∷ option_map_or (λ rest. items_in rest.now) result.1 [] }
 {

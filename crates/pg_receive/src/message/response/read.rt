@@ -50,7 +50,7 @@ impl ReadPart {
         self.severity.or(self.localized).unwrap_or(PgSeverity::Log)
     }
 
-    // Takes in a field whose value stands in this place.
+    // Takes in a field whose value is at this place.
     fn take(&mut self, letter: u8, value: &[u8], place: Range<usize>) -> Result<(), ProtocolFault>
         ensures clean { OnOk result (field_fault (letter, value.now) ≡ None) }
         ensures severity { OnOk result (self.new.severity ≡ (if letter == severity_letter then severity_of_word value.now else self.old.severity)) }

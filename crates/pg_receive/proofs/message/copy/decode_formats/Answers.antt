@@ -7,7 +7,7 @@ use Rattle.std.proofs.lemmas.Result.{err_from_is_err_and}
 use Rattle.pg_base.specs.Reading.{Signed}
 use Rattle.pg_receive.specs.Copy.{SpellsCode, codes_counted, Counts}
 use Rattle.pg_receive.specs.CountedItems.{IsEncodedAt}
-use Rattle.pg_receive.proofs.CountedItemsLemmas.{one_more_stands, codes_ask_for_memory}
+use Rattle.pg_receive.proofs.CountedItemsLemmas.{one_more_is_at, codes_ask_for_memory}
 use Rattle.pg_receive.proofs.message.copy.decode_formats.Goals as goal
 
 pub returns-in_err-format_codes : goal.returns-in_err-format_codes
@@ -22,8 +22,8 @@ returns-in_err-format_codes c =
     let not_none : c.code_count-count.result ≡ 0 → ⊥ = λ e. absurd (false≢true (c.in_err-format_codes.ensures.succeeds e)) in
     rw (p.1, p.2) (codes_ask_for_memory body count counts (omega (arith, codes_are, c.in_ok-bytes_at.ensures.found.0)) (omega (arith, codes_are)))
 
-code_stands : (body : List ℕ) (at : ℕ) (code : ℤ) → Signed 2 (drop at body) code (drop (at + 2) body) → IsEncodedAt SpellsCode body at code (at + 2)
-code_stands body at code p = record {
+code_is_at : (body : List ℕ) (at : ℕ) (code : ℤ) → Signed 2 (drop at body) code (drop (at + 2) body) → IsEncodedAt SpellsCode body at code (at + 2)
+code_is_at body at code p = record {
   spelled = p.spelled;
   spells = record { wide = p.wide; is = p.is };
   ends = omega (arith, p.wide);
@@ -43,5 +43,5 @@ loop-index-preserved c =
     record {
       counted = omega (arith, pushed.len, c.loop-index.invariant.counted);
       room = pushed.capacity ∙ c.loop-index.invariant.room;
-      stand = rw (more, next) (one_more_stands SpellsCode body 3 at (at + 2) codes code c.loop-index.invariant.stand (code_stands body at code c.in_ok-i16_at.ensures.found));
+      encoded = rw (more, next) (one_more_is_at SpellsCode body 3 at (at + 2) codes code c.loop-index.invariant.encoded (code_is_at body at code c.in_ok-i16_at.ensures.found));
     }

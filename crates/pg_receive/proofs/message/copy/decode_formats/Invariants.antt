@@ -7,5 +7,5 @@ abbrev pub invariant-loop-index : goal.invariant-loop-index
 invariant-loop-index l = record {
   counted : vec_len l.format_codes ≡ l.index;
   room : vec_capacity l.format_codes ≡ l.count;
-  stand : IsEncodedAt (SpellItems SpellsCode) l.body 3 l.format_codes.items (3 + 2 * l.index);
+  encoded : IsEncodedAt (SpellItems SpellsCode) l.body 3 l.format_codes.items (3 + 2 * l.index);
 }

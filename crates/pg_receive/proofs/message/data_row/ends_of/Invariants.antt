@@ -11,5 +11,5 @@ invariant-loop-index l = record {
   counted : vec_len l.ends ≡ l._index;
   room : vec_capacity l.ends ≡ l.count;
   rise : EndsRise first_cell l.ends.items (length l.body);
-  stand : IsEncodedAt (SpellItems SpellsCell) l.body first_cell (cells_from l.body first_cell l.ends.items) l.at;
+  encoded : IsEncodedAt (SpellItems SpellsCell) l.body first_cell (cells_from l.body first_cell l.ends.items) l.at;
 }

@@ -9,5 +9,5 @@ abbrev pub invariant-loop-index : goal.invariant-loop-index
 invariant-loop-index l = record {
   counted : small_vec_len l.types ≡ l.index;
   room : l.count ≤ l.types.capacity;
-  stand : IsEncodedAt (SpellItems SpellsType) l.body 2 (numbers_of l.types.items) (2 + 4 * l.index);
+  encoded : IsEncodedAt (SpellItems SpellsType) l.body 2 (numbers_of l.types.items) (2 + 4 * l.index);
 }

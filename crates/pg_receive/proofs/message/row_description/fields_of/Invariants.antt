@@ -8,5 +8,5 @@ invariant-loop-index l = record {
   within : l.at ≤ length l.body;
   counted : vec_len l.fields ≡ l._index;
   room : vec_capacity l.fields ≡ l.count;
-  stand : IsEncodedAt (SpellItems SpellsColumn) l.body 2 (map column_of l.fields.items) l.at;
+  encoded : IsEncodedAt (SpellItems SpellsColumn) l.body 2 (map column_of l.fields.items) l.at;
 }
