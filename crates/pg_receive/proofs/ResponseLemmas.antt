@@ -6,7 +6,8 @@ use Rattle.pg_receive.specs.declared.message.response.severity.PgSeverity.{PgSev
 use Rattle.pg_receive.specs.Response.Fields.{Field}
 use Rattle.pg_receive.specs.Last.{plain, last, first_fault_of}
 use Rattle.pg_receive.specs.Response.Severity.{severity_of_word}
-use Rattle.pg_receive.specs.Response.{Read, is_full, fronts, read_part, field_fault, code_letter, message_letter, localized_letter, severity_letter}
+use Rattle.pg_receive.specs.Response.{Read, is_full, fronts, read_part, field_fault}
+use Rattle.pg_receive.specs.Response.Letters.{code_letter, message_letter, localized_letter, severity_letter}
 
 -- the part of these fields that is read after others with this last message and code
 pub part_after : List ℕ → List ℕ → List Field → List Field

@@ -3,7 +3,8 @@ use Rattle.std.proofs.Common.{◌≡◌, ℕ, ◌==◌, ◌≤◌, false, List, 
 use Rattle.std.proofs.lemmas.Bool.{cases_Bool}
 use Rattle.pg_receive.specs.Response.Fields.{Field, first_value, of_letter, fields_in}
 use Rattle.pg_receive.specs.Last.{plain, last}
-use Rattle.pg_receive.specs.Response.{NoticeValue, MeansNotice, is_full, code_letter, message_letter}
+use Rattle.pg_receive.specs.Response.{NoticeValue, MeansNotice, is_full}
+use Rattle.pg_receive.specs.Response.Letters.{code_letter, message_letter}
 use Rattle.pg_receive.proofs.ResponseLemmas.{part_after, part_step, part_full, part_end, part_of_all, seen}
 
 -- fields without the letter leave what was seen before them

@@ -9,7 +9,8 @@ use Rattle.pg_base.specs.declared.error.ProtocolFault.{ProtocolFault}
 use Rattle.pg_receive.specs.declared.message.response.severity.PgSeverity.{PgSeverity}
 use Rattle.pg_receive.specs.Response.Fields.{BeginsWithField, fields_in}
 use Rattle.pg_receive.specs.Response.Severity.{severity_of_word}
-use Rattle.pg_receive.specs.Response.{is_nonempty, is_full, field_fault, notice_fault, text_fault, code_letter, message_letter, localized_letter, severity_letter}
+use Rattle.pg_receive.specs.Response.{is_nonempty, is_full, field_fault, notice_fault, text_fault}
+use Rattle.pg_receive.specs.Response.Letters.{code_letter, message_letter, localized_letter, severity_letter}
 use Rattle.pg_receive.specs.Response.Places.{Place, bytes_in, IsPlaceIn}
 use Rattle.pg_receive.proofs.ResponseFieldsLemmas.{fields_at}
 use Rattle.pg_receive.proofs.ResponseLemmas.{Left, left_all, left_more, left_fault}

@@ -15,9 +15,16 @@ pub record CopyFormats : Type 0 where
   pub num_columns : ℤ
   pub format_codes : List ℤ
 
--- a code is a signed number of two bytes
+-- the offset of the first code, and the bytes of a code
+abbrev pub first_code : ℕ
+first_code = 3
+
+abbrev pub code_length : ℕ
+code_length = 2
+
+-- a code is a signed number
 pub record SpellsCode (spelled : List ℕ) (code : ℤ) : Type 0 where
-  pub wide : length spelled ≡ 2
+  pub wide : length spelled ≡ code_length
   pub is : code ≡ int spelled
 
 -- a count below 0 has no codes
@@ -49,7 +56,7 @@ pub record IsTruncatedCodes (body : List ℕ) (fault : ProtocolFault) : Type 0 w
   pub count : ℤ
   pub after : List ℕ
   pub counts : Counts body count after
-  pub short : IsShort body 3 (2 * codes_counted count) fault
+  pub short : IsShort body first_code (code_length * codes_counted count) fault
 
 -- the format isn't there, or it is and the count isn't whole, or the codes aren't all there
 abbrev pub IsFormatsFault : List ℕ → ProtocolFault → Type 0
@@ -60,10 +67,10 @@ pub record NeedsNoCodes (body : List ℕ) : Type 0 where
   pub count : ℤ
   pub after : List ℕ
   pub counts : Counts body count after
-  pub why : (length after < 2 * codes_counted count) ⊎ (codes_counted count ≡ 0)
+  pub why : (length after < code_length * codes_counted count) ⊎ (codes_counted count ≡ 0)
 
 abbrev pub FormatsNeedsNoMemory : List ℕ → Type 0
-FormatsNeedsNoMemory body = (length body < 3) ⊎ NeedsNoCodes body
+FormatsNeedsNoMemory body = (length body < first_code) ⊎ NeedsNoCodes body
 
 abbrev pub formats_shown : CopyResponseData → CopyFormats
 formats_shown response = record { format = response.format; num_columns = response.num_columns; format_codes = response.format_codes.items }

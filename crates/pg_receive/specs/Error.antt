@@ -8,50 +8,8 @@ use Rattle.pg_base.specs.declared.error.ErrorKind.{ErrorKind}
 use Rattle.pg_base.specs.declared.error.ErrorKind.TheVariants as kinds
 use Rattle.pg_receive.specs.Response.Fields.{Field, first_value, first_text}
 use Rattle.pg_receive.specs.Response.{NoticeValue}
+use Rattle.pg_receive.specs.Response.Letters.{line_letter, position_letter, internal_position_letter, internal_query_letter}
 use Rattle.pg_receive.specs.Decimal.{leading_decimal}
-
--- the letters of fields
-abbrev pub detail_letter : ℕ
-detail_letter = 68
-
-abbrev pub file_letter : ℕ
-file_letter = 70
-
-abbrev pub hint_letter : ℕ
-hint_letter = 72
-
-abbrev pub line_letter : ℕ
-line_letter = 76
-
-abbrev pub position_letter : ℕ
-position_letter = 80
-
-abbrev pub routine_letter : ℕ
-routine_letter = 82
-
-abbrev pub where_letter : ℕ
-where_letter = 87
-
-abbrev pub column_letter : ℕ
-column_letter = 99
-
-abbrev pub data_type_letter : ℕ
-data_type_letter = 100
-
-abbrev pub constraint_letter : ℕ
-constraint_letter = 110
-
-abbrev pub internal_position_letter : ℕ
-internal_position_letter = 112
-
-abbrev pub internal_query_letter : ℕ
-internal_query_letter = 113
-
-abbrev pub schema_letter : ℕ
-schema_letter = 115
-
-abbrev pub table_letter : ℕ
-table_letter = 116
 
 abbrev pub greatest_number : ℕ
 greatest_number = 18446744073709551615

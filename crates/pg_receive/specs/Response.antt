@@ -3,6 +3,7 @@
 pub mod Fields
 pub mod Laws
 pub mod Lengths
+pub mod Letters
 pub mod Places
 pub mod Severity
 use Rattle.std.specs.Prelude.{◌≡◌, ℕ, ◌==◌, Bool, true, false, ◌&&◌, List, [], ◌∷◌, map, find, Option, Some, None, is_some, unwrap_or, if◌then◌else◌}
@@ -14,20 +15,8 @@ use Rattle.pg_receive.specs.declared.message.response.severity.PgSeverity.{PgSev
 use Rattle.pg_receive.specs.declared.message.response.severity.PgSeverity.TheVariants.{Log}
 use Rattle.pg_receive.specs.Response.Fields.{Field, fields_in}
 use Rattle.pg_receive.specs.Last.{plain, last, first_fault_of}
+use Rattle.pg_receive.specs.Response.Letters.{code_letter, message_letter, localized_letter, severity_letter}
 use Rattle.pg_receive.specs.Response.Severity.{severity_of_word}
-
--- the letters of the fields that decide
-abbrev pub code_letter : ℕ
-code_letter = 67
-
-abbrev pub message_letter : ℕ
-message_letter = 77
-
-abbrev pub localized_letter : ℕ
-localized_letter = 83
-
-abbrev pub severity_letter : ℕ
-severity_letter = 86
 
 -- all fields, and what is read of them
 pub record NoticeValue : Type 0 where

@@ -6,9 +6,11 @@ ghost use Rattle.pg_base.specs.declared.format.BackendMessageFormat.TheVariants 
 ghost use Rattle.pg_receive.specs.Response.Fields.{first_text};
 ghost use Rattle.pg_receive.specs.Response.{NoticeValue, MeansNotice, IsNoticeFault};
 ghost use Rattle.pg_receive.specs.Response.Laws.{one_notice, notice_or_fault};
-ghost use Rattle.pg_receive.specs.Error.{detail_letter, hint_letter, where_letter, schema_letter, table_letter, column_letter, data_type_letter, constraint_letter, file_letter, line_letter, routine_letter, first_number, position_of, kind_of, is_transient, database_error_words};
+ghost use Rattle.pg_receive.specs.Error.{first_number, position_of, kind_of, is_transient, database_error_words};
+ghost use Rattle.pg_receive.specs.Response.Letters.{detail_letter, hint_letter, where_letter, schema_letter, table_letter, column_letter, data_type_letter, constraint_letter, file_letter, line_letter, routine_letter};
 
 use crate::message::decimal::leading_usize;
+use crate::message::response::letters;
 use crate::message::{BackendMessage, Notice, PgSeverity};
 use bytes::Bytes;
 use pg_base::io::MAX_BODY;
@@ -87,14 +89,14 @@ impl PgDatabaseError {
     pub fn detail(&self) -> Option<&str>
         ensures { option_copied result ≡ first_text detail_letter self.now.fields }
     {
-        self.0.get(b'D')
+        self.0.get(letters::DETAIL)
     }
 
     /// What may be done about the problem.
     pub fn hint(&self) -> Option<&str>
         ensures { option_copied result ≡ first_text hint_letter self.now.fields }
     {
-        self.0.get(b'H')
+        self.0.get(letters::HINT)
     }
 
     /// Where in a query the error was found: in the client's where `P` has a number, else in one of
@@ -102,12 +104,12 @@ impl PgDatabaseError {
     pub fn position(&self) -> Option<PgErrorPosition<'_>>
         ensures { option_map position_shown result ≡ position_of self.now.fields }
     {
-        if let Some(position) = self.number(b'P') {
+        if let Some(position) = self.number(letters::POSITION) {
             return Some(PgErrorPosition::Original(position));
         }
         Some(PgErrorPosition::Internal {
-            position: self.number(b'p')?,
-            query: self.0.get(b'q')?,
+            position: self.number(letters::INTERNAL_POSITION)?,
+            query: self.0.get(letters::INTERNAL_QUERY)?,
         })
     }
 
@@ -116,63 +118,63 @@ impl PgDatabaseError {
     pub fn where_(&self) -> Option<&str>
         ensures { option_copied result ≡ first_text where_letter self.now.fields }
     {
-        self.0.get(b'W')
+        self.0.get(letters::WHERE)
     }
 
     /// The schema of what the error is about.
     pub fn schema(&self) -> Option<&str>
         ensures { option_copied result ≡ first_text schema_letter self.now.fields }
     {
-        self.0.get(b's')
+        self.0.get(letters::SCHEMA)
     }
 
     /// The table that the error is about.
     pub fn table(&self) -> Option<&str>
         ensures { option_copied result ≡ first_text table_letter self.now.fields }
     {
-        self.0.get(b't')
+        self.0.get(letters::TABLE)
     }
 
     /// The column that the error is about.
     pub fn column(&self) -> Option<&str>
         ensures { option_copied result ≡ first_text column_letter self.now.fields }
     {
-        self.0.get(b'c')
+        self.0.get(letters::COLUMN)
     }
 
     /// The data type that the error is about.
     pub fn data_type(&self) -> Option<&str>
         ensures { option_copied result ≡ first_text data_type_letter self.now.fields }
     {
-        self.0.get(b'd')
+        self.0.get(letters::DATA_TYPE)
     }
 
     /// The constraint that the error is about.
     pub fn constraint(&self) -> Option<&str>
         ensures { option_copied result ≡ first_text constraint_letter self.now.fields }
     {
-        self.0.get(b'n')
+        self.0.get(letters::CONSTRAINT)
     }
 
     /// The file of the server's source where the error was reported.
     pub fn file(&self) -> Option<&str>
         ensures { option_copied result ≡ first_text file_letter self.now.fields }
     {
-        self.0.get(b'F')
+        self.0.get(letters::FILE)
     }
 
     /// The line in that file.
     pub fn line(&self) -> Option<usize>
         ensures { result ≡ first_number line_letter self.now.fields }
     {
-        self.number(b'L')
+        self.number(letters::LINE)
     }
 
     /// The routine of the server that reported the error.
     pub fn routine(&self) -> Option<&str>
         ensures { option_copied result ≡ first_text routine_letter self.now.fields }
     {
-        self.0.get(b'R')
+        self.0.get(letters::ROUTINE)
     }
 
     /// Which constraint was violated, by the code.

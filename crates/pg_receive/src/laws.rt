@@ -7,7 +7,8 @@ ghost use Rattle.pg_receive.specs.Authentication.SaslItems.{AreItems, items_in};
 ghost use Rattle.pg_receive.specs.DataRow.{MeansRow, IsAfter};
 ghost use Rattle.pg_receive.specs.Decimal.{leading_decimal};
 ghost use Rattle.pg_receive.specs.Last.{last, IsAbsent};
-ghost use Rattle.pg_receive.specs.Response.{NoticeValue, MeansNotice, code_letter, message_letter};
+ghost use Rattle.pg_receive.specs.Response.{NoticeValue, MeansNotice};
+ghost use Rattle.pg_receive.specs.Response.Letters.{code_letter, message_letter};
 ghost use Rattle.pg_receive.specs.Response.Fields.{Field, AreFields, fields_in, first_value, of_letter};
 ghost use Rattle.pg_receive.specs.RowDescription.{Column, MeansColumns};
 

@@ -11,7 +11,7 @@ mod parameter_description;
 mod parameter_status;
 mod ready_for_query;
 mod received;
-mod response;
+pub(crate) mod response;
 mod row_description;
 mod text;
 

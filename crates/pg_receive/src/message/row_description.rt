@@ -107,7 +107,7 @@ fn field_at(alloc: Global, body: &[u8], at: usize) -> Result<(Field, usize), Err
 
 // The column of a name and the numbers after it.
 fn field_of(name: String, numbers: &[u8]) -> Result<Field, ProtocolFault>
-    requires { length numbers.now ≡ NUMBERS_LENGTH }
+    requires { length numbers.now ≡ numbers_length }
     ensures whole { IsOk result }
     ensures name { IfOk result (λ field. (column_of field).name ≡ string_bytes name) }
     ensures numbers { IfOk result (λ field. SpellsNumbers numbers.now (column_of field)) }

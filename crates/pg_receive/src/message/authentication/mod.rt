@@ -10,7 +10,7 @@ ghost use Rattle.pg_base.specs.Decode.{Decodes};
 ghost use Rattle.pg_base.specs.Error.{IsShort};
 ghost use Rattle.pg_base.specs.declared.format.BackendMessageFormat.TheVariants as formats;
 ghost use Rattle.pg_receive.specs.Authentication.Mechanisms.{mechanisms_in};
-ghost use Rattle.pg_receive.specs.Authentication.{AuthenticationValue, md5_password, MeansRest, MeansAuthentication, IsAuthenticationFault, IsNoSaslData};
+ghost use Rattle.pg_receive.specs.Authentication.{AuthenticationValue, md5_password, method_length, salt_length, MeansRest, MeansAuthentication, IsAuthenticationFault, IsNoSaslData};
 ghost use Rattle.pg_receive.specs.Authentication.Laws.{one_authentication, authentication_or_fault};
 
 use crate::message::BackendMessage;
@@ -23,6 +23,7 @@ pub use sasl_final::AuthenticationSaslFinal;
 use std::alloc::Global;
 use std::marker::Model;
 
+// The numbers of the methods.
 const OK: u32 = 0;
 
 const CLEARTEXT_PASSWORD: u32 = 3;
@@ -130,9 +131,9 @@ impl BackendMessage for Authentication {
 }
 
 fn md5_password_of(body: &[u8]) -> Result<AuthenticationMd5Password, ProtocolFault>
-    requires { METHOD_LENGTH ≤ length body.now }
-    ensures salt { IfOk result (λ password. MeansRest (drop METHOD_LENGTH body.now) (md5_password password.salt)) }
-    ensures short { IfErr result (λ fault. IsShort body.now METHOD_LENGTH SALT_LENGTH fault) }
+    requires { method_length ≤ length body.now }
+    ensures salt { IfOk result (λ password. MeansRest (drop method_length body.now) (md5_password password.salt)) }
+    ensures short { IfErr result (λ fault. IsShort body.now method_length salt_length fault) }
 {
     let mut salt = [0; SALT_LENGTH];
     salt.copy_from_slice(bytes_at(body, METHOD_LENGTH, SALT_LENGTH)?);

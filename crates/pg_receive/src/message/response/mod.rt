@@ -2,6 +2,7 @@
 
 mod fields;
 mod lengths;
+pub(crate) mod letters;
 mod read;
 mod severity;
 
@@ -11,7 +12,8 @@ ghost use Rattle.pg_base.specs.Decode.{Decodes};
 ghost use Rattle.pg_base.specs.declared.format.BackendMessageFormat.TheVariants as formats;
 ghost use Rattle.pg_receive.specs.Response.Lengths.{HasLengths};
 ghost use Rattle.pg_receive.specs.Response.Fields.{fields_in, first_value, first_text, of_letter};
-ghost use Rattle.pg_receive.specs.Response.{NoticeValue, MeansNotice, IsNoticeFault, code_letter, message_letter};
+ghost use Rattle.pg_receive.specs.Response.{NoticeValue, MeansNotice, IsNoticeFault};
+ghost use Rattle.pg_receive.specs.Response.Letters.{code_letter, message_letter};
 ghost use Rattle.pg_receive.specs.Response.Laws.{one_notice, notice_or_fault};
 ghost use Rattle.pg_receive.specs.Response.Places.{IsPlaceIn, bytes_in};
 

@@ -8,23 +8,16 @@ ghost use Rattle.std.specs.Option.{option_or, unwrap_or};
 ghost use Rattle.pg_receive.specs.declared.message.response.severity.PgSeverity.TheVariants.{Log};
 ghost use Rattle.pg_receive.specs.Response.Severity.{severity_of_word};
 ghost use Rattle.pg_base.specs.declared.error.ProtocolFault.TheVariants.{NoticeNotUtf8};
-ghost use Rattle.pg_receive.specs.Response.{Read, field_fault, notice_fault, code_letter, message_letter, severity_letter, localized_letter};
+ghost use Rattle.pg_receive.specs.Response.{Read, field_fault, notice_fault};
+ghost use Rattle.pg_receive.specs.Response.Letters.{code_letter, message_letter, severity_letter, localized_letter};
 ghost use Rattle.pg_receive.specs.Response.Places.{IsPlaceIn, bytes_in};
 
 use crate::message::response::PgSeverity;
 use crate::message::response::fields::split_field;
+use crate::message::response::letters::{CODE, LOCALIZED_SEVERITY, MESSAGE, SEVERITY};
 use crate::message::utf8_text;
 use pg_base::{Error, ProtocolFault};
 use std::ops::Range;
-
-const CODE: u8 = b'C';
-
-const MESSAGE: u8 = b'M';
-
-// The severity in the language of the server's messages.
-const LOCALIZED_SEVERITY: u8 = b'S';
-
-const SEVERITY: u8 = b'V';
 
 /// What the fields that are read say. The ranges are of offsets in the body.
 #[derive(Drop)]
