@@ -4,6 +4,7 @@ ghost use Rattle.std.specs.Prelude.{◌≡◌, ℕ, ◌+◌, ◌*◌, ◌≤◌,
 ghost use Rattle.pg_base.specs.Atoi.{Atoi};
 ghost use Rattle.pg_receive.specs.Authentication.Mechanisms.{AreMechanisms, mechanisms_in};
 ghost use Rattle.pg_receive.specs.Authentication.SaslItems.{AreItems, items_in};
+ghost use Rattle.pg_receive.specs.CommandComplete.{IsRowsAffected, row_count};
 ghost use Rattle.pg_receive.specs.DataRow.{MeansRow, IsAfter};
 ghost use Rattle.pg_receive.specs.Decimal.{leading_decimal};
 ghost use Rattle.pg_receive.specs.Last.{last, IsAbsent};
@@ -45,6 +46,13 @@ pub fn fields_are_in_order()
 pub fn sasl_items_are_between_commas()
     ensures are { (bytes : List ℕ) → AreItems bytes (items_in bytes) }
     ensures only { (bytes : List ℕ) (items : List (List ℕ)) → AreItems bytes items → items ≡ items_in bytes }
+{}
+
+/// The rows that a tag counts are the number after its last space, or 0 where there is no space or no
+/// number, and nothing else.
+pub fn rows_follow_the_last_space()
+    ensures are { (tag : List ℕ) → IsRowsAffected tag (row_count tag) }
+    ensures only { (tag : List ℕ) (rows : ℕ) → IsRowsAffected tag rows → rows ≡ row_count tag }
 {}
 
 /// The number at the front of a field or an item is the one that `atoi` finds there, and no other.
