@@ -1,7 +1,6 @@
 //! An error of the server.
 
-ghost use Rattle.std.specs.Prelude.{◌≡◌, ◌≤◌, Some, None, length, option_copied, option_map};
-ghost use Rattle.pg_base.specs.Decode.{Decodes};
+ghost use Rattle.std.specs.Prelude.{◌≡◌, Some, None, option_copied, option_map};
 ghost use Rattle.pg_base.specs.declared.format.BackendMessageFormat.TheVariants as formats;
 ghost use Rattle.pg_receive.specs.Response.Fields.{first_text};
 ghost use Rattle.pg_receive.specs.Response.{NoticeValue, MeansNotice, IsNoticeFault};
@@ -13,7 +12,6 @@ use crate::message::decimal::leading_usize;
 use crate::message::response::letters;
 use crate::message::{BackendMessage, Notice, PgSeverity};
 use bytes::Bytes;
-use pg_base::io::MAX_BODY;
 use pg_base::{BackendMessageFormat, Error, ErrorKind};
 use std::alloc::Global;
 use std::fmt;

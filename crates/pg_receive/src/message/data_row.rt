@@ -2,12 +2,12 @@
 
 mod cell_end;
 
-ghost use Rattle.std.specs.Prelude.{◌≡◌, ℕ, ◌+◌, ◌*◌, ◌<◌, ◌≤◌, List, ◌∷◌, ◌++◌, Option, length, drop, None, Some, IfOk, IfErr, slice_get, slice_index};
+ghost use Rattle.std.specs.Prelude.{◌≡◌, ℕ, ◌+◌, ◌*◌, ◌<◌, ◌≤◌, List, Option, length, drop, None, Some, IfOk, IfErr, slice_get};
 ghost use Rattle.std.specs.Option.{option_copied};
 ghost use Rattle.pg_base.specs.Decode.{Decodes};
 ghost use Rattle.pg_base.specs.declared.format.BackendMessageFormat.TheVariants as formats;
 ghost use Rattle.pg_receive.specs.DataRow.CellEnd.{end_of, cell_to, cells_from, start_of, first_cell, EndsRise};
-ghost use Rattle.pg_receive.specs.DataRow.{SpellsCell, IsCellFault, MeansRow, IsRowFault, RowNeedsNoMemory, IsAfter};
+ghost use Rattle.pg_receive.specs.DataRow.{SpellsCell, IsCellFault, MeansRow, IsRowFault, RowNeedsNoMemory};
 ghost use Rattle.pg_receive.specs.CountedItems.{IsEncodedAt};
 
 use crate::message::BackendMessage;

@@ -1,7 +1,6 @@
 //! Numbers in decimal, as a message has them.
 
-ghost use Rattle.std.specs.Prelude.{◌≡◌, ℕ, List, Option};
-ghost use Rattle.pg_base.specs.Atoi.{Atoi};
+ghost use Rattle.std.specs.Prelude.{◌≡◌, Option};
 ghost use Rattle.pg_receive.specs.Decimal.{leading_decimal};
 
 use pg_base::io::{atoi_u32, atoi_u64, atoi_usize};

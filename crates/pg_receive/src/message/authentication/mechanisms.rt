@@ -1,8 +1,8 @@
 //! The SASL mechanisms that a server offers.
 
-ghost use Rattle.std.specs.Prelude.{◌≡◌, ℕ, ◌*◌, ◌≤◌, List, [], length, IfSome, IfNone};
+ghost use Rattle.std.specs.Prelude.{◌≡◌, ℕ, List, [], IfSome, IfNone};
 ghost use Rattle.std.specs.Iterator.{YieldsFirstRef, item_count};
-ghost use Rattle.pg_receive.specs.Authentication.Mechanisms.{BeginsWithName, AreMechanisms, mechanisms_in};
+ghost use Rattle.pg_receive.specs.Authentication.Mechanisms.{BeginsWithName, mechanisms_in};
 
 use crate::message::{split_text, utf8_text};
 use std::marker::Model;

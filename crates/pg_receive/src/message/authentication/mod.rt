@@ -5,8 +5,7 @@ mod sasl_continue;
 mod sasl_final;
 mod sasl_items;
 
-ghost use Rattle.std.specs.Prelude.{◌≡◌, ◌≤◌, ℕ, ◌+◌, List, length, take, drop, None, IfOk, IfErr};
-ghost use Rattle.pg_base.specs.Decode.{Decodes};
+ghost use Rattle.std.specs.Prelude.{◌≡◌, ◌≤◌, ℕ, List, length, drop, IfOk, IfErr};
 ghost use Rattle.pg_base.specs.Error.{IsShort};
 ghost use Rattle.pg_base.specs.declared.format.BackendMessageFormat.TheVariants as formats;
 ghost use Rattle.pg_receive.specs.Authentication.Mechanisms.{mechanisms_in};
@@ -14,9 +13,9 @@ ghost use Rattle.pg_receive.specs.Authentication.{AuthenticationValue, md5_passw
 ghost use Rattle.pg_receive.specs.Authentication.Laws.{one_authentication, authentication_or_fault};
 
 use crate::message::BackendMessage;
-use bytes::{Buf, Bytes};
+use bytes::Bytes;
 pub use mechanisms::SaslMechanisms;
-use pg_base::io::{MAX_BODY, bytes_at, u32_at};
+use pg_base::io::{bytes_at, u32_at};
 use pg_base::{BackendMessageFormat, Error, ProtocolFault};
 pub use sasl_continue::AuthenticationSaslContinue;
 pub use sasl_final::AuthenticationSaslFinal;

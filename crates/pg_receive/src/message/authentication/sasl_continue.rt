@@ -1,6 +1,6 @@
 //! The challenge of a server in a SASL exchange.
 
-ghost use Rattle.std.specs.Prelude.{◌≡◌, ◌==◌, ℕ, List, [], ◌∷◌, None, Some, OnOk, if◌then◌else◌};
+ghost use Rattle.std.specs.Prelude.{◌≡◌, [], ◌∷◌, None, Some, OnOk};
 ghost use Rattle.pg_base.specs.Decode.{Decodes};
 ghost use Rattle.pg_receive.specs.Last.{plain, last};
 ghost use Rattle.pg_receive.specs.Authentication.SaslItems.{keyed, item_fault, base64_value};

@@ -1,8 +1,8 @@
 //! The fields of an error or a notice.
 
-ghost use Rattle.std.specs.Prelude.{◌≡◌, ℕ, ◌*◌, ◌≤◌, List, [], length, IfSome, IfNone};
+ghost use Rattle.std.specs.Prelude.{◌≡◌, ◌*◌, List, [], IfSome, IfNone};
 ghost use Rattle.std.specs.Iterator.{YieldsFirstBy, item_count};
-ghost use Rattle.pg_receive.specs.Response.Fields.{Field, BeginsWithField, AreFields, fields_in};
+ghost use Rattle.pg_receive.specs.Response.Fields.{Field, BeginsWithField, fields_in};
 
 use crate::message::split_text;
 use std::marker::Model;

@@ -6,14 +6,11 @@ pub(crate) mod letters;
 mod read;
 mod severity;
 
-ghost use Rattle.std.specs.Prelude.{◌≡◌, ◌≤◌, ℕ, List, [], length, None, option_copied, unwrap_or};
-ghost use Rattle.std.specs.Str.{is_utf8};
-ghost use Rattle.pg_base.specs.Decode.{Decodes};
+ghost use Rattle.std.specs.Prelude.{◌≡◌, option_copied};
 ghost use Rattle.pg_base.specs.declared.format.BackendMessageFormat.TheVariants as formats;
 ghost use Rattle.pg_receive.specs.Response.Lengths.{HasLengths};
-ghost use Rattle.pg_receive.specs.Response.Fields.{fields_in, first_value, first_text, of_letter};
+ghost use Rattle.pg_receive.specs.Response.Fields.{fields_in, first_value, first_text};
 ghost use Rattle.pg_receive.specs.Response.{NoticeValue, MeansNotice, IsNoticeFault};
-ghost use Rattle.pg_receive.specs.Response.Letters.{code_letter, message_letter};
 ghost use Rattle.pg_receive.specs.Response.Laws.{one_notice, notice_or_fault};
 ghost use Rattle.pg_receive.specs.Response.Places.{IsPlaceIn, bytes_in};
 
@@ -21,7 +18,7 @@ use crate::message::{BackendMessage, utf8_text};
 use bytes::Bytes;
 pub use fields::Fields;
 use lengths::{lengths_of, value_in};
-use pg_base::io::{MAX_BODY, ProtocolDecode};
+use pg_base::io::ProtocolDecode;
 use pg_base::{BackendMessageFormat, Error};
 pub use severity::PgSeverity;
 use smallvec::SmallVec;

@@ -1,9 +1,8 @@
 //! The part of an error or a notice that is read when it is decoded.
 
-ghost use Rattle.std.specs.Prelude.{◌≡◌, ℕ, ◌+◌, ◌≤◌, List, [], length, None, Some, slice_range, IfOk, OnOk, IfErr, if◌then◌else◌, ◌==◌, ◌&&◌, nat_lt, true, false};
+ghost use Rattle.std.specs.Prelude.{◌≡◌, ◌+◌, None, Some, IfOk, OnOk, IfErr, if◌then◌else◌, ◌==◌, ◌&&◌, nat_lt, true, false};
 ghost use Rattle.std.specs.Str.{is_utf8};
 ghost use Rattle.pg_receive.specs.Response.Fields.{fields_in};
-ghost use Rattle.pg_receive.specs.Last.{last, first_fault_of};
 ghost use Rattle.std.specs.Option.{option_or, unwrap_or};
 ghost use Rattle.pg_receive.specs.declared.message.response.severity.PgSeverity.TheVariants.{Log};
 ghost use Rattle.pg_receive.specs.Response.Severity.{severity_of_word};
@@ -16,7 +15,7 @@ use crate::message::response::PgSeverity;
 use crate::message::response::fields::split_field;
 use crate::message::response::letters::{CODE, LOCALIZED_SEVERITY, MESSAGE, SEVERITY};
 use crate::message::utf8_text;
-use pg_base::{Error, ProtocolFault};
+use pg_base::ProtocolFault;
 use std::ops::Range;
 
 /// What the fields that are read say. The ranges are of offsets in the body.
