@@ -1,5 +1,5 @@
 -- What is read of the fields that are left is what is read of all.
-use Rattle.std.proofs.Common.{◌≡◌, ℕ, ◌==◌, Bool, true, false, List, [], ◌∷◌, map, Option, Some, None, unwrap_or, cond, refl, sym}
+use Rattle.std.proofs.Common.{◌≡◌, ℕ, ◌==◌, Bool, true, false, List, [], ◌∷◌, map, Option, Some, None, unwrap_or, cond, refl, sym, ◌∙◌}
 use Rattle.std.specs.Prelude.{find, option_map, if◌then◌else◌}
 use Rattle.pg_base.specs.declared.error.ProtocolFault.{ProtocolFault}
 use Rattle.pg_receive.specs.declared.message.response.severity.PgSeverity.{PgSeverity}
@@ -74,6 +74,19 @@ left_more all field fields message code severity localized h clean l =
 pub left_fault : (all : List Field) (field : Field) (fields : List Field) (message code : List ℕ) (severity localized : Option PgSeverity) (fault : ProtocolFault) → is_full message code [] ≡ false
     → field_fault field ≡ Some fault → Left all (field ∷ fields) message code severity localized → first_fault_of field_fault (read_part all) ≡ Some fault
 left_fault all field fields message code severity localized fault h is l = sym (rw (part_step message code field fields h, is) at l.faults)
+
+-- where enough was read, it doesn't matter which fields are left
+pub left_past : (all left other : List Field) (message code : List ℕ) (severity localized : Option PgSeverity) → is_full message code [] ≡ true → Left all left message code severity localized
+    → Left all other message code severity localized
+left_past all left other message code severity localized h l =
+    let same : part_after message code left ≡ part_after message code other = part_full message code left h ∙ sym (part_full message code other h) in
+    record {
+      faults = rw same at l.faults;
+      messages = rw same at l.messages;
+      codes = rw same at l.codes;
+      severities = rw same at l.severities;
+      words = rw same at l.words;
+    }
 
 -- where nothing is left to be read, all is read
 read_none : (all left : List Field) (message code : List ℕ) (severity localized : Option PgSeverity) → part_after message code left ≡ [] → Left all left message code severity localized

@@ -13,7 +13,7 @@ use Rattle.pg_receive.specs.Response.{is_nonempty, is_full, field_fault, notice_
 use Rattle.pg_receive.specs.Response.Letters.{code_letter, message_letter, localized_letter, severity_letter}
 use Rattle.pg_receive.specs.Response.Places.{Place, bytes_in, IsPlaceIn}
 use Rattle.pg_receive.proofs.ResponseFieldsLemmas.{fields_at}
-use Rattle.pg_receive.proofs.ResponseLemmas.{Left, left_all, left_more, left_fault}
+use Rattle.pg_receive.proofs.ResponseLemmas.{Left, left_all, left_more, left_past, left_fault}
 
 -- what was read of a body whose rest is left
 pub record Kept (body rest : List ℕ) (message code : Place) (severity localized : Option PgSeverity) : Type 0 where
@@ -107,6 +107,16 @@ kept_more body rest letter value after start message code message' code' severit
           rw (seen_place body (letter == message_letter) value place message message' there.0 taken.message_is, seen_place body (letter == code_letter) value place code code' there.0 taken.code_is, taken.severity_is, taken.localized_is)
           (left_more (fields_in body) (letter, value) (fields_in after) (bytes_in body message) (bytes_in body code) severity localized partial taken.clean (rw (fields_at rest letter value after field) at kept.left));
     }
+
+pub kept_past : (body rest : List ℕ) (letter : ℕ) (value after : List ℕ) (message code : Place) (severity localized : Option PgSeverity)
+    → is_full (bytes_in body message) (bytes_in body code) [] ≡ true → BeginsWithField rest letter value after → Kept body rest message code severity localized → Kept body after message code severity localized
+kept_past body rest letter value after message code severity localized full field kept = record {
+  front = kept.front ++ ((letter ∷ value) ++ 0 ∷ []);
+  parts = kept.parts ∙ ap (λ (more : List ℕ). kept.front ++ more) field.parts ∙ regroup kept.front letter value after;
+  message_in = kept.message_in;
+  code_in = kept.code_in;
+  left = left_past (fields_in body) (fields_in rest) (fields_in after) (bytes_in body message) (bytes_in body code) severity localized full kept.left;
+}
 
 pub kept_fault : (body rest : List ℕ) (letter : ℕ) (value after : List ℕ) (message code : Place) (severity localized : Option PgSeverity) (fault : ProtocolFault)
     → is_full (bytes_in body message) (bytes_in body code) [] ≡ false → BeginsWithField rest letter value after → field_fault (letter, value) ≡ Some fault

@@ -16,3 +16,7 @@ AreLengths bytes (len ∷ lens) rest = (after : List ℕ) × BeginsWithLength by
 
 abbrev pub HasLengths : List ℕ → List ℕ → Type 0
 HasLengths bytes lens = (rest : List ℕ) × AreLengths bytes lens rest
+
+-- the most lengths that are kept
+abbrev pub most_lengths : ℕ
+most_lengths = 16

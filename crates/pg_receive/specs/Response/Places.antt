@@ -1,5 +1,5 @@
 -- Places in a body, each a range of offsets.
-use Rattle.std.specs.Prelude.{ℕ, ◌≤◌, List, length, slice_range}
+use Rattle.std.specs.Prelude.{ℕ, ◌≤◌, nat_lt, Bool, ◌&&◌, List, length, slice_range}
 use Rattle.std.specs.Str.{IsUtf8}
 use Rattle.std.specs.declared.ops.Range.{Range}
 
@@ -15,3 +15,7 @@ pub record IsPlaceIn (body : List ℕ) (place : Place) : Type 0 where
   pub ordered : place.start ≤ place.end
   pub within : place.end ≤ length body
   pub utf8 : IsUtf8 (bytes_in body place)
+
+-- neither place is empty
+abbrev pub are_full : Place → Place → Bool
+are_full message code = nat_lt message.start message.end && nat_lt code.start code.end

@@ -17,7 +17,7 @@ ghost use Rattle.pg_receive.specs.Response.Places.{IsPlaceIn, bytes_in};
 use crate::message::{BackendMessage, utf8_text};
 use bytes::Bytes;
 pub use fields::Fields;
-use lengths::{lengths_of, value_in};
+use lengths::value_in;
 use pg_base::io::ProtocolDecode;
 use pg_base::{BackendMessageFormat, Error};
 pub use severity::PgSeverity;
@@ -112,9 +112,9 @@ impl ProtocolDecode for Notice {
     ghost NeedsNoMemory = { λ _. Unit {0} };
 
     fn decode(alloc: Global, buf: Bytes) -> Result<Self, Error> {
-        let part = read::read(buf.as_slice())?;
+        let (part, lengths) = read::read(alloc, buf.as_slice())?;
         Ok(Notice {
-            lengths: lengths_of(alloc, buf.as_slice()),
+            lengths,
             severity: part.severity(),
             message: part.message,
             code: part.code,
