@@ -1,21 +1,20 @@
 -- The names of SASL mechanisms: texts that are not empty, one after the other. Documentation:
 -- "Message Formats", AuthenticationSASL (B).
-use Rattle.std.specs.Prelude.{◌≡◌, ◌≢◌, ℕ, Bool, true, false, List, [], ◌∷◌, if◌then◌else◌}
+use Rattle.std.specs.Prelude.{◌≡◌, ◌≢◌, ℕ, Bool, true, false, List, [], ◌∷◌, Option, Some, None, if◌then◌else◌}
 use Rattle.std.specs.Str.{is_utf8}
 use Rattle.pg_base.specs.Reading.{Text}
-use Rattle.pg_receive.specs.EndedTexts.{texts_in}
+use Rattle.pg_receive.specs.EndedTexts.{texts_in, meanings_of, AreInOrder}
 
 abbrev pub is_name : List ℕ → Bool
 is_name [] = false
 is_name (byte ∷ bytes) = is_utf8 (byte ∷ bytes)
 
--- the texts up to the first that is no name
-abbrev pub names_of : List (List ℕ) → List (List ℕ)
-names_of [] = []
-names_of (text ∷ texts) = if is_name text then text ∷ names_of texts else []
+abbrev pub name_of : List ℕ → Option (List ℕ)
+name_of text = if is_name text then Some text else None
 
+-- the texts up to the first that is no name
 abbrev pub mechanisms_in : List ℕ → List (List ℕ)
-mechanisms_in bytes = names_of (texts_in bytes)
+mechanisms_in bytes = meanings_of name_of (texts_in bytes)
 
 -- the bytes begin with this name
 pub record BeginsWithName (bytes name rest : List ℕ) : Type 0 where
@@ -25,5 +24,4 @@ pub record BeginsWithName (bytes name rest : List ℕ) : Type 0 where
 
 -- these are the names: each begins what the ones before it leave, and no other begins the rest
 abbrev pub AreMechanisms : List ℕ → List (List ℕ) → Type 0
-AreMechanisms bytes [] = (name rest : List ℕ) → ¬ BeginsWithName bytes name rest
-AreMechanisms bytes (name ∷ more) = (rest : List ℕ) × BeginsWithName bytes name rest × AreMechanisms rest more
+AreMechanisms bytes names = AreInOrder BeginsWithName bytes names

@@ -4,20 +4,20 @@ use Rattle.std.specs.Prelude.{◌≡◌, ◌≢◌, ℕ, ◌==◌, List, [], ◌
 use Rattle.std.specs.List.{filter}
 use Rattle.std.specs.Str.{is_utf8}
 use Rattle.pg_base.specs.Reading.{HoldsNo}
-use Rattle.pg_receive.specs.EndedTexts.{texts_in}
+use Rattle.pg_receive.specs.EndedTexts.{texts_in, meanings_of, AreInOrder}
 
 -- a letter and what it says
 abbrev pub Field : Type 0
 Field = ℕ × List ℕ
 
--- the texts up to the first empty one, each split after its letter
-abbrev pub lettered : List (List ℕ) → List Field
-lettered [] = []
-lettered ([] ∷ texts) = []
-lettered ((letter ∷ value) ∷ texts) = (letter, value) ∷ lettered texts
+-- a text split after its letter; an empty text is no field
+abbrev pub field_of : List ℕ → Option Field
+field_of [] = None
+field_of (letter ∷ value) = Some (letter, value)
 
+-- the texts up to the first empty one, each a field
 abbrev pub fields_in : List ℕ → List Field
-fields_in bytes = lettered (texts_in bytes)
+fields_in bytes = meanings_of field_of (texts_in bytes)
 
 -- the bytes begin with this field
 pub record BeginsWithField (bytes : List ℕ) (letter : ℕ) (value rest : List ℕ) : Type 0 where
@@ -27,8 +27,7 @@ pub record BeginsWithField (bytes : List ℕ) (letter : ℕ) (value rest : List 
 
 -- these are the fields: each begins what the ones before it leave, and no other begins the rest
 abbrev pub AreFields : List ℕ → List Field → Type 0
-AreFields bytes [] = (letter : ℕ) (value rest : List ℕ) → ¬ BeginsWithField bytes letter value rest
-AreFields bytes (field ∷ more) = (rest : List ℕ) × BeginsWithField bytes field.0 field.1 rest × AreFields rest more
+AreFields bytes fields = AreInOrder (λ begun field rest. BeginsWithField begun field.0 field.1 rest) bytes fields
 
 -- what the first field of a letter says
 abbrev pub first_value : ℕ → List Field → Option (List ℕ)
