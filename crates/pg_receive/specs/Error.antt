@@ -30,13 +30,29 @@ internal_of fields =
 abbrev pub position_of : List Field → Option ErrorPosition
 position_of fields = option_or (option_map original (first_number position_letter fields)) (internal_of fields)
 
+-- the codes of violations. Documentation: "PostgreSQL Error Codes", class 23
+abbrev pub unique_violation_code : List ℕ
+unique_violation_code = codes "23505"
+
+abbrev pub foreign_key_violation_code : List ℕ
+foreign_key_violation_code = codes "23503"
+
+abbrev pub not_null_violation_code : List ℕ
+not_null_violation_code = codes "23502"
+
+abbrev pub check_violation_code : List ℕ
+check_violation_code = codes "23514"
+
+abbrev pub exclusion_violation_code : List ℕ
+exclusion_violation_code = codes "23P01"
+
 abbrev pub kind_of : List ℕ → ErrorKind
 kind_of code =
-    if bytes_eq code (codes "23505") then kinds.UniqueViolation
-    else (if bytes_eq code (codes "23503") then kinds.ForeignKeyViolation
-    else (if bytes_eq code (codes "23502") then kinds.NotNullViolation
-    else (if bytes_eq code (codes "23514") then kinds.CheckViolation
-    else (if bytes_eq code (codes "23P01") then kinds.ExclusionViolation else kinds.Other))))
+    if bytes_eq code unique_violation_code then kinds.UniqueViolation
+    else (if bytes_eq code foreign_key_violation_code then kinds.ForeignKeyViolation
+    else (if bytes_eq code not_null_violation_code then kinds.NotNullViolation
+    else (if bytes_eq code check_violation_code then kinds.CheckViolation
+    else (if bytes_eq code exclusion_violation_code then kinds.ExclusionViolation else kinds.Other))))
 
 -- too many connections, or a server that is still starting
 abbrev pub is_transient : List ℕ → Bool

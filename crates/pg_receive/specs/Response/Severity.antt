@@ -18,6 +18,17 @@ severity_name severities.Debug = codes "DEBUG"
 severity_name severities.Info = codes "INFO"
 severity_name severities.Log = codes "LOG"
 
+-- the number of a severity by cast
+abbrev pub severity_number : PgSeverity → ℕ
+severity_number severities.Panic = 0
+severity_number severities.Fatal = 1
+severity_number severities.Error = 2
+severity_number severities.Warning = 3
+severity_number severities.Notice = 4
+severity_number severities.Debug = 5
+severity_number severities.Info = 6
+severity_number severities.Log = 7
+
 abbrev pub all_severities : List PgSeverity
 all_severities =
     severities.Panic ∷ severities.Fatal ∷ severities.Error ∷ severities.Warning ∷ severities.Notice ∷ severities.Debug ∷ severities.Info ∷ severities.Log ∷ []

@@ -6,3 +6,15 @@ returns-clause-is c = last_is
 
 pub returns-clause-none : goal.returns-clause-none
 returns-clause-none c = last_none
+
+pub returns-clause-number : goal.returns-clause-number
+returns-clause-number c = last_is
+
+pub returns-clause-no_number : goal.returns-clause-no_number
+returns-clause-no_number c = last_none
+
+pub returns-clause-severity : goal.returns-clause-severity
+returns-clause-severity c = last_is
+
+pub returns-clause-no_severity : goal.returns-clause-no_severity
+returns-clause-no_severity c = last_none
