@@ -18,8 +18,7 @@ abbrev pub after_last : ℕ → List ℕ → Option (List ℕ)
 after_last byte [] = None
 after_last byte (b ∷ bytes) = option_or (after_last byte bytes) (if b == byte then Some bytes else None)
 
--- how many rows a tag counts: the number after its last space, and 0 where there is no space or no
--- number
+-- how many rows a tag counts: the number after its last space, or else 0
 abbrev pub row_count : List ℕ → ℕ
 row_count tag = unwrap_or (option_and_then (leading_decimal max_rows) (after_last space tag)) 0
 
@@ -35,7 +34,7 @@ pub record HasRowCount (tag : List ℕ) (rows : ℕ) : Type 0 where
   pub after : AfterLastSpace tag tail
   pub number : Atoi max_rows tail (Some rows)
 
--- it is the number after the last space, and 0 where there is no space or no number
+-- it is the number after the last space, or 0 if no number follows a last space
 abbrev pub IsRowsAffected : List ℕ → ℕ → Type 0
 IsRowsAffected tag rows =
     HasRowCount tag rows ⊎ ((rows ≡ 0) × ((tail : List ℕ) → AfterLastSpace tag tail → Atoi max_rows tail None))

@@ -46,10 +46,10 @@ pub enum PgErrorPosition<'a> {
     Internal { position: usize, query: &'a str },
 }
 
-/// An error of the server. Documentation: "Message Formats", ErrorResponse (B).
+/// An error that the server reports. Documentation: "Message Formats", ErrorResponse (B).
 ///
-/// Its body is that of a [`Notice`]. An accessor answers the first field of its letter, and nothing
-/// where that is missing or isn't UTF-8. Documentation: "Error and Notice Message Fields".
+/// Its body is that of a [`Notice`]. An accessor answers the first field of its letter, or `None` if
+/// that is missing or isn't UTF-8. Documentation: "Error and Notice Message Fields".
 #[derive(Drop)]
 pub struct PgDatabaseError(Notice);
 
@@ -83,14 +83,14 @@ impl PgDatabaseError {
         self.0.message()
     }
 
-    /// More about the problem, on one line or several.
+    /// The problem in more words, maybe on several lines.
     pub fn detail(&self) -> Option<&str>
         ensures { option_copied result ≡ first_text detail_letter self.now.fields }
     {
         self.0.get(letters::DETAIL)
     }
 
-    /// What may be done about the problem.
+    /// Advice on how to solve it.
     pub fn hint(&self) -> Option<&str>
         ensures { option_copied result ≡ first_text hint_letter self.now.fields }
     {
@@ -111,8 +111,8 @@ impl PgDatabaseError {
         })
     }
 
-    /// What the server was doing, as a trace with one entry a line. Its field is named `where`,
-    /// which is a keyword.
+    /// The calls that led to the error, each on a line of its own. The underscore keeps the name
+    /// apart from the keyword.
     pub fn where_(&self) -> Option<&str>
         ensures { option_copied result ≡ first_text where_letter self.now.fields }
     {

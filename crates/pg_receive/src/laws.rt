@@ -59,8 +59,8 @@ pub fn sasl_items_are_between_commas()
     ensures only { (bytes : List ℕ) (items : List (List ℕ)) → AreItems bytes items → items ≡ items_in bytes }
 {}
 
-/// The rows that a tag counts are the number after its last space, or 0 where there is no space or no
-/// number, and nothing else.
+/// The rows that a tag counts are the number after its last space, or 0 if no number follows a last
+/// space.
 pub fn rows_follow_the_last_space()
     ensures are { (tag : List ℕ) → IsRowsAffected tag (row_count tag) }
     ensures only { (tag : List ℕ) (rows : ℕ) → IsRowsAffected tag rows → rows ≡ row_count tag }

@@ -20,7 +20,7 @@ const FIRST_CODE: usize = 3;
 // The bytes of a format code.
 const CODE_LENGTH: usize = 2;
 
-/// How the data of a COPY is spelled. Format codes are 0 for text and 1 for binary.
+/// How the data of a COPY is spelled. A format code of 0 means text, and 1 means binary.
 #[derive(Drop)]
 pub struct CopyResponseData {
     /// The format of the data as a whole.

@@ -21,11 +21,11 @@ const ERROR: u8 = b'E';
 /// Whether a transaction is open. As a number it is the letter of the message.
 #[derive(Clone, Copy, Debug, PartialEq, Eq)]
 pub enum TransactionStatus {
-    /// Not in a transaction block.
+    /// No transaction is open.
     Idle = IDLE as isize,
-    /// In a transaction block.
+    /// One is open.
     Transaction = TRANSACTION as isize,
-    /// In a transaction block that failed: queries are refused until it ends.
+    /// One is open and has failed; until it ends the server refuses queries.
     Error = ERROR as isize,
 }
 

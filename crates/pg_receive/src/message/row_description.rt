@@ -44,7 +44,7 @@ pub struct Field {
     pub data_type_size: i16,
     /// The type's modifier; its meaning depends on the type.
     pub type_modifier: i32,
-    /// The format code, 0 for text and 1 for binary.
+    /// The format code of the values: 0 means text, and 1 means binary.
     pub format: i16,
 }
 

@@ -9,8 +9,8 @@ use std::marker::Model;
 
 /// The names of the mechanisms, in order. Documentation: "Message Formats", AuthenticationSASL (B).
 ///
-/// They end before the first name that is empty, isn't UTF-8 or has no NUL, and at the end of the
-/// bytes. After them the iterator has none any more.
+/// The list stops at a name that is empty, that isn't UTF-8 or that no NUL ends, or else where the
+/// bytes stop. The iterator then stays at its end.
 #[derive(Drop)]
 pub struct SaslMechanisms<'a> {
     rest: &'a [u8],

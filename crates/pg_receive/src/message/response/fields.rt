@@ -10,8 +10,8 @@ use std::marker::Model;
 /// The fields of an error or a notice, in order: a letter that says what it is, and its bytes.
 /// Documentation: "Error and Notice Message Fields".
 ///
-/// They end before a letter 0, before a field that no NUL ends, and at the end of the body. After
-/// them the iterator has none any more.
+/// The list stops at a letter 0, at a field that no NUL ends, or else where the body stops. The
+/// iterator then stays at its end.
 #[derive(Drop)]
 pub struct Fields<'a> {
     rest: &'a [u8],

@@ -85,7 +85,7 @@ impl Notice {
         utf8_text(self.get_raw(wanted)?)
     }
 
-    /// The bytes of the first field of a letter.
+    /// As [`Notice::get`], but as bytes, which may be UTF-8 or not.
     pub fn get_raw(&self, wanted: u8) -> Option<&[u8]>
         ensures { option_copied result ≡ first_value wanted self.now.fields }
     {
