@@ -1,23 +1,23 @@
 //! An error of the server.
 
-ghost use Rattle.std.specs.Prelude.{◌≡◌, ◌≤◌, Some, None, length, option_copied, option_map};
-ghost use Rattle.pg_base.specs.Decode.{Decodes};
+ghost use Rattle.std.specs.Prelude.{◌≡◌, Some, None, option_copied, option_map};
 ghost use Rattle.pg_base.specs.declared.format.BackendMessageFormat.TheVariants as formats;
-ghost use Rattle.pg_receive.specs.Fields.{first_text};
-ghost use Rattle.pg_receive.specs.Notice.{NoticeValue, MeansNotice, IsNoticeFault};
-ghost use Rattle.pg_receive.specs.NoticeLaws.{one_notice, notice_or_fault};
-ghost use Rattle.pg_receive.specs.DatabaseError.{detail_letter, hint_letter, where_letter, schema_letter, table_letter, column_letter, data_type_letter, constraint_letter, file_letter, line_letter, routine_letter, first_number, position_of, kind_of, is_transient, database_error_words};
+ghost use Rattle.pg_receive.specs.Response.Fields.{first_text};
+ghost use Rattle.pg_receive.specs.Response.{NoticeValue, MeansNotice, IsNoticeFault};
+ghost use Rattle.pg_receive.specs.Response.Laws.{one_notice, notice_or_fault};
+ghost use Rattle.pg_receive.specs.Error.{first_number, position_of, kind_of, is_transient, database_error_words};
+ghost use Rattle.pg_receive.specs.Response.Letters.{detail_letter, hint_letter, where_letter, schema_letter, table_letter, column_letter, data_type_letter, constraint_letter, file_letter, line_letter, routine_letter};
 
-use crate::message::number::usize_at_front;
+use crate::message::decimal::leading_usize;
+use crate::message::response::letters;
 use crate::message::{BackendMessage, Notice, PgSeverity};
 use bytes::Bytes;
-use pg_base::io::MAX_BODY;
 use pg_base::{BackendMessageFormat, Error, ErrorKind};
 use std::alloc::Global;
 use std::fmt;
 use std::marker::Model;
 
-/// The codes of the errors that [`PgDatabaseError::kind`] tells apart. Documentation: "PostgreSQL
+/// The codes that [`PgDatabaseError::kind`] knows. Documentation: "PostgreSQL
 /// Error Codes", class 23.
 pub mod error_codes {
     /// A unique or primary key is violated.
@@ -46,10 +46,10 @@ pub enum PgErrorPosition<'a> {
     Internal { position: usize, query: &'a str },
 }
 
-/// An error of the server. Documentation: "Message Formats", ErrorResponse (B).
+/// An error that the server reports. Documentation: "Message Formats", ErrorResponse (B).
 ///
-/// Its body is that of a [`Notice`]. An accessor answers the first field of its letter, and nothing
-/// where that is missing or isn't UTF-8. Documentation: "Error and Notice Message Fields".
+/// Its body is that of a [`Notice`]. An accessor answers the first field of its letter, or `None` if
+/// that is missing or isn't UTF-8. Documentation: "Error and Notice Message Fields".
 #[derive(Drop)]
 pub struct PgDatabaseError(Notice);
 
@@ -60,7 +60,7 @@ impl Model for PgDatabaseError {
 }
 
 impl PgDatabaseError {
-    ghost use Rattle.pg_receive.specs.Position.{position_shown};
+    ghost use Rattle.pg_receive.specs.Error.Position.{position_shown};
 
     /// As [`Notice::severity`].
     pub fn severity(&self) -> PgSeverity
@@ -83,18 +83,18 @@ impl PgDatabaseError {
         self.0.message()
     }
 
-    /// More about the problem, on one line or several.
+    /// The problem in more words, maybe on several lines.
     pub fn detail(&self) -> Option<&str>
         ensures { option_copied result ≡ first_text detail_letter self.now.fields }
     {
-        self.0.get(b'D')
+        self.0.get(letters::DETAIL)
     }
 
-    /// What may be done about the problem.
+    /// Advice on how to solve it.
     pub fn hint(&self) -> Option<&str>
         ensures { option_copied result ≡ first_text hint_letter self.now.fields }
     {
-        self.0.get(b'H')
+        self.0.get(letters::HINT)
     }
 
     /// Where in a query the error was found: in the client's where `P` has a number, else in one of
@@ -102,77 +102,77 @@ impl PgDatabaseError {
     pub fn position(&self) -> Option<PgErrorPosition<'_>>
         ensures { option_map position_shown result ≡ position_of self.now.fields }
     {
-        if let Some(position) = self.number(b'P') {
+        if let Some(position) = self.number(letters::POSITION) {
             return Some(PgErrorPosition::Original(position));
         }
         Some(PgErrorPosition::Internal {
-            position: self.number(b'p')?,
-            query: self.0.get(b'q')?,
+            position: self.number(letters::INTERNAL_POSITION)?,
+            query: self.0.get(letters::INTERNAL_QUERY)?,
         })
     }
 
-    /// What the server was doing, as a trace with one entry a line. Its field is named `where`,
-    /// which is a keyword.
+    /// The calls that led to the error, each on a line of its own. The underscore keeps the name
+    /// apart from the keyword.
     pub fn where_(&self) -> Option<&str>
         ensures { option_copied result ≡ first_text where_letter self.now.fields }
     {
-        self.0.get(b'W')
+        self.0.get(letters::WHERE)
     }
 
     /// The schema of what the error is about.
     pub fn schema(&self) -> Option<&str>
         ensures { option_copied result ≡ first_text schema_letter self.now.fields }
     {
-        self.0.get(b's')
+        self.0.get(letters::SCHEMA)
     }
 
     /// The table that the error is about.
     pub fn table(&self) -> Option<&str>
         ensures { option_copied result ≡ first_text table_letter self.now.fields }
     {
-        self.0.get(b't')
+        self.0.get(letters::TABLE)
     }
 
     /// The column that the error is about.
     pub fn column(&self) -> Option<&str>
         ensures { option_copied result ≡ first_text column_letter self.now.fields }
     {
-        self.0.get(b'c')
+        self.0.get(letters::COLUMN)
     }
 
     /// The data type that the error is about.
     pub fn data_type(&self) -> Option<&str>
         ensures { option_copied result ≡ first_text data_type_letter self.now.fields }
     {
-        self.0.get(b'd')
+        self.0.get(letters::DATA_TYPE)
     }
 
     /// The constraint that the error is about.
     pub fn constraint(&self) -> Option<&str>
         ensures { option_copied result ≡ first_text constraint_letter self.now.fields }
     {
-        self.0.get(b'n')
+        self.0.get(letters::CONSTRAINT)
     }
 
     /// The file of the server's source where the error was reported.
     pub fn file(&self) -> Option<&str>
         ensures { option_copied result ≡ first_text file_letter self.now.fields }
     {
-        self.0.get(b'F')
+        self.0.get(letters::FILE)
     }
 
     /// The line in that file.
     pub fn line(&self) -> Option<usize>
         ensures { result ≡ first_number line_letter self.now.fields }
     {
-        self.number(b'L')
+        self.number(letters::LINE)
     }
 
     /// The routine of the server that reported the error.
     pub fn routine(&self) -> Option<&str>
         ensures { option_copied result ≡ first_text routine_letter self.now.fields }
     {
-        self.0.get(b'R')
+        self.0.get(letters::ROUTINE)
     }
 
     /// Which constraint was violated, by the code.
@@ -201,7 +201,7 @@ impl PgDatabaseError {
     fn number(&self, letter: u8) -> Option<usize>
         ensures { result ≡ first_number letter self.now.fields }
     {
-        usize_at_front(self.0.get_raw(letter)?)
+        leading_usize(self.0.get_raw(letter)?)
     }
 }
 

@@ -2,15 +2,17 @@
 
 ghost use Rattle.std.specs.Prelude.{◌≡◌, ℕ, List};
 ghost use Rattle.pg_base.specs.declared.format.BackendMessageFormat.TheVariants as formats;
-ghost use Rattle.pg_receive.specs.CommandComplete.{IsRowsAffected};
+ghost use Rattle.pg_receive.specs.CommandComplete.{row_count};
 
 use crate::message::BackendMessage;
+use crate::message::decimal::leading_u64;
 use bytes::Bytes;
 use memchr::memrchr;
-use pg_base::io::atoi_u64;
 use pg_base::{BackendMessageFormat, Error};
 use std::alloc::Global;
 use std::marker::Model;
+
+const SPACE: u8 = b' ';
 
 /// A command is done; its tag says which, and mostly how many rows it had to do with.
 /// Documentation: "Message Formats", CommandComplete (B).
@@ -29,7 +31,7 @@ impl CommandComplete {
     /// How many rows the command had to do with: the number after the last space of its tag, and 0
     /// where there is none.
     pub fn rows_affected(&self) -> u64
-        ensures { IsRowsAffected self.now result }
+        ensures { result ≡ row_count self.now }
     {
         rows_in(self.tag.as_slice())
     }
@@ -64,10 +66,10 @@ impl BackendMessage for CommandComplete {
 }
 
 fn rows_in(tag: &[u8]) -> u64
-    ensures { IsRowsAffected tag.now result }
+    ensures { result ≡ row_count tag.now }
 {
-    match memrchr(b' ', tag) {
-        Some(space) => atoi_u64(&tag[space + 1..]).unwrap_or(0),
+    match memrchr(SPACE, tag) {
+        Some(space) => leading_u64(&tag[space + 1..]).unwrap_or(0),
         None => 0,
     }
 }

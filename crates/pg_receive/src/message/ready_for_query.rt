@@ -7,18 +7,26 @@ ghost use Rattle.pg_base.specs.declared.format.BackendMessageFormat.TheVariants 
 
 use crate::message::BackendMessage;
 use bytes::Bytes;
+use pg_base::io::bytes_at;
 use pg_base::{BackendMessageFormat, Error, ProtocolFault};
 use std::alloc::Global;
+
+// The letters of statuses.
+const IDLE: u8 = b'I';
+
+const TRANSACTION: u8 = b'T';
+
+const ERROR: u8 = b'E';
 
 /// Whether a transaction is open. As a number it is the letter of the message.
 #[derive(Clone, Copy, Debug, PartialEq, Eq)]
 pub enum TransactionStatus {
-    /// Not in a transaction block.
-    Idle = b'I' as isize,
-    /// In a transaction block.
-    Transaction = b'T' as isize,
-    /// In a transaction block that failed: queries are refused until it ends.
-    Error = b'E' as isize,
+    /// No transaction is open.
+    Idle = IDLE as isize,
+    /// One is open.
+    Transaction = TRANSACTION as isize,
+    /// One is open and has failed; until it ends the server refuses queries.
+    Error = ERROR as isize,
 }
 
 /// The server is ready for the next query. Documentation: "Message Formats", ReadyForQuery (B).
@@ -30,7 +38,7 @@ pub struct ReadyForQuery {
 
 impl BackendMessage for ReadyForQuery {
     ghost use Rattle.pg_receive.specs.declared.message.ready_for_query.TransactionStatus.{TransactionStatus};
-    ghost use Rattle.pg_receive.specs.ReadyForQueryLaws.{one_status, status_or_fault};
+    ghost use Rattle.pg_receive.specs.ReadyForQuery.Laws.{one_status, status_or_fault};
 
     const FORMAT: BackendMessageFormat = BackendMessageFormat::ReadyForQuery;
 
@@ -60,17 +68,11 @@ impl BackendMessage for ReadyForQuery {
 fn status_of(body: &[u8]) -> Result<TransactionStatus, Error>
     ensures { Decodes MeansStatus IsStatusFault (λ _. Unit {0}) (λ status. status) None body.now result }
 {
-    match body {
-        [] => Err(ProtocolFault::Short {
-            at: 0,
-            needed: 1,
-            got: 0,
-        }
-        .into()),
-        [b'I', ..] => Ok(TransactionStatus::Idle),
-        [b'T', ..] => Ok(TransactionStatus::Transaction),
-        [b'E', ..] => Ok(TransactionStatus::Error),
-        [status, ..] => Err(ProtocolFault::UnknownStatus(*status).into()),
+    match bytes_at(body, 0, 1)?[0] {
+        IDLE => Ok(TransactionStatus::Idle),
+        TRANSACTION => Ok(TransactionStatus::Transaction),
+        ERROR => Ok(TransactionStatus::Error),
+        status => Err(ProtocolFault::UnknownStatus(status).into()),
     }
 }
 

@@ -1,35 +1,30 @@
 //! The lengths of the first fields of an error or a notice, so that a later walk needn't measure
 //! them again.
 
-ghost use Rattle.std.specs.Prelude.{◌≡◌, ◌≤◌, length};
+ghost use Rattle.std.specs.Prelude.{◌≡◌, ◌+◌, ◌<◌, ◌≤◌, [], ◌∷◌, ◌++◌, length};
 ghost use Rattle.std.specs.Option.{option_copied};
-ghost use Rattle.pg_receive.specs.FieldLengths.{HasLengths};
-ghost use Rattle.pg_receive.specs.Fields.{fields_in, first_value};
+ghost use Rattle.pg_receive.specs.Response.Lengths.{HasLengths, most_lengths};
+ghost use Rattle.pg_receive.specs.Response.Fields.{fields_in, first_value};
 
 use crate::message::response::fields::{Fields, split_field};
 use pg_base::io::MAX_BODY;
 use smallvec::SmallVec;
-use std::alloc::Global;
 
 // The most fields whose lengths are kept.
-const KEPT: usize = 16;
+pub(crate) const KEPT: usize = 16;
 
-/// The lengths of the first fields of a body in bytes, letter and NUL with them. They take no
-/// memory of their own.
-pub(crate) fn lengths_of(alloc: Global, body: &[u8]) -> SmallVec<u32, 16>
-    requires { length body.now ≤ MAX_BODY }
-    ensures { HasLengths body.now result.items }
+/// Keeps the length of the field of a value in bytes, letter and NUL with it, where fewer than
+/// sixteen are kept. They take no memory of their own.
+pub(crate) fn keep_length(lengths: &mut SmallVec<u32, 16>, value: &[u8])
+    requires capacity { lengths.now.capacity ≡ most_lengths }
+    requires short { length value.now + 2 ≤ MAX_BODY }
+    ensures few { length lengths.old.items < most_lengths → lengths.new.items ≡ lengths.old.items ++ (length value.now + 2) ∷ [] }
+    ensures all { most_lengths ≤ length lengths.old.items → lengths.new.items ≡ lengths.old.items }
+    ensures capacity { lengths.new.capacity ≡ most_lengths }
 {
-    let mut lengths = SmallVec::new(alloc);
-    let mut rest = body;
-    for _index in 0..KEPT {
-        let Some((_, value, after)) = split_field(rest) else {
-            break;
-        };
+    if lengths.len() < KEPT {
         lengths.push_reserved((value.len() + 2) as u32);
-        rest = after;
     }
-    lengths
 }
 
 /// The value of the first field of a letter, in a body whose first fields have these lengths.

@@ -1,30 +1,27 @@
 //! The part of an error or a notice that is read when it is decoded.
 
-ghost use Rattle.std.specs.Prelude.{◌≡◌, ℕ, ◌+◌, ◌≤◌, List, [], length, None, Some, slice_range, IfOk, OnOk, IfErr, if◌then◌else◌, ◌==◌, ◌&&◌, nat_lt, true, false};
+ghost use Rattle.std.specs.Prelude.{◌≡◌, ◌+◌, None, Some, IfOk, OnOk, IfErr, if◌then◌else◌, ◌==◌, ◌&&◌, nat_lt, true, false, ◌≤◌, length};
 ghost use Rattle.std.specs.Str.{is_utf8};
-ghost use Rattle.pg_receive.specs.Fields.{fields_in};
-ghost use Rattle.pg_receive.specs.Last.{last, first_fault_of};
+ghost use Rattle.pg_receive.specs.Response.Fields.{fields_in};
+ghost use Rattle.pg_receive.specs.Response.Lengths.{HasLengths};
 ghost use Rattle.std.specs.Option.{option_or, unwrap_or};
 ghost use Rattle.pg_receive.specs.declared.message.response.severity.PgSeverity.TheVariants.{Log};
-ghost use Rattle.pg_receive.specs.Severity.{severity_of_word};
+ghost use Rattle.pg_receive.specs.Response.Severity.{severity_of_word};
 ghost use Rattle.pg_base.specs.declared.error.ProtocolFault.TheVariants.{NoticeNotUtf8};
-ghost use Rattle.pg_receive.specs.Notice.{Read, field_fault, notice_fault, code_letter, message_letter, severity_letter, localized_letter};
-ghost use Rattle.pg_receive.specs.Places.{IsPlaceIn, bytes_at};
+ghost use Rattle.pg_receive.specs.Response.{Read, field_fault, notice_fault};
+ghost use Rattle.pg_receive.specs.Response.Letters.{code_letter, message_letter, severity_letter, localized_letter};
+ghost use Rattle.pg_receive.specs.Response.Places.{IsPlaceIn, bytes_in, are_full};
 
 use crate::message::response::PgSeverity;
 use crate::message::response::fields::split_field;
+use crate::message::response::lengths::{KEPT, keep_length};
+use crate::message::response::letters::{CODE, LOCALIZED_SEVERITY, MESSAGE, SEVERITY};
 use crate::message::utf8_text;
-use pg_base::{Error, ProtocolFault};
+use pg_base::ProtocolFault;
+use pg_base::io::MAX_BODY;
+use smallvec::SmallVec;
+use std::alloc::Global;
 use std::ops::Range;
-
-const CODE: u8 = b'C';
-
-const MESSAGE: u8 = b'M';
-
-// The severity in the language of the server's messages.
-const LOCALIZED_SEVERITY: u8 = b'S';
-
-const SEVERITY: u8 = b'V';
 
 /// What the fields that are read say. The ranges are of offsets in the body.
 #[derive(Drop)]
@@ -38,7 +35,7 @@ pub(crate) struct ReadPart {
 impl ReadPart {
     // Whether there are a message and a code.
     fn is_full(&self) -> bool
-        ensures { result ≡ (nat_lt self.now.message.start self.now.message.end && nat_lt self.now.code.start self.now.code.end) }
+        ensures { result ≡ are_full self.now.message self.now.code }
     {
         !self.message.is_empty() && !self.code.is_empty()
     }
@@ -50,15 +47,19 @@ impl ReadPart {
         self.severity.or(self.localized).unwrap_or(PgSeverity::Log)
     }
 
-    // Takes in a field whose value stands in this place.
+    // Takes in a field whose value is at this place, unless there are a message and a code.
     fn take(&mut self, letter: u8, value: &[u8], place: Range<usize>) -> Result<(), ProtocolFault>
-        ensures clean { OnOk result (field_fault (letter, value.now) ≡ None) }
-        ensures severity { OnOk result (self.new.severity ≡ (if letter == severity_letter then severity_of_word value.now else self.old.severity)) }
-        ensures localized { OnOk result (self.new.localized ≡ (if letter == localized_letter then severity_of_word value.now else self.old.localized)) }
-        ensures message { OnOk result (self.new.message ≡ (if letter == message_letter then place else self.old.message)) }
-        ensures code { OnOk result (self.new.code ≡ (if letter == code_letter then place else self.old.code)) }
-        ensures fault { IfErr result (λ fault. field_fault (letter, value.now) ≡ Some fault) }
+        ensures full { OnOk result (are_full self.old.message self.old.code ≡ true → self.new ≡ self.old) }
+        ensures clean { OnOk result (are_full self.old.message self.old.code ≡ false → field_fault (letter, value.now) ≡ None) }
+        ensures severity { OnOk result (are_full self.old.message self.old.code ≡ false → self.new.severity ≡ (if letter == severity_letter then severity_of_word value.now else self.old.severity)) }
+        ensures localized { OnOk result (are_full self.old.message self.old.code ≡ false → self.new.localized ≡ (if letter == localized_letter then severity_of_word value.now else self.old.localized)) }
+        ensures message { OnOk result (are_full self.old.message self.old.code ≡ false → self.new.message ≡ (if letter == message_letter then place else self.old.message)) }
+        ensures code { OnOk result (are_full self.old.message self.old.code ≡ false → self.new.code ≡ (if letter == code_letter then place else self.old.code)) }
+        ensures fault { IfErr result (λ fault. (are_full self.old.message self.old.code ≡ false) × (field_fault (letter, value.now) ≡ Some fault)) }
     {
+        if self.is_full() {
+            return Ok(());
+        }
         match letter {
             SEVERITY => {
                 let severity = PgSeverity::from_word(notice_text(value)?);
@@ -87,10 +88,16 @@ fn notice_text(value: &[u8]) -> Result<&str, ProtocolFault>
 }
 
 /// Reads a body up to the first field after which the last message and the last code aren't
-/// empty, or else all its fields. The first fault of a field is answered.
-pub(crate) fn read(body: &[u8]) -> Result<ReadPart, ProtocolFault>
-    ensures within { IfOk result (λ part. IsPlaceIn body.now part.message × IsPlaceIn body.now part.code) }
-    ensures reads { IfOk result (λ part. Read (fields_in body.now) (bytes_at body.now part.message) (bytes_at body.now part.code) part.severity part.localized) }
+/// empty, or else all its fields, and keeps the lengths of the first fields. The first fault of a
+/// field is answered.
+pub(crate) fn read(
+    alloc: Global,
+    body: &[u8],
+) -> Result<(ReadPart, SmallVec<u32, 16>), ProtocolFault>
+    requires { length body.now ≤ MAX_BODY }
+    ensures within { IfOk result (λ read. IsPlaceIn body.now read.0.message × IsPlaceIn body.now read.0.code) }
+    ensures reads { IfOk result (λ read. Read (fields_in body.now) (bytes_in body.now read.0.message) (bytes_in body.now read.0.code) read.0.severity read.0.localized) }
+    ensures lengths { IfOk result (λ read. HasLengths body.now read.1.items) }
     ensures fault { IfErr result (λ fault. notice_fault body.now ≡ Some fault) }
 {
     let mut part = ReadPart {
@@ -99,14 +106,23 @@ pub(crate) fn read(body: &[u8]) -> Result<ReadPart, ProtocolFault>
         message: 0..0,
         code: 0..0,
     };
+    let mut lengths = SmallVec::new(alloc);
     let mut rest = body;
-    while !part.is_full() {
+    while wants_more(&part, &lengths) {
         let Some((letter, value, after)) = split_field(rest) else {
             break;
         };
         let start = body.len() - rest.len() + 1;
         part.take(letter, value, start..start + value.len())?;
+        keep_length(&mut lengths, value);
         rest = after;
     }
-    Ok(part)
+    Ok((part, lengths))
+}
+
+// Whether the next field is to be taken in, or its length to be kept.
+fn wants_more(part: &ReadPart, lengths: &SmallVec<u32, 16>) -> bool
+    ensures { result ≡ false → are_full part.now.message part.now.code ≡ true }
+{
+    !part.is_full() || lengths.len() < KEPT
 }

@@ -1,42 +1,78 @@
-use Rattle.std.proofs.Common.{sym, ◌∙◌, refl}
+use Rattle.std.proofs.Common.{◌+◌, length, inl, inr, sym, ◌∙◌, ap, subst, refl, arith}
+use Rattle.std.proofs.lemmas.Bool.{cases_Bool, cases_lt}
 use Rattle.std.proofs.lemmas.Result.{err_from_is_err_and}
-use Rattle.pg_receive.specs.Fields.{fields_in}
-use Rattle.pg_receive.specs.Places.{bytes_at}
-use Rattle.pg_receive.proofs.NoticeLemmas.{read_full, read_all}
-use Rattle.pg_receive.proofs.ReadLemmas.{kept_all, kept_more, kept_fault, full_places}
+use Rattle.pg_receive.specs.declared.message.response.read.ReadPart.{ReadPart}
+use Rattle.pg_receive.specs.Response.Fields.{fields_in}
+use Rattle.pg_receive.specs.Response.Lengths.{BeginsWithLength, most_lengths}
+use Rattle.pg_receive.specs.Response.Places.{bytes_in, are_full}
+use Rattle.pg_receive.proofs.ResponseLemmas.{read_full, read_all}
+use Rattle.pg_receive.proofs.ResponseLengthsLemmas.{lengths_push}
+use Rattle.pg_receive.proofs.ResponseReadLemmas.{Kept, kept_all, kept_more, kept_past, kept_fault, full_places}
+use Rattle.pg_receive.proofs.message.response.read.read.Goals.{else-loop-rest-test, then-loop-rest-test+in_default}
 use Rattle.pg_receive.proofs.message.response.read.read.Goals as goal
 
 pub loop-rest-init : goal.loop-rest-init
-loop-rest-init c = kept_all c.args.body.now
+loop-rest-init c = record {
+  kept = kept_all c.args.body.now;
+  has = rw c.new-lengths.ensures.items (c.args.body.now, refl);
+  few = λ few. rw c.new-lengths.ensures.items refl;
+  capacity = c.new-lengths.ensures.capacity;
+}
 
 pub loop-rest-preserved : goal.loop-rest-preserved
 loop-rest-preserved c =
-    let kept = c.loop-rest.invariant in
+    let body = c.args.body.now in
+    let kept = c.loop-rest.invariant.kept in
     let part = c.loop-rest.part in
+    let lens = c.loop-rest.lengths.items in
+    let rest = c.loop-rest.rest.now in
     let field = c.in-Some in
     let taken = c.in_ok-take.ensures in
-    let partial = full_places c.args.body.now part.message part.code kept.message_in kept.code_in ∙ sym c.loop-rest-test.ensures in
-    kept_more c.args.body.now c.loop-rest.rest.now field.letter field.value.now field.after.now _ part.message part.code _ _ part.severity part.localized _ _ partial refl field.ensures.found
-    (record { clean = taken.clean; severity_is = taken.severity; localized_is = taken.localized; message_is = taken.message; code_is = taken.code }) kept
+    let new = c.take.new.self in
+    let len = length field.value.now + 2 in
+    let is = full_places body part.message part.code kept.message_in kept.code_in in
+    let begins : BeginsWithLength rest len field.after.now = record { letter = field.letter; value = field.value.now; field = field.ensures.found; long = refl } in
+    record {
+      kept =
+          elim (cases_Bool (are_full part.message part.code)) [
+            | inl full ↦
+                subst (λ (p : ReadPart). Kept body field.after.now p.message p.code p.severity p.localized) (sym (taken.full full))
+                (kept_past body rest field.letter field.value.now field.after.now part.message part.code part.severity part.localized (is ∙ full) field.ensures.found kept)
+            | inr partial ↦
+                kept_more body rest field.letter field.value.now field.after.now _ part.message part.code _ _ part.severity part.localized _ _ (is ∙ partial) refl field.ensures.found
+                (record { clean = taken.clean partial; severity_is = taken.severity partial; localized_is = taken.localized partial; message_is = taken.message partial; code_is = taken.code partial }) kept
+          ];
+      has =
+          elim (cases_lt (length lens) most_lengths) [
+            | inl few ↦ rw (c.keep_length.ensures.few few) (field.after.now, lengths_push body lens rest len field.after.now (c.loop-rest.invariant.few few) begins)
+            | inr all ↦ rw (c.keep_length.ensures.all all) c.loop-rest.invariant.has
+          ];
+      few = λ few.
+          elim (cases_lt (length lens) most_lengths) [
+            | inl old ↦ rw (c.keep_length.ensures.few old) (lengths_push body lens rest len field.after.now (c.loop-rest.invariant.few old) begins)
+            | inr all ↦ absurd (omega (arith, few, all, ap length (c.keep_length.ensures.all all)))
+          ];
+      capacity = c.keep_length.ensures.capacity;
+    }
 
 pub returns-in_err-take-clause-fault : goal.returns-in_err-take-clause-fault
 returns-in_err-take-clause-fault c =
-    let kept = c.loop-rest.invariant in
+    let kept = c.loop-rest.invariant.kept in
     let part = c.loop-rest.part in
     let field = c.in-Some in
-    let partial = full_places c.args.body.now part.message part.code kept.message_in kept.code_in ∙ sym c.loop-rest-test.ensures in
+    let broken = c.in_err-take.ensures.fault in
+    let partial = full_places c.args.body.now part.message part.code kept.message_in kept.code_in ∙ broken.0 in
     let p = err_from_is_err_and c.from_residual.result c.from_residual.ensures.1 in
-    rw (p.1, p.2) (kept_fault c.args.body.now c.loop-rest.rest.now field.letter field.value.now field.after.now part.message part.code part.severity part.localized _ partial field.ensures.found c.in_err-take.ensures.fault kept)
+    rw (p.1, p.2) (kept_fault c.args.body.now c.loop-rest.rest.now field.letter field.value.now field.after.now part.message part.code part.severity part.localized _ partial field.ensures.found broken.1 kept)
 
-pub returns-after-loop-rest-clause-reads : goal.returns-after-loop-rest-clause-reads
-returns-after-loop-rest-clause-reads c =
-    let kept = c.loop-rest.invariant in
+pub returns-clause-reads : goal.returns-clause-reads
+returns-clause-reads c =
+    let body = c.args.body.now in
+    let kept = c.loop-rest.invariant.kept in
     let part = c.loop-rest.part in
-    read_full (fields_in c.args.body.now) (fields_in c.loop-rest.rest.now) (bytes_at c.args.body.now part.message) (bytes_at c.args.body.now part.code) part.severity part.localized
-    (full_places c.args.body.now part.message part.code kept.message_in kept.code_in ∙ sym c.loop-rest-test.ensures) kept.left
-
-pub returns-in_default-clause-reads : goal.returns-in_default-clause-reads
-returns-in_default-clause-reads c =
-    let part = c.loop-rest.part in
-    read_all (fields_in c.args.body.now) (bytes_at c.args.body.now part.message) (bytes_at c.args.body.now part.code) part.severity part.localized
-    (rw c.in_default.ensures.none at c.loop-rest.invariant.left)
+    elim c.loop-rest-test.branch [
+      | else-loop-rest-test w ↦ read_full (fields_in body) (fields_in c.loop-rest.rest.now) (bytes_in body part.message) (bytes_in body part.code) part.severity part.localized
+          (full_places body part.message part.code kept.message_in kept.code_in ∙ c.wants_more.ensures w.loop-rest-test.false) kept.left
+      | then-loop-rest-test+in_default w ↦ read_all (fields_in body) (bytes_in body part.message) (bytes_in body part.code) part.severity part.localized
+          (rw w.in_default.ensures.none at kept.left)
+    ]
