@@ -1,0 +1,3 @@
+pub mod PiecesLemmas
+pub mod ReaderLemmas
+pub mod StreamLemmas

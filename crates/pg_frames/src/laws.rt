@@ -1,0 +1,32 @@
+//! What follows of streams from what a stream is, for whoever proves more: empty functions, each with
+//! a law as its contract.
+
+ghost use Rattle.std.specs.Prelude.{◌≡◌, ◌++◌, ℕ, List};
+ghost use Rattle.pg_base.specs.declared.error.ProtocolFault.{ProtocolFault};
+ghost use Rattle.pg_frames.specs.declared.pieces.StreamEnd.{StreamEnd};
+ghost use Rattle.pg_frames.specs.Pieces.{IsRead};
+ghost use Rattle.pg_frames.specs.Stream.{Stream, Whole, WantsMore, IsStreamFault};
+
+/// A stream is one list of messages and one rest that isn't whole. So it is read into one list with
+/// one end, however it was cut.
+pub fn a_stream_is_read_one_way()
+    ensures stream { (bytes : List ℕ) (xs ys : List (ℕ × List ℕ)) (r s : List ℕ) → Stream bytes xs r → ¬ Whole r → Stream bytes ys s → ¬ Whole s → (xs ≡ ys) × (r ≡ s) }
+    ensures read { (bytes : List ℕ) (xs ys : List (ℕ × List ℕ)) (d e : StreamEnd) → IsRead bytes xs d → IsRead bytes ys e → (xs ≡ ys) × (d ≡ e) }
+{}
+
+/// What was left of a stream, with the bytes that come next, goes on with the stream.
+pub fn streams_compose()
+    ensures { (x y : List ℕ) (xs ys : List (ℕ × List ℕ)) (r s : List ℕ) → Stream x xs r → Stream (r ++ y) ys s → Stream (x ++ y) (xs ++ ys) s }
+{}
+
+/// Bytes begin with a whole message, or want more, or have one fault, and never two of these.
+pub fn one_answer_is_due()
+    ensures whole { (bytes : List ℕ) → Whole bytes → ¬ WantsMore bytes }
+    ensures fault { (bytes : List ℕ) (fault : ProtocolFault) → IsStreamFault bytes fault → (¬ Whole bytes) × (¬ WantsMore bytes) }
+    ensures one { (bytes : List ℕ) (f g : ProtocolFault) → IsStreamFault bytes f → IsStreamFault bytes g → f ≡ g }
+{}
+
+/// A fault stays, whatever comes next.
+pub fn a_fault_stays()
+    ensures { (bytes more : List ℕ) (fault : ProtocolFault) → IsStreamFault bytes fault → IsStreamFault (bytes ++ more) fault }
+{}
