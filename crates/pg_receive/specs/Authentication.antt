@@ -1,14 +1,20 @@
 -- What a server asks of a client that opens a session. Documentation: "Message Formats",
 -- AuthenticationOk (B) and those after it.
+pub mod Laws
+pub mod Mechanisms
+pub mod SaslContinue
+pub mod SaslFinal
+pub mod SaslItems
+pub mod Shown
 use Rattle.std.specs.Prelude.{◌≡◌, ℕ, ◌==◌, ◌||◌, Bool, false, List, ◌++◌, length, ◌⊎◌}
 use Rattle.std.specs.Bool.{MatchBool}
 use Rattle.pg_base.specs.declared.error.ProtocolFault.{ProtocolFault}
 use Rattle.pg_base.specs.declared.error.ProtocolFault.TheVariants.{UnknownAuthentication}
 use Rattle.pg_base.specs.Error.{IsShort}
 use Rattle.pg_base.specs.Reading.{Number}
-use Rattle.pg_receive.specs.Mechanisms.{mechanisms_in}
-use Rattle.pg_receive.specs.SaslContinue.{ContinueValue, MeansContinue, IsContinueFault}
-use Rattle.pg_receive.specs.SaslFinal.{MeansFinal, IsFinalFault}
+use Rattle.pg_receive.specs.Authentication.Mechanisms.{mechanisms_in}
+use Rattle.pg_receive.specs.Authentication.SaslContinue.{ContinueValue, MeansContinue, IsContinueFault}
+use Rattle.pg_receive.specs.Authentication.SaslFinal.{MeansFinal, IsFinalFault}
 
 pub data AuthenticationValue : Type 0 where
   accepted : AuthenticationValue
@@ -27,7 +33,7 @@ method_of (sasl names) = 10
 method_of (sasl_continue challenge) = 11
 method_of (sasl_final verifier) = 12
 
--- what stands after the number
+-- what follows the number
 abbrev pub MeansRest : List ℕ → AuthenticationValue → Type 0
 MeansRest rest accepted = Unit {0}
 MeansRest rest cleartext_password = Unit {0}

@@ -1,5 +1,6 @@
 -- BackendKeyData: what a cancel request has to name. Documentation: "Message Formats",
 -- BackendKeyData (B).
+pub mod Laws
 use Rattle.std.specs.Prelude.{◌≤◌, ℕ, List, length, ◌⊎◌}
 use Rattle.pg_base.specs.declared.error.ProtocolFault.{ProtocolFault}
 use Rattle.pg_receive.specs.declared.message.backend_key_data.BackendKeyData.{BackendKeyData}

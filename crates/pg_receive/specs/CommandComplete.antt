@@ -8,14 +8,14 @@ use Rattle.pg_base.specs.Atoi.{Atoi}
 abbrev pub max_rows : ℕ
 max_rows = 18446744073709551615
 
--- what stands after the last space
+-- what follows the last space
 pub record AfterLastSpace (tag tail : List ℕ) : Type 0 where
   pub front : List ℕ
   pub parts : tag ≡ front ++ 32 ∷ tail
   pub last : HoldsNo 32 tail
 
--- the number of rows that a tag tells
-pub record TellsRows (tag : List ℕ) (rows : ℕ) : Type 0 where
+-- the tag has a number of rows
+pub record HasRowCount (tag : List ℕ) (rows : ℕ) : Type 0 where
   pub tail : List ℕ
   pub after : AfterLastSpace tag tail
   pub number : Atoi max_rows tail (Some rows)
@@ -23,4 +23,4 @@ pub record TellsRows (tag : List ℕ) (rows : ℕ) : Type 0 where
 -- it is the number after the last space, and 0 where there is no space or no number
 abbrev pub IsRowsAffected : List ℕ → ℕ → Type 0
 IsRowsAffected tag rows =
-    TellsRows tag rows ⊎ ((rows ≡ 0) × ((tail : List ℕ) → AfterLastSpace tag tail → Atoi max_rows tail None))
+    HasRowCount tag rows ⊎ ((rows ≡ 0) × ((tail : List ℕ) → AfterLastSpace tag tail → Atoi max_rows tail None))

@@ -1,17 +1,19 @@
 -- DataRow: the cells of a row. Documentation: "Message Formats", DataRow (B).
+pub mod CellEnd
+pub mod Laws
 use Rattle.std.specs.Prelude.{◌≡◌, ℕ, ◌+◌, ◌≤◌, pos, ◌<ℤ◌, List, ◌++◌, length, Option, Some, None, ◌⊎◌}
 use Rattle.pg_base.specs.Cutting.{max_length}
 use Rattle.pg_base.specs.declared.error.ProtocolFault.{ProtocolFault}
 use Rattle.pg_base.specs.Numbers.{int}
 use Rattle.pg_base.specs.Error.{IsShort}
-use Rattle.pg_receive.specs.Items.{SpellItems, CountedItems, IsItemsFault, AsksForNothing}
+use Rattle.pg_receive.specs.CountedItems.{SpellItems, CountedItems, IsItemsFault, ItemsNeedNoMemory}
 
 -- NULL is any negative length
 pub record SpellsNull (spelled : List ℕ) : Type 0 where
   pub wide : length spelled ≡ 4
   pub negative : int spelled <ℤ pos 0
 
--- a value stands after its length
+-- a value follows its length
 pub record SpellsValue (spelled value : List ℕ) : Type 0 where
   pub field : List ℕ
   pub wide : length field ≡ 4
@@ -24,7 +26,7 @@ abbrev pub SpellsCell : List ℕ → Option (List ℕ) → Type 0
 SpellsCell spelled None = SpellsNull spelled
 SpellsCell spelled (Some value) = SpellsValue spelled value
 
--- the length is there, and fewer bytes stand after it than it says
+-- the length is there, and fewer bytes follow it than it says
 pub record IsTruncatedValue (body : List ℕ) (at : ℕ) (bytes : List ℕ) (fault : ProtocolFault) : Type 0 where
   pub field : List ℕ
   pub after : List ℕ
@@ -42,16 +44,16 @@ IsCellFault body at bytes fault = IsShort body at 4 fault ⊎ IsTruncatedValue b
 abbrev pub least_cell : ℕ
 least_cell = 4
 
-abbrev pub Row : List ℕ → List (Option (List ℕ)) → Type 0
-Row body cells = CountedItems SpellsCell body cells
+abbrev pub MeansRow : List ℕ → List (Option (List ℕ)) → Type 0
+MeansRow body cells = CountedItems SpellsCell body cells
 
 abbrev pub IsRowFault : List ℕ → ProtocolFault → Type 0
 IsRowFault body fault = IsItemsFault SpellsCell IsCellFault least_cell body fault
 
 abbrev pub RowNeedsNoMemory : List ℕ → Type 0
-RowNeedsNoMemory body = AsksForNothing least_cell 0 body
+RowNeedsNoMemory body = ItemsNeedNoMemory least_cell 0 body
 
--- a value stands in the body after the count, the spellings of these cells, and its own length
+-- in the body a value follows the count, the spellings of these cells, and its own length
 pub record IsAfter (body : List ℕ) (cells : List (Option (List ℕ))) (value : List ℕ) : Type 0 where
   pub count : List ℕ
   pub spelled : List ℕ

@@ -13,9 +13,9 @@ last view default key [] = default
 last view default key (pair ∷ pairs) = last view (if pair.0 == key then view pair.1 else default) key pairs
 
 -- none of them has the key
-abbrev pub LacksKey : ℕ → List (ℕ × List ℕ) → Type 0
-LacksKey key [] = Unit {0}
-LacksKey key (pair ∷ pairs) = (pair.0 ≢ key) × LacksKey key pairs
+abbrev pub IsAbsent : ℕ → List (ℕ × List ℕ) → Type 0
+IsAbsent key [] = Unit {0}
+IsAbsent key (pair ∷ pairs) = (pair.0 ≢ key) × IsAbsent key pairs
 
 -- the own fault of the first, or where it has none, the fault of the others
 abbrev pub first_fault_of : {A : Type 0} → (A → Option ProtocolFault) → List A → Option ProtocolFault

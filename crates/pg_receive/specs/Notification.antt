@@ -1,10 +1,11 @@
 -- NotificationResponse: a notification from another session. Documentation: "Message Formats",
 -- NotificationResponse (B).
+pub mod Laws
 use Rattle.std.specs.Prelude.{◌+◌, ℕ, List, length, ◌⊎◌}
 use Rattle.pg_base.specs.declared.error.ProtocolFault.{ProtocolFault}
 use Rattle.pg_base.specs.Error.{IsShort}
 use Rattle.pg_base.specs.Reading.{Number, Text}
-use Rattle.pg_receive.specs.Strings.{IsMissingNul}
+use Rattle.pg_receive.specs.Text.{IsMissingNul}
 
 -- who notified, and what
 pub record Notified : Type 0 where
@@ -21,22 +22,22 @@ pub record MeansNotification (body : List ℕ) (notice : Notified) : Type 0 wher
   pub channel : Text texts notice.channel after
   pub payload : Text after notice.payload rest
 
--- the number is whole, and after it stands no text
+-- the number is whole, and no text follows it
 pub record IsMissingChannel (body : List ℕ) (fault : ProtocolFault) : Type 0 where
   pub process_id : ℕ
   pub texts : List ℕ
-  pub told : Number 4 body process_id texts
-  pub lacks : IsMissingNul 4 texts fault
+  pub number : Number 4 body process_id texts
+  pub missing : IsMissingNul 4 texts fault
 
--- number and channel are there, and after them stands no text
+-- number and channel are there, and no text follows them
 pub record IsMissingPayload (body : List ℕ) (fault : ProtocolFault) : Type 0 where
   pub process_id : ℕ
   pub texts : List ℕ
   pub channel : List ℕ
   pub after : List ℕ
-  pub told : Number 4 body process_id texts
+  pub number : Number 4 body process_id texts
   pub named : Text texts channel after
-  pub lacks : IsMissingNul (4 + length channel + 1) after fault
+  pub missing : IsMissingNul (4 + length channel + 1) after fault
 
 abbrev pub IsNotificationFault : List ℕ → ProtocolFault → Type 0
 IsNotificationFault body fault = IsShort body 0 4 fault ⊎ IsMissingChannel body fault ⊎ IsMissingPayload body fault

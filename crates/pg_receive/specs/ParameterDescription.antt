@@ -1,9 +1,10 @@
 -- ParameterDescription: the types of a statement's parameters. Documentation: "Message Formats",
 -- ParameterDescription (B).
+pub mod Laws
 use Rattle.std.specs.Prelude.{◌≡◌, ℕ, List, length}
 use Rattle.pg_base.specs.declared.error.ProtocolFault.{ProtocolFault}
 use Rattle.pg_base.specs.Numbers.{num}
-use Rattle.pg_receive.specs.Items.{CountedItems, IsCountFault, AsksForNothing}
+use Rattle.pg_receive.specs.CountedItems.{CountedItems, IsCountFault, ItemsNeedNoMemory}
 
 -- a type is the four bytes of its number
 pub record SpellsType (spelled : List ℕ) (id : ℕ) : Type 0 where
@@ -21,4 +22,4 @@ abbrev pub IsTypesFault : List ℕ → ProtocolFault → Type 0
 IsTypesFault body fault = IsCountFault 4 body fault
 
 abbrev pub TypesNeedsNoMemory : List ℕ → Type 0
-TypesNeedsNoMemory body = AsksForNothing 4 types_in_place body
+TypesNeedsNoMemory body = ItemsNeedNoMemory 4 types_in_place body

@@ -1,8 +1,9 @@
 -- ParameterStatus: a setting of the server and its value. Documentation: "Message Formats",
 -- ParameterStatus (B).
+pub mod Laws
 use Rattle.std.specs.Prelude.{◌+◌, ℕ, List, length, ◌⊎◌}
 use Rattle.pg_base.specs.declared.error.ProtocolFault.{ProtocolFault}
-use Rattle.pg_receive.specs.Strings.{Utf8Text, IsTextFault}
+use Rattle.pg_receive.specs.Text.{Utf8Text, IsTextFault}
 
 -- a setting as bytes
 pub record Setting : Type 0 where
@@ -16,7 +17,7 @@ pub record MeansSetting (body : List ℕ) (setting : Setting) : Type 0 where
   pub name : Utf8Text body setting.name after
   pub value : Utf8Text after setting.value rest
 
--- the name is a text, and after its 0 none stands
+-- the name is a text, and no text follows its 0
 pub record IsValueFault (body : List ℕ) (fault : ProtocolFault) : Type 0 where
   pub name : List ℕ
   pub after : List ℕ

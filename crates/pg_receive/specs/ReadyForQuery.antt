@@ -1,5 +1,6 @@
 -- ReadyForQuery: the status of the transaction, one byte. Documentation: "Message Formats",
 -- ReadyForQuery (B).
+pub mod Laws
 use Rattle.std.specs.Prelude.{◌≡◌, ◌≢◌, ℕ, List, [], ◌∷◌}
 use Rattle.pg_base.specs.declared.error.ProtocolFault.{ProtocolFault}
 use Rattle.pg_base.specs.declared.error.ProtocolFault.TheVariants.{UnknownStatus}

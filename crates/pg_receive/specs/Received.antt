@@ -15,6 +15,6 @@ IsValue shown v (Err (Protocol reading fault)) = ⊥
 IsValue shown v (Err OutOfMemory) = Unit {0}
 
 -- the error, with the kind of message that was read in a fault of its body
-abbrev pub reading : BackendMessageFormat → Error → Error
-reading format (Protocol _ fault) = Protocol (Some format) fault
-reading format OutOfMemory = OutOfMemory
+abbrev pub error_while_reading : BackendMessageFormat → Error → Error
+error_while_reading format (Protocol _ fault) = Protocol (Some format) fault
+error_while_reading format OutOfMemory = OutOfMemory

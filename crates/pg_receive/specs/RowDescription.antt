@@ -1,12 +1,13 @@
 -- RowDescription: the columns of a result. Documentation: "Message Formats", RowDescription (B).
+pub mod Laws
 use Rattle.std.specs.Prelude.{◌≡◌, ℕ, ◌+◌, ◌==◌, ℤ, pos, negsuc, List, [], length, Option, Some, None, ◌⊎◌, option_map, string_bytes, if◌then◌else◌}
 use Rattle.pg_base.specs.declared.error.ProtocolFault.{ProtocolFault}
 use Rattle.pg_base.specs.declared.io.Oid.{Oid}
 use Rattle.pg_receive.specs.declared.message.row_description.Field.{Field}
 use Rattle.pg_base.specs.Reading.{Number, Signed}
 use Rattle.pg_base.specs.Error.{IsShort}
-use Rattle.pg_receive.specs.Strings.{Utf8Text, IsTextFault}
-use Rattle.pg_receive.specs.Items.{CountedItems, IsItemsFault, AsksForNothing}
+use Rattle.pg_receive.specs.Text.{Utf8Text, IsTextFault}
+use Rattle.pg_receive.specs.CountedItems.{CountedItems, IsItemsFault, ItemsNeedNoMemory}
 
 -- a column as numbers and bytes
 pub record Column : Type 0 where
@@ -38,7 +39,7 @@ abbrev pub attribute : ℤ → Option ℤ
 attribute (pos n) = if n == 0 then None else Some (pos n)
 attribute (negsuc n) = Some (negsuc n)
 
--- how many bytes stand after the name
+-- how many bytes follow the name
 abbrev pub numbers_length : ℕ
 numbers_length = 18
 
@@ -81,11 +82,11 @@ IsColumnFault body at bytes fault = IsTextFault at bytes fault ⊎ IsTruncatedNu
 abbrev pub least_column : ℕ
 least_column = 19
 
-abbrev pub Columns : List ℕ → List Column → Type 0
-Columns body columns = CountedItems SpellsColumn body columns
+abbrev pub MeansColumns : List ℕ → List Column → Type 0
+MeansColumns body columns = CountedItems SpellsColumn body columns
 
 abbrev pub IsColumnsFault : List ℕ → ProtocolFault → Type 0
 IsColumnsFault body fault = IsItemsFault SpellsColumn IsColumnFault least_column body fault
 
 abbrev pub ColumnsNeedsNoMemory : List ℕ → Type 0
-ColumnsNeedsNoMemory body = AsksForNothing least_column 0 body
+ColumnsNeedsNoMemory body = ItemsNeedNoMemory least_column 0 body

@@ -3,12 +3,12 @@
 ghost use Rattle.std.specs.Prelude.{◌≡◌, ◌≤◌, Some, None, length, option_copied, option_map};
 ghost use Rattle.pg_base.specs.Decode.{Decodes};
 ghost use Rattle.pg_base.specs.declared.format.BackendMessageFormat.TheVariants as formats;
-ghost use Rattle.pg_receive.specs.Fields.{first_text};
-ghost use Rattle.pg_receive.specs.Notice.{NoticeValue, MeansNotice, IsNoticeFault};
-ghost use Rattle.pg_receive.specs.NoticeLaws.{one_notice, notice_or_fault};
-ghost use Rattle.pg_receive.specs.DatabaseError.{detail_letter, hint_letter, where_letter, schema_letter, table_letter, column_letter, data_type_letter, constraint_letter, file_letter, line_letter, routine_letter, first_number, position_of, kind_of, is_transient, database_error_words};
+ghost use Rattle.pg_receive.specs.Response.Fields.{first_text};
+ghost use Rattle.pg_receive.specs.Response.{NoticeValue, MeansNotice, IsNoticeFault};
+ghost use Rattle.pg_receive.specs.Response.Laws.{one_notice, notice_or_fault};
+ghost use Rattle.pg_receive.specs.Error.{detail_letter, hint_letter, where_letter, schema_letter, table_letter, column_letter, data_type_letter, constraint_letter, file_letter, line_letter, routine_letter, first_number, position_of, kind_of, is_transient, database_error_words};
 
-use crate::message::number::usize_at_front;
+use crate::message::decimal::leading_usize;
 use crate::message::{BackendMessage, Notice, PgSeverity};
 use bytes::Bytes;
 use pg_base::io::MAX_BODY;
@@ -17,7 +17,7 @@ use std::alloc::Global;
 use std::fmt;
 use std::marker::Model;
 
-/// The codes of the errors that [`PgDatabaseError::kind`] tells apart. Documentation: "PostgreSQL
+/// The codes that [`PgDatabaseError::kind`] knows. Documentation: "PostgreSQL
 /// Error Codes", class 23.
 pub mod error_codes {
     /// A unique or primary key is violated.
@@ -60,7 +60,7 @@ impl Model for PgDatabaseError {
 }
 
 impl PgDatabaseError {
-    ghost use Rattle.pg_receive.specs.Position.{position_shown};
+    ghost use Rattle.pg_receive.specs.Error.Position.{position_shown};
 
     /// As [`Notice::severity`].
     pub fn severity(&self) -> PgSeverity
@@ -201,7 +201,7 @@ impl PgDatabaseError {
     fn number(&self, letter: u8) -> Option<usize>
         ensures { result ≡ first_number letter self.now.fields }
     {
-        usize_at_front(self.0.get_raw(letter)?)
+        leading_usize(self.0.get_raw(letter)?)
     }
 }
 

@@ -23,7 +23,7 @@ pub struct BackendKeyData {
 
 impl BackendMessage for BackendKeyData {
     ghost use Rattle.pg_receive.specs.declared.message.backend_key_data.BackendKeyData.{BackendKeyData};
-    ghost use Rattle.pg_receive.specs.BackendKeyDataLaws.{one_key, key_or_fault};
+    ghost use Rattle.pg_receive.specs.BackendKeyData.Laws.{one_key, key_or_fault};
 
     const FORMAT: BackendMessageFormat = BackendMessageFormat::BackendKeyData;
 

@@ -3,7 +3,7 @@
 ghost use Rattle.std.specs.Prelude.{◌≡◌, ℕ, ◌≤◌, List, length, None};
 ghost use Rattle.pg_base.specs.Decode.{Decodes};
 ghost use Rattle.pg_base.specs.declared.format.BackendMessageFormat.TheVariants as formats;
-ghost use Rattle.pg_receive.specs.CopyResponse.{codes_counted, formats_of as shown_formats, MeansFormats, IsFormatsFault, FormatsNeedsNoMemory};
+ghost use Rattle.pg_receive.specs.Copy.{codes_counted, formats_shown, MeansFormats, IsFormatsFault, FormatsNeedsNoMemory};
 
 use crate::message::BackendMessage;
 use bytes::Bytes;
@@ -12,7 +12,7 @@ use pg_base::io::{MAX_BODY, bytes_at, i8_at, i16_at};
 use pg_base::{BackendMessageFormat, Error};
 use std::alloc::Global;
 
-// Where the count of columns stands, and the first code after it.
+// The offsets of the count of columns and of the first code.
 const COLUMNS: usize = 1;
 
 const FIRST_CODE: usize = 3;
@@ -25,7 +25,7 @@ const CODE_LENGTH: usize = 2;
 pub struct CopyResponseData {
     /// The format of the data as a whole.
     pub format: i8,
-    /// How many columns there are. Below 0 it stands for none.
+    /// How many columns there are. A count below 0 means none.
     pub num_columns: i16,
     /// The format of each column.
     pub format_codes: Vec<i16>,
@@ -97,8 +97,8 @@ impl BackendMessage for CopyDone {
 }
 
 impl BackendMessage for CopyInResponse {
-    ghost use Rattle.pg_receive.specs.CopyResponse.{CopyFormats, formats_of as shown_formats, MeansFormats, IsFormatsFault, FormatsNeedsNoMemory};
-    ghost use Rattle.pg_receive.specs.CopyResponseLaws.{one_formats, formats_or_fault};
+    ghost use Rattle.pg_receive.specs.Copy.{CopyFormats, formats_shown, MeansFormats, IsFormatsFault, FormatsNeedsNoMemory};
+    ghost use Rattle.pg_receive.specs.Copy.Laws.{one_formats, formats_or_fault};
 
     const FORMAT: BackendMessageFormat = BackendMessageFormat::CopyInResponse;
 
@@ -106,7 +106,7 @@ impl BackendMessage for CopyInResponse {
 
     ghost Shown = { CopyFormats };
 
-    ghost shown = { λ response. shown_formats response.0 };
+    ghost shown = { λ response. formats_shown response.0 };
 
     ghost Means = { MeansFormats };
 
@@ -115,7 +115,7 @@ impl BackendMessage for CopyInResponse {
     ghost NeedsNoMemory = { FormatsNeedsNoMemory };
 
     fn decode_body(alloc: Global, buf: Bytes) -> Result<Self, Error> {
-        Ok(CopyInResponse(formats_of(alloc, buf.as_slice())?))
+        Ok(CopyInResponse(decode_formats(alloc, buf.as_slice())?))
     }
 
     ghost one_value = { one_formats };
@@ -124,8 +124,8 @@ impl BackendMessage for CopyInResponse {
 }
 
 impl BackendMessage for CopyOutResponse {
-    ghost use Rattle.pg_receive.specs.CopyResponse.{CopyFormats, formats_of as shown_formats, MeansFormats, IsFormatsFault, FormatsNeedsNoMemory};
-    ghost use Rattle.pg_receive.specs.CopyResponseLaws.{one_formats, formats_or_fault};
+    ghost use Rattle.pg_receive.specs.Copy.{CopyFormats, formats_shown, MeansFormats, IsFormatsFault, FormatsNeedsNoMemory};
+    ghost use Rattle.pg_receive.specs.Copy.Laws.{one_formats, formats_or_fault};
 
     const FORMAT: BackendMessageFormat = BackendMessageFormat::CopyOutResponse;
 
@@ -133,7 +133,7 @@ impl BackendMessage for CopyOutResponse {
 
     ghost Shown = { CopyFormats };
 
-    ghost shown = { λ response. shown_formats response.0 };
+    ghost shown = { λ response. formats_shown response.0 };
 
     ghost Means = { MeansFormats };
 
@@ -142,7 +142,7 @@ impl BackendMessage for CopyOutResponse {
     ghost NeedsNoMemory = { FormatsNeedsNoMemory };
 
     fn decode_body(alloc: Global, buf: Bytes) -> Result<Self, Error> {
-        Ok(CopyOutResponse(formats_of(alloc, buf.as_slice())?))
+        Ok(CopyOutResponse(decode_formats(alloc, buf.as_slice())?))
     }
 
     ghost one_value = { one_formats };
@@ -150,9 +150,9 @@ impl BackendMessage for CopyOutResponse {
     ghost never_both = { formats_or_fault };
 }
 
-fn formats_of(alloc: Global, body: &[u8]) -> Result<CopyResponseData, Error>
+fn decode_formats(alloc: Global, body: &[u8]) -> Result<CopyResponseData, Error>
     requires { length body.now ≤ MAX_BODY }
-    ensures { Decodes MeansFormats IsFormatsFault FormatsNeedsNoMemory shown_formats None body.now result }
+    ensures { Decodes MeansFormats IsFormatsFault FormatsNeedsNoMemory formats_shown None body.now result }
 {
     let format = i8_at(body, 0)?;
     let num_columns = i16_at(body, COLUMNS)?;
@@ -169,7 +169,7 @@ fn formats_of(alloc: Global, body: &[u8]) -> Result<CopyResponseData, Error>
     })
 }
 
-// How many codes stand after a count of columns.
+// How many codes follow a count of columns.
 fn code_count(num_columns: i16) -> usize
     ensures { result ≡ codes_counted num_columns }
 {

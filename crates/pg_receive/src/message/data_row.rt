@@ -1,22 +1,22 @@
 //! A row of values.
 
+mod cell_end;
+
 ghost use Rattle.std.specs.Prelude.{◌≡◌, ℕ, ◌+◌, ◌*◌, ◌<◌, ◌≤◌, List, ◌∷◌, ◌++◌, Option, length, drop, None, Some, IfOk, IfErr, slice_get, slice_index};
 ghost use Rattle.std.specs.Option.{option_copied};
 ghost use Rattle.pg_base.specs.Decode.{Decodes};
 ghost use Rattle.pg_base.specs.declared.format.BackendMessageFormat.TheVariants as formats;
-ghost use Rattle.pg_receive.specs.CellEnds.{end_of as entry_end, cell_to, cells_from, start_of, first_cell, EndsRise};
-ghost use Rattle.pg_receive.specs.DataRow.{SpellsCell, IsCellFault, Row, IsRowFault, RowNeedsNoMemory, IsAfter};
-ghost use Rattle.pg_receive.specs.Items.{IsEncodedAt};
+ghost use Rattle.pg_receive.specs.DataRow.CellEnd.{end_of, cell_to, cells_from, start_of, first_cell, EndsRise};
+ghost use Rattle.pg_receive.specs.DataRow.{SpellsCell, IsCellFault, MeansRow, IsRowFault, RowNeedsNoMemory, IsAfter};
+ghost use Rattle.pg_receive.specs.CountedItems.{IsEncodedAt};
 
 use crate::message::BackendMessage;
 use bytes::Bytes;
+use cell_end::CellEnd;
 use pg_base::io::{MAX_BODY, bytes_at, i32_at, u16_at};
 use pg_base::{BackendMessageFormat, Error, ProtocolFault};
 use std::alloc::Global;
 use std::marker::Model;
-
-// The bit of an entry that says NULL; the bits below it are where the cell ends.
-const NULL: u32 = 1 << 31;
 
 // Where the first cell begins, after the count.
 const FIRST_CELL: usize = 2;
@@ -24,18 +24,17 @@ const FIRST_CELL: usize = 2;
 // The bytes of a cell's length.
 const CELL_LENGTH: usize = 4;
 
-/// The values of a row, each as bytes in the format that was asked for, or NULL. They are lent from
-/// the body of the message. Documentation: "Message Formats", DataRow (B).
+/// The values of a row, each as bytes in the format that was asked for, or NULL. They are
+/// borrowed from the body of the message. Documentation: "Message Formats", DataRow (B).
 #[derive(Drop)]
 pub struct DataRow {
     storage: Bytes,
-    // An entry a cell: where it ends in the body, and whether it is NULL.
-    ends: Vec<u32>,
+    ends: Vec<CellEnd>,
 }
 
 impl Model for DataRow {
     ghost use Rattle.std.specs.Prelude.{ℕ, List, Option, length};
-    ghost use Rattle.pg_receive.specs.CellEnds.{cells_from, first_cell, EndsRise};
+    ghost use Rattle.pg_receive.specs.DataRow.CellEnd.{cells_from, first_cell, EndsRise};
 
     ghost Value = { List (Option (List ℕ)) };
 
@@ -63,8 +62,8 @@ impl DataRow {
 
 impl BackendMessage for DataRow {
     ghost use Rattle.std.specs.Prelude.{ℕ, List, Option};
-    ghost use Rattle.pg_receive.specs.DataRow.{Row, IsRowFault, RowNeedsNoMemory};
-    ghost use Rattle.pg_receive.specs.DataRowLaws.{one_row, row_or_fault};
+    ghost use Rattle.pg_receive.specs.DataRow.{MeansRow, IsRowFault, RowNeedsNoMemory};
+    ghost use Rattle.pg_receive.specs.DataRow.Laws.{one_row, row_or_fault};
 
     const FORMAT: BackendMessageFormat = BackendMessageFormat::DataRow;
 
@@ -74,7 +73,7 @@ impl BackendMessage for DataRow {
 
     ghost shown = { λ row. row };
 
-    ghost Means = { Row };
+    ghost Means = { MeansRow };
 
     ghost IsFault = { IsRowFault };
 
@@ -90,50 +89,36 @@ impl BackendMessage for DataRow {
     ghost never_both = { row_or_fault };
 }
 
-/// The cells of a row stand in its body in order, each value after the spellings of the cells
-/// before it; so a body of n bytes has at most (n - 2) / 4 cells.
-pub fn cells_stand_in_order()
-    ensures fit { (body : List ℕ) (cells : List (Option (List ℕ))) → Row body cells → 2 + 4 * length cells ≤ length body }
-    ensures order { (body : List ℕ) (front : List (Option (List ℕ))) (value : List ℕ) (back : List (Option (List ℕ))) → Row body (front ++ Some value ∷ back) → IsAfter body front value }
-{}
-
-// Where a cell ends.
-fn end_of(entry: u32) -> usize
-    ensures { result ≡ entry_end entry }
-{
-    (entry % NULL) as usize
-}
-
 // Where the cell at an index begins.
-fn cell_start(ends: &[u32], index: usize) -> usize
+fn cell_start(ends: &[CellEnd], index: usize) -> usize
     requires { index < length ends.now }
     ensures { result ≡ start_of first_cell ends.now index }
 {
     if index == 0 {
         FIRST_CELL
     } else {
-        end_of(ends[index - 1])
+        ends[index - 1].end()
     }
 }
 
 // The value of the cell at an index.
-fn cell_in<'a>(body: &'a [u8], ends: &[u32], index: usize) -> Option<&'a [u8]>
+fn cell_in<'a>(body: &'a [u8], ends: &[CellEnd], index: usize) -> Option<&'a [u8]>
     requires within { index < length ends.now }
     requires rise { EndsRise first_cell ends.now (length body.now) }
     ensures { slice_get (cells_from body.now first_cell ends.now) index ≡ Some (option_copied result) }
 {
-    let entry = ends[index];
-    if entry >= NULL {
+    let cell = ends[index];
+    if cell.is_null() {
         return None;
     }
     let start = cell_start(ends, index) + CELL_LENGTH;
-    Some(&body[start..entry as usize])
+    Some(&body[start..cell.end()])
 }
 
 // Where each cell of the body ends.
-fn ends_of(alloc: Global, body: &[u8]) -> Result<Vec<u32>, Error>
+fn ends_of(alloc: Global, body: &[u8]) -> Result<Vec<CellEnd>, Error>
     requires { length body.now ≤ MAX_BODY }
-    ensures answer { Decodes Row IsRowFault RowNeedsNoMemory (λ ends. cells_from body.now first_cell ends.items) None body.now result }
+    ensures answer { Decodes MeansRow IsRowFault RowNeedsNoMemory (λ ends. cells_from body.now first_cell ends.items) None body.now result }
     ensures rise { IfOk result (λ ends. EndsRise first_cell ends.items (length body.now)) }
 {
     let count = usize::from(u16_at(body, 0)?);
@@ -141,18 +126,18 @@ fn ends_of(alloc: Global, body: &[u8]) -> Result<Vec<u32>, Error>
     let mut ends = Vec::with_capacity(alloc, count)?;
     let mut at = FIRST_CELL;
     for _index in 0..count {
-        let entry = cell_at(body, at)?;
-        ends.push_reserved(entry);
-        at = end_of(entry);
+        let cell = cell_at(body, at)?;
+        ends.push_reserved(cell);
+        at = cell.end();
     }
     Ok(ends)
 }
 
 // Where the cell that begins at an offset ends, and whether it is NULL.
-fn cell_at(body: &[u8], at: usize) -> Result<u32, ProtocolFault>
+fn cell_at(body: &[u8], at: usize) -> Result<CellEnd, ProtocolFault>
     requires within { at ≤ length body.now }
     requires short { length body.now ≤ MAX_BODY }
-    ensures cell { IfOk result (λ entry. IsEncodedAt SpellsCell body.now at (cell_to body.now at entry) (entry_end entry)) }
+    ensures cell { IfOk result (λ cell. IsEncodedAt SpellsCell body.now at (cell_to body.now at cell) (end_of cell)) }
     ensures broken { IfErr result (λ fault. IsCellFault body.now at (drop at body.now) fault) }
 {
     let length = i32_at(body, at)?;
@@ -160,10 +145,10 @@ fn cell_at(body: &[u8], at: usize) -> Result<u32, ProtocolFault>
     match usize::try_from(length) {
         Ok(length) => {
             bytes_at(body, start, length)?;
-            Ok((start + length) as u32)
+            Ok(CellEnd::of_value(start + length))
         }
         // Every negative length says NULL.
-        Err(_) => Ok(NULL + start as u32),
+        Err(_) => Ok(CellEnd::of_null(start)),
     }
 }
 

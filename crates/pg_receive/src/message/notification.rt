@@ -75,7 +75,7 @@ impl Notification {
 
 impl BackendMessage for Notification {
     ghost use Rattle.pg_receive.specs.Notification.{Notified, MeansNotification, IsNotificationFault};
-    ghost use Rattle.pg_receive.specs.NotificationLaws.{one_notification, notification_or_fault};
+    ghost use Rattle.pg_receive.specs.Notification.Laws.{one_notification, notification_or_fault};
 
     const FORMAT: BackendMessageFormat = BackendMessageFormat::NotificationResponse;
 

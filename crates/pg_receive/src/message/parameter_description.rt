@@ -13,7 +13,7 @@ use pg_base::{BackendMessageFormat, Error};
 use smallvec::SmallVec;
 use std::alloc::Global;
 
-// Where the first type stands, after the count.
+// The offset of the first type, after the count.
 const FIRST_TYPE: usize = 2;
 
 // The bytes of a type.
@@ -31,7 +31,7 @@ impl BackendMessage for ParameterDescription {
     ghost use Rattle.std.specs.Prelude.{ℕ, List};
     ghost use Rattle.pg_base.specs.Numbers.{numbers_of};
     ghost use Rattle.pg_receive.specs.ParameterDescription.{MeansTypes, IsTypesFault, TypesNeedsNoMemory};
-    ghost use Rattle.pg_receive.specs.ParameterDescriptionLaws.{one_types, types_or_fault};
+    ghost use Rattle.pg_receive.specs.ParameterDescription.Laws.{one_types, types_or_fault};
 
     const FORMAT: BackendMessageFormat = BackendMessageFormat::ParameterDescription;
 

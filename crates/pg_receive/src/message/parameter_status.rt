@@ -11,7 +11,7 @@ use bytes::Bytes;
 use pg_base::{BackendMessageFormat, Error};
 use std::alloc::Global;
 
-/// A setting of the server and its value, told at the start and whenever it changes.
+/// A setting of the server and its value, reported at the start and whenever it changes.
 /// Documentation: "Message Formats", ParameterStatus (B).
 #[derive(Drop)]
 pub struct ParameterStatus {
@@ -24,7 +24,7 @@ pub struct ParameterStatus {
 impl BackendMessage for ParameterStatus {
     ghost use Rattle.std.specs.Prelude.{string_bytes};
     ghost use Rattle.pg_receive.specs.ParameterStatus.{Setting, MeansSetting, IsSettingFault};
-    ghost use Rattle.pg_receive.specs.ParameterStatusLaws.{one_setting, setting_or_fault};
+    ghost use Rattle.pg_receive.specs.ParameterStatus.Laws.{one_setting, setting_or_fault};
 
     const FORMAT: BackendMessageFormat = BackendMessageFormat::ParameterStatus;
 

@@ -30,7 +30,7 @@ pub struct ReadyForQuery {
 
 impl BackendMessage for ReadyForQuery {
     ghost use Rattle.pg_receive.specs.declared.message.ready_for_query.TransactionStatus.{TransactionStatus};
-    ghost use Rattle.pg_receive.specs.ReadyForQueryLaws.{one_status, status_or_fault};
+    ghost use Rattle.pg_receive.specs.ReadyForQuery.Laws.{one_status, status_or_fault};
 
     const FORMAT: BackendMessageFormat = BackendMessageFormat::ReadyForQuery;
 

@@ -6,7 +6,7 @@ ghost use Rattle.pg_base.specs.declared.error.ProtocolFault.{ProtocolFault};
 ghost use Rattle.pg_base.specs.declared.error.ProtocolFault.TheVariants.{WrongFormat, BodyTooLong};
 ghost use Rattle.pg_base.specs.declared.error.Error.TheVariants.{Protocol, OutOfMemory};
 ghost use Rattle.pg_base.specs.Decode.{Decodes};
-ghost use Rattle.pg_receive.specs.Received.{max_body, IsValue, reading as error_reading};
+ghost use Rattle.pg_receive.specs.Received.{max_body, IsValue, error_while_reading};
 
 use bytes::Bytes;
 use pg_base::io::MAX_BODY;
@@ -76,13 +76,13 @@ impl ReceivedMessage {
         if self.contents.len() > MAX_BODY {
             return Err(ProtocolFault::BodyTooLong(self.contents.len()).into());
         }
-        T::decode_body(alloc, self.contents).map_err(|error| reading(self.format, error))
+        T::decode_body(alloc, self.contents).map_err(|error| while_reading(self.format, error))
     }
 }
 
 // Names the kind of message in a fault of its body.
-fn reading(format: BackendMessageFormat, error: Error) -> Error
-    ensures { result ≡ error_reading format error }
+fn while_reading(format: BackendMessageFormat, error: Error) -> Error
+    ensures { result ≡ error_while_reading format error }
 {
     match error {
         Error::Protocol { fault, .. } => Error::Protocol {

@@ -3,8 +3,8 @@
 ghost use Rattle.std.specs.Prelude.{◌≡◌, ℕ, ◌+◌, ◌*◌, ◌≤◌, List, length, drop, map, None, IsOk, IfOk, option_map, string_bytes};
 ghost use Rattle.pg_base.specs.Decode.{Decodes};
 ghost use Rattle.pg_base.specs.declared.format.BackendMessageFormat.TheVariants as formats;
-ghost use Rattle.pg_receive.specs.Items.{IsEncodedAt};
-ghost use Rattle.pg_receive.specs.RowDescription.{Column, column_of, table, attribute, numbers_length, SpellsNumbers, SpellsColumn, IsColumnFault, Columns, IsColumnsFault, ColumnsNeedsNoMemory};
+ghost use Rattle.pg_receive.specs.CountedItems.{IsEncodedAt};
+ghost use Rattle.pg_receive.specs.RowDescription.{Column, column_of, table, attribute, numbers_length, SpellsNumbers, SpellsColumn, IsColumnFault, MeansColumns, IsColumnsFault, ColumnsNeedsNoMemory};
 
 use crate::message::BackendMessage;
 use crate::message::text::str_at;
@@ -13,10 +13,10 @@ use pg_base::io::{MAX_BODY, Oid, bytes_at, i16_at, i32_at, u16_at, u32_at};
 use pg_base::{BackendMessageFormat, Error, ProtocolFault};
 use std::alloc::Global;
 
-// Where the first column stands, after the count.
+// The offset of the first column, after the count.
 const FIRST_COLUMN: usize = 2;
 
-// The bytes of a column's numbers, which stand after its name.
+// The bytes of a column's numbers, which follow its name.
 const NUMBERS_LENGTH: usize = 18;
 
 // The least bytes of a column: the NUL of an empty name, and the numbers.
@@ -50,8 +50,8 @@ pub struct Field {
 
 impl BackendMessage for RowDescription {
     ghost use Rattle.std.specs.Prelude.{List, map};
-    ghost use Rattle.pg_receive.specs.RowDescription.{Column, column_of, Columns, IsColumnsFault, ColumnsNeedsNoMemory};
-    ghost use Rattle.pg_receive.specs.RowDescriptionLaws.{one_description, description_or_fault};
+    ghost use Rattle.pg_receive.specs.RowDescription.{Column, column_of, MeansColumns, IsColumnsFault, ColumnsNeedsNoMemory};
+    ghost use Rattle.pg_receive.specs.RowDescription.Laws.{one_description, description_or_fault};
 
     const FORMAT: BackendMessageFormat = BackendMessageFormat::RowDescription;
 
@@ -61,7 +61,7 @@ impl BackendMessage for RowDescription {
 
     ghost shown = { λ description. map column_of description.fields.items };
 
-    ghost Means = { Columns };
+    ghost Means = { MeansColumns };
 
     ghost IsFault = { IsColumnsFault };
 
@@ -77,14 +77,9 @@ impl BackendMessage for RowDescription {
     ghost never_both = { description_or_fault };
 }
 
-/// A body of n bytes describes at most (n - 2) / 19 columns.
-pub fn columns_fit_in_their_body()
-    ensures { (body : List ℕ) (columns : List Column) → Columns body columns → 2 + 19 * length columns ≤ length body }
-{}
-
 fn fields_of(alloc: Global, body: &[u8]) -> Result<Vec<Field>, Error>
     requires { length body.now ≤ MAX_BODY }
-    ensures { Decodes Columns IsColumnsFault ColumnsNeedsNoMemory (λ fields. map column_of fields.items) None body.now result }
+    ensures { Decodes MeansColumns IsColumnsFault ColumnsNeedsNoMemory (λ fields. map column_of fields.items) None body.now result }
 {
     let count = usize::from(u16_at(body, 0)?);
     bytes_at(body, FIRST_COLUMN, LEAST_COLUMN * count)?;

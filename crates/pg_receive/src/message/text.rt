@@ -3,14 +3,13 @@
 ghost use Rattle.std.specs.Prelude.{◌≡◌, ◌+◌, ◌≤◌, length, drop, IfSome, IfNone, IfOk, IfErr, true, false};
 ghost use Rattle.std.specs.Str.{is_utf8};
 ghost use Rattle.pg_base.specs.Reading.{HoldsNo, Text};
-ghost use Rattle.pg_receive.specs.Strings.{Utf8Text, IsMissingNul, IsTextFault};
+ghost use Rattle.pg_receive.specs.Text.{Utf8Text, IsMissingNul, IsTextFault};
 
 use memchr::memchr;
 use pg_base::ProtocolFault;
 use std::str;
 
-/// The text at the front of some bytes, and what stands after its NUL. Nothing where there is no
-/// NUL.
+/// The text at the front of some bytes, and what follows its NUL. `None` where there is no NUL.
 pub fn split_text(bytes: &[u8]) -> Option<(&[u8], &[u8])>
     ensures found { IfSome result (λ split. Text bytes.now split.0.now split.1.now) }
     ensures none { IfNone result (HoldsNo 0 bytes.now) }
@@ -46,7 +45,7 @@ pub fn text_at(body: &[u8], at: usize) -> Result<(&[u8], usize), ProtocolFault>
 
 /// The text at an offset within a body, as [`text_at`], and refused with `NotUtf8` where it isn't
 /// UTF-8.
-#[tactic(auto, using(crate::proofs::Texts::not_utf8))]
+#[tactic(auto, using(crate::proofs::TextLemmas::not_utf8))]
 pub fn str_at(body: &[u8], at: usize) -> Result<(&str, usize), ProtocolFault>
     requires { at ≤ length body.now }
     ensures found { IfOk result (λ found. Utf8Text (drop at body.now) found.0.now (drop found.1 body.now)) }

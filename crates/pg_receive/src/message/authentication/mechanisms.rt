@@ -2,7 +2,7 @@
 
 ghost use Rattle.std.specs.Prelude.{◌≡◌, ℕ, ◌*◌, ◌≤◌, List, [], length, IfSome, IfNone};
 ghost use Rattle.std.specs.Iterator.{YieldsFirstRef, item_count};
-ghost use Rattle.pg_receive.specs.Mechanisms.{BeginsWithName, AreMechanisms, mechanisms_in};
+ghost use Rattle.pg_receive.specs.Authentication.Mechanisms.{BeginsWithName, AreMechanisms, mechanisms_in};
 
 use crate::message::{split_text, utf8_text};
 use std::marker::Model;
@@ -45,7 +45,7 @@ impl<'a> Iterator for SaslMechanisms<'a> {
     }
 }
 
-// The name at the front of some bytes, and what stands after its NUL.
+// The name at the front of some bytes, and what follows its NUL.
 fn split_name(bytes: &[u8]) -> Option<(&str, &[u8])>
     ensures found { IfSome result (λ name. BeginsWithName bytes.now name.0.now name.1.now) }
     ensures none { IfNone result (mechanisms_in bytes.now ≡ []) }
@@ -56,11 +56,3 @@ fn split_name(bytes: &[u8]) -> Option<(&str, &[u8])>
     }
     Some((utf8_text(text)?, rest))
 }
-
-/// The mechanisms are told by cases: each name begins what the ones before it leave. They are no
-/// more than half as many as the bytes.
-pub fn mechanisms_stand_in_order()
-    ensures are { (bytes : List ℕ) → AreMechanisms bytes (mechanisms_in bytes) }
-    ensures only { (bytes : List ℕ) (names : List (List ℕ)) → AreMechanisms bytes names → names ≡ mechanisms_in bytes }
-    ensures half { (bytes : List ℕ) → 2 * length (mechanisms_in bytes) ≤ length bytes }
-{}

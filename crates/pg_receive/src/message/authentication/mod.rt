@@ -1,24 +1,25 @@
 //! What the server asks of a client that opens a session.
 
-mod items;
 mod mechanisms;
-mod sasl;
+mod sasl_continue;
+mod sasl_final;
+mod sasl_items;
 
 ghost use Rattle.std.specs.Prelude.{◌≡◌, ◌≤◌, ℕ, ◌+◌, List, length, take, drop, None, IfOk, IfErr};
 ghost use Rattle.pg_base.specs.Decode.{Decodes};
 ghost use Rattle.pg_base.specs.Error.{IsShort};
 ghost use Rattle.pg_base.specs.declared.format.BackendMessageFormat.TheVariants as formats;
-ghost use Rattle.pg_receive.specs.Mechanisms.{mechanisms_in};
+ghost use Rattle.pg_receive.specs.Authentication.Mechanisms.{mechanisms_in};
 ghost use Rattle.pg_receive.specs.Authentication.{AuthenticationValue, md5_password, MeansRest, MeansAuthentication, IsAuthenticationFault, IsNoSaslData};
-ghost use Rattle.pg_receive.specs.AuthenticationLaws.{one_authentication, authentication_or_fault};
+ghost use Rattle.pg_receive.specs.Authentication.Laws.{one_authentication, authentication_or_fault};
 
 use crate::message::BackendMessage;
 use bytes::{Buf, Bytes};
-pub use items::sasl_items_are_between_commas;
-pub use mechanisms::{SaslMechanisms, mechanisms_stand_in_order};
+pub use mechanisms::SaslMechanisms;
 use pg_base::io::{MAX_BODY, bytes_at, u32_at};
 use pg_base::{BackendMessageFormat, Error, ProtocolFault};
-pub use sasl::{AuthenticationSaslContinue, AuthenticationSaslFinal};
+pub use sasl_continue::AuthenticationSaslContinue;
+pub use sasl_final::AuthenticationSaslFinal;
 use std::alloc::Global;
 use std::marker::Model;
 
@@ -53,7 +54,7 @@ pub enum Authentication {
     Sasl(AuthenticationSasl),
     /// The challenge in a SASL exchange.
     SaslContinue(AuthenticationSaslContinue),
-    /// The last word in a SASL exchange.
+    /// The server-final-message of a SASL exchange.
     SaslFinal(AuthenticationSaslFinal),
 }
 
@@ -84,7 +85,7 @@ impl AuthenticationSasl {
 }
 
 impl BackendMessage for Authentication {
-    ghost use Rattle.pg_receive.specs.AuthenticationShown.{authentication_shown};
+    ghost use Rattle.pg_receive.specs.Authentication.Shown.{authentication_shown};
 
     const FORMAT: BackendMessageFormat = BackendMessageFormat::Authentication;
 
@@ -112,11 +113,11 @@ impl BackendMessage for Authentication {
                 Ok(Authentication::Sasl(AuthenticationSasl(names)))
             }
             SASL_CONTINUE => {
-                let challenge = sasl::continue_of(alloc, &body[METHOD_LENGTH..])?;
+                let challenge = sasl_continue::decode_challenge(alloc, &body[METHOD_LENGTH..])?;
                 Ok(Authentication::SaslContinue(challenge))
             }
             SASL_FINAL => {
-                let verifier = sasl::verifier_of(alloc, &body[METHOD_LENGTH..])?;
+                let verifier = sasl_final::decode_verifier(alloc, &body[METHOD_LENGTH..])?;
                 Ok(Authentication::SaslFinal(AuthenticationSaslFinal { verifier }))
             }
             method => Err(ProtocolFault::UnknownAuthentication(method).into()),

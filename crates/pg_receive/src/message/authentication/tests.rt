@@ -33,7 +33,7 @@ fn requests(rt: HostRuntime) -> Result<(), Fail> {
     assert_eq!(rt; challenge.iterations, 0);
     assert_eq!(rt; challenge.message.as_str(), "r=a,s=QUJD,i=0");
     let Authentication::SaslFinal(last) = request_of(&rt, b"\0\0\0\x0Cv=QUI=")? else {
-        panic!(rt; "no last word");
+        panic!(rt; "no server-final-message");
     };
     assert_eq!(rt; last.verifier.as_slice(), b"AB".as_slice());
     Ok(())
@@ -109,7 +109,7 @@ fn refused_challenges(rt: HostRuntime) {
 }
 
 #[test]
-fn last_words(rt: HostRuntime) -> Result<(), Fail> {
+fn server_final_messages(rt: HostRuntime) -> Result<(), Fail> {
     let table: [(&'static [u8], &[u8]); 3] = [
         (b"v=QUI=", b"AB"),
         (b"v=QUJD,v=", b""),

@@ -2,7 +2,7 @@
 
 ghost use Rattle.std.specs.Prelude.{◌≡◌, ℕ, ◌*◌, ◌≤◌, List, [], length, IfSome, IfNone};
 ghost use Rattle.std.specs.Iterator.{YieldsFirstBy, item_count};
-ghost use Rattle.pg_receive.specs.Fields.{Field, BeginsWithField, AreFields, fields_in};
+ghost use Rattle.pg_receive.specs.Response.Fields.{Field, BeginsWithField, AreFields, fields_in};
 
 use crate::message::split_text;
 use std::marker::Model;
@@ -46,7 +46,7 @@ impl<'a> Iterator for Fields<'a> {
     }
 }
 
-/// The field at the front of some bytes, its letter and its value, and what stands after its NUL.
+/// The field at the front of some bytes, its letter and its value, and what follows its NUL.
 pub fn split_field(bytes: &[u8]) -> Option<(u8, &[u8], &[u8])>
     ensures found { IfSome result (λ field. BeginsWithField bytes.now field.0 field.1.now field.2.now) }
     ensures none { IfNone result (fields_in bytes.now ≡ []) }
@@ -58,11 +58,3 @@ pub fn split_field(bytes: &[u8]) -> Option<(u8, &[u8], &[u8])>
     let (value, rest) = split_text(rest)?;
     Some((*letter, value, rest))
 }
-
-/// The fields of a body are told by cases: each begins what the ones before it leave. They are no
-/// more than half as many as the bytes.
-pub fn fields_stand_in_order()
-    ensures are { (body : List ℕ) → AreFields body (fields_in body) }
-    ensures only { (body : List ℕ) (fields : List Field) → AreFields body fields → fields ≡ fields_in body }
-    ensures half { (body : List ℕ) → 2 * length (fields_in body) ≤ length body }
-{}

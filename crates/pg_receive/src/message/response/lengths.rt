@@ -3,8 +3,8 @@
 
 ghost use Rattle.std.specs.Prelude.{◌≡◌, ◌≤◌, length};
 ghost use Rattle.std.specs.Option.{option_copied};
-ghost use Rattle.pg_receive.specs.FieldLengths.{HasLengths};
-ghost use Rattle.pg_receive.specs.Fields.{fields_in, first_value};
+ghost use Rattle.pg_receive.specs.Response.Lengths.{HasLengths};
+ghost use Rattle.pg_receive.specs.Response.Fields.{fields_in, first_value};
 
 use crate::message::response::fields::{Fields, split_field};
 use pg_base::io::MAX_BODY;

@@ -9,15 +9,15 @@ ghost use Rattle.std.specs.Prelude.{◌≡◌, ◌≤◌, ℕ, List, [], length,
 ghost use Rattle.std.specs.Str.{is_utf8};
 ghost use Rattle.pg_base.specs.Decode.{Decodes};
 ghost use Rattle.pg_base.specs.declared.format.BackendMessageFormat.TheVariants as formats;
-ghost use Rattle.pg_receive.specs.FieldLengths.{HasLengths};
-ghost use Rattle.pg_receive.specs.Fields.{fields_in, first_value, first_text, of_letter};
-ghost use Rattle.pg_receive.specs.Notice.{NoticeValue, MeansNotice, IsNoticeFault, code_letter, message_letter};
-ghost use Rattle.pg_receive.specs.NoticeLaws.{one_notice, notice_or_fault};
-ghost use Rattle.pg_receive.specs.Places.{IsPlaceIn, bytes_at};
+ghost use Rattle.pg_receive.specs.Response.Lengths.{HasLengths};
+ghost use Rattle.pg_receive.specs.Response.Fields.{fields_in, first_value, first_text, of_letter};
+ghost use Rattle.pg_receive.specs.Response.{NoticeValue, MeansNotice, IsNoticeFault, code_letter, message_letter};
+ghost use Rattle.pg_receive.specs.Response.Laws.{one_notice, notice_or_fault};
+ghost use Rattle.pg_receive.specs.Response.Places.{IsPlaceIn, bytes_in};
 
 use crate::message::{BackendMessage, utf8_text};
 use bytes::Bytes;
-pub use fields::{Fields, fields_stand_in_order};
+pub use fields::Fields;
 use lengths::{lengths_of, value_in};
 use pg_base::io::{MAX_BODY, ProtocolDecode};
 use pg_base::{BackendMessageFormat, Error};
@@ -47,8 +47,8 @@ impl Model for Notice {
     ghost view = { λ notice. record {
       fields = fields_in notice.storage;
       severity = notice.severity;
-      message = bytes_at notice.storage notice.message;
-      code = bytes_at notice.storage notice.code;
+      message = bytes_in notice.storage notice.message;
+      code = bytes_in notice.storage notice.code;
     } };
 
     ghost invariant = { λ notice. IsPlaceIn notice.storage notice.message × IsPlaceIn notice.storage notice.code × HasLengths notice.storage notice.lengths.items };
@@ -68,14 +68,14 @@ impl Notice {
     pub fn code(&self) -> &str
         ensures { result.now ≡ self.now.code }
     {
-        text_at(self.storage.as_slice(), &self.code)
+        text_in(self.storage.as_slice(), &self.code)
     }
 
     /// The last message that was read, empty where there is none.
     pub fn message(&self) -> &str
         ensures { result.now ≡ self.now.message }
     {
-        text_at(self.storage.as_slice(), &self.message)
+        text_in(self.storage.as_slice(), &self.message)
     }
 
     /// The first field of a letter, where it is UTF-8. Documentation: "Error and Notice Message
@@ -152,17 +152,10 @@ impl BackendMessage for Notice {
     ghost never_both = { notice_or_fault };
 }
 
-/// Where a body has one field `M` at most, the message is its value, or empty without it. So it is
-/// with `C` and the code.
-pub fn message_is_its_only_field()
-    ensures message { (body : List ℕ) (notice : NoticeValue) → MeansNotice body notice → length (of_letter message_letter notice.fields) ≤ 1 → notice.message ≡ unwrap_or (first_value message_letter notice.fields) [] }
-    ensures code { (body : List ℕ) (notice : NoticeValue) → MeansNotice body notice → length (of_letter code_letter notice.fields) ≤ 1 → notice.code ≡ unwrap_or (first_value code_letter notice.fields) [] }
-{}
-
 // The text at a place that was found to hold one.
-fn text_at<'a>(body: &'a [u8], place: &Range<usize>) -> &'a str
+fn text_in<'a>(body: &'a [u8], place: &Range<usize>) -> &'a str
     requires { IsPlaceIn body.now place.now }
-    ensures { result.now ≡ bytes_at body.now place.now }
+    ensures { result.now ≡ bytes_in body.now place.now }
 {
     unsafe { str::from_utf8_unchecked(&body[place.start..place.end]) }
 }

@@ -2,14 +2,14 @@
 
 ghost use Rattle.std.specs.Prelude.{◌≡◌, ℕ, ◌+◌, ◌≤◌, List, [], length, None, Some, slice_range, IfOk, OnOk, IfErr, if◌then◌else◌, ◌==◌, ◌&&◌, nat_lt, true, false};
 ghost use Rattle.std.specs.Str.{is_utf8};
-ghost use Rattle.pg_receive.specs.Fields.{fields_in};
+ghost use Rattle.pg_receive.specs.Response.Fields.{fields_in};
 ghost use Rattle.pg_receive.specs.Last.{last, first_fault_of};
 ghost use Rattle.std.specs.Option.{option_or, unwrap_or};
 ghost use Rattle.pg_receive.specs.declared.message.response.severity.PgSeverity.TheVariants.{Log};
-ghost use Rattle.pg_receive.specs.Severity.{severity_of_word};
+ghost use Rattle.pg_receive.specs.Response.Severity.{severity_of_word};
 ghost use Rattle.pg_base.specs.declared.error.ProtocolFault.TheVariants.{NoticeNotUtf8};
-ghost use Rattle.pg_receive.specs.Notice.{Read, field_fault, notice_fault, code_letter, message_letter, severity_letter, localized_letter};
-ghost use Rattle.pg_receive.specs.Places.{IsPlaceIn, bytes_at};
+ghost use Rattle.pg_receive.specs.Response.{Read, field_fault, notice_fault, code_letter, message_letter, severity_letter, localized_letter};
+ghost use Rattle.pg_receive.specs.Response.Places.{IsPlaceIn, bytes_in};
 
 use crate::message::response::PgSeverity;
 use crate::message::response::fields::split_field;
@@ -50,7 +50,7 @@ impl ReadPart {
         self.severity.or(self.localized).unwrap_or(PgSeverity::Log)
     }
 
-    // Takes in a field whose value stands in this place.
+    // Takes in a field whose value is at this place.
     fn take(&mut self, letter: u8, value: &[u8], place: Range<usize>) -> Result<(), ProtocolFault>
         ensures clean { OnOk result (field_fault (letter, value.now) ≡ None) }
         ensures severity { OnOk result (self.new.severity ≡ (if letter == severity_letter then severity_of_word value.now else self.old.severity)) }
@@ -90,7 +90,7 @@ fn notice_text(value: &[u8]) -> Result<&str, ProtocolFault>
 /// empty, or else all its fields. The first fault of a field is answered.
 pub(crate) fn read(body: &[u8]) -> Result<ReadPart, ProtocolFault>
     ensures within { IfOk result (λ part. IsPlaceIn body.now part.message × IsPlaceIn body.now part.code) }
-    ensures reads { IfOk result (λ part. Read (fields_in body.now) (bytes_at body.now part.message) (bytes_at body.now part.code) part.severity part.localized) }
+    ensures reads { IfOk result (λ part. Read (fields_in body.now) (bytes_in body.now part.message) (bytes_in body.now part.code) part.severity part.localized) }
     ensures fault { IfErr result (λ fault. notice_fault body.now ≡ Some fault) }
 {
     let mut part = ReadPart {

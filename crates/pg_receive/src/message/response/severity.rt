@@ -1,7 +1,7 @@
 //! How grave an error or a notice is.
 
 ghost use Rattle.std.specs.Prelude.{◌≡◌};
-ghost use Rattle.pg_receive.specs.Severity.{is_error, severity_answer, severity_of_word};
+ghost use Rattle.pg_receive.specs.Response.Severity.{is_error, severity_answer, severity_of_word};
 
 use pg_base::{Error, ProtocolFault};
 

@@ -1,4 +1,4 @@
-use Rattle.pg_receive.proofs.LastSpace.{after_last, rows_after, no_rows}
+use Rattle.pg_receive.proofs.CommandCompleteLemmas.{after_last, rows_after, no_rows}
 use Rattle.pg_receive.proofs.message.command_complete.rows_in.Goals as goal
 
 pub returns-in-Some : goal.returns-in-Some

@@ -4,7 +4,7 @@ use Rattle.std.proofs.lemmas.Int.{to_z-of_z}
 use lib.IntN.{nat_abs}
 use mir.Val.{SFits, to_z, of_z}
 use Rattle.pg_base.specs.Reading.{Signed}
-use Rattle.pg_receive.proofs.Cells.{value_stands}
+use Rattle.pg_receive.proofs.DataRowLemmas.{value_is_at}
 use Rattle.pg_receive.proofs.message.data_row.cell_at.Goals as goal
 
 from_0 : (z : ℤ) → FitsUnsignedBits 64 z → z ≡ pos (nat_abs z)
@@ -18,6 +18,6 @@ returns-in_ok-bytes_at-in-Ok-clause-cell c =
     let z = c.in_ok-length.length in
     let in_range : SFits w32 z = search rules in
     let is : z ≡ pos n = sym (to_z-of_z w32 z in_range) ∙ from_0 (to_z w32 (of_z w32 z)) c.in-Ok.ensures.0 ∙ ap pos (sym c.in-Ok.ensures.1) in
-    let stands : Signed 4 (drop c.args.at body) (pos n) (drop (c.args.at + 4) body) = rw is at c.in_ok-length.ensures.found in
+    let encoded : Signed 4 (drop c.args.at body) (pos n) (drop (c.args.at + 4) body) = rw is at c.in_ok-length.ensures.found in
     let fits = c.in_ok-bytes_at-in-Ok.ensures.found.0 in
-    value_stands body c.args.at n stands fits (omega (arith, fits)) (omega (arith, fits))
+    rw c.of_value.ensures (value_is_at body c.args.at n encoded fits (omega (arith, fits)) (omega (arith, fits)))

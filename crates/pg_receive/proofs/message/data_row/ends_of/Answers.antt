@@ -1,11 +1,11 @@
 use Rattle.std.proofs.Common.{◌≡◌, ◌+◌, ◌*◌, ◌<◌, ◌≤◌, length, refl, sym, ap, ◌∙◌, arith}
 use Rattle.std.proofs.lemmas.Bool.{false≢true}
 use Rattle.std.proofs.lemmas.Result.{err_from_is_err_and}
-use Rattle.pg_receive.specs.CellEnds.{end_of, cell_to, cells_from, last_end}
+use Rattle.pg_receive.specs.DataRow.CellEnd.{end_of, cell_to, cells_from, last_end}
 use Rattle.pg_receive.specs.DataRow.{SpellsCell, IsCellFault}
-use Rattle.pg_receive.specs.DataRowLaws.{cell_takes}
-use Rattle.pg_receive.proofs.Cells.{length-cells_from, cells_from-push, last_end-push, ends_rise_push}
-use Rattle.pg_receive.proofs.ItemLemmas.{one_more_stands, stands_within, counted_items, next_breaks, asks_for_memory}
+use Rattle.pg_receive.specs.DataRow.Laws.{cell_takes}
+use Rattle.pg_receive.proofs.DataRowLemmas.{length-cells_from, cells_from-push, last_end-push, ends_rise_push}
+use Rattle.pg_receive.proofs.CountedItemsLemmas.{one_more_is_at, ends_within, counted_items, next_breaks, asks_for_memory}
 use Rattle.pg_receive.proofs.message.data_row.ends_of.Goals as goal
 
 pub returns-in_err-ends-clause-answer : goal.returns-in_err-ends-clause-answer
@@ -16,36 +16,36 @@ returns-in_err-ends-clause-answer c =
     let some_are_there : 0 < n = omega (arith, c.from-count.ensures) in
     rw (p.1, p.2) (asks_for_memory 4 0 c.args.body.now n c.in_ok-u16_at.ensures.found (omega (arith, c.from-count.ensures, c.in_ok-bytes_at.ensures.found.0)) some_are_there)
 
-pub returns-in_err-entry-clause-answer : goal.returns-in_err-entry-clause-answer
-returns-in_err-entry-clause-answer c =
-    let p = err_from_is_err_and c.from_residual-in_err-entry.result c.from_residual-in_err-entry.ensures.1 in
+pub returns-in_err-cell-clause-answer : goal.returns-in_err-cell-clause-answer
+returns-in_err-cell-clause-answer c =
+    let p = err_from_is_err_and c.from_residual-in_err-cell.result c.from_residual-in_err-cell.ensures.1 in
     let body = c.args.body.now in
     let n = c.in_ok-u16_at.field-0 in
     let row = c.loop-index in
     let cells = cells_from body 2 row.ends.items in
     let holds : 2 + 4 * n ≤ length body = omega (arith, c.from-count.ensures, c.in_ok-bytes_at.ensures.found.0) in
     let fewer : length cells < n = omega (arith, length-cells_from body 2 row.ends.items, row.ends.ok.0, row.invariant.counted, c.from-count.ensures, c.loop-index-test.true) in
-    rw (p.1, p.2) (refl, next_breaks SpellsCell IsCellFault 4 body n row.at cells c.in_err-entry.field-0.0 c.in_ok-u16_at.ensures.found holds fewer row.invariant.stand c.in_err-entry.ensures.broken)
+    rw (p.1, p.2) (refl, next_breaks SpellsCell IsCellFault 4 body n row.at cells c.in_err-cell.field-0.0 c.in_ok-u16_at.ensures.found holds fewer row.invariant.encoded c.in_err-cell.ensures.broken)
 
 pub loop-index-preserved : goal.loop-index-preserved
 loop-index-preserved c =
     let body = c.args.body.now in
-    let entry = c.in_ok-entry.entry in
+    let entry = c.in_ok-cell.cell in
     let row = c.loop-index in
     let ends = row.ends.items in
     let cell = cell_to body row.at entry in
-    let stands = c.in_ok-entry.ensures.cell in
+    let encoded = c.in_ok-cell.ensures.cell in
     let pushed = c.push_reserved.ensures in
-    let within : end_of entry ≤ length body = stands_within SpellsCell body row.at (end_of entry) cell row.invariant.within stands in
-    let rises : last_end 2 ends + 4 ≤ end_of entry = omega (arith, row.invariant.last, stands.ends, cell_takes stands.spelled cell stands.spells) in
+    let within : end_of entry ≤ length body = ends_within SpellsCell body row.at (end_of entry) cell row.invariant.within encoded in
+    let rises : last_end 2 ends + 4 ≤ end_of entry = omega (arith, row.invariant.last, encoded.ends, cell_takes encoded.spelled cell encoded.spells) in
     record {
-      within = rw c.end_of-at.ensures within;
-      last = c.end_of-at.ensures ∙ sym (last_end-push 2 ends entry) ∙ ap (last_end 2) (sym pushed.items);
+      within = rw c.end-at.ensures within;
+      last = c.end-at.ensures ∙ sym (last_end-push 2 ends entry) ∙ ap (last_end 2) (sym pushed.items);
       counted = omega (arith, pushed.len, row.invariant.counted);
       room = pushed.capacity ∙ row.invariant.room;
       rise = rw pushed.items (ends_rise_push 2 ends entry (length body) row.invariant.rise rises within);
-      stand = rw (pushed.items, c.end_of-at.ensures, cells_from-push body 2 ends entry, ← row.invariant.last)
-          (one_more_stands SpellsCell body 2 row.at (end_of entry) (cells_from body 2 ends) cell row.invariant.stand stands);
+      encoded = rw (pushed.items, c.end-at.ensures, cells_from-push body 2 ends entry, ← row.invariant.last)
+          (one_more_is_at SpellsCell body 2 row.at (end_of entry) (cells_from body 2 ends) cell row.invariant.encoded encoded);
     }
 
 pub returns-clause-answer : goal.returns-clause-answer
@@ -55,4 +55,4 @@ returns-clause-answer c =
     let row = c.loop-index in
     let cells = cells_from body 2 row.ends.items in
     let count : length cells ≡ n = omega (arith, length-cells_from body 2 row.ends.items, row.ends.ok.0, row.invariant.counted, c.from-count.ensures) in
-    counted_items SpellsCell body n row.at cells c.in_ok-u16_at.ensures.found (omega arith) count row.invariant.stand
+    counted_items SpellsCell body n row.at cells c.in_ok-u16_at.ensures.found (omega arith) count row.invariant.encoded

@@ -1,7 +1,7 @@
 use Rattle.std.proofs.Common.{◌≡◌, ◌≤◌, length, vec_len, vec_capacity}
-use Rattle.pg_receive.specs.CellEnds.{cells_from, last_end, first_cell, EndsRise}
+use Rattle.pg_receive.specs.DataRow.CellEnd.{cells_from, last_end, first_cell, EndsRise}
 use Rattle.pg_receive.specs.DataRow.{SpellsCell}
-use Rattle.pg_receive.specs.Items.{SpellItems, IsEncodedAt}
+use Rattle.pg_receive.specs.CountedItems.{SpellItems, IsEncodedAt}
 use Rattle.pg_receive.proofs.message.data_row.ends_of.Given as goal
 
 abbrev pub invariant-loop-index : goal.invariant-loop-index
@@ -11,5 +11,5 @@ invariant-loop-index l = record {
   counted : vec_len l.ends ≡ l._index;
   room : vec_capacity l.ends ≡ l.count;
   rise : EndsRise first_cell l.ends.items (length l.body);
-  stand : IsEncodedAt (SpellItems SpellsCell) l.body first_cell (cells_from l.body first_cell l.ends.items) l.at;
+  encoded : IsEncodedAt (SpellItems SpellsCell) l.body first_cell (cells_from l.body first_cell l.ends.items) l.at;
 }

@@ -6,8 +6,8 @@ use Rattle.pg_base.specs.declared.io.Oid.{Oid}
 use Rattle.pg_base.specs.Reading.{Number}
 use Rattle.pg_base.specs.Numbers.{numbers_of}
 use Rattle.pg_receive.specs.ParameterDescription.{SpellsType}
-use Rattle.pg_receive.specs.Items.{IsEncodedAt}
-use Rattle.pg_receive.proofs.ItemLemmas.{one_more_stands, asks_for_memory}
+use Rattle.pg_receive.specs.CountedItems.{IsEncodedAt}
+use Rattle.pg_receive.proofs.CountedItemsLemmas.{one_more_is_at, asks_for_memory}
 use Rattle.pg_receive.proofs.message.parameter_description.types_of.Goals as goal
 
 pub returns-in_err-reserve : goal.returns-in_err-reserve
@@ -17,8 +17,8 @@ returns-in_err-reserve c =
     let not_in_place : c.from-count.result ≤ 6 → ⊥ = λ few. absurd (false≢true (c.in_err-reserve.ensures.succeeds (omega (arith, few, ap length c.new-types.ensures.items, c.new-types.ensures.capacity)))) in
     rw (p.1, p.2) (asks_for_memory 4 6 c.args.body.now n c.in_ok-u16_at.ensures.found (omega (arith, c.from-count.ensures, c.in_ok-bytes_at.ensures.found.0)) (omega (arith, c.from-count.ensures)))
 
-type_stands : (body : List ℕ) (at id : ℕ) → Number 4 (drop at body) id (drop (at + 4) body) → IsEncodedAt SpellsType body at id (at + 4)
-type_stands body at id p = record {
+type_is_at : (body : List ℕ) (at id : ℕ) → Number 4 (drop at body) id (drop (at + 4) body) → IsEncodedAt SpellsType body at id (at + 4)
+type_is_at body at id p = record {
   spelled = p.spelled;
   spells = record { wide = p.wide; is = p.is };
   ends = omega (arith, p.wide);
@@ -37,5 +37,5 @@ loop-index-preserved c =
     record {
       counted = omega (arith, ap length pushed.items, length_push types (record { 0 = id }), c.loop-index.invariant.counted);
       room = omega (arith, pushed.capacity, c.loop-index.invariant.room);
-      stand = rw (more, next) (one_more_stands SpellsType body 2 at (at + 4) (numbers_of types) id c.loop-index.invariant.stand (type_stands body at id c.in_ok-u32_at.ensures.found));
+      encoded = rw (more, next) (one_more_is_at SpellsType body 2 at (at + 4) (numbers_of types) id c.loop-index.invariant.encoded (type_is_at body at id c.in_ok-u32_at.ensures.found));
     }

@@ -2,12 +2,12 @@ use Rattle.std.proofs.Common.{◌≡◌, ◌+◌, ◌*◌, ◌≤◌}
 use Rattle.smallvec.specs.SmallVec.{small_vec_len}
 use Rattle.pg_base.specs.Numbers.{numbers_of}
 use Rattle.pg_receive.specs.ParameterDescription.{SpellsType}
-use Rattle.pg_receive.specs.Items.{SpellItems, IsEncodedAt}
+use Rattle.pg_receive.specs.CountedItems.{SpellItems, IsEncodedAt}
 use Rattle.pg_receive.proofs.message.parameter_description.types_of.Given as goal
 
 abbrev pub invariant-loop-index : goal.invariant-loop-index
 invariant-loop-index l = record {
   counted : small_vec_len l.types ≡ l.index;
   room : l.count ≤ l.types.capacity;
-  stand : IsEncodedAt (SpellItems SpellsType) l.body 2 (numbers_of l.types.items) (2 + 4 * l.index);
+  encoded : IsEncodedAt (SpellItems SpellsType) l.body 2 (numbers_of l.types.items) (2 + 4 * l.index);
 }

@@ -1,6 +1,6 @@
 use Rattle.std.proofs.Common.{◌≡◌, ◌≤◌, length, map, vec_len, vec_capacity}
 use Rattle.pg_receive.specs.RowDescription.{SpellsColumn, column_of}
-use Rattle.pg_receive.specs.Items.{SpellItems, IsEncodedAt}
+use Rattle.pg_receive.specs.CountedItems.{SpellItems, IsEncodedAt}
 use Rattle.pg_receive.proofs.message.row_description.fields_of.Given as goal
 
 abbrev pub invariant-loop-index : goal.invariant-loop-index
@@ -8,5 +8,5 @@ invariant-loop-index l = record {
   within : l.at ≤ length l.body;
   counted : vec_len l.fields ≡ l._index;
   room : vec_capacity l.fields ≡ l.count;
-  stand : IsEncodedAt (SpellItems SpellsColumn) l.body 2 (map column_of l.fields.items) l.at;
+  encoded : IsEncodedAt (SpellItems SpellsColumn) l.body 2 (map column_of l.fields.items) l.at;
 }

@@ -1,4 +1,4 @@
-use Rattle.pg_receive.proofs.Texts.{nowhere_holds_no, text_before}
+use Rattle.pg_receive.proofs.TextLemmas.{nowhere_holds_no, text_before}
 use Rattle.pg_receive.proofs.message.text.split_text.Goals as goal
 
 pub returns-in_err-end-clause-none : goal.returns-in_err-end-clause-none

@@ -1,6 +1,6 @@
 use Rattle.std.proofs.Common.{sym}
 use Rattle.std.proofs.lemmas.Bool.{eqb-true}
-use Rattle.pg_receive.proofs.MechanismLemmas.{no_mechanisms_clean, no_mechanisms_text, not_a_name, empty_is_no_name}
+use Rattle.pg_receive.proofs.AuthenticationMechanismsLemmas.{no_mechanisms_clean, no_mechanisms_text, not_a_name, empty_is_no_name}
 use Rattle.pg_receive.proofs.message.authentication.mechanisms.split_name.Goals as goal
 
 pub returns-in_err-text-clause-none : goal.returns-in_err-text-clause-none

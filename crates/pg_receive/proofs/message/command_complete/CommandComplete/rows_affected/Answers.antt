@@ -3,5 +3,5 @@ use Rattle.pg_receive.proofs.message.command_complete.CommandComplete.rows_affec
 
 pub returns : goal.returns
 returns c =
-    let lent : c.as_slice.result.now ≡ c.args.self.now = c.as_slice.ensures ∙ c.self.view_is in
-    rw lent at c.rows_in.ensures
+    let borrowed : c.as_slice.result.now ≡ c.args.self.now = c.as_slice.ensures ∙ c.self.view_is in
+    rw borrowed at c.rows_in.ensures

@@ -1,5 +1,5 @@
 use Rattle.std.proofs.Common.{ap, length, arith}
-use Rattle.pg_receive.proofs.Cells.{length-cells_from}
+use Rattle.pg_receive.proofs.DataRowLemmas.{length-cells_from}
 use Rattle.pg_receive.proofs.message.data_row.DataRow.get.Goals as goal
 
 pub cell_in-requires-clause-within : goal.cell_in-requires-clause-within

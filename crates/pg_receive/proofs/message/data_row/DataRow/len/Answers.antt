@@ -1,5 +1,5 @@
 use Rattle.std.proofs.Common.{◌∙◌, sym}
-use Rattle.pg_receive.proofs.Cells.{length-cells_from}
+use Rattle.pg_receive.proofs.DataRowLemmas.{length-cells_from}
 use Rattle.pg_receive.proofs.message.data_row.DataRow.len.Goals as goal
 
 pub returns : goal.returns

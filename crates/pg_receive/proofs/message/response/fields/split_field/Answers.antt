@@ -1,5 +1,5 @@
 use Rattle.std.proofs.lemmas.List.{nil_from_length}
-use Rattle.pg_receive.proofs.FieldLemmas.{no_fields_clean, no_fields_empty}
+use Rattle.pg_receive.proofs.ResponseFieldsLemmas.{no_fields_clean, no_fields_empty}
 use Rattle.pg_receive.proofs.message.response.fields.split_field.Goals as goal
 
 pub returns-in_err-letter-clause-none : goal.returns-in_err-letter-clause-none

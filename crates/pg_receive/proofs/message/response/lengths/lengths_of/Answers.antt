@@ -1,6 +1,6 @@
 use Rattle.std.proofs.Common.{[], ◌+◌, ◌∷◌, length, refl, ap, ◌∙◌, arith, length-append}
-use Rattle.pg_receive.specs.FieldLengths.{BeginsWithLength}
-use Rattle.pg_receive.proofs.FieldLengthLemmas.{lengths_push, field_within}
+use Rattle.pg_receive.specs.Response.Lengths.{BeginsWithLength}
+use Rattle.pg_receive.proofs.ResponseLengthsLemmas.{lengths_push, field_within}
 use Rattle.pg_receive.proofs.message.response.lengths.lengths_of.Goals as goal
 
 pub loop-index-preserved : goal.loop-index-preserved

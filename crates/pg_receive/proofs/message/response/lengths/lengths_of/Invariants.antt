@@ -1,6 +1,6 @@
 use Rattle.std.proofs.Common.{◌≡◌, ◌≤◌, length}
 use Rattle.smallvec.specs.SmallVec.{small_vec_len}
-use Rattle.pg_receive.specs.FieldLengths.{AreLengths}
+use Rattle.pg_receive.specs.Response.Lengths.{AreLengths}
 use Rattle.pg_receive.proofs.message.response.lengths.lengths_of.Given as goal
 
 abbrev pub invariant-loop-index : goal.invariant-loop-index

@@ -1,6 +1,6 @@
 use Rattle.std.proofs.Common.{◌≡◌, drop}
-use Rattle.pg_receive.specs.Fields.{fields_in, first_value}
-use Rattle.pg_receive.specs.FieldLengths.{HasLengths}
+use Rattle.pg_receive.specs.Response.Fields.{fields_in, first_value}
+use Rattle.pg_receive.specs.Response.Lengths.{HasLengths}
 use Rattle.pg_receive.proofs.message.response.lengths.value_in.Given as goal
 
 abbrev pub invariant-loop-length : goal.invariant-loop-length

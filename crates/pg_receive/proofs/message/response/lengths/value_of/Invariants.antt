@@ -1,5 +1,5 @@
 use Rattle.std.proofs.Common.{◌≡◌}
-use Rattle.pg_receive.specs.Fields.{first_value}
+use Rattle.pg_receive.specs.Response.Fields.{first_value}
 use Rattle.pg_receive.proofs.message.response.lengths.value_of.Given as goal
 
 abbrev pub invariant-loop-letter : goal.invariant-loop-letter

@@ -1,9 +1,9 @@
 use Rattle.std.proofs.Common.{sym, ◌∙◌, refl}
 use Rattle.std.proofs.lemmas.Result.{err_from_is_err_and}
-use Rattle.pg_receive.specs.Fields.{fields_in}
-use Rattle.pg_receive.specs.Places.{bytes_at}
-use Rattle.pg_receive.proofs.NoticeLemmas.{read_full, read_all}
-use Rattle.pg_receive.proofs.ReadLemmas.{kept_all, kept_more, kept_fault, full_places}
+use Rattle.pg_receive.specs.Response.Fields.{fields_in}
+use Rattle.pg_receive.specs.Response.Places.{bytes_in}
+use Rattle.pg_receive.proofs.ResponseLemmas.{read_full, read_all}
+use Rattle.pg_receive.proofs.ResponseReadLemmas.{kept_all, kept_more, kept_fault, full_places}
 use Rattle.pg_receive.proofs.message.response.read.read.Goals as goal
 
 pub loop-rest-init : goal.loop-rest-init
@@ -32,11 +32,11 @@ pub returns-after-loop-rest-clause-reads : goal.returns-after-loop-rest-clause-r
 returns-after-loop-rest-clause-reads c =
     let kept = c.loop-rest.invariant in
     let part = c.loop-rest.part in
-    read_full (fields_in c.args.body.now) (fields_in c.loop-rest.rest.now) (bytes_at c.args.body.now part.message) (bytes_at c.args.body.now part.code) part.severity part.localized
+    read_full (fields_in c.args.body.now) (fields_in c.loop-rest.rest.now) (bytes_in c.args.body.now part.message) (bytes_in c.args.body.now part.code) part.severity part.localized
     (full_places c.args.body.now part.message part.code kept.message_in kept.code_in ∙ sym c.loop-rest-test.ensures) kept.left
 
 pub returns-in_default-clause-reads : goal.returns-in_default-clause-reads
 returns-in_default-clause-reads c =
     let part = c.loop-rest.part in
-    read_all (fields_in c.args.body.now) (bytes_at c.args.body.now part.message) (bytes_at c.args.body.now part.code) part.severity part.localized
+    read_all (fields_in c.args.body.now) (bytes_in c.args.body.now part.message) (bytes_in c.args.body.now part.code) part.severity part.localized
     (rw c.in_default.ensures.none at c.loop-rest.invariant.left)

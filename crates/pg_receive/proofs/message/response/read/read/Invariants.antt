@@ -1,5 +1,5 @@
 use Rattle.std.proofs.Common.{length}
-use Rattle.pg_receive.proofs.ReadLemmas.{Kept}
+use Rattle.pg_receive.proofs.ResponseReadLemmas.{Kept}
 use Rattle.pg_receive.proofs.message.response.read.read.Given as goal
 
 abbrev pub invariant-loop-rest : goal.invariant-loop-rest

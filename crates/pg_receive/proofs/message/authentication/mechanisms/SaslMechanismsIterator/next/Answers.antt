@@ -1,5 +1,5 @@
 use Rattle.std.proofs.Common.{sym, ◌∙◌, arith, ap, length}
-use Rattle.pg_receive.proofs.MechanismLemmas.{mechanisms_at}
+use Rattle.pg_receive.proofs.AuthenticationMechanismsLemmas.{mechanisms_at}
 use Rattle.pg_receive.proofs.message.authentication.mechanisms.SaslMechanismsIterator.next.Goals as goal
 
 pub returns-clause-steps : goal.returns-clause-steps

@@ -1,5 +1,5 @@
 use Rattle.std.proofs.Common.{sym, ◌∙◌, arith, ap, length}
-use Rattle.pg_receive.proofs.FieldLemmas.{fields_at}
+use Rattle.pg_receive.proofs.ResponseFieldsLemmas.{fields_at}
 use Rattle.pg_receive.proofs.message.response.fields.FieldsIterator.next.Goals as goal
 
 pub returns-clause-steps : goal.returns-clause-steps

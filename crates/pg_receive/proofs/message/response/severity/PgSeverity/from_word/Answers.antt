@@ -1,6 +1,6 @@
 use Rattle.std.proofs.Common.{refl}
-use Rattle.pg_receive.specs.Severity.{severity_of_word}
-use Rattle.pg_receive.proofs.SeverityLemmas.{no_word}
+use Rattle.pg_receive.specs.Response.Severity.{severity_of_word}
+use Rattle.pg_receive.proofs.ResponseSeverityLemmas.{no_word}
 use Rattle.pg_receive.proofs.message.response.severity.PgSeverity.from_word.Goals as goal
 
 pub returns-in-PANIC : goal.returns-in-PANIC

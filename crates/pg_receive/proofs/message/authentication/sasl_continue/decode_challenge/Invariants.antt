@@ -1,0 +1,15 @@
+use Rattle.std.proofs.Common.{[]}
+use Rattle.pg_receive.specs.Last.{plain}
+use Rattle.pg_receive.specs.Authentication.SaslItems.{items_in, base64_value}
+use Rattle.pg_receive.specs.Authentication.SaslContinue.{iterations_key, nonce_key, salt_key, iterations_of, default_iterations}
+use Rattle.pg_receive.proofs.AuthenticationSaslLemmas.{LeftFaults, LeftLast}
+use Rattle.pg_receive.proofs.message.authentication.sasl_continue.decode_challenge.Given as goal
+
+abbrev pub invariant-loop-item : goal.invariant-loop-item
+invariant-loop-item l =
+    (goal.iterator-loop-item).can_next l.item-iterator ×
+    (goal.iterator-loop-item).is_finite l.item-iterator ×
+    LeftFaults salt_key (items_in l.body) l.item-iterator ×
+    LeftLast base64_value [] salt_key (items_in l.body) l.challenge.salt.items l.item-iterator ×
+    LeftLast iterations_of default_iterations iterations_key (items_in l.body) l.challenge.iterations l.item-iterator ×
+    LeftLast plain [] nonce_key (items_in l.body) l.challenge.nonce.now l.item-iterator

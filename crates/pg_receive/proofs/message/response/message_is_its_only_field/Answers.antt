@@ -1,8 +1,0 @@
-use Rattle.pg_receive.proofs.NoticeFields.{message_of_one, code_of_one}
-use Rattle.pg_receive.proofs.message.response.message_is_its_only_field.Goals as goal
-
-pub returns-clause-message : goal.returns-clause-message
-returns-clause-message c = message_of_one
-
-pub returns-clause-code : goal.returns-clause-code
-returns-clause-code c = code_of_one

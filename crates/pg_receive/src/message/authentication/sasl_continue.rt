@@ -1,0 +1,113 @@
+//! The challenge of a server in a SASL exchange.
+
+ghost use Rattle.std.specs.Prelude.{◌≡◌, ◌==◌, ℕ, List, [], ◌∷◌, None, Some, OnOk, if◌then◌else◌};
+ghost use Rattle.pg_base.specs.Decode.{Decodes};
+ghost use Rattle.pg_receive.specs.Last.{plain, last};
+ghost use Rattle.pg_receive.specs.Authentication.SaslItems.{keyed, item_fault, base64_value};
+ghost use Rattle.pg_receive.specs.Authentication.SaslContinue.{ContinueValue, MeansContinue, IsContinueFault, iterations_key, nonce_key, salt_key, iterations_of};
+ghost use Rattle.pg_receive.specs.Authentication.SaslContinue.Laws.{one_challenge, challenge_or_fault};
+ghost use Rattle.pg_receive.specs.Authentication.SaslContinue.Shown.{continue_shown};
+
+use crate::message::authentication::sasl_items::{SaslItems, decode_base64, split_key};
+use crate::message::decimal::leading_u32;
+use crate::message::utf8_text;
+use bytes::Bytes;
+use pg_base::io::ProtocolDecode;
+use pg_base::{Error, ProtocolFault};
+use std::alloc::Global;
+
+const DEFAULT_ITERATIONS: u32 = 4096;
+
+const ITERATIONS: u8 = b'i';
+
+const NONCE: u8 = b'r';
+
+const SALT: u8 = b's';
+
+/// The challenge of the server in a SASL exchange: items between commas, each a letter, `=` and a
+/// value, of which the last of a letter counts. Documentation: "Message Formats",
+/// AuthenticationSASLContinue (B), and "SCRAM-SHA-256 Authentication".
+#[derive(Drop)]
+pub struct AuthenticationSaslContinue {
+    /// Empty where none is given.
+    pub salt: Vec<u8>,
+    /// 4096 where no number is given.
+    pub iterations: u32,
+    /// Empty where none is given.
+    pub nonce: String,
+    /// The challenge as a whole.
+    pub message: String,
+}
+
+impl ProtocolDecode for AuthenticationSaslContinue {
+    ghost Shown = { ContinueValue };
+
+    ghost shown = { continue_shown };
+
+    ghost Means = { MeansContinue };
+
+    ghost IsFault = { IsContinueFault };
+
+    ghost NeedsNoMemory = { λ _. ⊥ };
+
+    fn decode(alloc: Global, buf: Bytes) -> Result<Self, Error> {
+        decode_challenge(alloc, buf.as_slice())
+    }
+
+    ghost one_value = { one_challenge };
+
+    ghost never_both = { challenge_or_fault };
+}
+
+// What the items of a challenge say.
+#[derive(Drop)]
+struct Challenge<'a> {
+    salt: Vec<u8>,
+    iterations: u32,
+    nonce: &'a [u8],
+}
+
+impl<'a> Challenge<'a> {
+    fn take(&mut self, alloc: Global, item: &'a [u8]) -> Result<(), Error>
+        ensures answer { Decodes (λ item _. item_fault salt_key item ≡ None) (λ item fault. item_fault salt_key item ≡ Some fault) (λ _. ⊥) (λ done. done) None item.now result }
+        ensures salt { OnOk result (self.new.salt.items ≡ last base64_value self.old.salt.items salt_key (keyed (item.now ∷ []))) }
+        ensures iterations { OnOk result (self.new.iterations ≡ last iterations_of self.old.iterations iterations_key (keyed (item.now ∷ []))) }
+        ensures nonce { OnOk result (self.new.nonce.now ≡ last plain self.old.nonce.now nonce_key (keyed (item.now ∷ []))) }
+    {
+        let (key, value) = split_key(item)?;
+        match key {
+            SALT => self.salt = decode_base64(alloc, value)?,
+            ITERATIONS => {
+                self.iterations = leading_u32(value).unwrap_or(DEFAULT_ITERATIONS);
+            }
+            NONCE => self.nonce = value,
+            _ => {}
+        }
+        Ok(())
+    }
+}
+
+/// The challenge that SASL data is.
+pub(crate) fn decode_challenge(
+    alloc: Global,
+    body: &[u8],
+) -> Result<AuthenticationSaslContinue, Error>
+    ensures { Decodes MeansContinue IsContinueFault (λ _. ⊥) continue_shown None body.now result }
+{
+    let mut challenge = Challenge {
+        salt: Vec::new(alloc),
+        iterations: DEFAULT_ITERATIONS,
+        nonce: &[],
+    };
+    for item in SaslItems::new(body) {
+        challenge.take(alloc, item)?;
+    }
+    let nonce = utf8_text(challenge.nonce).ok_or(ProtocolFault::NotUtf8)?;
+    let message = utf8_text(body).ok_or(ProtocolFault::NotUtf8)?;
+    Ok(AuthenticationSaslContinue {
+        salt: challenge.salt,
+        iterations: challenge.iterations,
+        nonce: String::from_str(alloc, nonce)?,
+        message: String::from_str(alloc, message)?,
+    })
+}

@@ -1,0 +1,59 @@
+//! The server-final-message of a SASL exchange.
+
+ghost use Rattle.std.specs.Prelude.{ℕ, List, None};
+ghost use Rattle.pg_base.specs.Decode.{Decodes};
+ghost use Rattle.pg_receive.specs.Authentication.SaslFinal.{MeansFinal, IsFinalFault};
+ghost use Rattle.pg_receive.specs.Authentication.SaslFinal.Laws.{one_verifier, verifier_or_fault};
+ghost use Rattle.pg_receive.specs.Authentication.SaslFinal.Shown.{final_shown};
+
+use crate::message::authentication::sasl_items::{SaslItems, decode_base64, split_key};
+use bytes::Bytes;
+use pg_base::Error;
+use pg_base::io::ProtocolDecode;
+use std::alloc::Global;
+
+const VERIFIER: u8 = b'v';
+
+/// The server-final-message of a SASL exchange, with items as in
+/// [`AuthenticationSaslContinue`](super::AuthenticationSaslContinue). Documentation: "Message
+/// Formats", AuthenticationSASLFinal (B), and "SCRAM-SHA-256 Authentication".
+#[derive(Drop)]
+pub struct AuthenticationSaslFinal {
+    /// Empty where none is given.
+    pub verifier: Vec<u8>,
+}
+
+impl ProtocolDecode for AuthenticationSaslFinal {
+    ghost Shown = { List ℕ };
+
+    ghost shown = { final_shown };
+
+    ghost Means = { MeansFinal };
+
+    ghost IsFault = { IsFinalFault };
+
+    ghost NeedsNoMemory = { λ _. ⊥ };
+
+    fn decode(alloc: Global, buf: Bytes) -> Result<Self, Error> {
+        let verifier = decode_verifier(alloc, buf.as_slice())?;
+        Ok(AuthenticationSaslFinal { verifier })
+    }
+
+    ghost one_value = { one_verifier };
+
+    ghost never_both = { verifier_or_fault };
+}
+
+/// The verifier in the server-final-message that SASL data is.
+pub(crate) fn decode_verifier(alloc: Global, body: &[u8]) -> Result<Vec<u8>, Error>
+    ensures { Decodes MeansFinal IsFinalFault (λ _. ⊥) (λ verifier. verifier.items) None body.now result }
+{
+    let mut verifier = Vec::new(alloc);
+    for item in SaslItems::new(body) {
+        let (key, value) = split_key(item)?;
+        if key == VERIFIER {
+            verifier = decode_base64(alloc, value)?;
+        }
+    }
+    Ok(verifier)
+}
