@@ -58,3 +58,6 @@ fn take_all(
         }
     }
 }
+
+#[cfg(test)]
+mod tests;

@@ -152,3 +152,6 @@ impl FrameReader {
         self.most = 0;
     }
 }
+
+#[cfg(test)]
+mod tests;
