@@ -33,7 +33,7 @@ const MAX_KEPT: usize = 64 * 1024;
 pub struct FrameReader {
     alloc: Global,
     buffer: BytesMut,
-    // How many bytes the buffer held at most since it was last empty.
+    // How many bytes the buffer's block had room for at most since all was last handed out.
     most: usize,
 }
 
@@ -68,7 +68,7 @@ impl FrameReader {
     pub fn is_empty(&self) -> bool
         ensures { result ≡ (length self.now == 0) }
     {
-        self.buffer.is_empty()
+        self.len() == 0
     }
 
     /// Adds the next bytes of the stream, or is `OutOfMemory` and changes nothing.
@@ -78,7 +78,7 @@ impl FrameReader {
         ensures memory { IsOkUnless result OutOfMemory }
     {
         self.buffer.extend_from_slice(bytes)?;
-        self.most = self.most.max(self.buffer.len());
+        self.most = self.most.max(self.buffer.capacity());
         Ok(())
     }
 
@@ -112,10 +112,11 @@ impl FrameReader {
         ensures error { IfErr result (IsReaderError self.old) }
         ensures err { OnErr result (self.new ≡ self.old) }
     {
-        let Some(Frame { format, rest, .. }) = next_frame(self.buffer.as_slice())? else {
+        let stream = self.buffer.as_slice();
+        let Some(Frame { format, rest, .. }) = next_frame(stream)? else {
             return Ok(None);
         };
-        let end = self.buffer.len() - rest.len();
+        let end = stream.len() - rest.len();
         let contents = self.take_body(end)?;
         Ok(Some(ReceivedMessage { format, contents }))
     }

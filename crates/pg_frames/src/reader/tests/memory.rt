@@ -1,8 +1,9 @@
 //! How much memory a reader holds, by the size of the test's process.
 
 use crate::FrameReader;
-use std::fs;
+use std::alloc::AllocError;
 use std::test::Fail;
+use std::{fs, io};
 
 const KIB: usize = 1024;
 
@@ -10,11 +11,19 @@ const MIB: usize = 1024 * KIB;
 
 // A line of the process's status, in bytes: its size now, or the greatest so far.
 fn bytes_of(rt: &HostRuntime, line: &str) -> Result<usize, Fail> {
-    let status = fs::read_to_string(rt, "/proc/self/status")?;
+    let status = fs::read_to_string(rt, "/proc/self/status").map_err(reported)?;
     let found = status.as_str().lines().find(|text| text.starts_with(line));
     let number = found.and_then(|text| text.split_whitespace().nth(1));
     let kib = number.ok_or("a line of the status")?.parse::<usize>()?;
     Ok(kib.saturating_mul(KIB))
+}
+
+// Memory that ran out in a read, as any other.
+fn reported(error: io::Error) -> Fail {
+    match error.kind() {
+        io::ErrorKind::OutOfMemory => AllocError.into(),
+        _ => error.into(),
+    }
 }
 
 fn size(rt: &HostRuntime) -> Result<usize, Fail> {
@@ -26,7 +35,7 @@ fn greatest_size(rt: &HostRuntime) -> Result<usize, Fail> {
 }
 
 // How many bytes a piece of a stream has; no multiple of the length of its messages.
-const PIECE: usize = 4001;
+const PIECE: usize = 40_001;
 
 #[test]
 fn a_million_messages_need_the_room_of_a_piece(rt: HostRuntime) -> Result<(), Fail> {
@@ -38,7 +47,7 @@ fn a_million_messages_need_the_room_of_a_piece(rt: HostRuntime) -> Result<(), Fa
     let before = size(&rt)?;
     let mut count = 0usize;
     let mut held = None;
-    for turn in 0usize..1500 {
+    for turn in 0usize..150 {
         let at = turn % 6 * (PIECE % 6) % 6;
         let piece = stream.as_slice().get(at..at + PIECE).ok_or("a piece")?;
         reader.feed(piece)?;
@@ -52,7 +61,7 @@ fn a_million_messages_need_the_room_of_a_piece(rt: HostRuntime) -> Result<(), Fa
         }
     }
     assert!(rt; held.is_some());
-    assert_eq!(rt; count, 1_000_250);
+    assert_eq!(rt; count, 1_000_025);
     assert!(rt; greatest_size(&rt)? < before.saturating_add(MIB));
     Ok(())
 }
