@@ -61,19 +61,20 @@ fn a_line_for_each_message(rt: HostRuntime) -> Result<(), Fail> {
 #[derive(Drop)]
 struct WatchingReader<'a> {
     pieces: &'a [(&'a [u8], usize)],
+    next: usize,
     seen: &'a Cell<usize>,
 }
 
 impl Read for WatchingReader<'_> {
     fn read(&mut self, buf: &mut [u8]) -> io::Result<usize> {
-        let Some(((piece, seen), rest)) = self.pieces.split_first() else {
+        let Some((piece, seen)) = self.pieces.get(self.next) else {
             return Ok(0);
         };
         if self.seen.get() != *seen || buf.len() < piece.len() {
             return Err(io::Error::from(io::ErrorKind::Other));
         }
         buf[..piece.len()].copy_from_slice(piece);
-        self.pieces = rest;
+        self.next = self.next.saturating_add(1);
         Ok(piece.len())
     }
 }
@@ -110,6 +111,7 @@ fn a_line_is_seen_before_the_next_read(rt: HostRuntime) -> Result<(), Fail> {
     let seen = Cell::new(0);
     let mut reader = WatchingReader {
         pieces: &pieces,
+        next: 0,
         seen: &seen,
     };
     let mut writer = WatchedWriter {
