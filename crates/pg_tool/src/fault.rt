@@ -31,7 +31,7 @@ impl fmt::Display for ToolFault {
 impl std::error::Error for ToolFault {}
 
 impl ToolFault {
-    /// The exit status that tells it: 1 for a bad line, 3 for the others.
+    /// The exit status that reports it: 1 for a bad line, 3 for the others.
     pub fn status(self) -> u8 {
         match self {
             ToolFault::BadLine(_) => 1,
@@ -39,7 +39,7 @@ impl ToolFault {
         }
     }
 
-    /// What a failed read means: want of memory for what was read, or a fault of the input.
+    /// What a failed read means: out of memory for what was read, or a fault of the input.
     pub fn of_read(error: io::Error) -> ToolFault {
         match error.kind() {
             io::ErrorKind::OutOfMemory => ToolFault::OutOfMemory,

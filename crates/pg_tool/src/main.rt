@@ -1,4 +1,4 @@
-//! Writes and reads PostgreSQL messages that are given as lines of text.
+//! Writes and reads PostgreSQL messages that are given as lines of text, and finds them in a stream.
 #![tactic(auto)]
 
 mod command;
@@ -7,6 +7,7 @@ mod encode;
 mod fault;
 mod line;
 mod run;
+mod stream;
 
 use fault::ToolFault;
 use std::env;

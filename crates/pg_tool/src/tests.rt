@@ -1,6 +1,7 @@
 //! The program over memory: what it prints, and its statuses.
 
 mod failures;
+mod stream;
 
 use crate::fault::ToolFault;
 use crate::run::{Mode, run, start};
@@ -8,12 +9,12 @@ use std::alloc::{AllocError, Global};
 use std::process::Abort;
 use std::test::Fail;
 
-const WANT_OF_MEMORY: &[u8] = b"out of memory\n";
+const OUT_OF_MEMORY: &[u8] = b"out of memory\n";
 
 /// Room for what a run writes, so that memory runs out in the program alone.
 const ROOM: usize = 1024;
 
-/// What a run left: its status, its output and what it told of faults.
+/// What a run left: its status, its output and what it reported of faults.
 #[derive(Drop)]
 struct Outcome {
     status: u8,
@@ -46,7 +47,7 @@ fn started(alloc: Global, args: &[&str], input: &str) -> Result<Outcome, AllocEr
     })
 }
 
-// Compares a run with what it must print. Where memory ran out the program tells that and no more.
+// Compares a run with what it must print. Where memory ran out the program reports that and no more.
 fn expect(
     rt: &(impl Abort + Alloc<A = Global>),
     args: &[&str],
@@ -56,16 +57,16 @@ fn expect(
     errors: &str,
 ) -> Result<(), AllocError> {
     let outcome = started(rt.alloc(), args, input)?;
-    if outcome.errors.as_slice() == WANT_OF_MEMORY {
+    if outcome.errors.as_slice() == OUT_OF_MEMORY {
         assert_eq!(rt; outcome.status, 3);
         assert!(rt; outcome.output.is_empty());
         return Err(AllocError);
     }
-    // a message's own want of memory, or that of a body, is a line of the output
+    // memory that ran out for a message or a body alone is a line of the output
     if outcome
         .output
-        .windows(WANT_OF_MEMORY.len())
-        .any(|part| part == WANT_OF_MEMORY)
+        .windows(OUT_OF_MEMORY.len())
+        .any(|part| part == OUT_OF_MEMORY)
     {
         assert_eq!(rt; outcome.status, 0);
         return Err(AllocError);
@@ -271,9 +272,10 @@ fn decodes(rt: HostRuntime) -> Result<(), Fail> {
 
 #[test]
 fn wrong_arguments_get_the_usage(rt: HostRuntime) -> Result<(), Fail> {
-    let usage = "usage: pg_tool encode|decode\n";
+    let usage = "usage: pg_tool encode|decode|stream\n";
     expect(&rt, &["both"], "sync\n", 2, "", usage)?;
     expect(&rt, &["encode", "decode"], "sync\n", 2, "", usage)?;
+    expect(&rt, &["stream", "stream"], "sync\n", 2, "", usage)?;
     expect(&rt, &["Encode"], "sync\n", 2, "", usage)?;
     expect(&rt, &[""], "sync\n", 2, "", usage)?;
     Ok(())

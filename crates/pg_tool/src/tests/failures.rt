@@ -2,7 +2,7 @@
 
 use crate::fault::ToolFault;
 use crate::run::{Mode, run, start};
-use crate::tests::{ROOM, WANT_OF_MEMORY, unless_memory, words};
+use crate::tests::{OUT_OF_MEMORY, ROOM, unless_memory, words};
 use std::alloc::{AllocError, Global};
 use std::io::{self, Read, Write};
 use std::process::Abort;
@@ -10,9 +10,9 @@ use std::test::Fail;
 
 /// Gives one byte a call, and fails at one of its calls.
 #[derive(Drop)]
-struct FailingReader<'a> {
-    rest: &'a [u8],
-    calls: usize,
+pub struct FailingReader<'a> {
+    pub rest: &'a [u8],
+    pub calls: usize,
 }
 
 impl Read for FailingReader<'_> {
@@ -32,13 +32,13 @@ impl Read for FailingReader<'_> {
 
 /// Takes so many bytes, and then fails.
 #[derive(Drop)]
-struct FailingWriter {
-    taken: Vec<u8>,
+pub struct FailingWriter {
+    pub taken: Vec<u8>,
     room: usize,
 }
 
 impl FailingWriter {
-    fn new(alloc: Global, room: usize) -> Result<FailingWriter, AllocError> {
+    pub fn new(alloc: Global, room: usize) -> Result<FailingWriter, AllocError> {
         let taken = Vec::with_capacity(alloc, room)?;
         Ok(FailingWriter { taken, room })
     }
@@ -61,7 +61,7 @@ impl Write for FailingWriter {
 }
 
 #[test]
-fn a_failed_read_is_told_and_nothing_is_written(rt: HostRuntime) -> Result<(), Fail> {
+fn a_failed_read_is_reported_and_nothing_is_written(rt: HostRuntime) -> Result<(), Fail> {
     let input = b"sync\nsink\n";
     for calls in 0..10 {
         for mode in [Mode::Encode, Mode::Decode] {
@@ -87,7 +87,7 @@ fn a_failed_write_leaves_a_beginning_of_the_output(rt: HostRuntime) -> Result<()
             &mut writer,
         );
         let result = unless_memory(result)?;
-        // want of memory alone refuses one of these messages
+        // memory that ran out is all that refuses one of these messages
         if writer.taken.contains(&b'r') {
             return Err(AllocError.into());
         }
@@ -97,13 +97,18 @@ fn a_failed_write_leaves_a_beginning_of_the_output(rt: HostRuntime) -> Result<()
     Ok(())
 }
 
-// Compares the status of a run and what it told with what they must be, unless memory ran out.
-fn expect_told(rt: &impl Abort, status: u8, told: &[u8], errors: &[u8]) -> Result<(), AllocError> {
+// Compares the status of a run and what it reported with what they must be, unless memory ran out.
+fn expect_reported(
+    rt: &impl Abort,
+    status: u8,
+    reported: &[u8],
+    errors: &[u8],
+) -> Result<(), AllocError> {
     assert_eq!(rt; status, 3);
-    if told == WANT_OF_MEMORY {
+    if reported == OUT_OF_MEMORY {
         return Err(AllocError);
     }
-    assert_eq!(rt; told, errors);
+    assert_eq!(rt; reported, errors);
     Ok(())
 }
 
@@ -124,7 +129,7 @@ fn a_failed_read_is_status_3(rt: HostRuntime) -> Result<(), Fail> {
             &mut errors,
         );
         assert!(rt; output.is_empty());
-        expect_told(&rt, status, errors.as_slice(), b"input failed\n")?;
+        expect_reported(&rt, status, errors.as_slice(), b"input failed\n")?;
     }
     Ok(())
 }
@@ -142,14 +147,14 @@ fn a_failed_write_is_status_3(rt: HostRuntime) -> Result<(), Fail> {
         &mut errors,
     );
     assert!(rt; output.taken.is_empty());
-    expect_told(&rt, status, errors.as_slice(), b"output failed\n")?;
+    expect_reported(&rt, status, errors.as_slice(), b"output failed\n")?;
     Ok(())
 }
 
 #[test]
-fn a_fault_that_cannot_be_told_keeps_its_status(rt: HostRuntime) -> Result<(), Fail> {
+fn a_fault_that_cannot_be_reported_keeps_its_status(rt: HostRuntime) -> Result<(), Fail> {
     let cases = [("both", "sync\n", 2), ("encode", "sink\n", 1)];
-    for (word, input, wanted) in cases {
+    for (word, input, expected) in cases {
         let args = words(rt.alloc(), &[word])?;
         let mut output = Vec::new(rt.alloc());
         let mut errors = FailingWriter::new(rt.alloc(), 0)?;
@@ -162,11 +167,11 @@ fn a_fault_that_cannot_be_told_keeps_its_status(rt: HostRuntime) -> Result<(), F
         );
         assert!(rt; output.is_empty());
         assert!(rt; errors.taken.is_empty());
-        // want of memory can't be told either
+        // out of memory can't be reported either
         if status == 3 {
             return Err(AllocError.into());
         }
-        assert_eq!(rt; status, wanted);
+        assert_eq!(rt; status, expected);
     }
     Ok(())
 }

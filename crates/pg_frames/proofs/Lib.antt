@@ -1,0 +1,4 @@
+pub mod PiecesLemmas
+pub mod ReaderLemmas
+pub mod StreamLemmas
+pub mod ValuesLemmas

@@ -1,0 +1,28 @@
+-- What a stream that comes in pieces is read into.
+use Rattle.std.specs.Prelude.{◌≡◌, ℕ, List, [], ◌∷◌, ◌++◌, length, map}
+use Rattle.std.specs.Borrow.{Bor}
+use Rattle.pg_base.specs.Format.{backend_tag}
+use Rattle.pg_receive.specs.declared.message.received.ReceivedMessage.{ReceivedMessage}
+use Rattle.pg_frames.specs.Stream.{Stream, WantsMore, IsStreamFault}
+use Rattle.pg_frames.specs.declared.pieces.StreamEnd.{StreamEnd}
+use Rattle.pg_frames.specs.declared.pieces.StreamEnd.TheVariants.{Rest, Fault}
+
+-- the pieces, one after the other
+abbrev pub joined : List (Bor (List ℕ)) → List ℕ
+joined [] = []
+joined (piece ∷ more) = piece.now ++ joined more
+
+-- messages, each as its tag and its body
+abbrev pub tags_and_bodies : List ReceivedMessage → List (ℕ × List ℕ)
+tags_and_bodies messages = map (λ (message : ReceivedMessage). (backend_tag message.format, message.contents)) messages
+
+-- why no more messages come: so many bytes that are no whole one, or a fault
+abbrev pub IsEnd : List ℕ → StreamEnd → Type 0
+IsEnd rest (Rest count) = (count ≡ length rest) × WantsMore rest
+IsEnd rest (Fault fault) = IsStreamFault rest fault
+
+-- all messages that stand whole in the bytes, and why it is no more
+pub record IsRead (bytes : List ℕ) (messages : List (ℕ × List ℕ)) (end : StreamEnd) : Type 0 where
+  pub rest : List ℕ
+  pub stream : Stream bytes messages rest
+  pub ends : IsEnd rest end

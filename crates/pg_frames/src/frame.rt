@@ -1,0 +1,50 @@
+//! The message at the front of some bytes.
+
+ghost use Rattle.std.specs.Prelude.{IfOk, IfErr, IfSome, IfNone};
+ghost use Rattle.pg_base.specs.Cutting.{Begins};
+ghost use Rattle.pg_base.specs.Format.{backend_tag};
+ghost use Rattle.pg_frames.specs.Stream.{WantsMore, IsStreamFault};
+
+use pg_base::io::i32_at;
+use pg_base::{BackendMessageFormat, ProtocolFault};
+
+/// The length of the shortest message: the length field counts itself.
+const MIN_LENGTH: i32 = 4;
+
+/// A whole message at the front of some bytes, where it lies.
+#[derive(Clone, Copy)]
+pub struct Frame<'a> {
+    /// The kind, by the tag.
+    pub format: BackendMessageFormat,
+    /// The body, without tag and length.
+    pub body: &'a [u8],
+    /// What comes after the message.
+    pub rest: &'a [u8],
+}
+
+/// The message at the front of the bytes, or `None` where it isn't whole yet. It is
+/// `UnknownMessageType` where no message from a server has this tag, then `BadLength` where the
+/// length is below 4; each as soon as five bytes are there, and whatever comes after them. It takes
+/// no memory and copies nothing. Documentation: "Messaging Overview".
+pub fn next_frame(stream: &[u8]) -> Result<Option<Frame<'_>>, ProtocolFault>
+    ensures whole { IfOk result (λ some. IfSome some (λ frame. Begins stream.now (backend_tag frame.format) frame.body.now frame.rest.now)) }
+    ensures part { IfOk result (λ some. IfNone some (WantsMore stream.now)) }
+    ensures fault { IfErr result (IsStreamFault stream.now) }
+{
+    let Some((tag, after)) = stream.split_first() else {
+        return Ok(None);
+    };
+    let Ok(announced) = i32_at(after, 0) else {
+        return Ok(None);
+    };
+    let Ok(format) = BackendMessageFormat::try_from_u8(*tag) else {
+        return Err(ProtocolFault::UnknownMessageType(*tag));
+    };
+    if announced < MIN_LENGTH {
+        return Err(ProtocolFault::BadLength(announced));
+    }
+    let Some((body, rest)) = after[4..].split_at_checked(announced as usize - 4) else {
+        return Ok(None);
+    };
+    Ok(Some(Frame { format, body, rest }))
+}

@@ -1,0 +1,102 @@
+//! Streams cut at each place, and in pieces of each length.
+
+use super::*;
+use pg_base::BackendMessageFormat;
+use std::alloc::AllocError;
+use std::process::Abort;
+use std::test::Fail;
+
+/// Two messages and three bytes of a third.
+const MESSAGES: &[u8] = b"Z\0\0\0\x05IC\0\0\0\x0ABEGIN\x001\0\0";
+
+/// A message, and then a tag that no server sends.
+const UNKNOWN: &[u8] = b"Z\0\0\0\x05Iv\0\0\0\x03";
+
+type Shown<'a> = (BackendMessageFormat, &'a [u8]);
+
+const READY: Shown<'static> = (BackendMessageFormat::ReadyForQuery, b"I");
+
+const COMPLETE: Shown<'static> = (BackendMessageFormat::CommandComplete, b"BEGIN\0");
+
+// Reads the pieces, and compares what comes of them with what must.
+fn expect(
+    rt: &impl Abort,
+    alloc: Global,
+    pieces: &[&[u8]],
+    messages: &[Shown<'_>],
+    end: StreamEnd,
+) -> Result<(), Fail> {
+    let (found, found_end) = read_pieces(alloc, pieces)?;
+    assert_eq!(rt; found.len(), messages.len(), "in {pieces:?}");
+    for (message, (format, body)) in found.iter().zip(messages) {
+        assert_eq!(rt; message.format, *format, "in {pieces:?}");
+        assert_eq!(rt; message.contents.as_slice(), *body, "in {pieces:?}");
+    }
+    assert_eq!(rt; found_end, end, "in {pieces:?}");
+    Ok(())
+}
+
+#[test]
+fn streams_in_one_piece(rt: HostRuntime) -> Result<(), Fail> {
+    let parse = (BackendMessageFormat::ParseComplete, b"".as_slice());
+    let unknown = ProtocolFault::UnknownMessageType(118);
+    let cases = [
+        (MESSAGES, [READY, COMPLETE].as_slice(), StreamEnd::Rest(3)),
+        (b"1\0\0\0\x04", &[parse], StreamEnd::Rest(0)),
+        (b"1\0\0\0", &[], StreamEnd::Rest(4)),
+        (
+            b"1\xff\xff\xff\xff",
+            &[],
+            StreamEnd::Fault(ProtocolFault::BadLength(-1)),
+        ),
+        (UNKNOWN, &[READY], StreamEnd::Fault(unknown)),
+        (b"D\x7f\xff\xff\xff\0", &[], StreamEnd::Rest(6)),
+        (b"", &[], StreamEnd::Rest(0)),
+    ];
+    for (stream, messages, end) in cases {
+        expect(&rt, rt.alloc(), &[stream], messages, end)?;
+    }
+    expect(&rt, rt.alloc(), &[], &[], StreamEnd::Rest(0))
+}
+
+#[test]
+fn messages_cut_in_two(rt: HostRuntime) -> Result<(), Fail> {
+    for at in 0..=MESSAGES.len() {
+        let (front, rest) = MESSAGES.split_at(at);
+        let messages = [READY, COMPLETE];
+        expect(
+            &rt,
+            rt.alloc(),
+            &[front, rest],
+            &messages,
+            StreamEnd::Rest(3),
+        )?;
+    }
+    Ok(())
+}
+
+#[test]
+fn messages_in_pieces_of_a_length(rt: HostRuntime) -> Result<(), Fail> {
+    for length in [1, 2, 3, 5, 8] {
+        let pieces = MESSAGES.chunks(length).collect::<Vec<&[u8]>>(rt.alloc())?;
+        let messages = [READY, COMPLETE];
+        expect(
+            &rt,
+            rt.alloc(),
+            pieces.as_slice(),
+            &messages,
+            StreamEnd::Rest(3),
+        )?;
+    }
+    Ok(())
+}
+
+#[test]
+fn a_fault_cut_in_two(rt: HostRuntime) -> Result<(), Fail> {
+    let end = StreamEnd::Fault(ProtocolFault::UnknownMessageType(118));
+    for at in 0..=UNKNOWN.len() {
+        let (front, rest) = UNKNOWN.split_at(at);
+        expect(&rt, rt.alloc(), &[front, rest], &[READY], end)?;
+    }
+    Ok(())
+}

@@ -1,0 +1,158 @@
+//! A reader of messages from a stream that comes in pieces.
+
+ghost use Rattle.std.specs.Prelude.{◌≡◌, ◌+◌, ◌≤◌, ◌==◌, [], ◌++◌, length, take, drop, Some, None, Ok, Err, IsSome, IfOk, OnOk, IfErr, OnErr, IfSome, IfNone, MatchResult, IsOkUnless};
+ghost use Rattle.pg_base.specs.declared.error.ProtocolFault.{ProtocolFault};
+ghost use Rattle.pg_base.specs.declared.error.Error.TheVariants.{Protocol, OutOfMemory};
+ghost use Rattle.pg_base.specs.Cutting.{Begins};
+ghost use Rattle.pg_base.specs.Format.{backend_tag};
+ghost use Rattle.pg_frames.specs.Stream.{Whole, WantsMore, IsStreamFault, IsReaderError};
+
+use crate::frame::{Frame, next_frame};
+use bytes::{Bytes, BytesMut};
+use pg_base::Error;
+use pg_receive::message::ReceivedMessage;
+use std::alloc::{AllocError, Global};
+use std::marker::Model;
+
+/// The length of a tag and a length field, in bytes.
+const HEADER: usize = 5;
+
+/// The most bytes of a block that a reader keeps where it has handed out all that it was fed.
+const MAX_KEPT: usize = 64 * 1024;
+
+/// Takes the bytes of a stream from the server in pieces of any length, and hands out its messages,
+/// each as soon as its last byte has come. In a contract it is the list of the bytes that were fed
+/// and not yet taken. Documentation: "Messaging Overview".
+///
+/// A body that it hands out shares the block of memory that its bytes were fed into, and keeps that
+/// block until it is dropped. The reader asks for memory as bytes are fed and never for a length that
+/// a message announces, so it holds at most twice what it was fed and hasn't handed out, and the
+/// block that it fills. It uses a block again once no body shares it. Where all is handed out it
+/// gives a block of more than 64 KiB back and keeps a smaller one.
+#[derive(Drop)]
+pub struct FrameReader {
+    alloc: Global,
+    buffer: BytesMut,
+    // How many bytes the buffer's block had room for at most since all was last handed out.
+    most: usize,
+}
+
+impl Model for FrameReader {
+    ghost use Rattle.std.specs.Prelude.{ℕ, List};
+
+    ghost Value = { List ℕ };
+
+    ghost view = { λ reader. reader.buffer.items };
+}
+
+impl FrameReader {
+    /// A reader that was fed nothing. It takes no memory.
+    pub fn new(alloc: Global) -> Self
+        ensures { result ≡ [] }
+    {
+        FrameReader {
+            alloc,
+            buffer: BytesMut::new(alloc),
+            most: 0,
+        }
+    }
+
+    /// How many bytes were fed and not yet taken.
+    pub fn len(&self) -> usize
+        ensures { result ≡ length self.now }
+    {
+        self.buffer.len()
+    }
+
+    /// Whether all bytes that were fed are taken.
+    pub fn is_empty(&self) -> bool
+        ensures { result ≡ (length self.now == 0) }
+    {
+        self.len() == 0
+    }
+
+    /// Adds the next bytes of the stream, or is `OutOfMemory` and changes nothing.
+    pub fn feed(&mut self, bytes: &[u8]) -> Result<(), Error>
+        ensures ok { OnOk result (self.new ≡ self.old ++ bytes.now) }
+        ensures err { OnErr result (self.new ≡ self.old) }
+        ensures memory { IsOkUnless result OutOfMemory }
+    {
+        self.buffer.extend_from_slice(bytes)?;
+        self.most = self.most.max(self.buffer.capacity());
+        Ok(())
+    }
+
+    /// Takes the message at the front of what was fed, or gives `None` where it isn't whole yet.
+    ///
+    /// Once five bytes are there, a tag that no message from a server has is `UnknownMessageType`,
+    /// and then a length below 4 is `BadLength`. A share of the bytes of a whole message may find
+    /// that memory ran out. Each error leaves the reader as it was, so the same call may be made
+    /// again: after a fault it gives the fault again, and after `OutOfMemory` it gives the message
+    /// as soon as there is memory.
+    pub fn next_message(&mut self) -> Result<Option<ReceivedMessage>, Error>
+        ensures message { IfOk result (λ some. IfSome some (λ message. Begins self.old (backend_tag message.format) message.contents self.new)) }
+        ensures partial { IfOk result (λ some. IfNone some (WantsMore self.old × (self.new ≡ self.old))) }
+        ensures error { IfErr result (IsReaderError self.old) }
+        ensures err { OnErr result (self.new ≡ self.old) }
+
+        // Each answer comes wherever it is due.
+        ensures whole_due { Whole self.old → MatchResult result IsSome (λ error. error ≡ OutOfMemory) }
+        ensures partial_due { WantsMore self.old → result ≡ Ok None }
+        ensures fault_due { (fault : ProtocolFault) → IsStreamFault self.old fault → result ≡ Err (Protocol None fault) }
+    {
+        self.take_next()
+    }
+
+    // The same, without that each answer comes wherever it is due.
+    #[inline(always)]
+    #[tactic(auto, using(crate::proofs::StreamLemmas::taken))]
+    fn take_next(&mut self) -> Result<Option<ReceivedMessage>, Error>
+        ensures message { IfOk result (λ some. IfSome some (λ message. Begins self.old (backend_tag message.format) message.contents self.new)) }
+        ensures partial { IfOk result (λ some. IfNone some (WantsMore self.old × (self.new ≡ self.old))) }
+        ensures error { IfErr result (IsReaderError self.old) }
+        ensures err { OnErr result (self.new ≡ self.old) }
+    {
+        let stream = self.buffer.as_slice();
+        let Some(Frame { format, rest, .. }) = next_frame(stream)? else {
+            return Ok(None);
+        };
+        let end = stream.len() - rest.len();
+        let contents = self.take_body(end)?;
+        Ok(Some(ReceivedMessage { format, contents }))
+    }
+
+    // Takes the bytes up to there, which are a header and a body, and gives the body.
+    fn take_body(&mut self, end: usize) -> Result<Bytes, AllocError>
+        requires { (5 ≤ end) × (end ≤ length self.old) }
+        ensures body { IfOk result (λ body. body ≡ drop 5 (take end self.old)) }
+        ensures rest { OnOk result (self.new ≡ drop end self.old) }
+        ensures err { OnErr result (self.new ≡ self.old) }
+    {
+        let body = if end == HEADER {
+            self.buffer.advance(HEADER);
+            Bytes::new()
+        } else {
+            let mut message = self.buffer.freeze_to(end)?;
+            message.advance(HEADER);
+            message
+        };
+        if self.buffer.is_empty() {
+            self.give_back();
+        }
+        Ok(body)
+    }
+
+    // Lets go of a large block, of which no byte is wanted any more.
+    fn give_back(&mut self)
+        requires { self.old ≡ [] }
+        ensures { self.new ≡ [] }
+    {
+        if self.most > MAX_KEPT {
+            self.buffer = BytesMut::new(self.alloc);
+        }
+        self.most = 0;
+    }
+}
+
+#[cfg(test)]
+mod tests;

@@ -1,0 +1,101 @@
+//! Messages byte by byte, faults that come again, calls that are repeated after memory ran out, and
+//! how much memory a reader holds.
+
+mod memory;
+
+use super::*;
+use pg_base::{BackendMessageFormat, ProtocolFault};
+use std::alloc::AllocError;
+use std::process::Abort;
+use std::test::Fail;
+
+// The calls of a reader, repeated once where memory ran out: that leaves the reader as it was. Under
+// `tests/refused` each request for memory is refused in turn.
+
+fn feed(rt: &impl Abort, reader: &mut FrameReader, bytes: &[u8]) -> Result<(), AllocError> {
+    let before = reader.len();
+    if reader.feed(bytes).is_err() {
+        assert_eq!(rt; reader.len(), before);
+        assert_eq!(rt; reader.feed(bytes), Ok(()), "memory is there again");
+    }
+    Ok(())
+}
+
+fn next(
+    rt: &impl Abort,
+    reader: &mut FrameReader,
+) -> Result<Option<ReceivedMessage>, ProtocolFault> {
+    let before = reader.len();
+    match reader.next_message() {
+        Err(Error::OutOfMemory) => {
+            assert_eq!(rt; reader.len(), before);
+            match reader.next_message() {
+                Err(Error::OutOfMemory) => panic!(rt; "memory is there again"),
+                Err(Error::Protocol { .. }) => panic!(rt; "a fault after a whole message"),
+                Ok(message) => Ok(message),
+            }
+        }
+        Err(Error::Protocol { reading, fault }) => {
+            assert_eq!(rt; reading, None);
+            assert_eq!(rt; reader.len(), before);
+            Err(fault)
+        }
+        Ok(message) => Ok(message),
+    }
+}
+
+#[test]
+fn a_message_comes_with_its_last_byte(rt: HostRuntime) -> Result<(), Fail> {
+    let mut reader = FrameReader::new(rt.alloc());
+    assert!(rt; reader.is_empty());
+    for byte in [b'Z', 0, 0, 0, 5] {
+        feed(&rt, &mut reader, &[byte])?;
+        assert!(rt; next(&rt, &mut reader)?.is_none());
+    }
+    assert_eq!(rt; reader.len(), 5);
+    feed(&rt, &mut reader, b"I")?;
+    let message = next(&rt, &mut reader)?.ok_or("a whole message")?;
+    assert_eq!(rt; message.format, BackendMessageFormat::ReadyForQuery);
+    assert_eq!(rt; message.contents.as_slice(), b"I".as_slice());
+    assert!(rt; reader.is_empty());
+    assert!(rt; next(&rt, &mut reader)?.is_none());
+    Ok(())
+}
+
+#[test]
+fn a_fault_comes_again(rt: HostRuntime) -> Result<(), Fail> {
+    let cases = [
+        (b"Z\0\0\0\x03", ProtocolFault::BadLength(3)),
+        (b"v\0\0\0\x03", ProtocolFault::UnknownMessageType(118)),
+        (b"1\xff\xff\xff\xff", ProtocolFault::BadLength(-1)),
+        (b"Z\x80\0\0\0", ProtocolFault::BadLength(i32::MIN)),
+    ];
+    for (bytes, fault) in cases {
+        let mut reader = FrameReader::new(rt.alloc());
+        feed(&rt, &mut reader, &bytes[..4])?;
+        assert!(rt; next(&rt, &mut reader)?.is_none());
+        feed(&rt, &mut reader, &bytes[4..])?;
+        assert_eq!(rt; next(&rt, &mut reader).err(), Some(fault));
+        feed(&rt, &mut reader, b"1\0\0\0\x04")?;
+        assert_eq!(rt; next(&rt, &mut reader).err(), Some(fault));
+        assert_eq!(rt; reader.len(), 10);
+    }
+    Ok(())
+}
+
+#[test]
+fn bodies_stay_when_more_is_fed(rt: HostRuntime) -> Result<(), Fail> {
+    let mut reader = FrameReader::new(rt.alloc());
+    feed(&rt, &mut reader, b"d\0\0\0\x06abc\0\0\0\x04d\0\0")?;
+    let first = next(&rt, &mut reader)?.ok_or("a whole message")?;
+    let second = next(&rt, &mut reader)?.ok_or("a message without a body")?;
+    assert!(rt; next(&rt, &mut reader)?.is_none());
+    feed(&rt, &mut reader, b"\0\x07xyz")?;
+    let third = next(&rt, &mut reader)?.ok_or("a message in two pieces")?;
+    assert!(rt; reader.is_empty());
+    assert_eq!(rt; first.contents.as_slice(), b"ab".as_slice());
+    assert_eq!(rt; second.format, BackendMessageFormat::CopyDone);
+    assert!(rt; second.contents.is_empty());
+    assert_eq!(rt; third.contents.as_slice(), b"xyz".as_slice());
+    Ok(())
+}
