@@ -7,21 +7,37 @@ use crate::command::{Command, command_of, message_of};
 use crate::fault::ToolFault;
 use crate::line::{Lines, push_hex};
 use pg_base::io::u32_at;
-use pg_send::message::{TaggedMessage, encode_all};
+use pg_send::message::{TaggedMessage, encode_all, encode_strict};
 use std::alloc::{AllocError, Global};
+
+// The line that makes the run strict, where it is the first.
+const STRICT: &[u8] = b"strict";
 
 /// The answers to the messages that the lines name, a line each, and then their frames.
 pub fn encode(alloc: Global, input: &[u8]) -> Result<String, ToolFault> {
-    let commands = commands(alloc, input)?;
+    let (strict, lines) = strict_and_lines(input);
+    let commands = commands(alloc, lines, 1 + usize::from(strict))?;
     let messages = messages(alloc, commands.as_slice())?;
     let mut buf = Vec::new(alloc);
-    let Ok(answers) = encode_all(alloc, messages.as_slice(), &mut buf) else {
-        return Err(ToolFault::OutOfMemory);
+    let run = if strict {
+        encode_strict(alloc, messages.as_slice(), &mut buf)
+    } else {
+        encode_all(alloc, messages.as_slice(), &mut buf)
     };
+    let answers = run.map_err(|_| ToolFault::OutOfMemory)?;
     let mut output = String::new(alloc);
     push_answers(answers.as_slice(), &mut output)?;
     push_frames(alloc, buf.as_slice(), &mut output)?;
     Ok(output)
+}
+
+// Whether the first line makes the run strict, and the lines of messages.
+fn strict_and_lines(input: &[u8]) -> (bool, &[u8]) {
+    match input.strip_prefix(STRICT) {
+        Some([]) => (true, &[]),
+        Some([b'\n', lines @ ..]) => (true, lines),
+        _ => (false, input),
+    }
 }
 
 fn messages<'a>(
@@ -31,10 +47,11 @@ fn messages<'a>(
     commands.iter().map(message_of).collect(alloc)
 }
 
-fn commands(alloc: Global, input: &[u8]) -> Result<Vec<Command<'_>>, ToolFault> {
+// The commands of the lines, the first of which has this number.
+fn commands(alloc: Global, lines: &[u8], first: usize) -> Result<Vec<Command<'_>>, ToolFault> {
     let mut commands = Vec::new(alloc);
-    for (index, line) in Lines::new(input).enumerate() {
-        let bad = ToolFault::BadLine(index + 1);
+    for (index, line) in Lines::new(lines).enumerate() {
+        let bad = ToolFault::BadLine(index.saturating_add(first));
         let line = std::str::from_utf8(line).map_err(|_| bad)?;
         commands.push(command_of(alloc, line)?.ok_or(bad)?)?;
     }

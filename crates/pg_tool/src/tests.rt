@@ -2,6 +2,7 @@
 
 mod failures;
 mod stream;
+mod strict;
 
 use crate::fault::ToolFault;
 use crate::run::{Mode, run, start};
