@@ -14,10 +14,12 @@
 // with n added, the nth request from here on is refused; alone, it asks whether one was
 #define REFUSE_NTH ((size_t)0x5245465553450000)
 #define MOST_NTH ((size_t)0xffff)
+// with n added, the nth request from here on and each after it is refused
+#define REFUSE_FROM ((size_t)0x5245465553460000)
 
 static void *(*real_malloc)(size_t);
 static void *(*real_realloc)(void *, size_t);
-static size_t requests, refused_at, refused_by_test;
+static size_t requests, refused_at, refused_by_test, refused_from;
 static int refuses_all, has_refused;
 
 static void prepare(void) {
@@ -37,7 +39,8 @@ static int is_refused(void) {
     requests += 1;
     int is_meant = requests == refused_at;
     if (is_meant) mark();
-    if (!is_meant && !refuses_all && requests != refused_by_test) return 0;
+    int by_test = requests == refused_by_test || (refused_from && requests >= refused_from);
+    if (!is_meant && !refuses_all && !by_test) return 0;
     has_refused = 1;
     return 1;
 }
@@ -50,11 +53,16 @@ static int grants(size_t size) {
         return 0;
     }
     if (size == REFUSE_NTH) {
-        refused_by_test = 0;
+        refused_by_test = refused_from = 0;
         return has_refused;
     }
     if (size > REFUSE_NTH && size - REFUSE_NTH <= MOST_NTH) {
         refused_by_test = requests + (size - REFUSE_NTH);
+        has_refused = 0;
+        return 0;
+    }
+    if (size > REFUSE_FROM && size - REFUSE_FROM <= MOST_NTH) {
+        refused_from = requests + (size - REFUSE_FROM);
         has_refused = 0;
         return 0;
     }

@@ -1,5 +1,5 @@
 -- A run of messages into one buffer, each with its answer.
-use Rattle.std.specs.Prelude.{◌≡◌, ℕ, ◌+◌, ◌<◌, ◌≤◌, Vec, vec_len, vec_capacity, List, [], ◌∷◌, ◌++◌, length, Bool, true, false, Some, None, MatchOption, Result, Ok, Err}
+use Rattle.std.specs.Prelude.{◌≡◌, ℕ, ◌+◌, ◌-◌, ◌^◌, ◌<◌, ◌≤◌, min, Vec, vec_len, vec_capacity, List, [], ◌∷◌, ◌++◌, length, Bool, true, false, Some, None, MatchOption, Result, Ok, Err}
 use Rattle.pg_base.specs.declared.error.Error.{Error}
 use Rattle.pg_base.specs.declared.error.Error.TheVariants.{Protocol, OutOfMemory}
 use Rattle.std.specs.declared.alloc.Global.{Global}
@@ -100,6 +100,15 @@ NoneRanOut [] = Unit {0}
 NoneRanOut (Ok _ ∷ answers) = NoneRanOut answers
 NoneRanOut (Err (Protocol _ _) ∷ answers) = NoneRanOut answers
 NoneRanOut (Err OutOfMemory ∷ answers) = ⊥
+
+-- one more answer is found, which isn't out of memory, with the room that its message asks for; it
+-- saturates
+pub record PlansOne (IsAnswerTo : Message → Answer → Type 0) (m : Message) (old new : List Answer) (room : ℕ) : Type 0 where
+  pub answer : Answer
+  pub adds : new ≡ old ++ answer ∷ []
+  pub is : IsAnswerTo m answer
+  pub none_ran_out : NoneRanOut (answer ∷ [])
+  pub is_room : room ≡ min (room_by m answer) (2 ^ 64 - 1)
 
 -- What a run gives. The buffer gains the texts of exactly the accepted messages; each message has its
 -- answer; tags and lengths cut what was added into the accepted messages, and into no others; a reader

@@ -4,7 +4,7 @@ ghost use Rattle.std.specs.Prelude.{◌≡◌, ◌+◌, ◌<◌, ◌≤◌, [], 
 ghost use Rattle.pg_base.specs.declared.error.Error.TheVariants.{OutOfMemory};
 ghost use Rattle.pg_send.specs.Frame.{saturated};
 ghost use Rattle.pg_send.specs.Message.{body, fault, hint, text, CanRoundTrip, RoundTrips};
-ghost use Rattle.pg_send.specs.Run.{added, added_by, room_by, run_room, AreAnswers, IsLimitAnswer, IsStrictAnswer, IsAnswerOf, EachRoundTrips, AllRoundTrip, NoneRanOut, RanOutWhereShort, EncodesRun};
+ghost use Rattle.pg_send.specs.Run.{added, added_by, room_by, run_room, AreAnswers, IsLimitAnswer, IsStrictAnswer, IsAnswerOf, EachRoundTrips, AllRoundTrip, PlansOne, NoneRanOut, RanOutWhereShort, EncodesRun};
 ghost use Rattle.pg_send.specs.TaggedMessage.{message_of, messages_of};
 
 use crate::message::TaggedMessage;
@@ -81,30 +81,52 @@ fn plan_run(alloc: Global, messages: &[TaggedMessage<'_>], strict: bool) -> Resu
     let mut answers = Vec::with_capacity(alloc, messages.len())?;
     let mut room: usize = 0;
     for message in messages {
-        let (answer, needed) = plan_message(message, strict);
-        room = room.saturating_add(needed);
-        answers.push_reserved(answer);
+        room = room.saturating_add(push_planned(message, strict, &mut answers));
     }
     Ok(Plan { answers, room })
 }
 
-// The answer to a message where memory doesn't run out, and the room that it asks for then.
+// Adds the answer to a message where memory doesn't run out, and gives the room that the message
+// asks for then. Each answer is written in its place, since a copy would wait for its parts.
 #[inline(always)]
-fn plan_message(message: &TaggedMessage<'_>, strict: bool) -> (Result<(), Error>, usize)
-    ensures answer { IsAnswerOf strict (message_of message.now) result.0 }
-    ensures none_ran_out { NoneRanOut (result.0 ∷ []) }
-    ensures room { result.1 ≡ saturated (room_by (message_of message.now) result.0) }
+fn push_planned(
+    message: &TaggedMessage<'_>,
+    strict: bool,
+    answers: &mut Vec<Result<(), Error>>,
+) -> usize
+    requires { vec_len answers.old < vec_capacity answers.old }
+    ensures plans { PlansOne (IsAnswerOf strict) (message_of message.now) answers.old.items answers.new.items result }
+    ensures len { vec_len answers.new ≡ vec_len answers.old + 1 }
+    ensures capacity { vec_capacity answers.new ≡ vec_capacity answers.old }
 {
     let room = match message.frame_room() {
         Ok(room) => room,
-        Err(error) => return (Err(error), 0),
+        Err(error) => {
+            answers.push_reserved(Err(error));
+            return 0;
+        }
     };
     if strict {
         if let Err(fault) = message.check_round_trip() {
-            return (Err(fault.into()), 0);
+            answers.push_reserved(Err(fault.into()));
+            return 0;
         }
     }
-    (Ok(()), room)
+    answers.push_reserved(Ok(()));
+    room
+}
+
+// The refusal of a message where memory doesn't run out.
+#[inline(always)]
+fn refuse_by_rule(message: &TaggedMessage<'_>, strict: bool) -> Result<(), Error>
+    ensures answer { IsAnswerOf strict (message_of message.now) result }
+    ensures none_ran_out { NoneRanOut (result ∷ []) }
+{
+    message.frame_room()?;
+    if strict {
+        message.check_round_trip()?;
+    }
+    Ok(())
 }
 
 // Adds the messages of a planned run: with one reservation, or where that is refused with one for
@@ -187,7 +209,6 @@ fn encode_by_rule(message: &TaggedMessage<'_>, strict: bool, buf: &mut Vec<u8>) 
     ensures memory { IsErrOf result OutOfMemory → vec_capacity buf.old < vec_len buf.old + (hint (message_of message.now) + 5) }
     ensures capacity { vec_capacity buf.old ≤ vec_capacity buf.new }
 {
-    let (planned, _room) = plan_message(message, strict);
-    planned?;
+    refuse_by_rule(message, strict)?;
     message.encode(buf)
 }
