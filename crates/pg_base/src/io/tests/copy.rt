@@ -1,0 +1,15 @@
+//! The bytes that the data of a COPY holds, whoever owns them.
+
+use crate::io::LendBytes;
+use bytes::Bytes;
+use std::alloc::AllocError;
+
+#[test]
+fn bytes_of_each_owner(rt: HostRuntime) -> Result<(), AllocError> {
+    let vec = Vec::from_slice(rt.alloc(), b"abc")?;
+    let shared = Bytes::copy_from_slice(rt.alloc(), b"abc")?;
+    assert_eq!(rt; LendBytes::bytes(&vec), b"abc".as_slice());
+    assert_eq!(rt; LendBytes::bytes(&shared), b"abc".as_slice());
+    assert_eq!(rt; LendBytes::bytes(&vec.as_slice()), b"abc".as_slice());
+    Ok(())
+}
