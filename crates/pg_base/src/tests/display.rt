@@ -1,9 +1,9 @@
 //! The words of each fault and each error, over the border numbers, into a text that has the room
-//! for them while every request for memory is refused.
+//! for them, so that no memory is asked for.
 
-use super::refusing::refuse_all_or_none;
+use super::refusing::{refuse_nth, was_refused};
 use crate::{BackendMessageFormat, Error, ProtocolFault};
-use std::alloc::{AllocError, Global};
+use std::alloc::{AllocError, AllocFailed, Global};
 use std::fmt::Display;
 use std::process::Abort;
 
@@ -19,9 +19,9 @@ pub fn assert_prints<D: Display>(
     words: &str,
 ) -> Result<(), AllocError> {
     let mut text = String::with_capacity(alloc, 512)?;
-    refuse_all_or_none(alloc);
+    refuse_nth(alloc, 1);
     let printed = write!(text, "{value}");
-    refuse_all_or_none(alloc);
+    assert!(rt; !was_refused(alloc));
     assert!(rt; printed.is_ok(), "{words}");
     assert_eq!(rt; text.as_str().strip_prefix(beginning), Some(words));
     Ok(())
@@ -220,5 +220,7 @@ fn faults_without_a_number(rt: HostRuntime) -> Result<(), AllocError> {
 fn out_of_memory(rt: HostRuntime) -> Result<(), AllocError> {
     assert_prints(&rt, rt.alloc(), &Error::OutOfMemory, "", "out of memory")?;
     let refused = Error::from(AllocError);
-    assert_prints(&rt, rt.alloc(), &refused, "", "out of memory")
+    assert_prints(&rt, rt.alloc(), &refused, "", "out of memory")?;
+    let handed_back = Error::from(AllocFailed { value: 1u8 });
+    assert_prints(&rt, rt.alloc(), &handed_back, "", "out of memory")
 }

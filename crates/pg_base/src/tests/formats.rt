@@ -1,7 +1,7 @@
 //! The kinds of message: tags, names and numbers. Documentation: "Message Formats".
 
 use super::display::assert_prints;
-use super::refusing::refuse_all_or_none;
+use super::refusing::{refuse_nth, was_refused};
 use crate::{BackendMessageFormat, Error, FrontendMessageFormat, ProtocolFault};
 use std::alloc::AllocError;
 
@@ -61,10 +61,10 @@ const KINDS: [(BackendMessageFormat, u8, &str); 21] = [
 #[test]
 fn tags_name_their_kinds(rt: HostRuntime) {
     for (number, (format, tag, name)) in KINDS.iter().enumerate() {
-        refuse_all_or_none(rt.alloc());
+        refuse_nth(rt.alloc(), 1);
         let found = BackendMessageFormat::try_from_u8(*tag);
         let found_name = format.name();
-        refuse_all_or_none(rt.alloc());
+        assert!(rt; !was_refused(rt.alloc()));
         assert_eq!(rt; found, Ok(*format));
         assert_eq!(rt; found_name, *name);
         assert_eq!(rt; *format as usize, number);

@@ -9,9 +9,6 @@ use std::process::Abort;
 // where one was.
 const REFUSE_NTH: usize = 0x5245_4655_5345_0000;
 
-// A request of this size has every request after it refused, or again none.
-const REFUSE_ALL: usize = 0x5245_4655_5345;
-
 /// More requests than any call of a test makes.
 pub const MANY: usize = 100;
 
@@ -20,14 +17,10 @@ pub fn refuse_nth(alloc: Global, nth: usize) {
     let _ = Vec::<u8>::with_capacity(alloc, REFUSE_NTH.saturating_add(nth));
 }
 
-/// Whether a request was refused since [`refuse_nth`], which this ends.
+/// Whether a request was refused since [`refuse_nth`], which this ends. Calls ask for no memory
+/// where the first request was to be refused and none was.
 pub fn was_refused(alloc: Global) -> bool {
     Vec::<u8>::with_capacity(alloc, REFUSE_NTH).is_ok()
-}
-
-/// Has every request from here on refused, or again none.
-pub fn refuse_all_or_none(alloc: Global) {
-    let _ = Vec::<u8>::with_capacity(alloc, REFUSE_ALL);
 }
 
 /// The answer of a call, or the end of the test where memory ran out.

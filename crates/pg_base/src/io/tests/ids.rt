@@ -1,7 +1,7 @@
 //! Ids by their numbers. None of these calls asks for memory.
 
 use crate::io::{MAX_BODY, MAX_LENGTH, Oid, PgValueFormat, PortalId, StatementId};
-use crate::tests::refusing::refuse_all_or_none;
+use crate::tests::refusing::{refuse_nth, was_refused};
 
 #[test]
 fn names_have_their_lengths(rt: HostRuntime) {
@@ -15,10 +15,10 @@ fn names_have_their_lengths(rt: HostRuntime) {
         (u32::MAX, 18),
     ];
     for (number, length) in lengths {
-        refuse_all_or_none(rt.alloc());
+        refuse_nth(rt.alloc(), 1);
         let statement = StatementId::from_number(number).name_len();
         let portal = PortalId::from_number(number).name_len();
-        refuse_all_or_none(rt.alloc());
+        assert!(rt; !was_refused(rt.alloc()));
         assert_eq!(rt; statement, length);
         assert_eq!(rt; portal, length);
     }
@@ -34,10 +34,10 @@ fn ids_follow_each_other(rt: HostRuntime) {
         (u32::MAX, 1),
     ];
     for (number, next) in followers {
-        refuse_all_or_none(rt.alloc());
+        refuse_nth(rt.alloc(), 1);
         let statement = StatementId::from_number(number).next();
         let portal = PortalId::from_number(number).next();
-        refuse_all_or_none(rt.alloc());
+        assert!(rt; !was_refused(rt.alloc()));
         assert_eq!(rt; statement.number(), next);
         assert_eq!(rt; portal.number(), next);
     }

@@ -3,7 +3,7 @@
 use crate::Error;
 use crate::io::{PgBufMutExt, PortalId, StatementId};
 use crate::tests::display::assert_prints;
-use crate::tests::refusing::{Adds, assert_adds, assert_all_or_nothing, refuse_all_or_none};
+use crate::tests::refusing::{Adds, assert_adds, assert_all_or_nothing, refuse_nth, was_refused};
 use std::alloc::AllocError;
 
 // Numbers with the texts of their names after the prefix.
@@ -109,16 +109,19 @@ fn a_name_in_its_room_needs_no_memory(rt: HostRuntime) -> Result<(), AllocError>
         let portal = PortalId::from_number(number);
         let mut statements = Vec::with_capacity(rt.alloc(), statement.name_len())?;
         let mut portals = Vec::with_capacity(rt.alloc(), portal.name_len())?;
-        refuse_all_or_none(rt.alloc());
-        let answer = statement.put_name_with_nul(&mut statements);
+        let mut last = Vec::with_capacity(rt.alloc(), portal.name_len())?;
+        refuse_nth(rt.alloc(), 1);
+        statement.push_name_reserved(&mut statements);
         portal.push_name_reserved(&mut portals);
-        refuse_all_or_none(rt.alloc());
+        let answer = portal.put_name_with_nul(&mut last);
+        assert!(rt; !was_refused(rt.alloc()));
         assert_eq!(rt; answer, Ok(()));
-        let names = (statements.as_slice(), portals.as_slice());
+        let names = (statements.as_slice(), portals.as_slice(), last.as_slice());
         let statement = format!(in rt.alloc(); "sqlx_s_{digits}\0")?;
         let portal = format!(in rt.alloc(); "sqlx_p_{digits}\0")?;
         assert_eq!(rt; names.0, statement.as_bytes());
         assert_eq!(rt; names.1, portal.as_bytes());
+        assert_eq!(rt; names.2, portal.as_bytes());
     }
     Ok(())
 }

@@ -2,7 +2,7 @@
 
 use crate::ProtocolFault;
 use crate::io::{bytes_at, i8_at, i16_at, i32_at, u16_at, u32_at};
-use crate::tests::refusing::refuse_all_or_none;
+use crate::tests::refusing::{refuse_nth, was_refused};
 
 fn short(at: usize, needed: usize, got: usize) -> ProtocolFault {
     ProtocolFault::Short { at, needed, got }
@@ -11,11 +11,11 @@ fn short(at: usize, needed: usize, got: usize) -> ProtocolFault {
 #[test]
 fn numbers_are_read_where_they_stand(rt: HostRuntime) {
     let body = [0xAA, 0x89, 0x52, 0xC5, 0x2B];
-    refuse_all_or_none(rt.alloc());
+    refuse_nth(rt.alloc(), 1);
     let unsigned = (u16_at(&body, 3), u32_at(&body, 1));
     let signed = (i8_at(&body, 1), i16_at(&body, 3), i32_at(&body, 1));
     let bytes = bytes_at(&body, 2, 2);
-    refuse_all_or_none(rt.alloc());
+    assert!(rt; !was_refused(rt.alloc()));
     assert_eq!(rt; unsigned.0, Ok(50475));
     assert_eq!(rt; unsigned.1, Ok(2303903019));
     assert_eq!(rt; signed.0, Ok(-119));
@@ -27,11 +27,11 @@ fn numbers_are_read_where_they_stand(rt: HostRuntime) {
 #[test]
 fn a_number_that_lacks_bytes_is_short(rt: HostRuntime) {
     let body = [0xAA, 0x89, 0x52, 0xC5, 0x2B];
-    refuse_all_or_none(rt.alloc());
+    refuse_nth(rt.alloc(), 1);
     let unsigned = (u16_at(&body, 4), u32_at(&body, 2));
     let signed = (i8_at(&body, 5), i16_at(&body, 4), i32_at(&body, 5));
     let bytes = bytes_at(&body, 2, usize::MAX);
-    refuse_all_or_none(rt.alloc());
+    assert!(rt; !was_refused(rt.alloc()));
     assert_eq!(rt; unsigned.0, Err(short(4, 2, 1)));
     assert_eq!(rt; unsigned.1, Err(short(2, 4, 3)));
     assert_eq!(rt; signed.0, Err(short(5, 1, 0)));

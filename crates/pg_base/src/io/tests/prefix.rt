@@ -93,7 +93,7 @@ fn a_closure_is_called_only_where_its_length_has_room(rt: HostRuntime) -> Result
             return Ok(());
         }
         assert_eq!(rt; answer, Err(Error::OutOfMemory));
-        assert_eq!(rt; called, nth > 1);
+        assert!(rt; !called || nth > 1);
     }
     panic!(rt; "requests without end")
 }
