@@ -81,6 +81,7 @@ fn value_up_to(digits: &[u8], top: u64) -> Option<u64>
 #[cfg(test)]
 mod tests {
     use super::*;
+    use crate::tests::refusing::{refuse_nth, was_refused};
 
     #[test]
     fn numbers_in_front(rt: HostRuntime) {
@@ -98,13 +99,28 @@ mod tests {
             (b"4294967296", None),
         ];
         for (bytes, want) in table {
-            assert_eq!(rt; atoi_u32(bytes), want, "at {bytes:?}");
+            refuse_nth(rt.alloc(), 1);
+            let number = atoi_u32(bytes);
+            assert!(rt; !was_refused(rt.alloc()));
+            assert_eq!(rt; number, want, "at {bytes:?}");
         }
     }
 
     #[test]
     fn greatest_numbers(rt: HostRuntime) {
-        assert_eq!(rt; atoi_u64(b"18446744073709551615"), Some(u64::MAX));
-        assert_eq!(rt; atoi_usize(b"18446744073709551615"), Some(usize::MAX));
+        refuse_nth(rt.alloc(), 1);
+        let most = (
+            atoi_u64(b"18446744073709551615"),
+            atoi_usize(b"18446744073709551615"),
+        );
+        let one_more = (
+            atoi_u64(b"18446744073709551616"),
+            atoi_usize(b"18446744073709551616"),
+        );
+        assert!(rt; !was_refused(rt.alloc()));
+        assert_eq!(rt; most.0, Some(u64::MAX));
+        assert_eq!(rt; most.1, Some(usize::MAX));
+        assert_eq!(rt; one_more.0, None);
+        assert_eq!(rt; one_more.1, None);
     }
 }

@@ -1,11 +1,12 @@
-//! Messages of any length, and one that wants more room than there is.
+//! Messages of any length, and one that asks for more room than there is.
 
 ghost use Rattle.std.specs.Prelude.{◌^◌, [], ◌∷◌, replicate};
 ghost use Rattle.pg_send.specs.CopyData.{copy_data_law};
 
+use super::refusing::{Adds, assert_adds, assert_all_or_nothing, refuse_nth, was_refused};
 use crate::message::{FrontendMessage, encode_frame};
 use pg_base::{Error, FrontendMessageFormat, ProtocolFault};
-use std::test::Fail;
+use std::alloc::AllocError;
 
 // That many zero bytes.
 #[derive(Drop)]
@@ -43,21 +44,28 @@ impl FrontendMessage for Zeros {
     ghost enough = { λ zeros h. Prim.grind (arith, length-replicate) };
 }
 
-#[test]
-fn a_frame_of_zeros(rt: HostRuntime) -> Result<(), Fail> {
-    let mut buf = Vec::from_slice(rt.alloc(), b"\xaa")?;
-    encode_frame(&Zeros(2), &mut buf)?;
-    assert_eq!(rt; buf.as_slice(), b"\xaad\x00\x00\x00\x06\x00\x00".as_slice());
-    Ok(())
+impl Adds for Zeros {
+    fn add(&self, buf: &mut Vec<u8>) -> Result<(), Error> {
+        encode_frame(self, buf)
+    }
 }
 
 #[test]
-fn too_many_zeros(rt: HostRuntime) -> Result<(), Fail> {
+fn a_frame_of_zeros(rt: HostRuntime) -> Result<(), AllocError> {
+    assert_adds(&rt, rt.alloc(), &Zeros(2), b"d\x00\x00\x00\x06\x00\x00")?;
+    assert_all_or_nothing(&rt, rt.alloc(), &Zeros(2), b"d\x00\x00\x00\x06\x00\x00")
+}
+
+#[test]
+fn too_many_zeros(rt: HostRuntime) -> Result<(), AllocError> {
     let mut buf = Vec::from_slice(rt.alloc(), b"\xaa")?;
     let capacity = buf.capacity();
     for (len, reported) in [(2147483644, 2147483648), (usize::MAX, usize::MAX)] {
+        refuse_nth(rt.alloc(), 1);
+        let answer = encode_frame(&Zeros(len), &mut buf);
+        assert!(rt; !was_refused(rt.alloc()));
         let fault = ProtocolFault::MessageTooLong(reported);
-        assert_eq!(rt; encode_frame(&Zeros(len), &mut buf), Err(fault.into()));
+        assert_eq!(rt; answer, Err(fault.into()));
         assert_eq!(rt; buf.as_slice(), b"\xaa".as_slice());
         assert_eq!(rt; buf.capacity(), capacity);
     }
@@ -99,7 +107,7 @@ impl FrontendMessage for Spacious {
 }
 
 #[test]
-fn refused_room_leaves_the_bytes(rt: HostRuntime) -> Result<(), Fail> {
+fn refused_room_leaves_the_bytes(rt: HostRuntime) -> Result<(), AllocError> {
     let mut buf = Vec::from_slice(rt.alloc(), b"\xaa")?;
     assert_eq!(rt; encode_frame(&Spacious, &mut buf), Err(Error::OutOfMemory));
     assert_eq!(rt; buf.as_slice(), b"\xaa".as_slice());

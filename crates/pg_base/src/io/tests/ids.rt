@@ -1,0 +1,65 @@
+//! Ids by their numbers. None of these calls asks for memory.
+
+use crate::io::{MAX_BODY, MAX_LENGTH, Oid, PgValueFormat, PortalId, StatementId};
+use crate::tests::refusing::{refuse_nth, was_refused};
+
+#[test]
+fn names_have_their_lengths(rt: HostRuntime) {
+    let lengths = [
+        (0, 1),
+        (1, 9),
+        (9, 9),
+        (10, 10),
+        (999999999, 17),
+        (1000000000, 18),
+        (u32::MAX, 18),
+    ];
+    for (number, length) in lengths {
+        refuse_nth(rt.alloc(), 1);
+        let statement = StatementId::from_number(number).name_len();
+        let portal = PortalId::from_number(number).name_len();
+        assert!(rt; !was_refused(rt.alloc()));
+        assert_eq!(rt; statement, length);
+        assert_eq!(rt; portal, length);
+    }
+}
+
+#[test]
+fn ids_follow_each_other(rt: HostRuntime) {
+    let followers = [
+        (0, 0),
+        (1, 2),
+        (9, 10),
+        (u32::MAX - 1, u32::MAX),
+        (u32::MAX, 1),
+    ];
+    for (number, next) in followers {
+        refuse_nth(rt.alloc(), 1);
+        let statement = StatementId::from_number(number).next();
+        let portal = PortalId::from_number(number).next();
+        assert!(rt; !was_refused(rt.alloc()));
+        assert_eq!(rt; statement.number(), next);
+        assert_eq!(rt; portal.number(), next);
+    }
+}
+
+#[test]
+fn unnamed_and_first_ids(rt: HostRuntime) {
+    assert_eq!(rt; StatementId::UNNAMED.number(), 0);
+    assert_eq!(rt; StatementId::NAMED_START.number(), 1);
+    assert_eq!(rt; StatementId::from_number(1), StatementId::NAMED_START);
+    assert_eq!(rt; StatementId::UNNAMED.next(), StatementId::UNNAMED);
+    assert_eq!(rt; PortalId::UNNAMED.number(), 0);
+    assert_eq!(rt; PortalId::NAMED_START.number(), 1);
+    assert_eq!(rt; PortalId::from_number(1), PortalId::NAMED_START);
+    assert_eq!(rt; PortalId::UNNAMED.next(), PortalId::UNNAMED);
+}
+
+#[test]
+fn numbers_of_types_formats_and_lengths(rt: HostRuntime) {
+    assert_eq!(rt; Oid::default(), Oid(0));
+    assert_eq!(rt; PgValueFormat::Text as u16, 0);
+    assert_eq!(rt; PgValueFormat::Binary as u16, 1);
+    assert_eq!(rt; MAX_LENGTH, 2147483647);
+    assert_eq!(rt; MAX_BODY, 2147483643);
+}

@@ -1,0 +1,130 @@
+//! The kinds of message: tags, names and numbers. Documentation: "Message Formats".
+
+use super::display::assert_prints;
+use super::refusing::{refuse_nth, was_refused};
+use crate::{BackendMessageFormat, Error, FrontendMessageFormat, ProtocolFault};
+use std::alloc::AllocError;
+
+// The kinds that a server sends, each by its number, with its tag and its name.
+const KINDS: [(BackendMessageFormat, u8, &str); 21] = [
+    (BackendMessageFormat::Authentication, b'R', "Authentication"),
+    (BackendMessageFormat::BackendKeyData, b'K', "BackendKeyData"),
+    (BackendMessageFormat::BindComplete, b'2', "BindComplete"),
+    (BackendMessageFormat::CloseComplete, b'3', "CloseComplete"),
+    (
+        BackendMessageFormat::CommandComplete,
+        b'C',
+        "CommandComplete",
+    ),
+    (BackendMessageFormat::CopyData, b'd', "CopyData"),
+    (BackendMessageFormat::CopyDone, b'c', "CopyDone"),
+    (BackendMessageFormat::CopyInResponse, b'G', "CopyInResponse"),
+    (
+        BackendMessageFormat::CopyOutResponse,
+        b'H',
+        "CopyOutResponse",
+    ),
+    (BackendMessageFormat::DataRow, b'D', "DataRow"),
+    (
+        BackendMessageFormat::EmptyQueryResponse,
+        b'I',
+        "EmptyQueryResponse",
+    ),
+    (BackendMessageFormat::ErrorResponse, b'E', "ErrorResponse"),
+    (BackendMessageFormat::NoData, b'n', "NoData"),
+    (BackendMessageFormat::NoticeResponse, b'N', "NoticeResponse"),
+    (
+        BackendMessageFormat::NotificationResponse,
+        b'A',
+        "NotificationResponse",
+    ),
+    (
+        BackendMessageFormat::ParameterDescription,
+        b't',
+        "ParameterDescription",
+    ),
+    (
+        BackendMessageFormat::ParameterStatus,
+        b'S',
+        "ParameterStatus",
+    ),
+    (BackendMessageFormat::ParseComplete, b'1', "ParseComplete"),
+    (
+        BackendMessageFormat::PortalSuspended,
+        b's',
+        "PortalSuspended",
+    ),
+    (BackendMessageFormat::ReadyForQuery, b'Z', "ReadyForQuery"),
+    (BackendMessageFormat::RowDescription, b'T', "RowDescription"),
+];
+
+#[test]
+fn tags_name_their_kinds(rt: HostRuntime) {
+    for (number, (format, tag, name)) in KINDS.iter().enumerate() {
+        refuse_nth(rt.alloc(), 1);
+        let found = BackendMessageFormat::try_from_u8(*tag);
+        let found_name = format.name();
+        assert!(rt; !was_refused(rt.alloc()));
+        assert_eq!(rt; found, Ok(*format));
+        assert_eq!(rt; found_name, *name);
+        assert_eq!(rt; *format as usize, number);
+    }
+}
+
+#[test]
+fn other_tags_are_unknown(rt: HostRuntime) {
+    for tag in 0..=u8::MAX {
+        if KINDS.iter().any(|kind| kind.1 == tag) {
+            continue;
+        }
+        let unknown = ProtocolFault::UnknownMessageType(tag);
+        let found = BackendMessageFormat::try_from_u8(tag);
+        assert_eq!(rt; found, Err(unknown.into()));
+    }
+}
+
+#[test]
+fn errors_name_the_kind_that_was_read(rt: HostRuntime) -> Result<(), AllocError> {
+    for (format, _, name) in KINDS {
+        let error = Error::Protocol {
+            reading: Some(format),
+            fault: ProtocolFault::NotUtf8,
+        };
+        let words = format!(in rt.alloc(); "{name}): text is not UTF-8")?;
+        let beginning = "Postgres protocol error (reading ";
+        assert_prints(&rt, rt.alloc(), &error, beginning, words.as_str())?;
+        let other_kind = ProtocolFault::WrongFormat {
+            expected: format,
+            got: BackendMessageFormat::NoData,
+        };
+        let words = format!(in rt.alloc(); "{name}, got NoData")?;
+        let beginning = "Postgres protocol error: expected ";
+        assert_prints(&rt, rt.alloc(), &other_kind, beginning, words.as_str())?;
+    }
+    Ok(())
+}
+
+#[test]
+fn kinds_to_the_server_are_numbered_by_their_tags(rt: HostRuntime) {
+    let tags = [
+        (FrontendMessageFormat::Bind, b'B'),
+        (FrontendMessageFormat::Close, b'C'),
+        (FrontendMessageFormat::Describe, b'D'),
+        (FrontendMessageFormat::Execute, b'E'),
+        (FrontendMessageFormat::Flush, b'H'),
+        (FrontendMessageFormat::Parse, b'P'),
+        (FrontendMessageFormat::Query, b'Q'),
+        (FrontendMessageFormat::Sync, b'S'),
+        (FrontendMessageFormat::Terminate, b'X'),
+        (FrontendMessageFormat::CopyDone, b'c'),
+        (FrontendMessageFormat::CopyData, b'd'),
+        (FrontendMessageFormat::CopyFail, b'f'),
+        (FrontendMessageFormat::PasswordPolymorphic, b'p'),
+    ];
+    for (format, tag) in tags {
+        assert_eq!(rt; format as u8, tag);
+    }
+    for (first, second) in tags.iter().zip(tags.iter().skip(1)) {
+        assert!(rt; first.0 < second.0);
+    }
+}

@@ -1,0 +1,90 @@
+//! Calls that have their requests for memory refused, as tests/refused/README.md says. Under
+//! `rt test` no request is refused.
+
+use crate::Error;
+use std::alloc::{AllocError, Global};
+use std::process::Abort;
+
+// A request of this size, with n added, has the nth request after it refused; alone, it is granted
+// where one was.
+const REFUSE_NTH: usize = 0x5245_4655_5345_0000;
+
+/// More requests than any call of a test makes.
+pub const MANY: usize = 100;
+
+/// Has the nth request from here on refused, and no other.
+pub fn refuse_nth(alloc: Global, nth: usize) {
+    let _ = Vec::<u8>::with_capacity(alloc, REFUSE_NTH.saturating_add(nth));
+}
+
+/// Whether a request was refused since [`refuse_nth`], which this ends. Calls ask for no memory
+/// where the first request was to be refused and none was.
+pub fn was_refused(alloc: Global) -> bool {
+    Vec::<u8>::with_capacity(alloc, REFUSE_NTH).is_ok()
+}
+
+/// The answer of a call, or the end of the test where memory ran out.
+pub fn unless_out_of_memory(answer: Result<(), Error>) -> Result<Result<(), Error>, AllocError> {
+    match answer {
+        Err(Error::OutOfMemory) => Err(AllocError),
+        other => Ok(other),
+    }
+}
+
+/// A call that adds a text to a buffer, or nothing.
+pub trait Adds {
+    fn add(&self, buf: &mut Vec<u8>) -> Result<(), Error>;
+}
+
+/// The call adds the text to an empty buffer and after old bytes.
+pub fn assert_adds<C: Adds>(
+    rt: &impl Abort,
+    alloc: Global,
+    call: &C,
+    text: &[u8],
+) -> Result<(), AllocError> {
+    for old in [b"".as_slice(), b"\xaa".as_slice()] {
+        let mut buf = Vec::from_slice(alloc, old)?;
+        let answer = call.add(&mut buf);
+        assert_eq!(rt; unless_out_of_memory(answer)?, Ok(()));
+        assert!(rt; buf.as_slice().starts_with(old));
+        assert_eq!(rt; &buf.as_slice()[old.len()..], text);
+    }
+    Ok(())
+}
+
+/// With each of its requests refused in turn the call answers out of memory and leaves the bytes
+/// of the buffer, and without a refusal it adds the text.
+pub fn assert_all_or_nothing<C: Adds>(
+    rt: &impl Abort,
+    alloc: Global,
+    call: &C,
+    text: &[u8],
+) -> Result<(), AllocError> {
+    refuse_in_turn(rt, alloc, call, b"", text)?;
+    refuse_in_turn(rt, alloc, call, b"\xaa", text)
+}
+
+fn refuse_in_turn<C: Adds>(
+    rt: &impl Abort,
+    alloc: Global,
+    call: &C,
+    old: &[u8],
+    text: &[u8],
+) -> Result<(), AllocError> {
+    for nth in 1..MANY {
+        let mut buf = Vec::from_slice(alloc, old)?;
+        refuse_nth(alloc, nth);
+        let answer = call.add(&mut buf);
+        let was_refused = was_refused(alloc);
+        if !was_refused {
+            assert_eq!(rt; answer, Ok(()));
+            assert!(rt; buf.as_slice().starts_with(old));
+            assert_eq!(rt; &buf.as_slice()[old.len()..], text);
+            return Ok(());
+        }
+        assert_eq!(rt; answer, Err(Error::OutOfMemory));
+        assert_eq!(rt; buf.as_slice(), old);
+    }
+    panic!(rt; "requests without end")
+}
