@@ -10,6 +10,8 @@ mod refusing;
 mod room;
 mod runs;
 mod startup;
+mod strict;
+mod values;
 mod without_memory;
 mod zeros;
 

@@ -1,7 +1,7 @@
 //! A run asks once for its answers and once for what its accepted messages add. Where the second
 //! request is refused, each message asks for its own, and no answer changes.
 
-use super::refusing::{MANY, added, refuse_nth, unless_out_of_memory, was_refused};
+use super::refusing::{MANY, added, refuse_from, refuse_nth, unless_out_of_memory, was_refused};
 use crate::message::{Parse, Query, Sync, TaggedMessage, encode_all};
 use pg_base::io::{Oid, StatementId};
 use pg_base::{Error, ProtocolFault};
@@ -18,19 +18,41 @@ const QUERY_AND_SYNC: &[u8] = b"Q\x00\x00\x00\x0dSELECT 1\x00S\x00\x00\x00\x04";
 const SUM: usize = 19;
 
 // A message that is refused for its types stands between two others.
-fn assert_row(rt: &impl Abort, alloc: Global, old: &[u8], spare: usize) -> Result<(), AllocError> {
-    let types = vec![in alloc; Oid(25); 65536]?;
+fn three_messages(types: &[Oid]) -> [TaggedMessage<'_>; 3] {
     let parse = Parse {
         statement: StatementId::UNNAMED,
         query: "",
-        param_types: types.as_slice(),
+        param_types: types,
     };
-    let messages = [
+    [
         TaggedMessage::Query(Query("SELECT 1")),
         TaggedMessage::Parse(parse),
         TaggedMessage::Sync(Sync),
-    ];
-    refuse_in_turn(rt, alloc, &messages, old, spare)
+    ]
+}
+
+fn assert_row(rt: &impl Abort, alloc: Global, old: &[u8], spare: usize) -> Result<(), AllocError> {
+    let types = vec![in alloc; Oid(25); 65536]?;
+    refuse_in_turn(rt, alloc, &three_messages(types.as_slice()), old, spare)
+}
+
+// The nth request and each later one are refused, and no answer changes.
+fn assert_same_answers(
+    rt: &impl Abort,
+    alloc: Global,
+    spare: usize,
+    nth: usize,
+) -> Result<(), AllocError> {
+    let types = vec![in alloc; Oid(25); 65536]?;
+    let messages = three_messages(types.as_slice());
+    let mut buf = Vec::with_capacity(alloc, spare)?;
+    refuse_from(alloc, nth);
+    let run = encode_all(alloc, &messages, &mut buf);
+    let _ = was_refused(alloc);
+    let Ok(answers) = run else {
+        return Err(AllocError);
+    };
+    assert_answers(rt, answers.as_slice(), buf.as_slice())
 }
 
 fn refuse_in_turn(
@@ -100,4 +122,10 @@ fn after_old_bytes(rt: HostRuntime) -> Result<(), AllocError> {
 fn where_the_spare_room_is_the_sum(rt: HostRuntime) -> Result<(), AllocError> {
     assert_row(&rt, rt.alloc(), b"", SUM)?;
     assert_row(&rt, rt.alloc(), b"\xaa", SUM)
+}
+
+#[test]
+fn where_all_later_requests_are_refused(rt: HostRuntime) -> Result<(), AllocError> {
+    assert_same_answers(&rt, rt.alloc(), SUM, 2)?;
+    assert_same_answers(&rt, rt.alloc(), 0, 3)
 }

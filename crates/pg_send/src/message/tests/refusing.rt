@@ -9,6 +9,9 @@ use std::process::Abort;
 // where one was.
 const REFUSE_NTH: usize = 0x5245_4655_5345_0000;
 
+// With n added, the nth request after it and each later one are refused.
+const REFUSE_FROM: usize = 0x5245_4655_5346_0000;
+
 /// More requests than any call of a test makes.
 pub const MANY: usize = 100;
 
@@ -17,7 +20,12 @@ pub fn refuse_nth(alloc: Global, nth: usize) {
     let _ = Vec::<u8>::with_capacity(alloc, REFUSE_NTH.saturating_add(nth));
 }
 
-/// Whether a request was refused since [`refuse_nth`], which this ends. Calls ask for no memory
+/// Has the nth request from here on refused, and each later one.
+pub fn refuse_from(alloc: Global, nth: usize) {
+    let _ = Vec::<u8>::with_capacity(alloc, REFUSE_FROM.saturating_add(nth));
+}
+
+/// Whether a request was refused since [`refuse_nth`] or [`refuse_from`], which this ends. Calls ask for no memory
 /// where the first request was to be refused and none was.
 pub fn was_refused(alloc: Global) -> bool {
     Vec::<u8>::with_capacity(alloc, REFUSE_NTH).is_ok()
