@@ -4,3 +4,5 @@
 pub mod error;
 pub mod laws;
 pub mod message;
+#[cfg(test)]
+mod tests;

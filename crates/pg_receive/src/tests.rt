@@ -1,0 +1,17 @@
+//! What received bodies answer, through the public calls alone.
+
+mod fronts;
+mod kinds;
+mod memory;
+mod rows;
+
+use pg_base::{Error, ProtocolFault};
+
+// The fault of an answer, and none of a value; out of memory is passed on.
+fn fault_in<T: Drop>(answer: Result<T, Error>) -> Result<Option<ProtocolFault>, Error> {
+    match answer {
+        Ok(_) => Ok(None),
+        Err(Error::Protocol { fault, .. }) => Ok(Some(fault)),
+        Err(Error::OutOfMemory) => Err(Error::OutOfMemory),
+    }
+}
