@@ -28,7 +28,8 @@ const MAX_KEPT: usize = 64 * 1024;
 /// block until it is dropped. The reader asks for memory as bytes are fed and never for a length that
 /// a message announces, so it holds at most twice what it was fed and hasn't handed out, and the
 /// block that it fills. It uses a block again once no body shares it. What is left after the last
-/// whole message is copied when more is fed. Where all is handed out it gives a block of more than 64 KiB back and keeps a smaller one.
+/// whole message is copied when more is fed. Where all is handed out it gives a block of more than
+/// 64 KiB back and keeps a smaller one.
 #[derive(Drop)]
 pub struct FrameReader {
     alloc: Global,
