@@ -1,5 +1,5 @@
 -- The front of a stream is one of three: a whole message, one that goes on, or a fault.
-use Rattle.std.proofs.Common.{◌≡◌, ◌+◌, ◌-◌, ◌≤◌, ℕ, ℤ, pos, List, ◌∷◌, ◌++◌, length, take, drop, inl, inr, refl, sym, ap, ◌∙◌, append_assoc, arith, length-append}
+use Rattle.std.proofs.Common.{◌≡◌, ◌+◌, ◌-◌, ◌≤◌, ℕ, ℤ, pos, List, [], ◌∷◌, ◌++◌, length, take, drop, inl, inr, refl, sym, ap, ◌∙◌, append_assoc, append-nil, arith, length-append}
 use Rattle.std.proofs.lemmas.Int.{ints}
 use Rattle.std.proofs.lemmas.List.{drop-take}
 use Rattle.std.proofs.Math.Seq.{drop-append-add, drop-append_seam, take-append_seam}
@@ -115,3 +115,8 @@ taken bytes tag body rest end p is =
     let at = stands_at bytes tag body rest p in
     let same : end ≡ 5 + length body = omega (arith, is, begins_fits bytes tag body rest p) in
     rw (same, at.0, at.1) p
+
+-- the same of bytes that are shared, with what the reader then is
+pub taken_shared : (old shared left new contents : List ℕ) (tag : ℕ) (body rest : List ℕ) (end : ℕ) → Begins shared tag body rest → end ≡ length shared - length rest → old ≡ shared → contents ≡ drop 5 (take end shared) → left ≡ drop end shared → new ≡ left ++ [] → Begins old tag contents new
+taken_shared old shared left new contents tag body rest end p is same c l n =
+    rw (n, append-nil left, l, c, same) (taken shared tag body rest end p is)

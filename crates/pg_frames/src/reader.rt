@@ -1,6 +1,6 @@
 //! A reader of messages from a stream that comes in pieces.
 
-ghost use Rattle.std.specs.Prelude.{◌≡◌, ◌+◌, ◌≤◌, ◌==◌, [], ◌++◌, length, take, drop, Some, None, Ok, Err, IsSome, IfOk, OnOk, IfErr, OnErr, IfSome, IfNone, MatchResult, IsOkUnless};
+ghost use Rattle.std.specs.Prelude.{◌≡◌, ◌⊎◌, ◌<◌, IsTrue, ◌+◌, ◌≤◌, ◌==◌, [], ◌++◌, length, take, drop, Some, None, Ok, Err, IsSome, IfOk, OnOk, IfErr, OnErr, IfSome, IfNone, MatchResult, IsOkUnless};
 ghost use Rattle.pg_base.specs.declared.error.ProtocolFault.{ProtocolFault};
 ghost use Rattle.pg_base.specs.declared.error.Error.TheVariants.{Protocol, OutOfMemory};
 ghost use Rattle.pg_base.specs.Cutting.{Begins};
@@ -27,22 +27,27 @@ const MAX_KEPT: usize = 64 * 1024;
 /// A body that it hands out shares the block of memory that its bytes were fed into, and keeps that
 /// block until it is dropped. The reader asks for memory as bytes are fed and never for a length that
 /// a message announces, so it holds at most twice what it was fed and hasn't handed out, and the
-/// block that it fills. It uses a block again once no body shares it. Where all is handed out it
-/// gives a block of more than 64 KiB back and keeps a smaller one.
+/// block that it fills. It uses a block again once no body shares it. What is left after the last
+/// whole message is copied when more is fed. Where all is handed out it gives a block of more than
+/// 64 KiB back and keeps a smaller one.
 #[derive(Drop)]
 pub struct FrameReader {
     alloc: Global,
+    // The front of what was fed, from which bodies are cut. While it holds bytes the buffer is empty.
+    shared: Bytes,
     buffer: BytesMut,
     // How many bytes the buffer's block had room for at most since all was last handed out.
     most: usize,
 }
 
 impl Model for FrameReader {
-    ghost use Rattle.std.specs.Prelude.{ℕ, List};
+    ghost use Rattle.std.specs.Prelude.{◌≡◌, ◌<◌, ℕ, List, [], ◌++◌, length};
 
     ghost Value = { List ℕ };
 
-    ghost view = { λ reader. reader.buffer.items };
+    ghost view = { λ reader. reader.shared ++ reader.buffer.items };
+
+    ghost invariant = { λ reader. 0 < length reader.shared → reader.buffer.items ≡ [] };
 }
 
 impl FrameReader {
@@ -52,6 +57,7 @@ impl FrameReader {
     {
         FrameReader {
             alloc,
+            shared: Bytes::new(),
             buffer: BytesMut::new(alloc),
             most: 0,
         }
@@ -61,7 +67,11 @@ impl FrameReader {
     pub fn len(&self) -> usize
         ensures { result ≡ length self.now }
     {
-        self.buffer.len()
+        if self.shared.is_empty() {
+            self.buffer.len()
+        } else {
+            self.shared.len()
+        }
     }
 
     /// Whether all bytes that were fed are taken.
@@ -77,7 +87,12 @@ impl FrameReader {
         ensures err { OnErr result (self.new ≡ self.old) }
         ensures memory { IsOkUnless result OutOfMemory }
     {
-        self.buffer.extend_from_slice(bytes)?;
+        if self.shared.is_empty() {
+            self.buffer.extend_from_slice(bytes)?;
+        } else {
+            self.buffer = joined(self.alloc, self.shared.as_slice(), bytes)?;
+            self.shared = Bytes::new();
+        }
         self.most = self.most.max(self.buffer.capacity());
         Ok(())
     }
@@ -112,46 +127,74 @@ impl FrameReader {
         ensures error { IfErr result (IsReaderError self.old) }
         ensures err { OnErr result (self.new ≡ self.old) }
     {
-        let stream = self.buffer.as_slice();
+        if !share(&mut self.shared, &mut self.buffer)? {
+            return Ok(None);
+        }
+        let stream = self.shared.as_slice();
         let Some(Frame { format, rest, .. }) = next_frame(stream)? else {
             return Ok(None);
         };
         let end = stream.len() - rest.len();
-        let contents = self.take_body(end)?;
+        let contents = take_body(&mut self.shared, end)?;
+        self.give_back();
         Ok(Some(ReceivedMessage { format, contents }))
-    }
-
-    // Takes the bytes up to there, which are a header and a body, and gives the body.
-    fn take_body(&mut self, end: usize) -> Result<Bytes, AllocError>
-        requires { (5 ≤ end) × (end ≤ length self.old) }
-        ensures body { IfOk result (λ body. body ≡ drop 5 (take end self.old)) }
-        ensures rest { OnOk result (self.new ≡ drop end self.old) }
-        ensures err { OnErr result (self.new ≡ self.old) }
-    {
-        let body = if end == HEADER {
-            self.buffer.advance(HEADER);
-            Bytes::new()
-        } else {
-            let mut message = self.buffer.freeze_to(end)?;
-            message.advance(HEADER);
-            message
-        };
-        if self.buffer.is_empty() {
-            self.give_back();
-        }
-        Ok(body)
     }
 
     // Lets go of a large block, of which no byte is wanted any more.
     fn give_back(&mut self)
-        requires { self.old ≡ [] }
-        ensures { self.new ≡ [] }
+        ensures { self.new ≡ self.old }
     {
-        if self.most > MAX_KEPT {
+        if self.most > MAX_KEPT && self.is_empty() {
+            self.shared = Bytes::new();
             self.buffer = BytesMut::new(self.alloc);
+            self.most = 0;
         }
-        self.most = 0;
     }
+}
+
+// Moves all bytes to the shared ones, unless some are there already, or more bytes are wanted; then
+// the answer is false.
+fn share(shared: &mut Bytes, buffer: &mut BytesMut) -> Result<bool, Error>
+    requires { 0 < length shared.old → buffer.old.items ≡ [] }
+    ensures all { IfOk result (λ is_shared. IsTrue is_shared → (shared.new ≡ shared.old ++ buffer.old.items) × (buffer.new.items ≡ [])) }
+    ensures partial { IfOk result (λ is_shared. IsTrue is_shared ⊎ (WantsMore (shared.old ++ buffer.old.items) × (shared.new ≡ shared.old) × (buffer.new ≡ buffer.old))) }
+    ensures error { IfErr result (IsReaderError (shared.old ++ buffer.old.items)) }
+    ensures err { OnErr result ((shared.new ≡ shared.old) × (buffer.new ≡ buffer.old)) }
+{
+    if !shared.is_empty() {
+        return Ok(true);
+    }
+    if next_frame(buffer.as_slice())?.is_none() {
+        return Ok(false);
+    }
+    *shared = buffer.freeze_to(buffer.len())?;
+    Ok(true)
+}
+
+// Takes the bytes up to there, which are a header and a body, and gives the body.
+fn take_body(shared: &mut Bytes, end: usize) -> Result<Bytes, AllocError>
+    requires { (5 ≤ end) × (end ≤ length shared.old) }
+    ensures body { IfOk result (λ body. body ≡ drop 5 (take end shared.old)) }
+    ensures rest { OnOk result (shared.new ≡ drop end shared.old) }
+    ensures err { OnErr result (shared.new ≡ shared.old) }
+{
+    if end == HEADER {
+        shared.advance(HEADER);
+        return Ok(Bytes::new());
+    }
+    let mut message = shared.split_to(end)?;
+    message.advance(HEADER);
+    Ok(message)
+}
+
+// A buffer that holds both, one after the other.
+fn joined(alloc: Global, front: &[u8], rest: &[u8]) -> Result<BytesMut, AllocError>
+    ensures { IfOk result (λ buffer. buffer.items ≡ front.now ++ rest.now) }
+{
+    let mut buffer = BytesMut::with_capacity(alloc, front.len().saturating_add(rest.len()))?;
+    buffer.extend_from_slice(front)?;
+    buffer.extend_from_slice(rest)?;
+    Ok(buffer)
 }
 
 #[cfg(test)]
