@@ -4,12 +4,12 @@ ghost use Rattle.std.specs.Prelude.{◌≡◌, ℕ, List};
 
 use bytes::Bytes;
 
-/// What lends its bytes.
+/// What has bytes to borrow.
 pub trait LendBytes: Drop {
-    /// The bytes that are lent.
+    /// The bytes.
     ghost bytes: { Self → List ℕ };
 
-    /// Lends the bytes.
+    /// Borrows the bytes.
     fn bytes(&self) -> &[u8]
         ensures { result.now ≡ bytes self.now };
 }
@@ -39,7 +39,7 @@ impl LendBytes for &[u8] {
 }
 
 /// A part of the stream of a COPY, in either direction. Where it goes to the server its bytes are
-/// lent. Documentation: "Message Formats", CopyData (F & B).
+/// borrowed. Documentation: "Message Formats", CopyData (F & B).
 #[derive(Drop)]
 pub struct CopyData<B>(pub B);
 

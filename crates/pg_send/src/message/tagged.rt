@@ -81,6 +81,8 @@ impl TaggedMessage<'_> {
 
     /// The spare room in bytes with which the message is encoded without asking for memory, or the
     /// first limit that it breaks.
+    // Inlined, so that a run needn't copy the answer.
+    #[inline(always)]
     pub fn frame_room(&self) -> Result<usize, Error>
         ensures { result ≡ room_or_fault (fault (message_of self.now)) (hint (message_of self.now)) }
     {
@@ -114,6 +116,7 @@ impl TaggedMessage<'_> {
     }
 
     /// Adds a message within the limits, in room that is there.
+    #[inline]
     pub fn put_frame(&self, buf: &mut Vec<u8>)
         requires limits { fault (message_of self.now) ≡ None }
         requires room { vec_len buf.old + (length (body (message_of self.now)) + 5) ≤ vec_capacity buf.old }
