@@ -2,8 +2,10 @@
 
 mod fronts;
 mod kinds;
+mod laws;
 mod memory;
 mod rows;
+mod short_bodies;
 
 use pg_base::{Error, ProtocolFault};
 

@@ -68,9 +68,35 @@ fn words(rt: HostRuntime) -> Result<(), Fail> {
     assert_eq!(rt; error.kind(), ErrorKind::UniqueViolation);
     let words = format!(in rt.alloc(); "{error}")?;
     assert_eq!(rt; words.as_str(), "boom at line 12");
-    let error = error_of(&rt, b"Mm\0Lx\0\0")?;
-    let words = format!(in rt.alloc(); "{error}")?;
-    assert_eq!(rt; words.as_str(), "m");
+    Ok(())
+}
+
+// The words of an error are its message, and its line where `L` has a number.
+#[test]
+fn words_with_lines(rt: HostRuntime) -> Result<(), Fail> {
+    let table: [(&'static [u8], &str); 12] = [
+        (b"\0", ""),
+        (b"L7\0\0", " at line 7"),
+        (b"Mm\0Lx\0\0", "m"),
+        (b"Mm\0L\0\0", "m"),
+        (b"Mm\0L0\0\0", "m at line 0"),
+        (b"Mm\0L-0\0\0", "m at line 0"),
+        (b"Mm\0L-1\0\0", "m"),
+        (b"Mm\0L+007x\0\0", "m at line 7"),
+        (b"Ma\0L1\0L2\0\0", "a at line 1"),
+        (b"M\xC3\xA9\0L3\0\0", "\u{e9} at line 3"),
+        (
+            b"Mm\0L18446744073709551615\0\0",
+            "m at line 18446744073709551615",
+        ),
+        (b"Mm\0L18446744073709551616\0\0", "m"),
+    ];
+    for (body, words) in table {
+        assert!(rt; body.len() < 300);
+        let error = error_of(&rt, body)?;
+        let printed = format!(in rt.alloc(); "{error}")?;
+        assert_eq!(rt; printed.as_str(), words, "at {body:?}");
+    }
     Ok(())
 }
 
