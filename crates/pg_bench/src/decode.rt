@@ -39,7 +39,14 @@ fn prepared(alloc: Global, stream: &[u8], times: usize, full: bool) -> Option<u6
         for message in messages.iter() {
             let ReceivedMessage { format, contents } = message;
             let contents = contents.clone().ok()?;
-            add(alloc, ReceivedMessage { format: *format, contents }, &mut sum)?;
+            add(
+                alloc,
+                ReceivedMessage {
+                    format: *format,
+                    contents,
+                },
+                &mut sum,
+            )?;
         }
     }
     reader.is_empty().then_some(sum.value)
