@@ -1,6 +1,6 @@
 //! The values of a Bind's parameters, collected one by one.
 
-ghost use Rattle.std.specs.Prelude.{◌≡◌, ◌<◌, ◌↔◌, [], length, None, IsTrue, OnOk, OnErr, IsOkUnless};
+ghost use Rattle.std.specs.Prelude.{◌≡◌, ◌<◌, ◌↔◌, ◌⊎◌, [], length, None, IsTrue, OnOk, OnErr, IsOkUnless};
 ghost use Rattle.pg_base.specs.declared.error.Error.TheVariants.{OutOfMemory};
 ghost use Rattle.pg_base.specs.Encode.{IsAnswer};
 ghost use Rattle.pg_base.specs.Reading.{Values};
@@ -73,7 +73,8 @@ impl BindValues {
 
     /// Whether there are as many values as a Bind can count.
     pub fn is_full(&self) -> bool
-        ensures { IsTrue result ↔ (self.now.count ≡ 65535) }
+        ensures full { IsTrue result ↔ (self.now.count ≡ 65535) }
+        ensures room { IsTrue result ⊎ (self.now.count < 65535) }
     {
         self.count == MAX_VALUES
     }
