@@ -17,7 +17,7 @@ use std::marker::Model;
 /// The length of a tag and a length field, in bytes.
 const HEADER: usize = 5;
 
-/// The most bytes of a block that a reader keeps where it has handed out all that it was fed.
+/// The most bytes of a block that a reader keeps whether it needs them or not.
 const MAX_KEPT: usize = 64 * 1024;
 
 /// Takes the bytes of a stream from the server in pieces of any length, and hands out its messages,
@@ -28,16 +28,18 @@ const MAX_KEPT: usize = 64 * 1024;
 /// block until it is dropped. The reader asks for memory as bytes are fed and never for a length that
 /// a message announces, so it holds at most twice what it was fed and hasn't handed out, and the
 /// block that it fills. It uses a block again once no body shares it. What is left after the last
-/// whole message is copied when more is fed. Where all is handed out it gives a block of more than
-/// 64 KiB back and keeps a smaller one.
+/// whole message is copied when more is fed. It keeps a block of up to 64 KiB. A larger one it gives
+/// back as soon as all is handed out and, since all was handed out before, it held 64 KiB at most.
 #[derive(Drop)]
 pub struct FrameReader {
     alloc: Global,
     // The front of what was fed, from which bodies are cut. While it holds bytes the buffer is empty.
     shared: Bytes,
     buffer: BytesMut,
-    // How many bytes the buffer's block had room for at most since all was last handed out.
+    // How many bytes the buffer's block has had room for at most, since a block was given back.
     most: usize,
+    // How many bytes the reader has held at most, since all was handed out.
+    held: usize,
 }
 
 impl Model for FrameReader {
@@ -60,6 +62,7 @@ impl FrameReader {
             shared: Bytes::new(),
             buffer: BytesMut::new(alloc),
             most: 0,
+            held: 0,
         }
     }
 
@@ -94,6 +97,7 @@ impl FrameReader {
             self.shared = Bytes::new();
         }
         self.most = self.most.max(self.buffer.capacity());
+        self.held = self.held.max(self.buffer.len());
         Ok(())
     }
 
@@ -140,15 +144,19 @@ impl FrameReader {
         Ok(Some(ReceivedMessage { format, contents }))
     }
 
-    // Lets go of a large block, of which no byte is wanted any more.
+    // Where all is handed out, lets go of a large block that wasn't needed for what was held.
     fn give_back(&mut self)
         ensures { self.new ≡ self.old }
     {
-        if self.most > MAX_KEPT && self.is_empty() {
+        if !self.is_empty() {
+            return;
+        }
+        if self.most > MAX_KEPT && self.held <= MAX_KEPT {
             self.shared = Bytes::new();
             self.buffer = BytesMut::new(self.alloc);
             self.most = 0;
         }
+        self.held = 0;
     }
 }
 

@@ -166,7 +166,8 @@ fn a_message_longer_than_a_piece(rt: HostRuntime) -> Result<(), Fail> {
         lines.push_str("ab")?;
     }
     lines.push_str("\nReadyForQuery 5 49\n")?;
-    let mut output = Vec::new(rt.alloc());
+    // no growth of the output, which would be a failed write
+    let mut output = Vec::with_capacity(rt.alloc(), lines.len())?;
     let result = run(
         rt.alloc(),
         Mode::Stream,

@@ -96,6 +96,10 @@ fn a_large_block_is_given_back(rt: HostRuntime) -> Result<(), Fail> {
     assert_eq!(rt; message.contents.len(), 16 * MIB);
     drop(message);
     assert!(rt; reader.is_empty());
+    // the next message needs no large block
+    reader.feed(b"Z\0\0\0\x05I")?;
+    assert!(rt; reader.next_message()?.is_some());
+    assert!(rt; reader.is_empty());
     // a sanitizer keeps what is given back, and takes terabytes of addresses
     let is_sanitized = before >> 40 > 0;
     assert!(rt; is_sanitized || size(&rt)? < before.saturating_add(MIB));
