@@ -155,6 +155,7 @@ fn cell_at(body: &[u8], at: usize) -> Result<CellEnd, ProtocolFault>
 #[cfg(test)]
 mod tests {
     use super::*;
+    use std::alloc::AllocError;
     use std::test::Fail;
 
     const EIGHT_CELLS: &[u8] = &[
@@ -197,7 +198,7 @@ mod tests {
     }
 
     #[test]
-    fn broken_rows(rt: HostRuntime) {
+    fn broken_rows(rt: HostRuntime) -> Result<(), AllocError> {
         let table: [(&'static [u8], (usize, usize, usize)); 3] = [
             (&[0, 1, 0, 0, 0, 5, 0x61, 0x62], (6, 5, 2)),
             (&[0, 2, 0, 0, 0, 4, 0x61, 0x62, 0x63, 0x64], (10, 4, 0)),
@@ -206,9 +207,13 @@ mod tests {
         for (body, (at, needed, got)) in table {
             assert!(rt; body.len() < 200);
             let fault = ProtocolFault::Short { at, needed, got };
-            let row = DataRow::decode_body(rt.alloc(), Bytes::from_static(body));
-            assert_eq!(rt; row.err(), Some(Error::from(fault)), "at {body:?}");
+            let error = DataRow::decode_body(rt.alloc(), Bytes::from_static(body)).err();
+            if error == Some(Error::OutOfMemory) {
+                return Err(AllocError);
+            }
+            assert_eq!(rt; error, Some(Error::from(fault)), "at {body:?}");
         }
+        Ok(())
     }
 
     // No memory is asked for before the count is found to fit.

@@ -142,11 +142,11 @@ fn clone_of_a_notification(rt: HostRuntime) -> Result<(), Fail> {
     let body = Bytes::copy_from_slice(alloc, b"\0\0\0\x07news\0 of today\0")?;
     assert!(rt; body.len() < 100);
     let first = Notification::decode_body(alloc, body)?;
-    let is_refused = switch(alloc);
-    let refused = first.clone();
     switch(alloc);
-    if is_refused {
-        assert_eq!(rt; refused.err(), Some(Error::OutOfMemory));
+    let refused = first.clone().err();
+    switch(alloc);
+    if let Some(error) = refused {
+        assert_eq!(rt; error, Error::OutOfMemory);
     }
     let other = first.clone()?;
     drop(first);
