@@ -15,4 +15,5 @@ pub mod ReadyForQuery
 pub mod Received
 pub mod Response
 pub mod RowDescription
+pub mod ServerMessage
 pub mod Text

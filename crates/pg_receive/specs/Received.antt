@@ -1,4 +1,5 @@
 -- What reading a message by its kind answers.
+pub mod Message
 use Rattle.std.specs.Prelude.{◌≡◌, Some, Result, Ok, Err, ℕ}
 use Rattle.pg_base.specs.declared.format.BackendMessageFormat.{BackendMessageFormat}
 use Rattle.pg_base.specs.declared.error.Error.{Error}

@@ -13,6 +13,7 @@ mod ready_for_query;
 mod received;
 pub(crate) mod response;
 mod row_description;
+mod server_message;
 mod text;
 
 pub use authentication::{
@@ -30,4 +31,5 @@ pub use ready_for_query::{ReadyForQuery, TransactionStatus};
 pub use received::{BackendMessage, ReceivedMessage};
 pub use response::{Fields, Notice, PgSeverity};
 pub use row_description::{Field, RowDescription};
+pub use server_message::ServerMessage;
 pub use text::{split_text, str_at, text_at, utf8_text};

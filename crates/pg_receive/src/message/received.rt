@@ -1,12 +1,10 @@
 //! The law of a message that is received, and its decoding by kind.
 
-ghost use Rattle.std.specs.Prelude.{◌≡◌, ◌≢◌, ◌<◌, ◌≤◌, ℕ, List, Some, None, Err, length, IsErrOf};
+ghost use Rattle.std.specs.Prelude.{◌≡◌, ◌≤◌, ℕ, List, None, length};
 ghost use Rattle.pg_base.specs.declared.format.BackendMessageFormat.{BackendMessageFormat};
 ghost use Rattle.pg_base.specs.declared.error.ProtocolFault.{ProtocolFault};
-ghost use Rattle.pg_base.specs.declared.error.ProtocolFault.TheVariants.{WrongFormat, BodyTooLong};
-ghost use Rattle.pg_base.specs.declared.error.Error.TheVariants.{Protocol, OutOfMemory};
 ghost use Rattle.pg_base.specs.Decode.{Decodes};
-ghost use Rattle.pg_receive.specs.Received.{max_body, IsValue, error_while_reading};
+ghost use Rattle.pg_receive.specs.Received.{error_while_reading};
 
 use bytes::Bytes;
 use pg_base::io::MAX_BODY;
@@ -53,18 +51,15 @@ pub struct ReceivedMessage {
 }
 
 impl ReceivedMessage {
+    ghost use Rattle.pg_receive.specs.Received.Message.{DecodesMessage};
+
     /// Reads the message as a `T`.
     ///
     /// It is `WrongFormat` where this is a message of another kind, then `BodyTooLong` where the
     /// body has more than [`MAX_BODY`] bytes. Else it is what `decode_body` gives, and a fault of
     /// the body names the kind of message.
     pub fn decode<T: BackendMessage>(self, alloc: Global) -> Result<T, Error>
-        ensures other { self.format ≢ T.FORMAT → IsErrOf result (Protocol None (WrongFormat T.FORMAT self.format)) }
-        ensures long { self.format ≡ T.FORMAT → max_body < length self.contents → IsErrOf result (Protocol None (BodyTooLong (length self.contents))) }
-        ensures body { self.format ≡ T.FORMAT → length self.contents ≤ max_body → Decodes T.Means T.IsFault T.NeedsNoMemory T.shown (Some self.format) self.contents result }
-        // Where the body has a value, it is this one, unless memory ran out.
-        ensures only { (v : T.Shown) → self.format ≡ T.FORMAT → length self.contents ≤ max_body → T.Means self.contents v → IsValue T.shown v result }
-        ensures free { T.NeedsNoMemory self.contents → result ≢ Err OutOfMemory }
+        ensures { DecodesMessage T.BackendMessage self result }
     {
         if T::FORMAT != self.format {
             return Err(ProtocolFault::WrongFormat {

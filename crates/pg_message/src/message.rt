@@ -1,0 +1,17 @@
+//! The messages of both directions, and the stream that brings those of a server.
+
+pub use pg_base::io::{CopyData, CopyDone};
+pub use pg_base::{BackendMessageFormat, FrontendMessageFormat};
+pub use pg_frames::{Frame, FrameReader, StreamEnd, next_frame, read_pieces};
+pub use pg_receive::message::{
+    Authentication, AuthenticationMd5Password, AuthenticationSasl, AuthenticationSaslContinue,
+    AuthenticationSaslFinal, BackendKeyData, BackendMessage, CommandComplete, CopyInResponse,
+    CopyOutResponse, CopyResponseData, DataRow, Field, Fields, Notice, Notification,
+    ParameterDescription, ParameterStatus, ReadyForQuery, ReceivedMessage, RowDescription,
+    SaslMechanisms, ServerMessage, TransactionStatus,
+};
+pub use pg_send::message::{
+    Bind, BindValues, Close, CopyFail, Describe, EncodeMessage, Execute, Flush, FrontendMessage,
+    Parse, Password, Query, SaslInitialResponse, SaslResponse, SslRequest, Startup, Sync,
+    TaggedMessage, Terminate, encode_all, encode_frame, encode_strict,
+};
