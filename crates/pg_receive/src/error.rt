@@ -240,6 +240,3 @@ impl BackendMessage for PgDatabaseError {
 
     ghost never_both = { notice_or_fault };
 }
-
-#[cfg(test)]
-mod tests;

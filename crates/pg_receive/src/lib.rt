@@ -4,5 +4,3 @@
 pub mod error;
 pub mod laws;
 pub mod message;
-#[cfg(test)]
-mod tests;

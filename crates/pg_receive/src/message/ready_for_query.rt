@@ -75,25 +75,3 @@ fn status_of(body: &[u8]) -> Result<TransactionStatus, Error>
         status => Err(ProtocolFault::UnknownStatus(status).into()),
     }
 }
-
-#[cfg(test)]
-mod tests {
-    use super::*;
-    use std::test::Fail;
-
-    #[test]
-    fn letters_of_statuses(rt: HostRuntime) -> Result<(), Fail> {
-        let table: [(&'static [u8], TransactionStatus, u8); 3] = [
-            (b"E", TransactionStatus::Error, b'E'),
-            (b"T", TransactionStatus::Transaction, b'T'),
-            (b"I\0", TransactionStatus::Idle, b'I'),
-        ];
-        for (body, status, letter) in table {
-            assert!(rt; body.len() < 200);
-            let ready = ReadyForQuery::decode_body(rt.alloc(), Bytes::from_static(body))?;
-            assert_eq!(rt; ready.transaction_status, status, "at {body:?}");
-            assert_eq!(rt; ready.transaction_status as u8, letter, "at {body:?}");
-        }
-        Ok(())
-    }
-}

@@ -22,8 +22,6 @@ mod sync;
 mod tagged;
 mod target;
 mod terminate;
-#[cfg(test)]
-mod tests;
 
 pub use bind::Bind;
 pub use bind_values::BindValues;

@@ -138,6 +138,3 @@ fn md5_password_of(body: &[u8]) -> Result<AuthenticationMd5Password, ProtocolFau
     salt.copy_from_slice(bytes_at(body, METHOD_LENGTH, SALT_LENGTH)?);
     Ok(AuthenticationMd5Password { salt })
 }
-
-#[cfg(test)]
-mod tests;

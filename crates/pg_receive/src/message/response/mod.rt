@@ -158,6 +158,3 @@ fn text_in<'a>(body: &'a [u8], place: &Range<usize>) -> &'a str
 {
     unsafe { str::from_utf8_unchecked(&body[place.start..place.end]) }
 }
-
-#[cfg(test)]
-mod tests;

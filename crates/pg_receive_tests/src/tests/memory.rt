@@ -1,0 +1,157 @@
+//! Decoding where every request for memory is refused. Without `tests/refused` no request is, and the
+//! usual answers are tested.
+
+ghost use Rattle.std.specs.Prelude.{◌<◌, length};
+
+use super::fault_in;
+use bytes::Bytes;
+use pg_base::io::ProtocolDecode;
+use pg_base::{Error, ProtocolFault};
+use pg_receive::message::*;
+use std::alloc::Global;
+use std::process::Abort;
+use std::test::Fail;
+
+// A request of this size tells `tests/refused` to refuse all that follow, or to stop that.
+const SWITCH: usize = 0x5245_4655_5345;
+
+// Turns the refusal of every request on or off, and answers whether requests are refused now.
+fn switch(alloc: Global) -> bool {
+    let _ = Vec::<u8>::with_capacity(alloc, SWITCH);
+    Vec::<u8>::with_capacity(alloc, 1).is_err()
+}
+
+// A fault that is found before memory is asked for.
+fn assert_fault<T: BackendMessage + Drop>(
+    rt: &impl Abort,
+    alloc: Global,
+    body: &'static [u8],
+    fault: ProtocolFault,
+)
+    requires { length body.now < 100 }
+{
+    switch(alloc);
+    let answer = T::decode_body(alloc, Bytes::from_static(body));
+    switch(alloc);
+    assert_eq!(rt; answer.err(), Some(Error::from(fault)), "at {body:?}");
+}
+
+#[test]
+fn counts_that_a_body_cannot_hold(rt: HostRuntime) {
+    let alloc = rt.alloc();
+    let short = |at, needed, got| ProtocolFault::Short { at, needed, got };
+    assert_fault::<DataRow>(&rt, alloc, b"\xFF\xFF", short(2, 262140, 0));
+    assert_fault::<ParameterDescription>(&rt, alloc, b"\xFF\xFF", short(2, 262140, 0));
+    assert_fault::<RowDescription>(&rt, alloc, b"\xFF\xFF", short(2, 1245165, 0));
+    assert_fault::<CopyOutResponse>(&rt, alloc, b"\0\x7F\xFF", short(3, 65534, 0));
+    assert_fault::<CopyInResponse>(&rt, alloc, b"\0\x7F\xFF", short(3, 65534, 0));
+}
+
+// Whether a call may ask for memory.
+#[derive(Clone, Copy)]
+enum Needs {
+    Memory,
+    Nothing,
+}
+
+// A good body is read, or out of memory is answered where every request is refused and memory is
+// needed.
+fn assert_read<T: Drop>(
+    rt: &impl Abort,
+    needs: Needs,
+    is_refused: bool,
+    answer: Result<T, Error>,
+    name: &str,
+) {
+    let refused = is_refused && matches!(needs, Needs::Memory);
+    let want = if refused {
+        Some(Error::OutOfMemory)
+    } else {
+        None
+    };
+    assert_eq!(rt; answer.err(), want, "at {name}");
+}
+
+fn assert_body<T: BackendMessage + Drop>(
+    rt: &impl Abort,
+    alloc: Global,
+    needs: Needs,
+    body: &'static [u8],
+)
+    requires { length body.now < 100 }
+{
+    let is_refused = switch(alloc);
+    let answer = T::decode_body(alloc, Bytes::from_static(body));
+    switch(alloc);
+    assert_read(rt, needs, is_refused, answer, T::FORMAT.name());
+}
+
+#[test]
+fn bodies_that_need_memory(rt: HostRuntime) {
+    use Needs::{Memory, Nothing};
+    let alloc = rt.alloc();
+    assert_body::<DataRow>(&rt, alloc, Memory, b"\0\x01\0\0\0\x01a");
+    assert_body::<DataRow>(&rt, alloc, Nothing, b"\0\0");
+    let column = b"\0\x01id\0\0\0\x40\x06\0\x01\0\0\0\x17\0\x04\xFF\xFF\xFF\xFF\0\x01";
+    assert_body::<RowDescription>(&rt, alloc, Memory, column);
+    assert_body::<RowDescription>(&rt, alloc, Nothing, b"\0\0");
+    let seven = b"\0\x07\0\0\0\x01\0\0\0\x02\0\0\0\x03\0\0\0\x04\0\0\0\x05\0\0\0\x06\0\0\0\x07";
+    assert_body::<ParameterDescription>(&rt, alloc, Memory, seven);
+    let six = b"\0\x06\0\0\0\x01\0\0\0\x02\0\0\0\x03\0\0\0\x04\0\0\0\x05\0\0\0\x06";
+    assert_body::<ParameterDescription>(&rt, alloc, Nothing, six);
+    assert_body::<CopyInResponse>(&rt, alloc, Memory, b"\0\0\x01\0\x01");
+    assert_body::<CopyInResponse>(&rt, alloc, Nothing, b"\0\xFF\xFF");
+    assert_body::<CopyOutResponse>(&rt, alloc, Memory, b"\0\0\x01\0\x01");
+    assert_body::<CopyOutResponse>(&rt, alloc, Nothing, b"\0\0\0");
+    assert_body::<ParameterStatus>(&rt, alloc, Memory, b"a\0b\0");
+    assert_body::<Authentication>(&rt, alloc, Memory, b"\0\0\0\x0Br=a,s=QUJD");
+    assert_body::<Authentication>(&rt, alloc, Memory, b"\0\0\0\x0Cv=QUI=");
+}
+
+#[test]
+fn bodies_that_need_none(rt: HostRuntime) {
+    use Needs::Nothing;
+    let alloc = rt.alloc();
+    assert_body::<Authentication>(&rt, alloc, Nothing, b"\0\0\0\0");
+    assert_body::<Authentication>(&rt, alloc, Nothing, b"\0\0\0\x05salt");
+    assert_body::<Authentication>(&rt, alloc, Nothing, b"\0\0\0\x0APLAIN\0\0");
+    assert_body::<BackendKeyData>(&rt, alloc, Nothing, b"\0\0\0\x01\0\0\0\x02");
+    assert_body::<CommandComplete>(&rt, alloc, Nothing, b"COPY 5\0");
+    assert_body::<CopyData<Bytes>>(&rt, alloc, Nothing, b"a");
+    assert_body::<CopyDone>(&rt, alloc, Nothing, b"");
+    assert_body::<Notice>(&rt, alloc, Nothing, b"Ma\0C1\0\0");
+    assert_body::<Notification>(&rt, alloc, Nothing, b"\0\0\0\x01a\0b\0");
+    assert_body::<ReadyForQuery>(&rt, alloc, Nothing, b"I");
+}
+
+#[test]
+fn sasl_data(rt: HostRuntime) {
+    let alloc = rt.alloc();
+    let is_refused = switch(alloc);
+    let challenge = AuthenticationSaslContinue::decode(alloc, Bytes::from_static(b"r=a,s=QUJD"));
+    let verifier = AuthenticationSaslFinal::decode(alloc, Bytes::from_static(b"v=QUI="));
+    switch(alloc);
+    assert_read(&rt, Needs::Memory, is_refused, challenge, "a challenge");
+    assert_read(&rt, Needs::Memory, is_refused, verifier, "a verifier");
+}
+
+// A clone has the same parts, or is out of memory.
+#[test]
+fn clone_of_a_notification(rt: HostRuntime) -> Result<(), Fail> {
+    let alloc = rt.alloc();
+    let body = Bytes::copy_from_slice(alloc, b"\0\0\0\x07news\0 of today\0")?;
+    assert!(rt; body.len() < 100);
+    let first = Notification::decode_body(alloc, body)?;
+    switch(alloc);
+    let refused = first.clone().err();
+    switch(alloc);
+    if let Some(error) = refused {
+        assert_eq!(rt; error, Error::OutOfMemory);
+    }
+    let other = first.clone()?;
+    drop(first);
+    assert_eq!(rt; other.process_id(), 7);
+    assert_eq!(rt; other.channel(), b"news".as_slice());
+    assert_eq!(rt; other.payload(), b" of today".as_slice());
+    Ok(())
+}

@@ -1,0 +1,15 @@
+//! Each message by itself.
+
+mod authentication;
+mod backend_key_data;
+mod command_complete;
+mod copy;
+mod data_row;
+mod notification;
+mod parameter_description;
+mod parameter_status;
+mod ready_for_query;
+mod received;
+mod response;
+mod row_description;
+mod server_message;

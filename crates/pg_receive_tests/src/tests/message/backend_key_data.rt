@@ -1,0 +1,29 @@
+//! The key of a session.
+
+use bytes::Bytes;
+use pg_base::{Error, ProtocolFault};
+use pg_receive::message::{BackendKeyData, BackendMessage};
+use std::test::Fail;
+
+#[test]
+fn process_and_secret(rt: HostRuntime) -> Result<(), Fail> {
+    let body = Bytes::from_static(&[0x00, 0x00, 0x27, 0xC6, 0x89, 0x52, 0xC5, 0x2B]);
+    let key = BackendKeyData::decode_body(rt.alloc(), body)?;
+    assert_eq!(rt; key.process_id, 10182);
+    assert_eq!(rt; key.secret_key, 2303903019);
+    Ok(())
+}
+
+#[test]
+fn half_a_secret(rt: HostRuntime) {
+    let body = Bytes::from_static(&[0x00, 0x00, 0x27, 0xC6, 0x89, 0x52]);
+    let fault = ProtocolFault::Short {
+        at: 4,
+        needed: 4,
+        got: 2,
+    };
+    assert_eq!(rt;
+        BackendKeyData::decode_body(rt.alloc(), body),
+        Err(Error::from(fault))
+    );
+}

@@ -1,0 +1,25 @@
+//! The letter of each kind of message. Documentation: "Message Formats".
+
+use super::kinds::{Check, Expected, check_each_kind};
+use pg_send::message::FrontendMessage;
+use std::alloc::AllocError;
+use std::process::Abort;
+
+#[derive(Drop)]
+struct FormatIsTheLetter<'a, R> {
+    rt: &'a R,
+}
+
+impl<R: Abort> Check for FormatIsTheLetter<'_, R> {
+    fn check<M: FrontendMessage>(&self, message: M, expected: Expected) -> Result<(), AllocError> {
+        let rt = self.rt;
+        assert_eq!(rt; M::FORMAT as u8, expected.tag);
+        assert_eq!(rt; message.tag(), expected.tag);
+        Ok(())
+    }
+}
+
+#[test]
+fn format_and_tag_are_the_letter_of_each_kind(rt: HostRuntime) -> Result<(), AllocError> {
+    check_each_kind(rt.alloc(), &FormatIsTheLetter { rt: &rt })
+}

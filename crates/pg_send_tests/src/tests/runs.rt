@@ -1,0 +1,86 @@
+//! Runs of none, one and a thousand messages: into an empty buffer and after old bytes, with each
+//! request for memory refused in turn. A message is accepted where one request alone is refused.
+
+use super::kinds::{LETTERS_AND_BODIES, frame_of, tagged_kinds};
+use super::refusing::{MANY, added, refuse_nth, unless_out_of_memory, was_refused};
+use pg_send::message::{CopyFail, Query, TaggedMessage, encode_all};
+use pg_base::Error;
+use std::alloc::{AllocError, Global};
+use std::process::Abort;
+
+// The run of messages within the limits adds the frames.
+fn assert_run(
+    rt: &impl Abort,
+    alloc: Global,
+    messages: &[TaggedMessage<'_>],
+    frames: &[u8],
+) -> Result<(), AllocError> {
+    refuse_in_turn(rt, alloc, messages, b"", frames)?;
+    refuse_in_turn(rt, alloc, messages, b"\xaa", frames)
+}
+
+fn refuse_in_turn(
+    rt: &impl Abort,
+    alloc: Global,
+    messages: &[TaggedMessage<'_>],
+    old: &[u8],
+    frames: &[u8],
+) -> Result<(), AllocError> {
+    for nth in 1..MANY {
+        let mut buf = Vec::from_slice(alloc, old)?;
+        refuse_nth(alloc, nth);
+        let run = encode_all(alloc, messages, &mut buf);
+        let was_refused = was_refused(alloc);
+        let Ok(answers) = run else {
+            assert!(rt; was_refused);
+            assert_eq!(rt; buf.as_slice(), old);
+            continue;
+        };
+        assert_eq!(rt; answers.len(), messages.len());
+        assert_all_accepted(rt, answers.as_slice())?;
+        assert_eq!(rt; added(rt, &buf, old), frames);
+        if !was_refused {
+            return Ok(());
+        }
+    }
+    panic!(rt; "requests without end")
+}
+
+fn assert_all_accepted(rt: &impl Abort, answers: &[Result<(), Error>]) -> Result<(), AllocError> {
+    for answer in answers {
+        assert_eq!(rt; unless_out_of_memory(*answer)?, Ok(()));
+    }
+    Ok(())
+}
+
+#[test]
+fn a_run_of_none(rt: HostRuntime) -> Result<(), AllocError> {
+    assert_run(&rt, rt.alloc(), &[], b"")
+}
+
+#[test]
+fn a_run_of_one_of_each_kind(rt: HostRuntime) -> Result<(), AllocError> {
+    let fail = CopyFail::new(String::from_str(rt.alloc(), "no")?);
+    let messages = tagged_kinds(&fail);
+    for (message, (tag, body)) in messages.chunks(1).zip(LETTERS_AND_BODIES) {
+        let frame = frame_of(rt.alloc(), tag, body)?;
+        assert_run(&rt, rt.alloc(), message, frame.as_slice())?;
+    }
+    Ok(())
+}
+
+fn query_of<'a>(text: &&'a str) -> TaggedMessage<'a> {
+    TaggedMessage::Query(Query(text))
+}
+
+#[test]
+fn a_run_of_a_thousand(rt: HostRuntime) -> Result<(), AllocError> {
+    let texts = vec![in rt.alloc(); "SELECT 1"; 1000]?;
+    let messages: Vec<TaggedMessage<'_>> = texts.iter().map(query_of).collect(rt.alloc())?;
+    let mut frames = Vec::new(rt.alloc());
+    for _ in 0..1000 {
+        frames.extend_from_slice(b"Q\x00\x00\x00\x0dSELECT 1\x00")?;
+    }
+    assert_eq!(rt; messages.len(), 1000);
+    assert_run(&rt, rt.alloc(), messages.as_slice(), frames.as_slice())
+}

@@ -1,0 +1,77 @@
+//! What opens a session, without a tag. Documentation: "Message Formats", StartupMessage and
+//! SSLRequest.
+
+use super::refusing::{Adds, assert_adds, assert_all_or_nothing};
+use pg_send::message::{SslRequest, Startup};
+use pg_base::Error;
+use pg_base::io::ProtocolEncode;
+use std::alloc::{AllocError, Global};
+use std::process::Abort;
+
+impl Adds for Startup<'_> {
+    fn add(&self, buf: &mut Vec<u8>) -> Result<(), Error> {
+        self.encode(buf)
+    }
+}
+
+impl Adds for SslRequest {
+    fn add(&self, buf: &mut Vec<u8>) -> Result<(), Error> {
+        self.encode(buf)
+    }
+}
+
+fn assert_startup(
+    rt: &impl Abort,
+    alloc: Global,
+    startup: Startup<'_>,
+    text: &[u8],
+) -> Result<(), AllocError> {
+    assert_adds(rt, alloc, &startup, text)?;
+    assert_all_or_nothing(rt, alloc, &startup, text)
+}
+
+#[test]
+fn a_startup_of_a_user_and_a_database(rt: HostRuntime) -> Result<(), AllocError> {
+    let startup = Startup {
+        username: Some("postgres"),
+        database: Some("postgres"),
+        params: &[],
+    };
+    let text = b"\x00\x00\x00\x29\x00\x03\x00\x00user\x00postgres\x00database\x00postgres\x00\x00";
+    assert_startup(&rt, rt.alloc(), startup, text)
+}
+
+#[test]
+fn a_startup_without_settings(rt: HostRuntime) -> Result<(), AllocError> {
+    let startup = Startup {
+        username: None,
+        database: None,
+        params: &[],
+    };
+    let text = b"\x00\x00\x00\x09\x00\x03\x00\x00\x00";
+    assert_startup(&rt, rt.alloc(), startup, text)
+}
+
+#[test]
+fn a_user_and_params_are_one_list(rt: HostRuntime) -> Result<(), AllocError> {
+    let text = b"\x00\x00\x00\x13\x00\x03\x00\x00user\x00a\x00b\x00\x00\x00";
+    let with_user = Startup {
+        username: Some("a"),
+        database: None,
+        params: &[("b", "")],
+    };
+    assert_startup(&rt, rt.alloc(), with_user, text)?;
+    let by_params = Startup {
+        username: None,
+        database: None,
+        params: &[("user", "a"), ("b", "")],
+    };
+    assert_startup(&rt, rt.alloc(), by_params, text)
+}
+
+#[test]
+fn a_request_for_ssl(rt: HostRuntime) -> Result<(), AllocError> {
+    let text = b"\x00\x00\x00\x08\x04\xd2\x16\x2f";
+    assert_adds(&rt, rt.alloc(), &SslRequest, text)?;
+    assert_all_or_nothing(&rt, rt.alloc(), &SslRequest, text)
+}

@@ -1,0 +1,136 @@
+//! Calls that ask for no memory.
+
+use super::kinds::{Check, Expected, LETTERS_AND_BODIES, check_each_kind, tagged_kinds};
+use super::refusing::{refuse_nth, was_refused};
+use pg_send::message::{CopyFail, FrontendMessage, Password, TaggedMessage};
+use std::alloc::{AllocError, Global};
+use std::process::Abort;
+
+#[derive(Drop)]
+struct LengthsNeedNoMemory<'a, R> {
+    rt: &'a R,
+    alloc: Global,
+}
+
+impl<R: Abort> Check for LengthsNeedNoMemory<'_, R> {
+    fn check<M: FrontendMessage>(&self, message: M, expected: Expected) -> Result<(), AllocError> {
+        let rt = self.rt;
+        refuse_nth(self.alloc, 1);
+        let len = message.body_len();
+        let checked = message.checked_body_len();
+        let count_fault = message.count_fault();
+        let hint = message.body_size_hint();
+        let room = message.frame_room();
+        assert!(rt; !was_refused(self.alloc));
+        assert_eq!(rt; len, expected.body.len());
+        assert_eq!(rt; checked, Ok(expected.body.len()));
+        assert_eq!(rt; count_fault, None);
+        assert_eq!(rt; hint, expected.hint);
+        assert_eq!(rt; room, Ok(expected.hint.saturating_add(5)));
+        Ok(())
+    }
+}
+
+#[test]
+fn lengths_and_hints(rt: HostRuntime) -> Result<(), AllocError> {
+    let check = LengthsNeedNoMemory {
+        rt: &rt,
+        alloc: rt.alloc(),
+    };
+    check_each_kind(rt.alloc(), &check)
+}
+
+#[derive(Drop)]
+struct FramesInTheirRoom<'a, R> {
+    rt: &'a R,
+    alloc: Global,
+}
+
+impl<R: Abort> Check for FramesInTheirRoom<'_, R> {
+    fn check<M: FrontendMessage>(&self, message: M, expected: Expected) -> Result<(), AllocError> {
+        let rt = self.rt;
+        let len = match message.checked_body_len() {
+            Ok(len) => len,
+            Err(_) => panic!(rt; "a message within the limits"),
+        };
+        let mut frame = Vec::with_capacity(self.alloc, len.saturating_add(5))?;
+        let mut body = Vec::with_capacity(self.alloc, len)?;
+        refuse_nth(self.alloc, 1);
+        message.put_frame(len, &mut frame);
+        let answer = message.encode_body(&mut body);
+        assert!(rt; !was_refused(self.alloc));
+        assert_eq!(rt; answer, Ok(()));
+        assert_eq!(rt; body.as_slice(), expected.body);
+        assert_eq!(rt; frame.as_slice().first(), Some(&expected.tag));
+        assert_eq!(rt; frame.as_slice().get(5..), Some(expected.body));
+        Ok(())
+    }
+}
+
+#[test]
+fn frames_and_bodies_in_their_room(rt: HostRuntime) -> Result<(), AllocError> {
+    let check = FramesInTheirRoom {
+        rt: &rt,
+        alloc: rt.alloc(),
+    };
+    check_each_kind(rt.alloc(), &check)
+}
+
+// The frame of a message within the limits, in the room that it asks for.
+#[tactic(auto, using(pg_send::proofs::MessageLemmas::hint_covers, pg_send::proofs::FrameLemmas::len_fits))]
+fn frame_in_its_room(
+    rt: &impl Abort,
+    alloc: Global,
+    message: &TaggedMessage<'_>,
+) -> Result<Vec<u8>, AllocError> {
+    let room = match message.frame_room() {
+        Ok(room) => room,
+        Err(_) => panic!(rt; "a message within the limits"),
+    };
+    let mut frame = Vec::with_capacity(alloc, room)?;
+    refuse_nth(alloc, 1);
+    message.put_frame(&mut frame);
+    assert!(rt; !was_refused(alloc));
+    Ok(frame)
+}
+
+#[test]
+fn tagged_frames_in_their_room(rt: HostRuntime) -> Result<(), AllocError> {
+    let fail = CopyFail::new(String::from_str(rt.alloc(), "no")?);
+    let messages = tagged_kinds(&fail);
+    for (message, (tag, body)) in messages.iter().zip(LETTERS_AND_BODIES) {
+        let frame = frame_in_its_room(&rt, rt.alloc(), message)?;
+        assert_eq!(rt; frame.as_slice().first(), Some(&tag));
+        assert_eq!(rt; frame.as_slice().get(5..), Some(body));
+    }
+    Ok(())
+}
+
+#[test]
+fn a_failure_of_a_copy_takes_its_text(rt: HostRuntime) -> Result<(), AllocError> {
+    let why = String::from_str(rt.alloc(), "no")?;
+    refuse_nth(rt.alloc(), 1);
+    let fail = CopyFail::new(why);
+    assert!(rt; !was_refused(rt.alloc()));
+    assert_eq!(rt; fail.message.as_str(), "no");
+    Ok(())
+}
+
+#[test]
+fn hints_of_cleartext_passwords(rt: HostRuntime) {
+    let texts = [
+        ("", 1),
+        ("1234567", 8),
+        ("12345678", 16),
+        ("1234567890123456", 32),
+    ];
+    for (text, hint) in texts {
+        assert_eq!(rt;
+            Password::Cleartext(text).body_size_hint(),
+            hint,
+            "at {text}"
+        );
+    }
+    let digest = [0; 16];
+    assert_eq!(rt; Password::Md5 { digest }.body_size_hint(), 36);
+}
