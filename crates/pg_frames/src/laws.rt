@@ -11,7 +11,7 @@ ghost use Rattle.pg_base.specs.declared.error.Error.{Error};
 ghost use Rattle.pg_base.specs.Format.{backend_tag};
 ghost use Rattle.pg_frames.specs.Stream.{Stream, Whole, WantsMore, IsStreamFault};
 
-use pg_receive::message::BackendMessage;
+use pg_response::message::BackendMessage;
 
 /// A stream is one list of messages and one rest that isn't whole. So it is read into one list with
 /// one end, however it was cut.
@@ -38,7 +38,7 @@ pub fn a_fault_stays()
 {}
 
 /// However a stream was cut, its messages of one kind mean the same values, in order; and what
-/// [`ReceivedMessage::decode`](pg_receive::message::ReceivedMessage::decode) answers for them agrees
+/// [`ReceivedMessage::decode`](pg_response::message::ReceivedMessage::decode) answers for them agrees
 /// place by place, memory aside.
 pub fn values_are_those_of_the_stream<T: BackendMessage>()
     ensures values { (bytes : List ℕ) (xs ys : List (ℕ × List ℕ)) (d e : StreamEnd) (vs ws : List T.Shown) → IsRead bytes xs d → IsRead bytes ys e → EachHas T.Means (bodies_of (backend_tag T.FORMAT) xs) vs → EachHas T.Means (bodies_of (backend_tag T.FORMAT) ys) ws → vs ≡ ws }

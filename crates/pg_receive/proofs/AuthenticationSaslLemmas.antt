@@ -1,6 +1,6 @@
 -- What the items that are left still say is what all say.
 use Rattle.std.proofs.Common.{◌≡◌, ℕ, List}
-use Rattle.pg_receive.specs.Last.{last, first_fault_of}
+use Rattle.pg_response.specs.Last.{last, first_fault_of}
 use Rattle.pg_receive.specs.Authentication.SaslItems.{keyed, item_fault}
 
 -- the fault of the items that are left is the first of all

@@ -4,15 +4,5 @@ pub mod AuthenticationSaslLemmas
 pub mod CommandCompleteLemmas
 pub mod CountedItemsLemmas
 pub mod DataRowLemmas
-pub mod DecimalLemmas
-pub mod EndedTextsLemmas
-pub mod LastLemmas
 pub mod NotificationLemmas
-pub mod ResponseFieldsLemmas
-pub mod ResponseLemmas
-pub mod ResponseLengthsLemmas
-pub mod ResponseOnlyFieldLemmas
-pub mod ResponseReadLemmas
-pub mod ResponseSeverityLemmas
 pub mod RowDescriptionLemmas
-pub mod TextLemmas

@@ -1,7 +1,7 @@
 -- A column is encoded in a body at an offset.
 use Rattle.std.proofs.Common.{◌≡◌, ℕ, ◌+◌, ◌≤◌, List, ◌∷◌, ◌++◌, length, take, drop, refl, sym, ap, ◌∙◌, arith, append_assoc, length-append, length-take, length-drop}
 use Rattle.std.proofs.lemmas.List.{take-append-drop, drop-drop}
-use Rattle.pg_receive.specs.Text.{Utf8Text}
+use Rattle.pg_response.specs.Text.{Utf8Text}
 use Rattle.pg_receive.specs.RowDescription.{Column, SpellsNumbers, SpellsColumn}
 use Rattle.pg_receive.specs.CountedItems.{IsEncodedAt}
 

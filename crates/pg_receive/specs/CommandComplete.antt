@@ -4,7 +4,7 @@ use Rattle.std.specs.Prelude.{◌≡◌, ℕ, ◌==◌, List, [], ◌∷◌, ◌
 use Rattle.std.specs.Option.{option_or}
 use Rattle.pg_base.specs.Reading.{HoldsNo}
 use Rattle.pg_base.specs.Atoi.{Atoi}
-use Rattle.pg_receive.specs.Decimal.{leading_decimal}
+use Rattle.pg_response.specs.Decimal.{leading_decimal}
 
 -- the greatest count of rows
 abbrev pub max_rows : ℕ

@@ -4,16 +4,9 @@ pub mod CommandComplete
 pub mod Copy
 pub mod CountedItems
 pub mod DataRow
-pub mod Decimal
-pub mod EndedTexts
-pub mod Error
-pub mod Last
 pub mod Notification
 pub mod ParameterDescription
 pub mod ParameterStatus
 pub mod ReadyForQuery
-pub mod Received
-pub mod Response
 pub mod RowDescription
 pub mod ServerMessage
-pub mod Text

@@ -5,7 +5,7 @@ use Rattle.std.specs.Prelude.{◌+◌, ℕ, List, length, ◌⊎◌}
 use Rattle.pg_base.specs.declared.error.ProtocolFault.{ProtocolFault}
 use Rattle.pg_base.specs.Error.{IsShort}
 use Rattle.pg_base.specs.Reading.{Number, Text}
-use Rattle.pg_receive.specs.Text.{IsMissingNul}
+use Rattle.pg_response.specs.Text.{IsMissingNul}
 
 -- who notified, and what
 pub record Notified : Type 0 where

@@ -3,7 +3,7 @@
 pub mod Laws
 use Rattle.std.specs.Prelude.{◌+◌, ℕ, List, length, ◌⊎◌}
 use Rattle.pg_base.specs.declared.error.ProtocolFault.{ProtocolFault}
-use Rattle.pg_receive.specs.Text.{Utf8Text, IsTextFault}
+use Rattle.pg_response.specs.Text.{Utf8Text, IsTextFault}
 
 -- a setting as bytes
 pub record Setting : Type 0 where

@@ -6,7 +6,7 @@ use Rattle.pg_base.specs.declared.io.Oid.{Oid}
 use Rattle.pg_receive.specs.declared.message.row_description.Field.{Field}
 use Rattle.pg_base.specs.Reading.{Number, Signed}
 use Rattle.pg_base.specs.Error.{IsShort}
-use Rattle.pg_receive.specs.Text.{Utf8Text, IsTextFault}
+use Rattle.pg_response.specs.Text.{Utf8Text, IsTextFault}
 use Rattle.pg_receive.specs.CountedItems.{CountedItems, IsItemsFault, ItemsNeedNoMemory}
 
 -- a column as numbers and bytes

@@ -1,9 +1,9 @@
 -- What decoding a message by its kind answers.
 use Rattle.std.specs.Prelude.{◌≡◌, Result, Err, IsOkAnd, MatchResult}
 use Rattle.pg_base.specs.declared.error.Error.{Error}
-use Rattle.pg_receive.specs.Received.Message.{DecodesMessage}
-use Rattle.pg_receive.specs.declared.message.received.BackendMessage.{Ghosts}
-use Rattle.pg_receive.specs.declared.message.received.ReceivedMessage.{ReceivedMessage}
+use Rattle.pg_response.specs.Received.Message.{DecodesMessage}
+use Rattle.pg_response.specs.declared.message.received.BackendMessage.{Ghosts}
+use Rattle.pg_response.specs.declared.message.received.ReceivedMessage.{ReceivedMessage}
 use Rattle.pg_receive.specs.declared.message.server_message.ServerMessage.{ServerMessage}
 
 -- the message decodes as the type does, its value in this case

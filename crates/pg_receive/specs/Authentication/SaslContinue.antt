@@ -7,8 +7,8 @@ use Rattle.std.specs.Option.{option_or}
 use Rattle.std.specs.Str.{is_utf8}
 use Rattle.pg_base.specs.declared.error.ProtocolFault.{ProtocolFault}
 use Rattle.pg_base.specs.declared.error.ProtocolFault.TheVariants.{NotUtf8}
-use Rattle.pg_receive.specs.Last.{plain, last, first_fault_of}
-use Rattle.pg_receive.specs.Decimal.{leading_decimal}
+use Rattle.pg_response.specs.Last.{plain, last, first_fault_of}
+use Rattle.pg_response.specs.Decimal.{leading_decimal}
 use Rattle.pg_receive.specs.Authentication.SaslItems.{items_in, keyed, item_fault, base64_value}
 
 abbrev pub iterations_key : ℕ

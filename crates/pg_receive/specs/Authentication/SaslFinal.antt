@@ -4,7 +4,7 @@ pub mod Laws
 pub mod Shown
 use Rattle.std.specs.Prelude.{◌≡◌, ℕ, List, [], Option, Some, None}
 use Rattle.pg_base.specs.declared.error.ProtocolFault.{ProtocolFault}
-use Rattle.pg_receive.specs.Last.{last, first_fault_of}
+use Rattle.pg_response.specs.Last.{last, first_fault_of}
 use Rattle.pg_receive.specs.Authentication.SaslItems.{items_in, keyed, item_fault, base64_value}
 
 abbrev pub verifier_key : ℕ

@@ -4,7 +4,7 @@ use Rattle.std.proofs.Common.{ap, ◌∙◌, inl, inr, arith}
 use Rattle.pg_base.specs.declared.error.ProtocolFault.{ProtocolFault}
 use Rattle.pg_base.proofs.ReadingLemmas.{one_number, one_text, number_fits}
 use Rattle.pg_receive.specs.Notification.{Notified, MeansNotification, IsNotificationFault}
-use Rattle.pg_receive.specs.Text.Laws.{text_or_no_nul}
+use Rattle.pg_response.specs.Text.Laws.{text_or_no_nul}
 
 pub one_notification : (body : List ℕ) (v w : Notified) → MeansNotification body v → MeansNotification body w → v ≡ w
 one_notification body v w p q =

@@ -4,7 +4,7 @@ use Rattle.std.proofs.Common.{ap, ◌∙◌, inl, inr}
 use Rattle.pg_base.specs.declared.error.ProtocolFault.{ProtocolFault}
 use Rattle.pg_base.proofs.ReadingLemmas.{one_text}
 use Rattle.pg_receive.specs.ParameterStatus.{Setting, MeansSetting, IsSettingFault}
-use Rattle.pg_receive.specs.Text.Laws.{text_or_fault}
+use Rattle.pg_response.specs.Text.Laws.{text_or_fault}
 
 pub one_setting : (body : List ℕ) (v w : Setting) → MeansSetting body v → MeansSetting body w → v ≡ w
 one_setting body v w p q =

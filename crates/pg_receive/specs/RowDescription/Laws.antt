@@ -5,8 +5,8 @@ use Rattle.pg_base.specs.declared.error.ProtocolFault.{ProtocolFault}
 use Rattle.pg_base.specs.Reading.{Text}
 use Rattle.pg_base.proofs.CuttingLemmas.{parts_at}
 use Rattle.pg_base.proofs.ReadingLemmas.{one_number, one_signed, one_text, number_fits, signed_fits}
-use Rattle.pg_receive.specs.Text.{Utf8Text}
-use Rattle.pg_receive.specs.Text.Laws.{text_or_fault}
+use Rattle.pg_response.specs.Text.{Utf8Text}
+use Rattle.pg_response.specs.Text.Laws.{text_or_fault}
 use Rattle.pg_receive.specs.CountedItems.Laws.{SpellsOne, TakesAtLeast, ItemOrFault, one_items, items_or_fault, items_fit}
 use Rattle.pg_receive.specs.RowDescription.{Column, table, attribute, numbers_length, SpellsNumbers, SpellsColumn, IsColumnFault, MeansColumns, IsColumnsFault, least_column}
 

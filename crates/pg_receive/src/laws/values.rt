@@ -1,14 +1,9 @@
-//! Which numbers and letters the cases of enums have, which texts the constants are, and when two
-//! values are equal.
+//! Which letters the cases of enums have, and when two values are equal.
 
 ghost use Rattle.std.specs.Prelude.{◌≡◌, Ok, Decides};
-ghost use Rattle.pg_receive.specs.Error.{check_violation_code, exclusion_violation_code, foreign_key_violation_code, not_null_violation_code, unique_violation_code};
-ghost use Rattle.pg_receive.specs.Error.Position.{position_shown};
 ghost use Rattle.pg_receive.specs.ReadyForQuery.{status_letter};
-ghost use Rattle.pg_receive.specs.Response.Severity.{severity_number};
 
-use crate::error::{PgErrorPosition, error_codes};
-use crate::message::{BackendKeyData, PgSeverity, ReadyForQuery, TransactionStatus};
+use crate::message::{BackendKeyData, ReadyForQuery, TransactionStatus};
 use std::alloc::AllocError;
 
 /// As a number a status is its letter: `I`, `T` or `E`.
@@ -18,70 +13,12 @@ pub fn letter_of_status(status: TransactionStatus) -> u8
     status as u8
 }
 
-/// As a number a severity is its place in the list from `Panic`, 0, to `Log`, 7.
-pub fn number_of_severity(severity: PgSeverity) -> u8
-    ensures { result ≡ severity_number severity }
-{
-    severity as u8
-}
-
-/// [`error_codes::UNIQUE_VIOLATION`] is 23505.
-pub fn unique_violation() -> &'static str
-    ensures { result.now ≡ unique_violation_code }
-{
-    error_codes::UNIQUE_VIOLATION
-}
-
-/// [`error_codes::FOREIGN_KEY_VIOLATION`] is 23503.
-pub fn foreign_key_violation() -> &'static str
-    ensures { result.now ≡ foreign_key_violation_code }
-{
-    error_codes::FOREIGN_KEY_VIOLATION
-}
-
-/// [`error_codes::NOT_NULL_VIOLATION`] is 23502.
-pub fn not_null_violation() -> &'static str
-    ensures { result.now ≡ not_null_violation_code }
-{
-    error_codes::NOT_NULL_VIOLATION
-}
-
-/// [`error_codes::CHECK_VIOLATION`] is 23514.
-pub fn check_violation() -> &'static str
-    ensures { result.now ≡ check_violation_code }
-{
-    error_codes::CHECK_VIOLATION
-}
-
-/// [`error_codes::EXCLUSION_VIOLATION`] is 23P01.
-pub fn exclusion_violation() -> &'static str
-    ensures { result.now ≡ exclusion_violation_code }
-{
-    error_codes::EXCLUSION_VIOLATION
-}
-
-/// Severities, statuses and keys are equal where they are the same.
+/// Statuses and keys are equal where they are the same.
 pub fn values_are_equal_where_they_are_the_same()
-    ensures severities { (a b : PgSeverity) → Decides (⟦<PgSeverity as PartialEq>⟧.eq a b) (a ≡ b) }
     ensures statuses { (a b : TransactionStatus) → Decides (⟦<TransactionStatus as PartialEq>⟧.eq a b) (a ≡ b) }
     ensures ready { (a b : ReadyForQuery) → Decides (⟦<ReadyForQuery as PartialEq>⟧.eq a b) (a ≡ b) }
     ensures keys { (a b : BackendKeyData) → Decides (⟦<BackendKeyData as PartialEq>⟧.eq a b) (a ≡ b) }
 {}
-
-/// Two positions are equal where they are of one kind, their numbers are equal, and the bytes of
-/// their queries are.
-pub fn positions_are_equal(a: &PgErrorPosition<'_>, b: &PgErrorPosition<'_>) -> bool
-    ensures { Decides result (position_shown a.now ≡ position_shown b.now) }
-{
-    a == b
-}
-
-/// A clone of a severity is that severity.
-pub fn clone_of_severity(severity: &PgSeverity) -> Result<PgSeverity, AllocError>
-    ensures { result ≡ Ok severity.now }
-{
-    severity.clone()
-}
 
 /// A clone of a status is that status.
 pub fn clone_of_status(status: &TransactionStatus) -> Result<TransactionStatus, AllocError>

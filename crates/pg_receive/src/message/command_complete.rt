@@ -5,10 +5,10 @@ ghost use Rattle.pg_base.specs.declared.format.BackendMessageFormat.TheVariants 
 ghost use Rattle.pg_receive.specs.CommandComplete.{row_count};
 
 use crate::message::BackendMessage;
-use crate::message::decimal::leading_u64;
 use bytes::Bytes;
 use memchr::memrchr;
 use pg_base::{BackendMessageFormat, Error};
+use pg_response::message::leading_u64;
 use std::alloc::Global;
 use std::marker::Model;
 

@@ -5,16 +5,12 @@ mod backend_key_data;
 mod command_complete;
 mod copy;
 mod data_row;
-pub(crate) mod decimal;
 mod notification;
 mod parameter_description;
 mod parameter_status;
 mod ready_for_query;
-mod received;
-pub(crate) mod response;
 mod row_description;
 mod server_message;
-mod text;
 
 pub use authentication::{
     Authentication, AuthenticationMd5Password, AuthenticationSasl, AuthenticationSaslContinue,
@@ -22,14 +18,15 @@ pub use authentication::{
 };
 pub use backend_key_data::BackendKeyData;
 pub use command_complete::CommandComplete;
-pub use copy::{CopyData, CopyDone, CopyInResponse, CopyOutResponse, CopyResponseData};
+pub use copy::{CopyInResponse, CopyOutResponse, CopyResponseData};
 pub use data_row::DataRow;
 pub use notification::Notification;
 pub use parameter_description::ParameterDescription;
 pub use parameter_status::ParameterStatus;
+pub use pg_response::message::{
+    BackendMessage, CopyData, CopyDone, Fields, Notice, PgSeverity, ReceivedMessage, split_text,
+    str_at, text_at, utf8_text,
+};
 pub use ready_for_query::{ReadyForQuery, TransactionStatus};
-pub use received::{BackendMessage, ReceivedMessage};
-pub use response::{Fields, Notice, PgSeverity};
 pub use row_description::{Field, RowDescription};
 pub use server_message::ServerMessage;
-pub use text::{split_text, str_at, text_at, utf8_text};

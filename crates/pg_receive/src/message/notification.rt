@@ -6,8 +6,7 @@ ghost use Rattle.pg_base.specs.Decode.{Decodes};
 ghost use Rattle.pg_base.specs.declared.format.BackendMessageFormat.TheVariants as formats;
 ghost use Rattle.pg_receive.specs.Notification.{Notified, MeansNotification, IsNotificationFault};
 
-use crate::message::BackendMessage;
-use crate::message::text::text_at;
+use crate::message::{BackendMessage, text_at};
 use bytes::Bytes;
 use pg_base::io::u32_at;
 use pg_base::{BackendMessageFormat, Error};

@@ -5,8 +5,7 @@ ghost use Rattle.pg_base.specs.Decode.{Decodes};
 ghost use Rattle.pg_base.specs.declared.format.BackendMessageFormat.TheVariants as formats;
 ghost use Rattle.pg_receive.specs.ParameterStatus.{Setting, MeansSetting, IsSettingFault};
 
-use crate::message::BackendMessage;
-use crate::message::text::str_at;
+use crate::message::{BackendMessage, str_at};
 use bytes::Bytes;
 use pg_base::{BackendMessageFormat, Error};
 use std::alloc::Global;

@@ -6,8 +6,7 @@ ghost use Rattle.pg_base.specs.declared.format.BackendMessageFormat.TheVariants 
 ghost use Rattle.pg_receive.specs.CountedItems.{IsEncodedAt};
 ghost use Rattle.pg_receive.specs.RowDescription.{Column, column_of, table, attribute, numbers_length, SpellsNumbers, SpellsColumn, IsColumnFault, MeansColumns, IsColumnsFault, ColumnsNeedsNoMemory};
 
-use crate::message::BackendMessage;
-use crate::message::text::str_at;
+use crate::message::{BackendMessage, str_at};
 use bytes::Bytes;
 use pg_base::io::{MAX_BODY, Oid, bytes_at, i16_at, i32_at, u16_at, u32_at};
 use pg_base::{BackendMessageFormat, Error, ProtocolFault};

@@ -1,7 +1,7 @@
 //! Rows of as many cells as a count can say.
 
 ghost use Rattle.std.specs.Prelude.{◌<◌, ◌≤◌, length, IfOk};
-ghost use Rattle.pg_receive.specs.Received.{max_body};
+ghost use Rattle.pg_response.specs.Received.{max_body};
 
 use bytes::Bytes;
 use pg_base::Error;

@@ -2,18 +2,18 @@
 
 ghost use Rattle.std.specs.Prelude.{◌≡◌, [], ◌∷◌, None, Some, OnOk};
 ghost use Rattle.pg_base.specs.Decode.{Decodes};
-ghost use Rattle.pg_receive.specs.Last.{plain, last};
+ghost use Rattle.pg_response.specs.Last.{plain, last};
 ghost use Rattle.pg_receive.specs.Authentication.SaslItems.{keyed, item_fault, base64_value};
 ghost use Rattle.pg_receive.specs.Authentication.SaslContinue.{ContinueValue, MeansContinue, IsContinueFault, iterations_key, nonce_key, salt_key, iterations_of};
 ghost use Rattle.pg_receive.specs.Authentication.SaslContinue.Laws.{one_challenge, challenge_or_fault};
 ghost use Rattle.pg_receive.specs.Authentication.SaslContinue.Shown.{continue_shown};
 
 use crate::message::authentication::sasl_items::{SaslItems, decode_base64, split_key};
-use crate::message::decimal::leading_u32;
 use crate::message::utf8_text;
 use bytes::Bytes;
 use pg_base::io::ProtocolDecode;
 use pg_base::{Error, ProtocolFault};
+use pg_response::message::leading_u32;
 use std::alloc::Global;
 
 const DEFAULT_ITERATIONS: u32 = 4096;

@@ -1,5 +1,5 @@
 use Rattle.std.proofs.Common.{[]}
-use Rattle.pg_receive.specs.Last.{plain}
+use Rattle.pg_response.specs.Last.{plain}
 use Rattle.pg_receive.specs.Authentication.SaslItems.{items_in, base64_value}
 use Rattle.pg_receive.specs.Authentication.SaslContinue.{iterations_key, nonce_key, salt_key, iterations_of, default_iterations}
 use Rattle.pg_receive.proofs.AuthenticationSaslLemmas.{LeftFaults, LeftLast}

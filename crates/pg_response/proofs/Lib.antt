@@ -1,0 +1,10 @@
+pub mod DecimalLemmas
+pub mod EndedTextsLemmas
+pub mod LastLemmas
+pub mod ResponseFieldsLemmas
+pub mod ResponseLemmas
+pub mod ResponseLengthsLemmas
+pub mod ResponseOnlyFieldLemmas
+pub mod ResponseReadLemmas
+pub mod ResponseSeverityLemmas
+pub mod TextLemmas

@@ -1,0 +1,89 @@
+//! The law of a message that is received, and its decoding by kind.
+
+ghost use Rattle.std.specs.Prelude.{◌≡◌, ◌≤◌, ℕ, List, None, length};
+ghost use Rattle.pg_base.specs.declared.format.BackendMessageFormat.{BackendMessageFormat};
+ghost use Rattle.pg_base.specs.declared.error.ProtocolFault.{ProtocolFault};
+ghost use Rattle.pg_base.specs.Decode.{Decodes};
+ghost use Rattle.pg_response.specs.Received.{error_while_reading};
+
+use bytes::Bytes;
+use pg_base::io::MAX_BODY;
+use pg_base::{BackendMessageFormat, Error, ProtocolFault};
+use std::alloc::Global;
+
+/// A message that a server sends, after a tag and a length.
+pub trait BackendMessage: Sized {
+    /// The kind of message.
+    const FORMAT: BackendMessageFormat;
+
+    ghost FORMAT: { BackendMessageFormat };
+
+    /// The value without where it lies in memory.
+    ghost Shown: { Type 0 };
+
+    ghost shown: { Self → Shown };
+    /// Which value a body means.
+    ghost Means: { List ℕ → Shown → Type 0 };
+    /// What is wrong with a body that means none: the first test that fails.
+    ghost IsFault: { List ℕ → ProtocolFault → Type 0 };
+    /// That a body is read without asking for memory.
+    ghost NeedsNoMemory: { List ℕ → Type 0 };
+
+    /// Reads a body of at most [`MAX_BODY`] bytes: a value, only if the body means it; a fault of
+    /// the body, only if it means none; or `OutOfMemory`.
+    fn decode_body(alloc: Global, buf: Bytes) -> Result<Self, Error>
+        requires { length buf ≤ MAX_BODY }
+        ensures { Decodes Means IsFault NeedsNoMemory shown None buf result };
+
+    /// A body means one value.
+    ghost one_value: { (body : List ℕ) (v w : Shown) → Means body v → Means body w → v ≡ w };
+    /// A body with a value has no fault.
+    ghost never_both: { (body : List ℕ) (v : Shown) (fault : ProtocolFault) → Means body v → IsFault body fault → ⊥ };
+}
+
+/// A message from the server, whose tag and length have been read.
+#[derive(Drop)]
+pub struct ReceivedMessage {
+    /// The kind, by the tag.
+    pub format: BackendMessageFormat,
+    /// The body, without tag and length.
+    pub contents: Bytes,
+}
+
+impl ReceivedMessage {
+    ghost use Rattle.pg_response.specs.Received.Message.{DecodesMessage};
+
+    /// Reads the message as a `T`.
+    ///
+    /// It is `WrongFormat` where this is a message of another kind, then `BodyTooLong` where the
+    /// body has more than [`MAX_BODY`] bytes. Else it is what `decode_body` gives, and a fault of
+    /// the body names the kind of message.
+    pub fn decode<T: BackendMessage>(self, alloc: Global) -> Result<T, Error>
+        ensures { DecodesMessage T.BackendMessage self result }
+    {
+        if T::FORMAT != self.format {
+            return Err(ProtocolFault::WrongFormat {
+                expected: T::FORMAT,
+                got: self.format,
+            }
+            .into());
+        }
+        if self.contents.len() > MAX_BODY {
+            return Err(ProtocolFault::BodyTooLong(self.contents.len()).into());
+        }
+        T::decode_body(alloc, self.contents).map_err(|error| while_reading(self.format, error))
+    }
+}
+
+// Names the kind of message in a fault of its body.
+fn while_reading(format: BackendMessageFormat, error: Error) -> Error
+    ensures { result ≡ error_while_reading format error }
+{
+    match error {
+        Error::Protocol { fault, .. } => Error::Protocol {
+            reading: Some(format),
+            fault,
+        },
+        Error::OutOfMemory => Error::OutOfMemory,
+    }
+}

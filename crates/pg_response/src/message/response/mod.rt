@@ -1,0 +1,160 @@
+//! Errors and notices of the server.
+
+mod fields;
+mod lengths;
+pub(crate) mod letters;
+mod read;
+mod severity;
+
+ghost use Rattle.std.specs.Prelude.{◌≡◌, option_copied};
+ghost use Rattle.pg_base.specs.declared.format.BackendMessageFormat.TheVariants as formats;
+ghost use Rattle.pg_response.specs.Response.Lengths.{HasLengths};
+ghost use Rattle.pg_response.specs.Response.Fields.{fields_in, first_value, first_text};
+ghost use Rattle.pg_response.specs.Response.{NoticeValue, MeansNotice, IsNoticeFault};
+ghost use Rattle.pg_response.specs.Response.Laws.{one_notice, notice_or_fault};
+ghost use Rattle.pg_response.specs.Response.Places.{IsPlaceIn, bytes_in};
+
+use crate::message::{BackendMessage, utf8_text};
+use bytes::Bytes;
+pub use fields::Fields;
+use lengths::value_in;
+use pg_base::io::ProtocolDecode;
+use pg_base::{BackendMessageFormat, Error};
+pub use severity::PgSeverity;
+use smallvec::SmallVec;
+use std::alloc::Global;
+use std::marker::Model;
+use std::ops::Range;
+
+/// What the server wants its client to know: a warning, say. Documentation: "Message Formats",
+/// NoticeResponse (B).
+///
+/// Its fields are read when it is decoded, until there are a message and a code that aren't empty,
+/// or to their end. Severity, code and message are the last that were read.
+#[derive(Drop)]
+pub struct Notice {
+    storage: Bytes,
+    severity: PgSeverity,
+    message: Range<usize>,
+    code: Range<usize>,
+    lengths: SmallVec<u32, 16>,
+}
+
+impl Model for Notice {
+    ghost Value = { NoticeValue };
+
+    ghost view = { λ notice. record {
+      fields = fields_in notice.storage;
+      severity = notice.severity;
+      message = bytes_in notice.storage notice.message;
+      code = bytes_in notice.storage notice.code;
+    } };
+
+    ghost invariant = { λ notice. IsPlaceIn notice.storage notice.message × IsPlaceIn notice.storage notice.code × HasLengths notice.storage notice.lengths.items };
+}
+
+impl Notice {
+    /// How grave it is: the last severity that was read; without one the last severity in the
+    /// server's language that is a known word; else `Log`.
+    pub fn severity(&self) -> PgSeverity
+        ensures { result ≡ self.now.severity }
+    {
+        self.severity
+    }
+
+    /// The last code that was read, empty where there is none. Documentation: "PostgreSQL Error
+    /// Codes".
+    pub fn code(&self) -> &str
+        ensures { result.now ≡ self.now.code }
+    {
+        text_in(self.storage.as_slice(), &self.code)
+    }
+
+    /// The last message that was read, empty where there is none.
+    pub fn message(&self) -> &str
+        ensures { result.now ≡ self.now.message }
+    {
+        text_in(self.storage.as_slice(), &self.message)
+    }
+
+    /// The first field of a letter, where it is UTF-8. Documentation: "Error and Notice Message
+    /// Fields".
+    pub fn get(&self, wanted: u8) -> Option<&str>
+        ensures { option_copied result ≡ first_text wanted self.now.fields }
+    {
+        utf8_text(self.get_raw(wanted)?)
+    }
+
+    /// As [`Notice::get`], but as bytes, which may be UTF-8 or not.
+    pub fn get_raw(&self, wanted: u8) -> Option<&[u8]>
+        ensures { option_copied result ≡ first_value wanted self.now.fields }
+    {
+        value_in(self.storage.as_slice(), self.lengths.as_slice(), wanted)
+    }
+
+    /// All fields, in order.
+    pub fn fields(&self) -> Fields<'_>
+        ensures { result ≡ self.now.fields }
+    {
+        Fields::new(self.storage.as_slice())
+    }
+}
+
+impl ProtocolDecode for Notice {
+    ghost Shown = { NoticeValue };
+
+    ghost shown = { λ notice. notice };
+
+    ghost Means = { MeansNotice };
+
+    ghost IsFault = { IsNoticeFault };
+
+    ghost NeedsNoMemory = { λ _. Unit {0} };
+
+    fn decode(alloc: Global, buf: Bytes) -> Result<Self, Error> {
+        let (part, lengths) = read::read(alloc, buf.as_slice())?;
+        Ok(Notice {
+            lengths,
+            severity: part.severity(),
+            message: part.message,
+            code: part.code,
+            storage: buf,
+        })
+    }
+
+    ghost one_value = { one_notice };
+
+    ghost never_both = { notice_or_fault };
+}
+
+impl BackendMessage for Notice {
+    const FORMAT: BackendMessageFormat = BackendMessageFormat::NoticeResponse;
+
+    ghost FORMAT = { formats.NoticeResponse };
+
+    ghost Shown = { NoticeValue };
+
+    ghost shown = { λ notice. notice };
+
+    ghost Means = { MeansNotice };
+
+    ghost IsFault = { IsNoticeFault };
+
+    ghost NeedsNoMemory = { λ _. Unit {0} };
+
+    fn decode_body(alloc: Global, buf: Bytes) -> Result<Self, Error> {
+        Notice::decode(alloc, buf)
+    }
+
+    ghost one_value = { one_notice };
+
+    ghost never_both = { notice_or_fault };
+}
+
+// The text at a place that was found to hold one.
+fn text_in<'a>(body: &'a [u8], place: &Range<usize>) -> &'a str
+    requires { IsPlaceIn body.now place.now }
+    ensures { result.now ≡ bytes_in body.now place.now }
+{
+    unsafe { str::from_utf8_unchecked(&body[place.start..place.end]) }
+}
