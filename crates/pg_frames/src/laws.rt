@@ -1,7 +1,7 @@
 //! What follows of streams from what a stream is, for whoever proves more: empty functions, each with
 //! a law as its contract.
 
-ghost use Rattle.std.specs.Prelude.{◌≡◌, ◌++◌, ℕ, List, Result, Some};
+ghost use Rattle.std.specs.Prelude.{◌≡◌, ◌++◌, ℕ, List, Result, Some, Ok, IfOk};
 ghost use Rattle.pg_base.specs.declared.error.ProtocolFault.{ProtocolFault};
 ghost use Rattle.pg_frames.specs.declared.pieces.StreamEnd.{StreamEnd};
 ghost use Rattle.pg_frames.specs.Pieces.{IsRead};
@@ -11,7 +11,10 @@ ghost use Rattle.pg_base.specs.declared.error.Error.{Error};
 ghost use Rattle.pg_base.specs.Format.{backend_tag};
 ghost use Rattle.pg_frames.specs.Stream.{Stream, Whole, WantsMore, IsStreamFault};
 
+use crate::frame::Frame;
+use crate::pieces::StreamEnd;
 use pg_response::message::BackendMessage;
+use std::alloc::AllocError;
 
 /// A stream is one list of messages and one rest that isn't whole. So it is read into one list with
 /// one end, however it was cut.
@@ -44,3 +47,19 @@ pub fn values_are_those_of_the_stream<T: BackendMessage>()
     ensures values { (bytes : List ℕ) (xs ys : List (ℕ × List ℕ)) (d e : StreamEnd) (vs ws : List T.Shown) → IsRead bytes xs d → IsRead bytes ys e → EachHas T.Means (bodies_of (backend_tag T.FORMAT) xs) vs → EachHas T.Means (bodies_of (backend_tag T.FORMAT) ys) ws → vs ≡ ws }
     ensures answers { (bytes : List ℕ) (xs ys : List (ℕ × List ℕ)) (d e : StreamEnd) (rs ss : List (Result T Error)) → IsRead bytes xs d → IsRead bytes ys e → EachHas (λ body. Decodes T.Means T.IsFault T.NeedsNoMemory T.shown (Some T.FORMAT) body) (bodies_of (backend_tag T.FORMAT) xs) rs → EachHas (λ body. Decodes T.Means T.IsFault T.NeedsNoMemory T.shown (Some T.FORMAT) body) (bodies_of (backend_tag T.FORMAT) ys) ss → EachAgree T.shown rs ss }
 {}
+
+/// A clone of an end is that end.
+pub fn clone_of_end(end: &StreamEnd) -> Result<StreamEnd, AllocError>
+    ensures { result ≡ Ok end.now }
+{
+    end.clone()
+}
+
+/// A clone of a frame has its kind, and the bytes of its body and of its rest.
+pub fn clone_of_frame<'a>(frame: &Frame<'a>) -> Result<Frame<'a>, AllocError>
+    ensures format { IfOk result (λ clone. clone.format ≡ frame.now.format) }
+    ensures body { IfOk result (λ clone. clone.body.now ≡ frame.now.body.now) }
+    ensures rest { IfOk result (λ clone. clone.rest.now ≡ frame.now.rest.now) }
+{
+    frame.clone()
+}

@@ -100,3 +100,18 @@ fn a_fault_cut_in_two(rt: HostRuntime) -> Result<(), Fail> {
     }
     Ok(())
 }
+
+#[test]
+fn ends_that_differ(rt: HostRuntime) {
+    let ends = [
+        StreamEnd::Rest(1),
+        StreamEnd::Rest(2),
+        StreamEnd::Fault(ProtocolFault::BadLength(3)),
+        StreamEnd::Fault(ProtocolFault::UnknownMessageType(b'v')),
+    ];
+    for (index, end) in ends.iter().enumerate() {
+        for (other_index, other) in ends.iter().enumerate() {
+            assert_eq!(rt; end == other, index == other_index, "{end:?} and {other:?}");
+        }
+    }
+}

@@ -6,6 +6,7 @@ use pg_base::ProtocolFault;
 use pg_receive::error::PgErrorPosition;
 use pg_receive::laws;
 use pg_receive::message::*;
+use pg_response::laws as error_laws;
 use std::test::Fail;
 
 #[test]
@@ -16,26 +17,26 @@ fn numbers_and_codes(rt: HostRuntime) {
         b'T'
     );
     assert_eq!(rt; laws::letter_of_status(TransactionStatus::Error), b'E');
-    assert_eq!(rt; laws::number_of_severity(PgSeverity::Panic), 0);
-    assert_eq!(rt; laws::number_of_severity(PgSeverity::Log), 7);
-    assert_eq!(rt; laws::unique_violation(), "23505");
-    assert_eq!(rt; laws::foreign_key_violation(), "23503");
-    assert_eq!(rt; laws::not_null_violation(), "23502");
-    assert_eq!(rt; laws::check_violation(), "23514");
-    assert_eq!(rt; laws::exclusion_violation(), "23P01");
+    assert_eq!(rt; error_laws::number_of_severity(PgSeverity::Panic), 0);
+    assert_eq!(rt; error_laws::number_of_severity(PgSeverity::Log), 7);
+    assert_eq!(rt; error_laws::unique_violation(), "23505");
+    assert_eq!(rt; error_laws::foreign_key_violation(), "23503");
+    assert_eq!(rt; error_laws::not_null_violation(), "23502");
+    assert_eq!(rt; error_laws::check_violation(), "23514");
+    assert_eq!(rt; error_laws::exclusion_violation(), "23P01");
 }
 
 #[test]
 fn equality_and_clones(rt: HostRuntime) -> Result<(), Fail> {
     let seven = PgErrorPosition::Original(7);
     let internal = |query| PgErrorPosition::Internal { position: 7, query };
-    assert!(rt; laws::positions_are_equal(&seven, &PgErrorPosition::Original(7)));
-    assert!(rt; !laws::positions_are_equal(&seven, &PgErrorPosition::Original(8)));
-    assert!(rt; !laws::positions_are_equal(&seven, &internal("a")));
-    assert!(rt; laws::positions_are_equal(&internal("a"), &internal("a")));
-    assert!(rt; !laws::positions_are_equal(&internal("a"), &internal("b")));
+    assert!(rt; error_laws::positions_are_equal(&seven, &PgErrorPosition::Original(7)));
+    assert!(rt; !error_laws::positions_are_equal(&seven, &PgErrorPosition::Original(8)));
+    assert!(rt; !error_laws::positions_are_equal(&seven, &internal("a")));
+    assert!(rt; error_laws::positions_are_equal(&internal("a"), &internal("a")));
+    assert!(rt; !error_laws::positions_are_equal(&internal("a"), &internal("b")));
     assert_eq!(rt;
-        laws::clone_of_severity(&PgSeverity::Info)?,
+        error_laws::clone_of_severity(&PgSeverity::Info)?,
         PgSeverity::Info
     );
     assert_eq!(rt;
