@@ -1,9 +1,9 @@
 //! What a line of `encode` names: one message to the server.
 
-use crate::fault::ToolFault;
-use crate::line::{formats_of, hex_bytes, oids_of, u16_of, u32_of};
-use pg_base::io::{Oid, PgValueFormat, PortalId, StatementId};
-use pg_send::message::{
+use crate::word::{formats_of, oids_of, u16_of, u32_of};
+use pg_lines::{Fault, hex_array, hex_bytes};
+use pg_message::io::{Oid, PgValueFormat, PortalId, StatementId};
+use pg_message::message::{
     Bind, Close, CopyData, CopyDone, CopyFail, Describe, Execute, Flush, Parse, Password, Query,
     SaslInitialResponse, SaslResponse, Sync, TaggedMessage, Terminate,
 };
@@ -55,7 +55,7 @@ pub enum Target {
 }
 
 /// The command that a line spells, where it fits a form.
-pub fn command_of(alloc: Global, line: &str) -> Result<Option<Command<'_>>, ToolFault> {
+pub fn command_of(alloc: Global, line: &str) -> Result<Option<Command<'_>>, Fault> {
     let Some((name, rest)) = line.split_once(' ') else {
         return Ok(plain_command(line));
     };
@@ -153,7 +153,7 @@ fn plain_command(line: &str) -> Option<Command<'_>> {
 }
 
 // `PORTAL STATEMENT FORMATS COUNT HEX FORMATS`
-fn bind_of(alloc: Global, line: &str) -> Result<Option<Command<'_>>, ToolFault> {
+fn bind_of(alloc: Global, line: &str) -> Result<Option<Command<'_>>, Fault> {
     let Some((portal, statement, formats, count, params, result_formats)) = six_words(line) else {
         return Ok(None);
     };
@@ -188,7 +188,7 @@ fn six_words(line: &str) -> Option<(&str, &str, &str, &str, &str, &str)> {
     Some((first, second, third, fourth, fifth, sixth))
 }
 
-fn copy_data_of(alloc: Global, word: &str) -> Result<Option<Command<'_>>, ToolFault> {
+fn copy_data_of(alloc: Global, word: &str) -> Result<Option<Command<'_>>, Fault> {
     match hex_bytes(alloc, word)? {
         Some(bytes) => Ok(Some(Command::CopyData(bytes))),
         None => Ok(None),
@@ -224,7 +224,7 @@ fn execute_of(line: &str) -> Option<Command<'_>> {
 }
 
 // `STATEMENT OIDS TEXT`
-fn parse_of(alloc: Global, line: &str) -> Result<Option<Command<'_>>, ToolFault> {
+fn parse_of(alloc: Global, line: &str) -> Result<Option<Command<'_>>, Fault> {
     let Some((statement, rest)) = line.split_once(' ') else {
         return Ok(None);
     };
@@ -254,7 +254,5 @@ fn sasl_init_of(line: &str) -> Option<Command<'_>> {
 
 // 32 hexadecimal digits
 fn md5_of(word: &str) -> Option<Command<'_>> {
-    let mut digest = [0; 16];
-    hex::decode_to_slice(word, &mut digest).ok()?;
-    Some(Command::Md5(digest))
+    Some(Command::Md5(hex_array(word)?))
 }

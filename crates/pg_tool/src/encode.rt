@@ -3,18 +3,18 @@
 ghost use Rattle.std.specs.Prelude.{length};
 ghost use Rattle.std.specs.Iterator.{at_most};
 
+use crate::LENGTH_FIELD;
 use crate::command::{Command, command_of, message_of};
-use crate::fault::ToolFault;
-use crate::line::{Lines, push_hex};
-use pg_base::io::u32_at;
-use pg_send::message::{TaggedMessage, encode_all, encode_strict};
+use pg_lines::{Fault, Hex, Lines};
+use pg_message::error::Error;
+use pg_message::message::{TaggedMessage, encode_all, encode_strict};
 use std::alloc::{AllocError, Global};
 
 // The line that makes the run strict, where it is the first.
 const STRICT: &[u8] = b"strict";
 
 /// The answers to the messages that the lines name, a line each, and then their frames.
-pub fn encode(alloc: Global, input: &[u8]) -> Result<String, ToolFault> {
+pub fn encode(alloc: Global, input: &[u8]) -> Result<String, Fault> {
     let (strict, lines) = strict_and_lines(input);
     let commands = commands(alloc, lines, 1 + usize::from(strict))?;
     let messages = messages(alloc, commands.as_slice())?;
@@ -24,10 +24,10 @@ pub fn encode(alloc: Global, input: &[u8]) -> Result<String, ToolFault> {
     } else {
         encode_all(alloc, messages.as_slice(), &mut buf)
     };
-    let answers = run.map_err(|_| ToolFault::OutOfMemory)?;
+    let answers = run.map_err(|_| Fault::OutOfMemory)?;
     let mut output = String::new(alloc);
     push_answers(answers.as_slice(), &mut output)?;
-    push_frames(alloc, buf.as_slice(), &mut output)?;
+    push_frames(buf.as_slice(), &mut output)?;
     Ok(output)
 }
 
@@ -48,20 +48,17 @@ fn messages<'a>(
 }
 
 // The commands of the lines, the first of which has this number.
-fn commands(alloc: Global, lines: &[u8], first: usize) -> Result<Vec<Command<'_>>, ToolFault> {
+fn commands(alloc: Global, lines: &[u8], first: usize) -> Result<Vec<Command<'_>>, Fault> {
     let mut commands = Vec::new(alloc);
     for (index, line) in Lines::new(lines).enumerate() {
-        let bad = ToolFault::BadLine(index.saturating_add(first));
+        let bad = Fault::BadLine(index.saturating_add(first));
         let line = std::str::from_utf8(line).map_err(|_| bad)?;
         commands.push(command_of(alloc, line)?.ok_or(bad)?)?;
     }
     Ok(commands)
 }
 
-fn push_answers(
-    answers: &[Result<(), pg_base::Error>],
-    output: &mut String,
-) -> Result<(), AllocError> {
+fn push_answers(answers: &[Result<(), Error>], output: &mut String) -> Result<(), AllocError> {
     for (index, answer) in answers.iter().enumerate() {
         let number = index + 1;
         match answer {
@@ -73,11 +70,9 @@ fn push_answers(
 }
 
 // A line for each frame: the tag as a character, the length field, and the body.
-fn push_frames(alloc: Global, frames: &[u8], output: &mut String) -> Result<(), ToolFault> {
+fn push_frames(frames: &[u8], output: &mut String) -> Result<(), AllocError> {
     for Frame { tag, length, body } in (Frames { rest: frames }) {
-        write!(output, "{} {length} ", char::from(tag))?;
-        push_hex(alloc, body, output)?;
-        output.push('\n')?;
+        writeln!(output, "{} {length} {}", char::from(tag), Hex(body))?;
     }
     Ok(())
 }
@@ -103,16 +98,14 @@ impl<'a> Iterator for Frames<'a> {
 
     fn next(&mut self) -> Option<Frame<'a>> {
         let (tag, after) = self.rest.split_first()?;
-        let length = u32_at(after, 0).ok()?;
-        let end = length as usize;
-        if end < 4 || after.len() < end {
-            return None;
-        }
-        self.rest = &after[end..];
+        let length = u32::from_be_bytes(*after.first_chunk()?);
+        let (front, rest) = after.split_at_checked(length as usize)?;
+        let body = front.get(LENGTH_FIELD..)?;
+        self.rest = rest;
         Some(Frame {
             tag: *tag,
             length,
-            body: &after[4..end],
+            body,
         })
     }
 }

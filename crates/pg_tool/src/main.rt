@@ -4,24 +4,26 @@
 mod command;
 mod decode;
 mod encode;
-mod fault;
-mod line;
 mod run;
 mod stream;
+mod word;
 
-use fault::ToolFault;
+use pg_lines::Fault;
 use std::env;
 use std::process::ExitCode;
+
+/// The bytes of a length field, which counts itself.
+const LENGTH_FIELD: usize = 4;
 
 fn main(rt: HostRuntime) -> ExitCode {
     let mut errors = rt.stderr();
     let Ok(mut args) = env::args(&rt) else {
-        return ExitCode::from(run::report(ToolFault::Input, &mut errors));
+        return ExitCode::from(Fault::Input.report(&mut errors));
     };
     // the program's own name
     args.next();
     let Ok(words) = args.collect::<Vec<String>>(rt.alloc()) else {
-        return ExitCode::from(run::report(ToolFault::OutOfMemory, &mut errors));
+        return ExitCode::from(Fault::OutOfMemory.report(&mut errors));
     };
     ExitCode::from(run::start(
         rt.alloc(),

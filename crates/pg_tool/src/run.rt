@@ -2,8 +2,8 @@
 
 use crate::decode::decode;
 use crate::encode::encode;
-use crate::fault::ToolFault;
 use crate::stream::stream;
+use pg_lines::{Fault, read_all, write_text};
 use std::alloc::Global;
 use std::io::{Read, Write};
 
@@ -39,14 +39,8 @@ pub fn start<R: Read, W: Write, E: Write>(
     };
     match run(alloc, mode, input, output) {
         Ok(()) => 0,
-        Err(fault) => report(fault, errors),
+        Err(fault) => fault.report(errors),
     }
-}
-
-/// Reports a fault on `errors`, and gives its exit status.
-pub fn report<E: Write>(fault: ToolFault, errors: &mut E) -> u8 {
-    let _ = writeln!(errors, "{fault}");
-    fault.status()
 }
 
 /// Runs a mode. `Stream` writes the line of each message as soon as it is whole. The other two read
@@ -56,27 +50,13 @@ pub fn run<R: Read, W: Write>(
     mode: Mode,
     input: &mut R,
     output: &mut W,
-) -> Result<(), ToolFault> {
+) -> Result<(), Fault> {
     let text = match mode {
         Mode::Encode => encode(alloc, read_all(alloc, input)?.as_slice())?,
         Mode::Decode => decode(alloc, read_all(alloc, input)?.as_slice())?,
         Mode::Stream => return stream(alloc, input, output),
     };
     write_text(output, text.as_str())
-}
-
-fn read_all<R: Read>(alloc: Global, input: &mut R) -> Result<Vec<u8>, ToolFault> {
-    let mut bytes = Vec::new(alloc);
-    input.read_to_end(&mut bytes).map_err(ToolFault::of_read)?;
-    Ok(bytes)
-}
-
-/// Writes a text and passes it on, so that it can be seen before the program reads again.
-pub fn write_text<W: Write>(output: &mut W, text: &str) -> Result<(), ToolFault> {
-    output
-        .write_all(text.as_bytes())
-        .map_err(|_| ToolFault::Output)?;
-    output.flush().map_err(|_| ToolFault::Output)
 }
 
 // The mode that the arguments name: that of `encode` where there are none.

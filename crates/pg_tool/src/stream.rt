@@ -1,19 +1,14 @@
 //! Raw bytes from the server, and a line for each message as soon as it is whole.
 
-use crate::fault::ToolFault;
-use crate::line::push_hex;
-use crate::run::write_text;
-use pg_base::Error;
-use pg_frames::FrameReader;
-use pg_receive::message::ReceivedMessage;
+use crate::LENGTH_FIELD;
+use pg_lines::{Fault, Hex, write_text};
+use pg_message::error::Error;
+use pg_message::message::{FrameReader, ReceivedMessage};
 use std::alloc::{AllocError, Global};
 use std::io::{self, Read, Write};
 
 /// The most bytes that are read at a time.
 const PIECE: usize = 8192;
-
-/// The bytes of a length field, which counts itself.
-const LENGTH_FIELD: usize = 4;
 
 /// Whether a stream gives more messages.
 #[derive(Clone, Copy, PartialEq, Eq)]
@@ -32,7 +27,7 @@ pub fn stream<R: Read, W: Write>(
     alloc: Global,
     input: &mut R,
     output: &mut W,
-) -> Result<(), ToolFault> {
+) -> Result<(), Fault> {
     let mut reader = FrameReader::new(alloc);
     let mut piece = [0; PIECE];
     for _ in 0..u64::MAX {
@@ -40,11 +35,11 @@ pub fn stream<R: Read, W: Write>(
             Ok(0) => break,
             Ok(count) => count,
             Err(error) if error.kind() == io::ErrorKind::Interrupted => continue,
-            Err(error) => return Err(ToolFault::of_read(error)),
+            Err(error) => return Err(Fault::of_read(error)),
         };
         reader
             .feed(&piece[..count])
-            .map_err(|_| ToolFault::OutOfMemory)?;
+            .map_err(|_| Fault::OutOfMemory)?;
         let mut lines = String::new(alloc);
         let progress = push_lines(alloc, &mut reader, &mut lines);
         write_text(output, lines.as_str())?;
@@ -67,7 +62,7 @@ fn push_lines(
     alloc: Global,
     reader: &mut FrameReader,
     lines: &mut String,
-) -> Result<Progress, ToolFault> {
+) -> Result<Progress, Fault> {
     loop {
         match reader.next_message() {
             Ok(Some(message)) => lines.push_str(line_of(alloc, &message)?.as_str())?,
@@ -76,16 +71,13 @@ fn push_lines(
                 lines.push_str(format!(in alloc; "{fault}\n")?.as_str())?;
                 return Ok(Progress::Stopped);
             }
-            Err(Error::OutOfMemory) => return Err(ToolFault::OutOfMemory),
+            Err(Error::OutOfMemory) => return Err(Fault::OutOfMemory),
         }
     }
 }
 
-fn line_of(alloc: Global, message: &ReceivedMessage) -> Result<String, ToolFault> {
+fn line_of(alloc: Global, message: &ReceivedMessage) -> Result<String, AllocError> {
     let name = message.format.name();
     let length = message.contents.len().saturating_add(LENGTH_FIELD);
-    let mut line = format!(in alloc; "{name} {length} ")?;
-    push_hex(alloc, message.contents.as_slice(), &mut line)?;
-    line.push('\n')?;
-    Ok(line)
+    format!(in alloc; "{name} {length} {}\n", Hex(message.contents.as_slice()))
 }

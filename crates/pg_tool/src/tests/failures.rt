@@ -1,8 +1,8 @@
-//! What a failing input, output or error stream leaves, and the words and statuses of faults.
+//! What a failing input, output or error stream leaves, and its status.
 
-use crate::fault::ToolFault;
 use crate::run::{Mode, run, start};
 use crate::tests::{OUT_OF_MEMORY, ROOM, unless_memory, words};
+use pg_lines::Fault;
 use std::alloc::{AllocError, Global};
 use std::io::{self, Read, Write};
 use std::process::Abort;
@@ -69,7 +69,7 @@ fn a_failed_read_is_reported_and_nothing_is_written(rt: HostRuntime) -> Result<(
             let mut output = Vec::new(rt.alloc());
             let result = run(rt.alloc(), mode, &mut reader, &mut output);
             assert!(rt; output.is_empty());
-            assert_eq!(rt; unless_memory(result)?, Err(ToolFault::Input));
+            assert_eq!(rt; unless_memory(result)?, Err(Fault::Input));
         }
     }
     Ok(())
@@ -91,7 +91,7 @@ fn a_failed_write_leaves_a_beginning_of_the_output(rt: HostRuntime) -> Result<()
         if writer.taken.contains(&b'r') {
             return Err(AllocError.into());
         }
-        assert_eq!(rt; result, Err(ToolFault::Output));
+        assert_eq!(rt; result, Err(Fault::Output));
         assert_eq!(rt; writer.taken.as_slice(), &whole[..room]);
     }
     Ok(())
@@ -172,21 +172,6 @@ fn a_fault_that_cannot_be_reported_keeps_its_status(rt: HostRuntime) -> Result<(
             return Err(AllocError.into());
         }
         assert_eq!(rt; status, expected);
-    }
-    Ok(())
-}
-
-#[test]
-fn statuses_and_words_of_faults(rt: HostRuntime) -> Result<(), Fail> {
-    let cases = [
-        (ToolFault::BadLine(7), 1, "line 7: bad command"),
-        (ToolFault::Input, 3, "input failed"),
-        (ToolFault::Output, 3, "output failed"),
-        (ToolFault::OutOfMemory, 3, "out of memory"),
-    ];
-    for (fault, status, words) in cases {
-        assert_eq!(rt; fault.status(), status);
-        assert_eq!(rt; fault.to_string(rt.alloc())?.as_str(), words);
     }
     Ok(())
 }

@@ -1,9 +1,9 @@
 //! The lines of a stream, when they can be seen, and what stands after a fault of the program's own.
 
-use crate::fault::ToolFault;
 use crate::run::{Mode, run, start};
 use crate::tests::failures::{FailingReader, FailingWriter};
 use crate::tests::{OUT_OF_MEMORY, ROOM, unless_memory, words};
+use pg_lines::Fault;
 use std::alloc::AllocError;
 use std::cell::Cell;
 use std::io::{self, Read, Write};
@@ -133,7 +133,7 @@ fn lines_stand_after_a_failed_read(rt: HostRuntime) -> Result<(), Fail> {
         };
         let mut output = Vec::with_capacity(rt.alloc(), ROOM)?;
         let result = run(rt.alloc(), Mode::Stream, &mut reader, &mut output);
-        assert_eq!(rt; unless_memory(result)?, Err(ToolFault::Input));
+        assert_eq!(rt; unless_memory(result)?, Err(Fault::Input));
         let lines = match calls {
             0..=5 => "",
             6..=16 => READY,
@@ -150,7 +150,7 @@ fn a_failed_write_leaves_a_beginning_of_the_lines(rt: HostRuntime) -> Result<(),
         let mut writer = FailingWriter::new(rt.alloc(), room)?;
         let mut input = MESSAGES;
         let result = run(rt.alloc(), Mode::Stream, &mut input, &mut writer);
-        assert_eq!(rt; unless_memory(result)?, Err(ToolFault::Output));
+        assert_eq!(rt; unless_memory(result)?, Err(Fault::Output));
         assert_eq!(rt; writer.taken.as_slice(), &BOTH.as_bytes()[..room]);
     }
     Ok(())
