@@ -1,15 +1,9 @@
 //! The line that the program prints for a tag and a body.
 
-use crate::fault::AnswerFault;
-use crate::line::TaggedBody;
 use bytes::Bytes;
-use pg_base::{BackendMessageFormat, Error};
-use pg_receive::error::PgDatabaseError;
-use pg_receive::message::{
-    Authentication, BackendKeyData, BackendMessage, CommandComplete, CopyData, CopyDone,
-    CopyInResponse, CopyOutResponse, DataRow, Notice, Notification, ParameterDescription,
-    ParameterStatus, ReadyForQuery, ReceivedMessage, RowDescription,
-};
+use pg_lines::{Fault, TaggedBody};
+use pg_message::error::Error;
+use pg_message::message::{BackendMessageFormat, ReceivedMessage, ServerMessage};
 use std::alloc::{AllocError, Global};
 
 /// A decoded message whose parts can be printed.
@@ -20,11 +14,7 @@ pub trait Answer {
 
 /// Appends the name of a message, and `ok` and its parts, or `err`, or `untyped` where no type decodes
 /// it. An unknown tag is `UNKNOWN err`.
-pub fn push_answer(
-    alloc: Global,
-    message: TaggedBody,
-    output: &mut String,
-) -> Result<(), AnswerFault> {
+pub fn push_answer(alloc: Global, message: TaggedBody, output: &mut String) -> Result<(), Fault> {
     let TaggedBody { tag, body } = message;
     let Ok(format) = BackendMessageFormat::try_from_u8(tag) else {
         output.push_str("UNKNOWN err")?;
@@ -32,52 +22,41 @@ pub fn push_answer(
     };
     output.push_str(format.name())?;
     let contents = Bytes::from_vec(body)?;
-    push_decoded(alloc, ReceivedMessage { format, contents }, output)
-}
-
-fn push_decoded(
-    alloc: Global,
-    message: ReceivedMessage,
-    output: &mut String,
-) -> Result<(), AnswerFault> {
-    use BackendMessageFormat as Format;
-    match message.format {
-        Format::Authentication => push_typed::<Authentication>(alloc, message, output),
-        Format::BackendKeyData => push_typed::<BackendKeyData>(alloc, message, output),
-        Format::CommandComplete => push_typed::<CommandComplete>(alloc, message, output),
-        Format::CopyData => push_typed::<CopyData<Bytes>>(alloc, message, output),
-        Format::CopyDone => push_typed::<CopyDone>(alloc, message, output),
-        Format::CopyInResponse => push_typed::<CopyInResponse>(alloc, message, output),
-        Format::CopyOutResponse => push_typed::<CopyOutResponse>(alloc, message, output),
-        Format::DataRow => push_typed::<DataRow>(alloc, message, output),
-        Format::ErrorResponse => push_typed::<PgDatabaseError>(alloc, message, output),
-        Format::NoticeResponse => push_typed::<Notice>(alloc, message, output),
-        Format::NotificationResponse => push_typed::<Notification>(alloc, message, output),
-        Format::ParameterDescription => push_typed::<ParameterDescription>(alloc, message, output),
-        Format::ParameterStatus => push_typed::<ParameterStatus>(alloc, message, output),
-        Format::ReadyForQuery => push_typed::<ReadyForQuery>(alloc, message, output),
-        Format::RowDescription => push_typed::<RowDescription>(alloc, message, output),
-        Format::BindComplete
-        | Format::CloseComplete
-        | Format::EmptyQueryResponse
-        | Format::NoData
-        | Format::ParseComplete
-        | Format::PortalSuspended => Ok(output.push_str(" untyped")?),
-    }
-}
-
-fn push_typed<T: BackendMessage + Answer + Drop>(
-    alloc: Global,
-    message: ReceivedMessage,
-    output: &mut String,
-) -> Result<(), AnswerFault> {
-    match message.decode::<T>(alloc) {
-        Ok(value) => {
-            output.push_str(" ok")?;
-            value.push_parts(output)?;
-        }
+    match ServerMessage::decode(alloc, ReceivedMessage { format, contents }) {
+        Ok(message) => push_decoded(&message, output)?,
         Err(Error::Protocol { .. }) => output.push_str(" err")?,
-        Err(Error::OutOfMemory) => return Err(AnswerFault::OutOfMemory),
+        Err(Error::OutOfMemory) => return Err(Fault::OutOfMemory),
     }
     Ok(())
+}
+
+fn push_decoded(message: &ServerMessage, output: &mut String) -> Result<(), AllocError> {
+    match message {
+        ServerMessage::Authentication(request) => push_ok(request, output),
+        ServerMessage::BackendKeyData(key) => push_ok(key, output),
+        ServerMessage::CommandComplete(complete) => push_ok(complete, output),
+        ServerMessage::CopyData(data) => push_ok(data, output),
+        ServerMessage::CopyDone(done) => push_ok(done, output),
+        ServerMessage::CopyInResponse(response) => push_ok(response, output),
+        ServerMessage::CopyOutResponse(response) => push_ok(response, output),
+        ServerMessage::DataRow(row) => push_ok(row, output),
+        ServerMessage::ErrorResponse(error) => push_ok(error, output),
+        ServerMessage::NoticeResponse(notice) => push_ok(notice, output),
+        ServerMessage::NotificationResponse(notification) => push_ok(notification, output),
+        ServerMessage::ParameterDescription(description) => push_ok(description, output),
+        ServerMessage::ParameterStatus(status) => push_ok(status, output),
+        ServerMessage::ReadyForQuery(ready) => push_ok(ready, output),
+        ServerMessage::RowDescription(description) => push_ok(description, output),
+        ServerMessage::BindComplete
+        | ServerMessage::CloseComplete
+        | ServerMessage::EmptyQueryResponse
+        | ServerMessage::NoData
+        | ServerMessage::ParseComplete
+        | ServerMessage::PortalSuspended => output.push_str(" untyped"),
+    }
+}
+
+fn push_ok<T: Answer>(message: &T, output: &mut String) -> Result<(), AllocError> {
+    output.push_str(" ok")?;
+    message.push_parts(output)
 }

@@ -1,8 +1,9 @@
 //! The answers of Authentication.
 
 use crate::answer::Answer;
-use crate::write::{Hex, push_list, text};
-use pg_receive::message::{Authentication, AuthenticationSaslContinue};
+use crate::write::{push_list, text};
+use pg_lines::Hex;
+use pg_message::message::{Authentication, AuthenticationSaslContinue};
 use std::alloc::AllocError;
 
 impl Answer for Authentication {

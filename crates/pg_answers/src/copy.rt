@@ -1,9 +1,10 @@
 //! The answers of the messages of a COPY.
 
 use crate::answer::Answer;
-use crate::write::{Hex, push_list};
+use crate::write::push_list;
 use bytes::Bytes;
-use pg_receive::message::{CopyData, CopyDone, CopyInResponse, CopyOutResponse, CopyResponseData};
+use pg_lines::Hex;
+use pg_message::message::{CopyData, CopyDone, CopyInResponse, CopyOutResponse, CopyResponseData};
 use std::alloc::AllocError;
 
 impl Answer for CopyData<Bytes> {

@@ -5,8 +5,6 @@ mod answer;
 mod authentication;
 mod copy;
 mod error;
-mod fault;
-mod line;
 mod notice;
 mod rows;
 mod run;
@@ -16,7 +14,12 @@ mod write;
 use std::process::ExitCode;
 
 fn main(rt: HostRuntime) -> ExitCode {
-    ExitCode::from(run::start(rt.alloc(), rt.stdin(), &mut rt.stdout(), &mut rt.stderr()))
+    ExitCode::from(run::start(
+        rt.alloc(),
+        &mut rt.stdin(),
+        &mut rt.stdout(),
+        &mut rt.stderr(),
+    ))
 }
 
 #[cfg(test)]

@@ -1,8 +1,9 @@
 //! The answers of NoticeResponse.
 
 use crate::answer::Answer;
-use crate::write::{Hex, push_list, text};
-use pg_receive::message::Notice;
+use crate::write::{push_list, text};
+use pg_lines::Hex;
+use pg_message::message::Notice;
 use std::alloc::AllocError;
 use std::fmt;
 

@@ -1,8 +1,9 @@
 //! The answers of the messages on parameters, columns and rows.
 
 use crate::answer::Answer;
-use crate::write::{Hex, OrNone, push_list, text};
-use pg_receive::message::{DataRow, Field, ParameterDescription, RowDescription};
+use crate::write::{OrNone, push_list, text};
+use pg_lines::Hex;
+use pg_message::message::{DataRow, Field, ParameterDescription, RowDescription};
 use std::alloc::AllocError;
 use std::fmt;
 

@@ -1,8 +1,9 @@
 //! The answers of the messages on the session as a whole.
 
 use crate::answer::Answer;
-use crate::write::{Hex, text};
-use pg_receive::message::{
+use crate::write::text;
+use pg_lines::Hex;
+use pg_message::message::{
     BackendKeyData, CommandComplete, Notification, ParameterStatus, ReadyForQuery,
 };
 use std::alloc::AllocError;

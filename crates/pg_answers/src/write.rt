@@ -1,25 +1,10 @@
-//! Bytes, optional values and lists as text.
+//! Strings, optional values and lists as text.
 
 ghost use Rattle.std.specs.Iterator.{IsFinite};
 
+use pg_lines::Hex;
 use std::alloc::AllocError;
 use std::fmt;
-
-/// Bytes as lower hexadecimal digits, or `-` for no bytes.
-#[derive(Clone, Copy)]
-pub struct Hex<'a>(pub &'a [u8]);
-
-impl<'a> fmt::Display for Hex<'a> {
-    fn fmt<W: fmt::Write>(&self, f: &mut fmt::Formatter<W>) -> fmt::Result {
-        if self.0.is_empty() {
-            return write!(f, "-");
-        }
-        for byte in self.0 {
-            write!(f, "{byte:02x}")?;
-        }
-        Ok(())
-    }
-}
 
 /// The bytes of a string as hexadecimal digits.
 pub fn text(text: &str) -> Hex<'_> {
