@@ -4,11 +4,10 @@
 //! message is refused or is none of the six kinds of `add`, or memory runs out.
 
 use crate::sum::Sum;
-use pg_base::BackendMessageFormat;
-use pg_frames::FrameReader;
-use pg_receive::error::{PgDatabaseError, PgErrorPosition};
-use pg_receive::message::{
-    CommandComplete, DataRow, ParameterStatus, ReadyForQuery, ReceivedMessage, RowDescription,
+use pg_message::error::{PgDatabaseError, PgErrorPosition};
+use pg_message::message::{
+    CommandComplete, DataRow, FrameReader, ParameterStatus, ReadyForQuery, ReceivedMessage,
+    RowDescription, ServerMessage,
 };
 use std::alloc::Global;
 
@@ -74,30 +73,28 @@ fn add_messages(alloc: Global, reader: &mut FrameReader, sum: &mut Sum) -> Optio
 
 // Adds the tag and everything that the message's accessors return.
 fn add(alloc: Global, message: ReceivedMessage, sum: &mut Sum) -> Option<()> {
-    match message.format {
-        BackendMessageFormat::DataRow => add_row(alloc, message, sum),
-        BackendMessageFormat::RowDescription => add_columns(alloc, message, sum),
-        BackendMessageFormat::CommandComplete => add_complete(alloc, message, sum),
-        BackendMessageFormat::ReadyForQuery => add_ready(alloc, message, sum),
-        BackendMessageFormat::ErrorResponse => add_error(alloc, message, sum),
-        BackendMessageFormat::ParameterStatus => add_status(alloc, message, sum),
-        _ => None,
-    }
-}
-
-fn add_row(alloc: Global, message: ReceivedMessage, sum: &mut Sum) -> Option<()> {
-    sum.mix(u64::from(b'D'));
-    let row: DataRow = message.decode(alloc).ok()?;
-    sum.mix(row.len() as u64);
-    for index in 0..row.len() {
-        sum.touch_option(row.get(index));
+    match ServerMessage::decode(alloc, message).ok()? {
+        ServerMessage::DataRow(row) => add_row(&row, sum),
+        ServerMessage::RowDescription(description) => add_columns(&description, sum),
+        ServerMessage::CommandComplete(complete) => add_complete(&complete, sum),
+        ServerMessage::ReadyForQuery(ready) => add_ready(&ready, sum),
+        ServerMessage::ErrorResponse(error) => add_error(&error, sum),
+        ServerMessage::ParameterStatus(status) => add_status(&status, sum),
+        _ => return None,
     }
     Some(())
 }
 
-fn add_columns(alloc: Global, message: ReceivedMessage, sum: &mut Sum) -> Option<()> {
+fn add_row(row: &DataRow, sum: &mut Sum) {
+    sum.mix(u64::from(b'D'));
+    sum.mix(row.len() as u64);
+    for index in 0..row.len() {
+        sum.touch_option(row.get(index));
+    }
+}
+
+fn add_columns(description: &RowDescription, sum: &mut Sum) {
     sum.mix(u64::from(b'T'));
-    let description: RowDescription = message.decode(alloc).ok()?;
     for field in description.fields.iter() {
         sum.touch(field.name.as_bytes());
         sum.mix(field.relation_id.map_or(0, |oid| u64::from(oid.0)));
@@ -109,34 +106,26 @@ fn add_columns(alloc: Global, message: ReceivedMessage, sum: &mut Sum) -> Option
         sum.mix(u64::from(field.format.cast_unsigned()));
     }
     sum.mix(description.fields.len() as u64);
-    Some(())
 }
 
-fn add_complete(alloc: Global, message: ReceivedMessage, sum: &mut Sum) -> Option<()> {
+fn add_complete(complete: &CommandComplete, sum: &mut Sum) {
     sum.mix(u64::from(b'C'));
-    let complete: CommandComplete = message.decode(alloc).ok()?;
     sum.mix(complete.rows_affected());
-    Some(())
 }
 
-fn add_ready(alloc: Global, message: ReceivedMessage, sum: &mut Sum) -> Option<()> {
+fn add_ready(ready: &ReadyForQuery, sum: &mut Sum) {
     sum.mix(u64::from(b'Z'));
-    let ready: ReadyForQuery = message.decode(alloc).ok()?;
     sum.mix(ready.transaction_status as u64);
-    Some(())
 }
 
-fn add_status(alloc: Global, message: ReceivedMessage, sum: &mut Sum) -> Option<()> {
+fn add_status(status: &ParameterStatus, sum: &mut Sum) {
     sum.mix(u64::from(b'S'));
-    let status: ParameterStatus = message.decode(alloc).ok()?;
     sum.touch(status.name.as_bytes());
     sum.touch(status.value.as_bytes());
-    Some(())
 }
 
-fn add_error(alloc: Global, message: ReceivedMessage, sum: &mut Sum) -> Option<()> {
+fn add_error(error: &PgDatabaseError, sum: &mut Sum) {
     sum.mix(u64::from(b'E'));
-    let error: PgDatabaseError = message.decode(alloc).ok()?;
     sum.mix(error.severity() as u64);
     sum.touch(error.code().as_bytes());
     sum.touch(error.message().as_bytes());
@@ -155,7 +144,6 @@ fn add_error(alloc: Global, message: ReceivedMessage, sum: &mut Sum) -> Option<(
         None => sum.nothing(),
     }
     sum.text(error.routine());
-    Some(())
 }
 
 fn add_position(position: Option<PgErrorPosition<'_>>, sum: &mut Sum) {

@@ -5,7 +5,7 @@
 //! out, or `out` is too short.
 
 use crate::script::Script;
-use pg_send::message::{TaggedMessage, encode_all};
+use pg_message::message::{TaggedMessage, encode_all};
 use std::alloc::Global;
 
 /// Parses the script once, and encodes its messages one by one.
