@@ -1,6 +1,9 @@
 //! What lines are, what each spells, and the words and statuses of faults.
 
-use crate::{Fault, Hex, Lines, TaggedBodies, TaggedBody, hex_array, hex_bytes, tagged_body};
+use crate::{
+    Fault, Hex, Lines, TaggedBodies, TaggedBody, hex_array, hex_bytes, read_all, tagged_body,
+    write_text,
+};
 use std::alloc::AllocError;
 
 // The answer of a call, unless memory ran out.
@@ -130,6 +133,17 @@ fn a_bad_line_has_its_number(rt: HostRuntime) -> Result<(), AllocError> {
 }
 
 #[test]
+fn what_is_read_and_written(rt: HostRuntime) -> Result<(), AllocError> {
+    let input = unless_memory(read_all(rt.alloc(), &mut b"5a 49".as_slice()))?;
+    let input = input.as_ref().map(|input| input.as_slice());
+    assert_eq!(rt; input, Ok(b"5a 49".as_slice()));
+    let mut output = Vec::with_capacity(rt.alloc(), 64)?;
+    assert_eq!(rt; write_text(&mut output, "ok\n"), Ok(()));
+    assert_eq!(rt; output.as_slice(), b"ok\n".as_slice());
+    Ok(())
+}
+
+#[test]
 fn statuses_and_words_of_faults(rt: HostRuntime) -> Result<(), AllocError> {
     let cases = [
         (Fault::BadLine(7), 1, "line 7: bad command"),
@@ -140,6 +154,9 @@ fn statuses_and_words_of_faults(rt: HostRuntime) -> Result<(), AllocError> {
     for (fault, status, words) in cases {
         assert_eq!(rt; fault.status(), status);
         assert_eq!(rt; fault.to_string(rt.alloc())?.as_str(), words);
+        let mut errors = Vec::with_capacity(rt.alloc(), 64)?;
+        assert_eq!(rt; fault.report(&mut errors), status);
+        assert_eq!(rt; errors.strip_suffix(b"\n"), Some(words.as_bytes()));
     }
     Ok(())
 }
