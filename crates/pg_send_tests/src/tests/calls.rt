@@ -6,9 +6,9 @@ use super::refusing::{
     Adds, added, assert_adds, assert_all_or_a_beginning, assert_all_or_nothing, refuse_nth,
     unless_out_of_memory, was_refused,
 };
-use pg_send::message::{CopyFail, EncodeMessage, FrontendMessage, TaggedMessage, encode_frame};
 use pg_base::Error;
 use pg_base::io::ProtocolEncode;
+use pg_send::message::{CopyFail, EncodeMessage, FrontendMessage, TaggedMessage, encode_frame};
 use std::alloc::{AllocError, Global};
 use std::process::Abort;
 

@@ -2,8 +2,8 @@
 
 use super::ID;
 use super::refusing::unless_out_of_memory;
-use pg_send::message::*;
 use pg_base::io::{Oid, PgValueFormat, PortalId, StatementId};
+use pg_send::message::*;
 use std::alloc::{AllocError, Global};
 use std::process::Abort;
 

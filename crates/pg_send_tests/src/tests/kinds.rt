@@ -2,8 +2,8 @@
 //! Formats".
 
 use super::ID;
-use pg_send::message::*;
 use pg_base::io::{Oid, PgValueFormat, PortalId, StatementId};
+use pg_send::message::*;
 use std::alloc::{AllocError, Global};
 
 const FORMATS: &[PgValueFormat] = &[PgValueFormat::Text, PgValueFormat::Binary];

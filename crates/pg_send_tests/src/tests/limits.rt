@@ -2,9 +2,9 @@
 
 use super::frames::bind_of;
 use super::refusing::{refuse_nth, unless_out_of_memory, was_refused};
-use pg_send::message::*;
 use pg_base::io::{Oid, PgValueFormat, ProtocolEncode, StatementId};
 use pg_base::{Error, ProtocolFault};
+use pg_send::message::*;
 use std::alloc::{AllocError, Global};
 use std::process::Abort;
 

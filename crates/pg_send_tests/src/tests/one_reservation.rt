@@ -2,9 +2,9 @@
 //! request is refused, each message asks for its own, and no answer changes.
 
 use super::refusing::{MANY, added, refuse_from, refuse_nth, unless_out_of_memory, was_refused};
-use pg_send::message::{Parse, Query, Sync, TaggedMessage, encode_all};
 use pg_base::io::{Oid, StatementId};
 use pg_base::{Error, ProtocolFault};
+use pg_send::message::{Parse, Query, Sync, TaggedMessage, encode_all};
 use std::alloc::{AllocError, Global};
 use std::process::Abort;
 

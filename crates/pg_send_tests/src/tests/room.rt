@@ -3,8 +3,8 @@
 
 use super::kinds::{Check, Expected, check_each_kind};
 use super::refusing::{added, refuse_nth, unless_out_of_memory, was_refused};
-use pg_send::message::{FrontendMessage, encode_frame};
 use pg_base::Error;
+use pg_send::message::{FrontendMessage, encode_frame};
 use std::alloc::{AllocError, Global};
 use std::process::Abort;
 

@@ -3,8 +3,8 @@
 
 use super::kinds::{LETTERS_AND_BODIES, frame_of, tagged_kinds};
 use super::refusing::{MANY, added, refuse_nth, unless_out_of_memory, was_refused};
-use pg_send::message::{CopyFail, Query, TaggedMessage, encode_all};
 use pg_base::Error;
+use pg_send::message::{CopyFail, Query, TaggedMessage, encode_all};
 use std::alloc::{AllocError, Global};
 use std::process::Abort;
 

@@ -2,9 +2,9 @@
 //! SSLRequest.
 
 use super::refusing::{Adds, assert_adds, assert_all_or_nothing};
-use pg_send::message::{SslRequest, Startup};
 use pg_base::Error;
 use pg_base::io::ProtocolEncode;
+use pg_send::message::{SslRequest, Startup};
 use std::alloc::{AllocError, Global};
 use std::process::Abort;
 

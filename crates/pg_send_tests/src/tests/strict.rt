@@ -2,9 +2,9 @@
 //! for memory refused in turn.
 
 use super::refusing::{MANY, refuse_nth, was_refused};
-use pg_send::message::*;
 use pg_base::io::{Oid, PgValueFormat, PortalId, StatementId};
 use pg_base::{Error, ProtocolFault};
+use pg_send::message::*;
 use std::alloc::{AllocError, Global};
 use std::process::Abort;
 

@@ -1,9 +1,9 @@
 //! Values that are collected for a Bind.
 
 use super::refusing::{MANY, refuse_nth, was_refused};
-use pg_send::message::*;
 use pg_base::Error;
 use pg_base::io::{PortalId, StatementId};
+use pg_send::message::*;
 use std::alloc::{AllocError, Global};
 use std::process::Abort;
 

@@ -4,8 +4,8 @@ ghost use Rattle.std.specs.Prelude.{◌^◌, [], ◌∷◌, replicate};
 ghost use Rattle.pg_send.specs.CopyData.{copy_data_law};
 
 use super::refusing::{Adds, assert_adds, assert_all_or_nothing, refuse_nth, was_refused};
-use pg_send::message::{FrontendMessage, encode_frame};
 use pg_base::{Error, FrontendMessageFormat, ProtocolFault};
+use pg_send::message::{FrontendMessage, encode_frame};
 use std::alloc::AllocError;
 
 // That many zero bytes.
