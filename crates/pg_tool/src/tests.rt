@@ -263,14 +263,8 @@ fn decodes(rt: HostRuntime) -> Result<(), Fail> {
     for (input, output) in cases {
         expect(&rt, &["decode"], input, 0, output, "")?;
     }
-    expect(
-        &rt,
-        &["decode"],
-        "5a 45\n5a\n",
-        1,
-        "",
-        "line 2: bad command\n",
-    )?;
+    let words = "line 2: bad command\n";
+    expect(&rt, &["decode"], "5a 45\n5a\n", 1, "", words)?;
     Ok(())
 }
 
