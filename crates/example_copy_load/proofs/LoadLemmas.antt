@@ -1,6 +1,6 @@
-use Rattle.std.proofs.Common.{◌≡◌, ℕ, ◌≤◌, List, [], ◌∷◌, ◌++◌, length, refl, sym, ◌∙◌, ap, subst, append_assoc, append-nil}
+use Rattle.std.proofs.Common.{◌≡◌, ℕ, ◌≤◌, List, [], ◌∷◌, ◌++◌, length, refl, sym, ◌∙◌, ap, subst, append_assoc, append-nil, Result, Ok, Err, OnErr}
 use Rattle.pg_message.specs.Message.{Begins, Cut, frame}
-use Rattle.example_copy_load.specs.Load.{joined, copy_data, AreWithin, AddsCopyOf}
+use Rattle.example_copy_load.specs.Load.{joined, copy_data, AreWithin, AddsCopyOf, AddsFrontOf}
 
 -- a message begins the same where more bytes follow
 pub begins_longer : (bytes more body rest : List ℕ) (tag : ℕ) → Begins bytes tag body rest → Begins (bytes ++ more) tag body (rest ++ more)
@@ -58,3 +58,16 @@ copied_part most rows rest old new part after newer c e k n cut =
 pub copied_all : (most : ℕ) (rows rest old new : List ℕ) → Copied most rows rest old new → rest ≡ [] → AddsCopyOf most rows old new
 copied_all most rows rest old new c e =
     subst (λ (xs : List ℕ). AddsCopyOf most xs old new) (sym (c.splits ∙ (ap (λ (xs : List ℕ). c.taken ++ xs) e ∙ append-nil c.taken))) c.copies
+
+-- what holds anyway holds where a call is refused
+pub on_err_anyway : {A E : Type 0} (result : Result A E) (P : Type 0) → P → OnErr result P
+on_err_anyway (Ok x) P p = tt
+on_err_anyway (Err e) P p = p
+
+pub copied_front : (most : ℕ) (rows rest old new newer : List ℕ) → Copied most rows rest old new → newer ≡ new → AddsFrontOf most rows old newer
+copied_front most rows rest old new newer c e = record {
+  front = c.taken;
+  rest = rest;
+  splits = c.splits;
+  copies = subst (AddsCopyOf most c.taken old) (sym e) c.copies;
+}

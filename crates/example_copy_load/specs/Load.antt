@@ -26,3 +26,10 @@ pub record AddsCopyOf (most : ℕ) (rows old new : List ℕ) : Type 0 where
   pub cut : Cut added (copy_data bodies)
   pub within : AreWithin most bodies
   pub joins : joined bodies ≡ rows
+
+-- what is added is such a copy of a front of the rows
+pub record AddsFrontOf (most : ℕ) (rows old new : List ℕ) : Type 0 where
+  pub front : List ℕ
+  pub rest : List ℕ
+  pub splits : rows ≡ front ++ rest
+  pub copies : AddsCopyOf most front old new

@@ -2,7 +2,7 @@
 
 ghost use Rattle.std.specs.Prelude.{◌≡◌, ◌<◌, [], ◌∷◌, ◌++◌, OnOk, OnErr};
 ghost use Rattle.pg_message.specs.Message.{frame};
-ghost use Rattle.example_copy_load.specs.Load.{AddsCopyOf};
+ghost use Rattle.example_copy_load.specs.Load.{AddsCopyOf, AddsFrontOf};
 
 use crate::error::LoadError;
 use pg_message::error::Error;
@@ -90,7 +90,8 @@ impl<'a> Load<'a> {
 pub fn encode_rows(rows: &[u8], most: usize, output: &mut Vec<u8>) -> Result<(), Error>
     requires { 0 < most }
     // Tags and lengths cut what is added into CopyData messages, and their bodies joined are the rows.
-    ensures { OnOk result (AddsCopyOf most rows.now output.old.items output.new.items) }
+    ensures ok { OnOk result (AddsCopyOf most rows.now output.old.items output.new.items) }
+    ensures err { OnErr result (AddsFrontOf most rows.now output.old.items output.new.items) }
 {
     let mut rest = rows;
     'parts: while !rest.is_empty() {

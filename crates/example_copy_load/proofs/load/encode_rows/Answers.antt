@@ -1,5 +1,5 @@
 use Rattle.std.proofs.Common.{rules, ◌≡◌, ◌++◌, ◌≤◌, length}
-use Rattle.example_copy_load.proofs.LoadLemmas.{copied_none, copied_part}
+use Rattle.example_copy_load.proofs.LoadLemmas.{copied_none, copied_part, copied_front, on_err_anyway}
 use Rattle.example_copy_load.proofs.load.encode_rows.Goals as goal
 
 pub parts-init : goal.parts-init
@@ -13,3 +13,7 @@ parts-preserved c =
     let splits : c.parts.rest.now ≡ part ++ after = search rules in
     let within : length part ≤ c.args.most = search rules in
     copied_part c.args.most c.args.rows.now c.parts.rest.now c.args.output.now.items c.parts.output.items part after c.encode_frame.new.buf.items c.parts.invariant splits within encodes.encodes.ok encodes.cut.cut
+
+pub returns-in_err-encode_frame-clause-err : goal.returns-in_err-encode_frame-clause-err
+returns-in_err-encode_frame-clause-err c =
+    on_err_anyway c.from_residual.result _ (copied_front c.args.most c.args.rows.now c.parts.rest.now c.args.output.now.items c.parts.output.items c.encode_frame.new.buf.items c.parts.invariant c.in_err-encode_frame.ensures.encodes.encodes.err)
