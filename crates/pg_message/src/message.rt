@@ -8,10 +8,11 @@ pub use pg_receive::message::{
     AuthenticationSaslFinal, BackendKeyData, BackendMessage, CommandComplete, CopyInResponse,
     CopyOutResponse, CopyResponseData, DataRow, Field, Fields, Notice, Notification,
     ParameterDescription, ParameterStatus, ReadyForQuery, ReceivedMessage, RowDescription,
-    SaslMechanisms, ServerMessage, TransactionStatus,
+    SaslMechanisms, TransactionStatus,
 };
 pub use pg_send::message::{
     Bind, BindValues, Close, CopyFail, Describe, EncodeMessage, Execute, Flush, FrontendMessage,
     Parse, Password, Query, SaslInitialResponse, SaslResponse, SslRequest, Startup, Sync,
     TaggedMessage, Terminate, encode_all, encode_frame, encode_strict,
 };
+pub use pg_server_message::message::ServerMessage;

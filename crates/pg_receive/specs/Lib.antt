@@ -9,4 +9,3 @@ pub mod ParameterDescription
 pub mod ParameterStatus
 pub mod ReadyForQuery
 pub mod RowDescription
-pub mod ServerMessage

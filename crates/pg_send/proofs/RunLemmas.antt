@@ -5,12 +5,12 @@ use Rattle.pg_base.specs.declared.error.ProtocolFault.{ProtocolFault}
 use Rattle.pg_base.specs.declared.error.Error.TheVariants.{Protocol, OutOfMemory}
 use Rattle.pg_base.specs.Cutting.{Cut, IsCutInto}
 use Rattle.pg_base.proofs.CuttingLemmas.{cut_frame, is_cut_into}
-use Rattle.pg_send.specs.Message.{Message, law_of, tag, body, hint, fault, text, CanRoundTrip, RoundTrips}
+use Rattle.pg_request.specs.Message.{Message, law_of, tag, body, hint, fault, text, CanRoundTrip, RoundTrips}
 use Rattle.pg_send.specs.Run.{IsAnswerOf, IsStrictAnswer, EachRoundTrips, Answer, added, added_by, accepted, run_room, room_by, EncodesRun, AreAnswers, AllRoundTrip, NoneRanOut, RanOutWhereShort}
 use Rattle.pg_send.specs.declared.message.tagged.TaggedMessage.{TaggedMessage}
 use Rattle.pg_send.specs.TaggedMessage.{message_of, messages_of}
-use Rattle.pg_send.proofs.FrameLemmas.{len_fits, accepted_fits}
-use Rattle.pg_send.proofs.MessageLemmas.{hint_covers}
+use Rattle.pg_request.proofs.FrameLemmas.{len_fits, accepted_fits}
+use Rattle.pg_request.proofs.MessageLemmas.{hint_covers}
 
 -- memory ran out for a message only where there was less room than its hint and five
 abbrev pub RanOutIfShort : ℕ → ℕ → Message → Answer → Type 0

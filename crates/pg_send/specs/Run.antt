@@ -5,7 +5,7 @@ use Rattle.pg_base.specs.declared.error.Error.TheVariants.{Protocol, OutOfMemory
 use Rattle.std.specs.declared.alloc.Global.{Global}
 use Rattle.pg_base.specs.Cutting.{IsCutInto}
 use Rattle.pg_base.specs.Encode.{IsAnswer}
-use Rattle.pg_send.specs.Message.{Message, tag, body, hint, fault, text, CanRoundTrip, round_trip_fault, RoundTrips}
+use Rattle.pg_request.specs.Message.{Message, tag, body, hint, fault, text, CanRoundTrip, round_trip_fault, RoundTrips}
 
 abbrev pub Answer : Type 0
 Answer = Result (Unit {0}) Error

@@ -1,21 +1,15 @@
 -- The plain value of each tagged message of the program.
 use Rattle.std.specs.Prelude.{List, map, string_bytes}
-use Rattle.pg_send.specs.declared.message.password.Password.{Password}
-use Rattle.pg_send.specs.declared.message.password.Password.TheVariants as password
 use Rattle.pg_send.specs.declared.message.tagged.TaggedMessage.{TaggedMessage}
 use Rattle.pg_send.specs.declared.message.tagged.TaggedMessage.TheVariants as tagged
-use Rattle.pg_send.specs.Bind.{bind_fields}
-use Rattle.pg_send.specs.Close.{close_target}
-use Rattle.pg_send.specs.Describe.{describe_target}
-use Rattle.pg_send.specs.Execute.{execute_fields}
-use Rattle.pg_send.specs.Message as message
-use Rattle.pg_send.specs.Message.{Message}
-use Rattle.pg_send.specs.Parse.{parse_fields}
-use Rattle.pg_send.specs.SaslInitialResponse.{sasl_initial_fields}
-
-abbrev pub password_message : Password → Message
-password_message (password.Cleartext text) = message.CleartextPassword text.now
-password_message (password.Md5 digest) = message.Md5Password digest
+use Rattle.pg_request.specs.Bind.{bind_fields}
+use Rattle.pg_request.specs.Close.{close_target}
+use Rattle.pg_request.specs.Describe.{describe_target}
+use Rattle.pg_request.specs.Execute.{execute_fields}
+use Rattle.pg_request.specs.Message as message
+use Rattle.pg_request.specs.Message.{Message, password_message}
+use Rattle.pg_request.specs.Parse.{parse_fields}
+use Rattle.pg_request.specs.SaslInitialResponse.{sasl_initial_fields}
 
 abbrev pub message_of : TaggedMessage → Message
 message_of (tagged.Bind bind) = message.Bind (bind_fields bind)

@@ -1,5 +1,4 @@
-//! The messages that a client sends to a PostgreSQL server, as bytes.
+//! Any message to a PostgreSQL server as one value, and runs of them into one buffer.
 #![tactic(auto)]
 
-pub mod laws;
 pub mod message;

@@ -10,7 +10,6 @@ mod parameter_description;
 mod parameter_status;
 mod ready_for_query;
 mod row_description;
-mod server_message;
 
 pub use authentication::{
     Authentication, AuthenticationMd5Password, AuthenticationSasl, AuthenticationSaslContinue,
@@ -29,4 +28,3 @@ pub use pg_response::message::{
 };
 pub use ready_for_query::{ReadyForQuery, TransactionStatus};
 pub use row_description::{Field, RowDescription};
-pub use server_message::ServerMessage;

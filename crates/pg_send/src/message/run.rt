@@ -2,8 +2,8 @@
 
 ghost use Rattle.std.specs.Prelude.{◌≡◌, ◌+◌, ◌<◌, ◌≤◌, [], ◌∷◌, ◌++◌, length, None, OnOk, OnErr, IfOk, IsErrOf, IsOkUnless, vec_len, vec_capacity};
 ghost use Rattle.pg_base.specs.declared.error.Error.TheVariants.{OutOfMemory};
-ghost use Rattle.pg_send.specs.Frame.{saturated};
-ghost use Rattle.pg_send.specs.Message.{body, fault, hint, text, CanRoundTrip, RoundTrips};
+ghost use Rattle.pg_request.specs.Frame.{saturated};
+ghost use Rattle.pg_request.specs.Message.{body, fault, hint, text, CanRoundTrip, RoundTrips};
 ghost use Rattle.pg_send.specs.Run.{added, added_by, room_by, run_room, AreAnswers, IsLimitAnswer, IsStrictAnswer, IsAnswerOf, EachRoundTrips, AllRoundTrip, PlansOne, NoneRanOut, RanOutWhereShort, EncodesRun};
 ghost use Rattle.pg_send.specs.TaggedMessage.{message_of, messages_of};
 

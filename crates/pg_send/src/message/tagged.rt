@@ -1,8 +1,8 @@
 //! Any message that has a tag.
 
 ghost use Rattle.std.specs.Prelude.{◌≡◌, ◌+◌, ◌≤◌, ◌++◌, length, Some, None, OnOk, IfErr, vec_len, vec_capacity};
-ghost use Rattle.pg_send.specs.Frame.{EncodesMessage, room_or_fault};
-ghost use Rattle.pg_send.specs.Message.{law_of, body, fault, hint, text, IsInRange, CanRoundTrip, round_trip_fault, RoundTrips};
+ghost use Rattle.pg_request.specs.Frame.{EncodesMessage, room_or_fault};
+ghost use Rattle.pg_request.specs.Message.{law_of, body, fault, hint, text, IsInRange, CanRoundTrip, round_trip_fault, RoundTrips};
 ghost use Rattle.pg_send.specs.TaggedMessage.{message_of};
 
 use crate::message::{

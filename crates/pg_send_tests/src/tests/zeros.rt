@@ -1,7 +1,7 @@
 //! Messages of any length, and one that asks for more room than there is.
 
 ghost use Rattle.std.specs.Prelude.{◌^◌, [], ◌∷◌, replicate};
-ghost use Rattle.pg_send.specs.CopyData.{copy_data_law};
+ghost use Rattle.pg_request.specs.CopyData.{copy_data_law};
 
 use super::refusing::{Adds, assert_adds, assert_all_or_nothing, refuse_nth, was_refused};
 use pg_base::{Error, FrontendMessageFormat, ProtocolFault};

@@ -4,7 +4,8 @@ ghost use Rattle.std.specs.Prelude.{◌<◌, length};
 
 use bytes::Bytes;
 use pg_base::{BackendMessageFormat, Error, ProtocolFault};
-use pg_receive::message::{ReceivedMessage, ServerMessage};
+use pg_receive::message::ReceivedMessage;
+use pg_server_message::message::ServerMessage;
 use std::test::Fail;
 
 fn read(rt: &HostRuntime, tag: u8, body: &'static [u8]) -> Result<ServerMessage, Error>

@@ -1,5 +1,5 @@
 use Rattle.pg_send.specs.TaggedMessage.{message_of}
-use Rattle.pg_send.proofs.MessageLemmas.{round_trips_where_ok}
+use Rattle.pg_request.proofs.MessageLemmas.{round_trips_where_ok}
 use Rattle.pg_send.proofs.message.run.put_if_accepted.Goals as goal
 
 pub returns-in-Ok-clause-round_trip : goal.returns-in-Ok-clause-round_trip

@@ -1,5 +1,5 @@
 use Rattle.pg_send.specs.TaggedMessage.{message_of}
-use Rattle.pg_send.proofs.MessageLemmas.{round_trips_if_ok}
+use Rattle.pg_request.proofs.MessageLemmas.{round_trips_if_ok}
 use Rattle.pg_send.proofs.message.tagged.TaggedMessage.encode.Goals as goal
 
 pub returns-clause-round_trip : goal.returns-clause-round_trip

@@ -1,0 +1,11 @@
+pub mod BindLemmas
+pub mod CountedLemmas
+pub mod ExecuteLemmas
+pub mod FrameLemmas
+pub mod MessageLemmas
+pub mod ParseLemmas
+pub mod PasswordLemmas
+pub mod PowerLemmas
+pub mod RoundTripLemmas
+pub mod SaslInitialResponseLemmas
+pub mod TargetLemmas

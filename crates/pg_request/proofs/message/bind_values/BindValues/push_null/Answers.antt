@@ -1,0 +1,10 @@
+use Rattle.std.proofs.Common.{add-one}
+use Rattle.pg_base.specs.Numbers.{be32}
+use Rattle.pg_request.specs.BindValues.{null_length}
+use Rattle.pg_request.proofs.RoundTripLemmas.{values_push, a_null}
+use Rattle.pg_request.proofs.message.bind_values.BindValues.push_null.Goals as goal
+
+pub invariant_of-self-2 : goal.invariant_of-self-2
+invariant_of-self-2 c =
+    rw (c.put_u32.ensures.items, c.reserve.ensures.items, add-one)
+    (values_push c.self.inside.count c.self.inside.bytes.items (be32 null_length) c.self.invariant a_null)

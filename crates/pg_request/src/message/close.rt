@@ -1,0 +1,52 @@
+//! A prepared statement or a portal that is closed.
+
+ghost use Rattle.pg_request.specs.Close.{close_law, close_target};
+
+use crate::message::FrontendMessage;
+use crate::message::target::{portal_len, put_portal, put_statement, statement_len};
+use pg_base::io::{PortalId, StatementId};
+use pg_base::{FrontendMessageFormat, ProtocolFault};
+
+/// Asks the server to close a prepared statement or a portal. Documentation: "Message Formats", Close
+/// (F).
+#[derive(Debug, Drop)]
+pub enum Close {
+    Statement(StatementId),
+    Portal(PortalId),
+}
+
+impl FrontendMessage for Close {
+    const FORMAT: FrontendMessageFormat = FrontendMessageFormat::Close;
+
+    ghost law = { λ close. close_law (close_target close) };
+
+    fn tag(&self) -> u8 {
+        Self::FORMAT as u8
+    }
+
+    fn body_len(&self) -> usize {
+        match self {
+            Close::Statement(id) => statement_len(*id),
+            Close::Portal(id) => portal_len(*id),
+        }
+    }
+
+    fn count_fault(&self) -> Option<ProtocolFault> {
+        None
+    }
+
+    fn room_for(&self, len: usize) -> usize {
+        len
+    }
+
+    fn put_body(&self, buf: &mut Vec<u8>) {
+        match self {
+            Close::Statement(id) => put_statement(*id, buf),
+            Close::Portal(id) => put_portal(*id, buf),
+        }
+    }
+
+    ghost use Rattle.std.proofs.Common.{arith};
+
+    ghost enough = { λ close h. Prim.grind (arith) };
+}
