@@ -6,47 +6,85 @@ use bytes::Bytes;
 use pg_base::{Error, ErrorKind};
 use pg_receive::error::{PgDatabaseError, PgErrorPosition, error_codes};
 use pg_receive::message::{BackendMessage, PgSeverity};
+use std::alloc::Global;
+use std::process::Abort;
 use std::test::Fail;
 
-fn error_of(rt: &HostRuntime, body: &'static [u8]) -> Result<PgDatabaseError, Error>
+fn error_of(alloc: Global, body: &'static [u8]) -> Result<PgDatabaseError, Error>
     requires { length body.now < 300 }
 {
-    PgDatabaseError::decode_body(rt.alloc(), Bytes::from_static(body))
+    PgDatabaseError::decode_body(alloc, Bytes::from_static(body))
+}
+
+const EVERY_FIELD: &[u8] =
+    b"SERROR\0VERROR\0C23505\0Mboom\0Ddetail\0Hhint\0P7\0Wwhere\0sschema\0ttable\0ccolumn\0dtype\0nconstraint\0Ffile.c\0L12\0Rroutine\0\0";
+
+#[test]
+fn what_went_wrong(rt: HostRuntime) -> Result<(), Fail> {
+    assert!(rt; EVERY_FIELD.len() < 300);
+    let error = error_of(rt.alloc(), EVERY_FIELD)?;
+    assert_eq!(rt; error.severity(), PgSeverity::Error);
+    assert_eq!(rt;
+        [error.code(), error.message()],
+        [error_codes::UNIQUE_VIOLATION, "boom"]
+    );
+    assert_eq!(rt;
+        [error.detail(), error.hint()],
+        [Some("detail"), Some("hint")]
+    );
+    assert_eq!(rt; error.position(), Some(PgErrorPosition::Original(7)));
+    Ok(())
 }
 
 #[test]
-fn every_accessor(rt: HostRuntime) -> Result<(), Fail> {
-    let error = error_of(
-        &rt,
-        b"SERROR\0VERROR\0C23505\0Mboom\0Ddetail\0Hhint\0P7\0Wwhere\0sschema\0ttable\0ccolumn\0dtype\0nconstraint\0Ffile.c\0L12\0Rroutine\0\0",
-    )?;
-    assert_eq!(rt; error.severity(), PgSeverity::Error);
-    assert_eq!(rt; error.code(), error_codes::UNIQUE_VIOLATION);
-    assert_eq!(rt; error.message(), "boom");
-    assert_eq!(rt; error.detail(), Some("detail"));
-    assert_eq!(rt; error.hint(), Some("hint"));
-    assert_eq!(rt; error.position(), Some(PgErrorPosition::Original(7)));
-    assert_eq!(rt; error.where_(), Some("where"));
-    assert_eq!(rt; error.schema(), Some("schema"));
-    assert_eq!(rt; error.table(), Some("table"));
-    assert_eq!(rt; error.column(), Some("column"));
-    assert_eq!(rt; error.data_type(), Some("type"));
-    assert_eq!(rt; error.constraint(), Some("constraint"));
-    assert_eq!(rt; error.file(), Some("file.c"));
+fn where_it_was_found(rt: HostRuntime) -> Result<(), Fail> {
+    assert!(rt; EVERY_FIELD.len() < 300);
+    let error = error_of(rt.alloc(), EVERY_FIELD)?;
+    assert_eq!(rt;
+        [error.where_(), error.file(), error.routine()],
+        [Some("where"), Some("file.c"), Some("routine")]
+    );
     assert_eq!(rt; error.line(), Some(12));
-    assert_eq!(rt; error.routine(), Some("routine"));
+    Ok(())
+}
+
+#[test]
+fn what_it_is_about(rt: HostRuntime) -> Result<(), Fail> {
+    assert!(rt; EVERY_FIELD.len() < 300);
+    let error = error_of(rt.alloc(), EVERY_FIELD)?;
+    assert_eq!(rt;
+        [error.schema(), error.table(), error.column()],
+        [Some("schema"), Some("table"), Some("column")]
+    );
+    assert_eq!(rt;
+        [error.data_type(), error.constraint()],
+        [Some("type"), Some("constraint")]
+    );
     Ok(())
 }
 
 #[test]
 fn an_extension_that_exists(rt: HostRuntime) -> Result<(), Fail> {
     let error = error_of(
-        &rt,
+        rt.alloc(),
         b"SNOTICE\0VNOTICE\0C42710\0Mextension \"uuid-ossp\" already exists, skipping\0Fextension.c\0L1656\0RCreateExtension\0\0",
     )?;
     assert_eq!(rt; error.file(), Some("extension.c"));
     assert_eq!(rt; error.line(), Some(1656));
     assert_eq!(rt; error.routine(), Some("CreateExtension"));
+    Ok(())
+}
+
+fn assert_position(
+    rt: &impl Abort,
+    alloc: Global,
+    body: &'static [u8],
+    position: Option<PgErrorPosition<'_>>,
+) -> Result<(), Fail>
+    requires { length body.now < 300 }
+{
+    let error = error_of(alloc, body)?;
+    assert_eq!(rt; error.position(), position);
     Ok(())
 }
 
@@ -56,30 +94,40 @@ fn positions(rt: HostRuntime) -> Result<(), Fail> {
         position: 7,
         query: "SELECT",
     };
-    let error = error_of(&rt, b"Px\0p7\0qSELECT\0\0")?;
-    assert_eq!(rt; error.position(), Some(internal));
-    let error = error_of(&rt, b"P+3x\0\0")?;
-    assert_eq!(rt; error.position(), Some(PgErrorPosition::Original(3)));
-    let error = error_of(&rt, b"P-0\0\0")?;
-    assert_eq!(rt; error.position(), Some(PgErrorPosition::Original(0)));
-    let error = error_of(&rt, b"p7\0\0")?;
-    assert_eq!(rt; error.position(), None);
-    Ok(())
+    assert_position(&rt, rt.alloc(), b"Px\0p7\0qSELECT\0\0", Some(internal))?;
+    assert_position(
+        &rt,
+        rt.alloc(),
+        b"P+3x\0\0",
+        Some(PgErrorPosition::Original(3)),
+    )?;
+    assert_position(
+        &rt,
+        rt.alloc(),
+        b"P-0\0\0",
+        Some(PgErrorPosition::Original(0)),
+    )?;
+    assert_position(&rt, rt.alloc(), b"p7\0\0", None)
 }
 
-#[test]
-fn words(rt: HostRuntime) -> Result<(), Fail> {
-    let error = error_of(&rt, b"Mboom\0C23505\0L12\0\0")?;
-    assert_eq!(rt; error.kind(), ErrorKind::UniqueViolation);
-    let words = format!(in rt.alloc(); "{error}")?;
-    assert_eq!(rt; words.as_str(), "boom at line 12");
+fn assert_words(
+    rt: &impl Abort,
+    alloc: Global,
+    body: &'static [u8],
+    words: &str,
+) -> Result<(), Fail>
+    requires { length body.now < 300 }
+{
+    let error = error_of(alloc, body)?;
+    let printed = format!(in alloc; "{error}")?;
+    assert_eq!(rt; printed.as_str(), words, "at {body:?}");
     Ok(())
 }
 
 // The words of an error are its message, and its line where `L` has a number.
 #[test]
 fn words_with_lines(rt: HostRuntime) -> Result<(), Fail> {
-    let table: [(&'static [u8], &str); 12] = [
+    let table: [(&'static [u8], &str); 13] = [
         (b"\0", ""),
         (b"L7\0\0", " at line 7"),
         (b"Mm\0Lx\0\0", "m"),
@@ -95,12 +143,11 @@ fn words_with_lines(rt: HostRuntime) -> Result<(), Fail> {
             "m at line 18446744073709551615",
         ),
         (b"Mm\0L18446744073709551616\0\0", "m"),
+        (b"Mboom\0C23505\0L12\0\0", "boom at line 12"),
     ];
     for (body, words) in table {
         assert!(rt; body.len() < 300);
-        let error = error_of(&rt, body)?;
-        let printed = format!(in rt.alloc(); "{error}")?;
-        assert_eq!(rt; printed.as_str(), words, "at {body:?}");
+        assert_words(&rt, rt.alloc(), body, words)?;
     }
     Ok(())
 }
@@ -119,7 +166,7 @@ fn kinds_by_code(rt: HostRuntime) -> Result<(), Fail> {
     ];
     for (body, kind, transient) in table {
         assert!(rt; body.len() < 300);
-        let error = error_of(&rt, body)?;
+        let error = error_of(rt.alloc(), body)?;
         assert_eq!(rt; error.kind(), kind, "at {body:?}");
         assert_eq!(rt;
             error.is_transient_in_connect_phase(),

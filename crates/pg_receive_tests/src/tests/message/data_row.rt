@@ -1,10 +1,13 @@
 //! Rows.
 
+ghost use Rattle.std.specs.Prelude.{◌<◌, length};
+
 use crate::tests::unless_out_of_memory;
 use bytes::Bytes;
 use pg_base::{Error, ProtocolFault};
 use pg_receive::message::{BackendMessage, DataRow};
-use std::alloc::AllocError;
+use std::alloc::{AllocError, Global};
+use std::process::Abort;
 use std::test::Fail;
 
 const EIGHT_CELLS: &[u8] = &[
@@ -14,36 +17,60 @@ const EIGHT_CELLS: &[u8] = &[
     0x00, 0x50,
 ];
 
-#[test]
-fn values_and_nulls(rt: HostRuntime) -> Result<(), Fail> {
-    let row = DataRow::decode_body(rt.alloc(), Bytes::from_static(EIGHT_CELLS))?;
-    assert_eq!(rt; row.len(), 8);
-    assert_eq!(rt; row.get(0), None);
-    assert_eq!(rt; row.get(1), Some([0, 0, 0, 0x0A].as_slice()));
-    assert_eq!(rt; row.get(2), None);
-    assert_eq!(rt; row.get(3), Some([0, 0, 0, 0x14].as_slice()));
-    assert_eq!(rt; row.get(4), None);
-    assert_eq!(rt; row.get(5), Some([0, 0, 0, 0x28].as_slice()));
-    assert_eq!(rt; row.get(6), None);
-    assert_eq!(rt; row.get(7), Some([0, 0, 0, 0x50].as_slice()));
+fn assert_cells(
+    rt: &impl Abort,
+    alloc: Global,
+    body: &'static [u8],
+    cells: &[Option<&[u8]>],
+) -> Result<(), Fail>
+    requires { length body.now < 100 }
+{
+    let row = DataRow::decode_body(alloc, Bytes::from_static(body))?;
+    assert_eq!(rt; row.len(), cells.len());
+    for (index, cell) in cells.iter().enumerate() {
+        assert_eq!(rt; row.get(index), *cell, "at {index}");
+    }
     Ok(())
 }
 
 #[test]
-fn rows_of_few_cells(rt: HostRuntime) -> Result<(), Fail> {
-    let none = DataRow::decode_body(rt.alloc(), Bytes::from_static(&[0, 0]))?;
-    assert_eq!(rt; none.len(), 0);
-    // Every negative length is NULL, and what follows the last cell is ignored.
-    let null: [u8; 7] = [0, 1, 0xFF, 0xFF, 0xFF, 0xFE, 0x7A];
-    let row = DataRow::decode_body(rt.alloc(), Bytes::copy_from_slice(rt.alloc(), &null)?)?;
-    assert_eq!(rt; row.len(), 1);
-    assert_eq!(rt; row.get(0), None);
-    let body: [u8; 11] = [0, 2, 0, 0, 0, 0, 0xFF, 0xFF, 0xFF, 0xFF, 0x7A];
-    let row = DataRow::decode_body(rt.alloc(), Bytes::copy_from_slice(rt.alloc(), &body)?)?;
-    assert_eq!(rt; row.len(), 2);
-    assert_eq!(rt; row.get(0), Some([].as_slice()));
-    assert_eq!(rt; row.get(1), None);
-    Ok(())
+fn values_and_nulls(rt: HostRuntime) -> Result<(), Fail> {
+    assert!(rt; EIGHT_CELLS.len() < 100);
+    let values = [
+        [0, 0, 0, 0x0A],
+        [0, 0, 0, 0x14],
+        [0, 0, 0, 0x28],
+        [0, 0, 0, 0x50],
+    ];
+    let [a, b, c, d] = values.each_ref().map(|value| Some(value.as_slice()));
+    assert_cells(
+        &rt,
+        rt.alloc(),
+        EIGHT_CELLS,
+        &[None, a, None, b, None, c, None, d],
+    )
+}
+
+#[test]
+fn no_cells(rt: HostRuntime) -> Result<(), Fail> {
+    assert_cells(&rt, rt.alloc(), &[0, 0], &[])
+}
+
+// Every negative length is NULL, and what follows the last cell is ignored.
+#[test]
+fn a_null_of_length_minus_2(rt: HostRuntime) -> Result<(), Fail> {
+    assert_cells(
+        &rt,
+        rt.alloc(),
+        &[0, 1, 0xFF, 0xFF, 0xFF, 0xFE, 0x7A],
+        &[None],
+    )
+}
+
+#[test]
+fn an_empty_value_and_a_null(rt: HostRuntime) -> Result<(), Fail> {
+    let body: &[u8] = &[0, 2, 0, 0, 0, 0, 0xFF, 0xFF, 0xFF, 0xFF, 0x7A];
+    assert_cells(&rt, rt.alloc(), body, &[Some(&[]), None])
 }
 
 #[test]

@@ -1,10 +1,29 @@
 //! Notices.
 
+ghost use Rattle.std.specs.Prelude.{◌<◌, length};
+
 use bytes::Bytes;
-use pg_base::ProtocolFault;
 use pg_base::io::ProtocolDecode;
+use pg_base::{Error, ProtocolFault};
 use pg_receive::message::{BackendMessage, Notice, PgSeverity};
+use std::alloc::Global;
+use std::process::Abort;
 use std::test::Fail;
+
+fn assert_notice(
+    rt: &impl Abort,
+    alloc: Global,
+    body: &'static [u8],
+    severity: PgSeverity,
+    texts: [&str; 2],
+) -> Result<(), Fail>
+    requires { length body.now < 200 }
+{
+    let notice = Notice::decode(alloc, Bytes::from_static(body))?;
+    assert_eq!(rt; notice.severity(), severity, "at {body:?}");
+    assert_eq!(rt; [notice.message(), notice.code()], texts, "at {body:?}");
+    Ok(())
+}
 
 #[test]
 fn what_is_read(rt: HostRuntime) -> Result<(), Fail> {
@@ -26,30 +45,36 @@ fn what_is_read(rt: HostRuntime) -> Result<(), Fail> {
     ];
     for (body, severity, message, code) in table {
         assert!(rt; body.len() < 200);
-        let notice = Notice::decode(rt.alloc(), Bytes::from_static(body))?;
-        assert_eq!(rt; notice.severity(), severity, "at {body:?}");
-        assert_eq!(rt; notice.message(), message, "at {body:?}");
-        assert_eq!(rt; notice.code(), code, "at {body:?}");
+        assert_notice(&rt, rt.alloc(), body, severity, [message, code])?;
     }
     Ok(())
 }
 
+fn notice_of(alloc: Global, body: &'static [u8]) -> Result<Notice, Error>
+    requires { length body.now < 200 }
+{
+    Notice::decode_body(alloc, Bytes::from_static(body))
+}
+
 #[test]
-fn fields_of_a_letter(rt: HostRuntime) -> Result<(), Fail> {
-    let body = Bytes::from_static(b"Mfoo\0Mbar\0C1\0VERROR\0\0");
-    assert!(rt; body.len() < 200);
-    let notice = Notice::decode_body(rt.alloc(), body)?;
-    assert_eq!(rt; notice.get(b'M'), Some("foo"));
-    assert_eq!(rt; notice.get(b'V'), Some("ERROR"));
-    assert_eq!(rt; notice.get(b'D'), None);
-    let body = Bytes::from_static(b"Mfoo\0M\0C1\0Mbar\0\0");
-    assert!(rt; body.len() < 200);
-    let notice = Notice::decode_body(rt.alloc(), body)?;
+fn texts_of_a_letter(rt: HostRuntime) -> Result<(), Fail> {
+    let notice = notice_of(rt.alloc(), b"Mfoo\0Mbar\0C1\0VERROR\0\0")?;
+    let texts = [notice.get(b'M'), notice.get(b'V'), notice.get(b'D')];
+    assert_eq!(rt; texts, [Some("foo"), Some("ERROR"), None]);
+    Ok(())
+}
+
+#[test]
+fn message_after_a_first_field(rt: HostRuntime) -> Result<(), Fail> {
+    let notice = notice_of(rt.alloc(), b"Mfoo\0M\0C1\0Mbar\0\0")?;
     assert_eq!(rt; notice.message(), "bar");
     assert_eq!(rt; notice.get(b'M'), Some("foo"));
-    let body = Bytes::from_static(b"X\xFF\0Xa\0\0");
-    assert!(rt; body.len() < 200);
-    let notice = Notice::decode_body(rt.alloc(), body)?;
+    Ok(())
+}
+
+#[test]
+fn bytes_that_are_no_text(rt: HostRuntime) -> Result<(), Fail> {
+    let notice = notice_of(rt.alloc(), b"X\xFF\0Xa\0\0")?;
     assert_eq!(rt; notice.get_raw(b'X'), Some(b"\xFF".as_slice()));
     assert_eq!(rt; notice.get(b'X'), None);
     let mut fields = notice.fields();
@@ -63,24 +88,27 @@ fn fields_of_a_letter(rt: HostRuntime) -> Result<(), Fail> {
 // The lengths of sixteen fields are kept.
 #[test]
 fn fields_after_the_sixteenth(rt: HostRuntime) -> Result<(), Fail> {
-    let body = Bytes::from_static(
+    let notice = notice_of(
+        rt.alloc(),
         b"a0\0b1\0c2\0d3\0e4\0f5\0g6\0h7\0i8\0j9\0k10\0l11\0m12\0n13\0o14\0p15\0q16\0r\xFF\0\0sno\0\0",
-    );
-    assert!(rt; body.len() < 200);
-    let notice = Notice::decode_body(rt.alloc(), body)?;
-    assert_eq!(rt; notice.get(b'a'), Some("0"));
-    assert_eq!(rt; notice.get(b'p'), Some("15"));
-    assert_eq!(rt; notice.get(b'q'), Some("16"));
-    assert_eq!(rt; notice.get(b'r'), None);
+    )?;
+    let texts = [
+        notice.get(b'a'),
+        notice.get(b'p'),
+        notice.get(b'q'),
+        notice.get(b'r'),
+    ];
+    assert_eq!(rt; texts, [Some("0"), Some("15"), Some("16"), None]);
     assert_eq!(rt; notice.get_raw(b'r'), Some(b"\xFF".as_slice()));
-    // A letter NUL ends the fields.
-    assert_eq!(rt; notice.get(b's'), None);
+    assert_eq!(rt; notice.get_raw(b's'), None);
     assert_eq!(rt; notice.get_raw(0), None);
-    let body = Bytes::from_static(b"Da\0\0Hb\0\0");
-    assert!(rt; body.len() < 200);
-    let notice = Notice::decode_body(rt.alloc(), body)?;
-    assert_eq!(rt; notice.get(b'D'), Some("a"));
-    assert_eq!(rt; notice.get(b'H'), None);
+    Ok(())
+}
+
+#[test]
+fn a_letter_nul_ends_the_fields(rt: HostRuntime) -> Result<(), Fail> {
+    let notice = notice_of(rt.alloc(), b"Da\0\0Hb\0\0")?;
+    assert_eq!(rt; [notice.get(b'D'), notice.get(b'H')], [Some("a"), None]);
     assert_eq!(rt; notice.get_raw(0), None);
     Ok(())
 }
