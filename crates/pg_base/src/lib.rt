@@ -9,6 +9,3 @@ pub mod laws;
 
 pub use error::{Error, ErrorKind, ProtocolFault};
 pub use format::{BackendMessageFormat, FrontendMessageFormat};
-
-#[cfg(test)]
-mod tests;

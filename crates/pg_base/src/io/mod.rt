@@ -34,6 +34,3 @@ pub enum PgValueFormat {
     Text = 0,
     Binary = 1,
 }
-
-#[cfg(test)]
-mod tests;

@@ -1,7 +1,7 @@
 //! Calls that have their requests for memory refused, as tests/refused/README.md says. Under
 //! `rt test` no request is refused.
 
-use crate::Error;
+use pg_base::Error;
 use std::alloc::{AllocError, Global};
 use std::process::Abort;
 

@@ -1,6 +1,6 @@
 //! The bytes that the data of a COPY holds, whoever owns them.
 
-use crate::io::LendBytes;
+use pg_base::io::LendBytes;
 use crate::tests::refusing::{refuse_nth, was_refused};
 use bytes::Bytes;
 use std::alloc::AllocError;

@@ -1,6 +1,6 @@
 //! Ids by their numbers. None of these calls asks for memory.
 
-use crate::io::{MAX_BODY, MAX_LENGTH, Oid, PgValueFormat, PortalId, StatementId};
+use pg_base::io::{MAX_BODY, MAX_LENGTH, Oid, PgValueFormat, PortalId, StatementId};
 use crate::tests::refusing::{refuse_nth, was_refused};
 
 #[test]

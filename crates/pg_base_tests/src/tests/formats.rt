@@ -2,7 +2,7 @@
 
 use super::display::assert_prints;
 use super::refusing::{refuse_nth, was_refused};
-use crate::{BackendMessageFormat, Error, FrontendMessageFormat, ProtocolFault};
+use pg_base::{BackendMessageFormat, Error, FrontendMessageFormat, ProtocolFault};
 use std::alloc::AllocError;
 
 // The kinds that a server sends, each by its number, with its tag and its name.

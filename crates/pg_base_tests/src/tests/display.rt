@@ -2,7 +2,7 @@
 //! for them, so that no memory is asked for.
 
 use super::refusing::{refuse_nth, was_refused};
-use crate::{BackendMessageFormat, Error, ProtocolFault};
+use pg_base::{BackendMessageFormat, Error, ProtocolFault};
 use std::alloc::{AllocError, AllocFailed, Global};
 use std::fmt::Display;
 use std::process::Abort;

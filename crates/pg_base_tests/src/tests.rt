@@ -2,4 +2,5 @@
 
 pub mod display;
 mod formats;
+mod io;
 pub mod refusing;

@@ -1,10 +1,10 @@
 //! The length before what a closure writes.
 
-use crate::io::PgBufMutExt;
+use pg_base::io::PgBufMutExt;
 use crate::tests::refusing::{
     Adds, MANY, assert_adds, assert_all_or_nothing, refuse_nth, was_refused,
 };
-use crate::{Error, ProtocolFault};
+use pg_base::{Error, ProtocolFault};
 use std::alloc::AllocError;
 
 // A length and two bytes.
