@@ -58,6 +58,3 @@ fn take_all(
         }
     }
 }
-
-#[cfg(test)]
-mod tests;

@@ -204,6 +204,3 @@ fn joined(alloc: Global, front: &[u8], rest: &[u8]) -> Result<BytesMut, AllocErr
     buffer.extend_from_slice(rest)?;
     Ok(buffer)
 }
-
-#[cfg(test)]
-mod tests;

@@ -3,8 +3,9 @@
 
 mod memory;
 
-use super::*;
-use pg_base::{BackendMessageFormat, ProtocolFault};
+use pg_base::{BackendMessageFormat, Error, ProtocolFault};
+use pg_frames::FrameReader;
+use pg_response::message::ReceivedMessage;
 use std::alloc::AllocError;
 use std::process::Abort;
 use std::test::Fail;

@@ -1,8 +1,9 @@
 //! Streams cut at each place, and in pieces of each length.
 
-use super::*;
-use pg_base::BackendMessageFormat;
-use std::alloc::AllocError;
+use pg_base::{BackendMessageFormat, Error, ProtocolFault};
+use pg_frames::{StreamEnd, next_frame, read_pieces};
+use pg_response::message::ReceivedMessage;
+use std::alloc::{AllocError, Global};
 use std::process::Abort;
 use std::test::Fail;
 

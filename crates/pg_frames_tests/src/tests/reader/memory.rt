@@ -1,6 +1,6 @@
 //! How much memory a reader holds, by the size of the test's process.
 
-use crate::FrameReader;
+use pg_frames::FrameReader;
 use std::alloc::AllocError;
 use std::test::Fail;
 use std::{fs, io};

@@ -1,0 +1,4 @@
+//! Streams in pieces, and the reader of one.
+
+mod pieces;
+mod reader;
