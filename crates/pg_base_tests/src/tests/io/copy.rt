@@ -1,8 +1,8 @@
 //! The bytes that the data of a COPY holds, whoever owns them.
 
-use pg_base::io::LendBytes;
 use crate::tests::refusing::{refuse_nth, was_refused};
 use bytes::Bytes;
+use pg_base::io::LendBytes;
 use std::alloc::AllocError;
 
 #[test]

@@ -1,7 +1,7 @@
 //! Ids by their numbers. None of these calls asks for memory.
 
-use pg_base::io::{MAX_BODY, MAX_LENGTH, Oid, PgValueFormat, PortalId, StatementId};
 use crate::tests::refusing::{refuse_nth, was_refused};
+use pg_base::io::{MAX_BODY, MAX_LENGTH, Oid, PgValueFormat, PortalId, StatementId};
 
 #[test]
 fn names_have_their_lengths(rt: HostRuntime) {

@@ -1,9 +1,9 @@
 //! The names of statements and portals, written and printed.
 
-use pg_base::Error;
-use pg_base::io::{PgBufMutExt, PortalId, StatementId};
 use crate::tests::display::assert_prints;
 use crate::tests::refusing::{Adds, assert_adds, assert_all_or_nothing, refuse_nth, was_refused};
+use pg_base::Error;
+use pg_base::io::{PgBufMutExt, PortalId, StatementId};
 use std::alloc::AllocError;
 
 // Numbers with the texts of their names after the prefix.

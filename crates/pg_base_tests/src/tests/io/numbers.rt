@@ -1,8 +1,8 @@
 //! Numbers where they stand in a body, and the fault where they don't stand whole.
 
+use crate::tests::refusing::{refuse_nth, was_refused};
 use pg_base::ProtocolFault;
 use pg_base::io::{bytes_at, i8_at, i16_at, i32_at, u16_at, u32_at};
-use crate::tests::refusing::{refuse_nth, was_refused};
 
 fn short(at: usize, needed: usize, got: usize) -> ProtocolFault {
     ProtocolFault::Short { at, needed, got }

@@ -1,9 +1,9 @@
 //! The length before what a closure writes.
 
-use pg_base::io::PgBufMutExt;
 use crate::tests::refusing::{
     Adds, MANY, assert_adds, assert_all_or_nothing, refuse_nth, was_refused,
 };
+use pg_base::io::PgBufMutExt;
 use pg_base::{Error, ProtocolFault};
 use std::alloc::AllocError;
 
