@@ -77,7 +77,7 @@ fn frames_and_bodies_in_their_room(rt: HostRuntime) -> Result<(), AllocError> {
 }
 
 // The frame of a message within the limits, in the room that it asks for.
-#[tactic(auto, using(pg_send::proofs::MessageLemmas::hint_covers, pg_send::proofs::FrameLemmas::len_fits))]
+#[tactic(auto, using(pg_request::proofs::MessageLemmas::hint_covers, pg_request::proofs::FrameLemmas::len_fits))]
 fn frame_in_its_room(
     rt: &impl Abort,
     alloc: Global,
