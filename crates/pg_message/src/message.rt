@@ -5,10 +5,11 @@ pub use pg_base::{BackendMessageFormat, FrontendMessageFormat};
 pub use pg_frames::{Frame, FrameReader, StreamEnd, next_frame, read_pieces};
 pub use pg_receive::message::{
     Authentication, AuthenticationMd5Password, AuthenticationSasl, AuthenticationSaslContinue,
-    AuthenticationSaslFinal, BackendKeyData, BackendMessage, CommandComplete, CopyInResponse,
-    CopyOutResponse, CopyResponseData, DataRow, Field, Fields, Notice, Notification,
-    ParameterDescription, ParameterStatus, ReadyForQuery, ReceivedMessage, RowDescription,
-    SaslMechanisms, TransactionStatus,
+    AuthenticationSaslFinal, BackendKeyData, BackendMessage, Cells, Columns, CommandComplete,
+    CopyInResponse, CopyOutResponse, CopyResponseData, DataRow, Field, FieldRef, Fields, Notice,
+    Notification, NotificationRef, ParameterDescription, ParameterStatus, ParameterStatusRef,
+    ReadyForQuery, ReceivedMessage, Row, RowDescription, RowIndex, SaslMechanisms,
+    TransactionStatus, rows_affected,
 };
 pub use pg_send::message::{
     Bind, BindValues, Close, CopyFail, Describe, EncodeMessage, Execute, Flush, FrontendMessage,

@@ -26,7 +26,7 @@ start_of-suc start [] i lt = absurd (omega (arith, lt))
 start_of-suc start (entry ∷ ends) zero lt = start_of-zero (end_of entry) ends
 start_of-suc start (entry ∷ ends) (suc i) lt = start_of-suc (end_of entry) ends i (omega (arith, lt))
 
-ends_rise_to : (start : ℕ) (ends : List ℕ) (len : ℕ) → EndsRise start ends len → start ≤ len
+pub ends_rise_to : (start : ℕ) (ends : List ℕ) (len : ℕ) → EndsRise start ends len → start ≤ len
 ends_rise_to start [] len h = h
 ends_rise_to start (entry ∷ ends) len h = omega (arith, h.0, ends_rise_to (end_of entry) ends len h.1)
 

@@ -5,4 +5,5 @@ pub mod CommandCompleteLemmas
 pub mod CountedItemsLemmas
 pub mod DataRowLemmas
 pub mod NotificationLemmas
+pub mod RowDescriptionColumnsLemmas
 pub mod RowDescriptionLemmas

@@ -1,4 +1,5 @@
 -- RowDescription: the columns of a result. Documentation: "Message Formats", RowDescription (B).
+pub mod Columns
 pub mod Laws
 use Rattle.std.specs.Prelude.{◌≡◌, ℕ, ◌+◌, ◌==◌, ℤ, pos, negsuc, List, [], length, Option, Some, None, ◌⊎◌, option_map, string_bytes, if◌then◌else◌}
 use Rattle.pg_base.specs.declared.error.ProtocolFault.{ProtocolFault}

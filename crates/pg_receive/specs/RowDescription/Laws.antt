@@ -60,7 +60,7 @@ one_column s t x y v w p q e =
     let numbers = parts_at p.numbers q.numbers x y (numbers_wide p.numbers v p.numbered ∙ sym (numbers_wide q.numbers w q.numbered)) names.1 in
     (same_column q.numbers v w names.0 (rw numbers.0 at p.numbered) q.numbered, numbers.1)
 
-column_length : (s : List ℕ) (v : Column) → SpellsColumn s v → length s ≡ length v.name + 1 + 18
+pub column_length : (s : List ℕ) (v : Column) → SpellsColumn s v → length s ≡ length v.name + 1 + 18
 column_length s v p = omega (arith, ap length p.named.ends.parts, length-append v.name (0 ∷ p.numbers), numbers_wide p.numbers v p.numbered)
 
 pub column_takes : TakesAtLeast least_column SpellsColumn

@@ -1,14 +1,13 @@
 //! What a cancel request has to name.
 
-ghost use Rattle.std.specs.Prelude.{None};
-ghost use Rattle.pg_base.specs.Decode.{Decodes};
+ghost use Rattle.std.specs.Prelude.{IfOk, IfErr};
 ghost use Rattle.pg_base.specs.declared.format.BackendMessageFormat.TheVariants as formats;
 ghost use Rattle.pg_receive.specs.BackendKeyData.{MeansKey, IsKeyFault};
 
 use crate::message::BackendMessage;
 use bytes::Bytes;
 use pg_base::io::u32_at;
-use pg_base::{BackendMessageFormat, Error};
+use pg_base::{BackendMessageFormat, Error, ProtocolFault};
 use std::alloc::Global;
 
 /// The process that serves this connection, and the secret that a request to cancel its work has
@@ -19,6 +18,21 @@ pub struct BackendKeyData {
     pub process_id: u32,
     /// The secret.
     pub secret_key: u32,
+}
+
+impl BackendKeyData {
+    /// Reads the body of a message.
+    pub fn read(body: &[u8]) -> Result<BackendKeyData, ProtocolFault>
+        ensures value { IfOk result (MeansKey body.now) }
+        ensures fault { IfErr result (IsKeyFault body.now) }
+    {
+        let process_id = u32_at(body, 0)?;
+        let secret_key = u32_at(body, 4)?;
+        Ok(BackendKeyData {
+            process_id,
+            secret_key,
+        })
+    }
 }
 
 impl BackendMessage for BackendKeyData {
@@ -40,21 +54,10 @@ impl BackendMessage for BackendKeyData {
     ghost NeedsNoMemory = { λ _. Unit {0} };
 
     fn decode_body(_alloc: Global, buf: Bytes) -> Result<Self, Error> {
-        key_of(buf.as_slice())
+        Ok(BackendKeyData::read(buf.as_slice())?)
     }
 
     ghost one_value = { one_key };
 
     ghost never_both = { key_or_fault };
-}
-
-fn key_of(body: &[u8]) -> Result<BackendKeyData, Error>
-    ensures { Decodes MeansKey IsKeyFault (λ _. Unit {0}) (λ key. key) None body.now result }
-{
-    let process_id = u32_at(body, 0)?;
-    let secret_key = u32_at(body, 4)?;
-    Ok(BackendKeyData {
-        process_id,
-        secret_key,
-    })
 }

@@ -33,7 +33,7 @@ impl CommandComplete {
     pub fn rows_affected(&self) -> u64
         ensures { result ≡ row_count self.now }
     {
-        rows_in(self.tag.as_slice())
+        rows_affected(self.tag.as_slice())
     }
 }
 
@@ -65,7 +65,9 @@ impl BackendMessage for CommandComplete {
     ghost never_both = { λ body v fault p q. q };
 }
 
-fn rows_in(tag: &[u8]) -> u64
+/// How many rows the command with this tag, the body of its message, had to do with: what
+/// [`CommandComplete::rows_affected`] gives.
+pub fn rows_affected(tag: &[u8]) -> u64
     ensures { result ≡ row_count tag.now }
 {
     match memrchr(SPACE, tag) {

@@ -1,20 +1,20 @@
 //! A row of values.
 
 mod cell_end;
+mod row;
+mod row_index;
 
-ghost use Rattle.std.specs.Prelude.{◌≡◌, ℕ, ◌+◌, ◌*◌, ◌<◌, ◌≤◌, List, Option, length, drop, None, Some, IfOk, IfErr, slice_get};
+ghost use Rattle.std.specs.Prelude.{◌≡◌, ℕ, ◌<◌, List, Option, length, Some, slice_get};
 ghost use Rattle.std.specs.Option.{option_copied};
-ghost use Rattle.pg_base.specs.Decode.{Decodes};
 ghost use Rattle.pg_base.specs.declared.format.BackendMessageFormat.TheVariants as formats;
-ghost use Rattle.pg_receive.specs.DataRow.CellEnd.{end_of, cell_to, cells_from, start_of, first_cell, EndsRise};
-ghost use Rattle.pg_receive.specs.DataRow.{SpellsCell, IsCellFault, MeansRow, IsRowFault, RowNeedsNoMemory};
-ghost use Rattle.pg_receive.specs.CountedItems.{IsEncodedAt};
 
 use crate::message::BackendMessage;
 use bytes::Bytes;
 use cell_end::CellEnd;
-use pg_base::io::{MAX_BODY, bytes_at, i32_at, u16_at};
-use pg_base::{BackendMessageFormat, Error, ProtocolFault};
+use pg_base::{BackendMessageFormat, Error};
+pub use row::{Cells, Row};
+pub use row_index::RowIndex;
+use row_index::read_ends;
 use std::alloc::Global;
 use std::marker::Model;
 
@@ -25,7 +25,8 @@ const FIRST_CELL: usize = 2;
 const CELL_LENGTH: usize = 4;
 
 /// The values of a row, each as bytes in the format that was asked for, or NULL. They are
-/// borrowed from the body of the message. Documentation: "Message Formats", DataRow (B).
+/// borrowed from the body of the message, which the row keeps; a [`RowIndex`] reads rows from bodies
+/// that stay with the caller. Documentation: "Message Formats", DataRow (B).
 #[derive(Drop)]
 pub struct DataRow {
     storage: Bytes,
@@ -56,7 +57,14 @@ impl DataRow {
         requires { index < length self.now }
         ensures { slice_get self.now index ≡ Some (option_copied result) }
     {
-        cell_in(self.storage.as_slice(), self.ends.as_slice(), index)
+        self.as_row().get(index)
+    }
+
+    /// The row, borrowed: for what takes rows however they were read.
+    pub fn as_row(&self) -> Row<'_>
+        ensures { result ≡ self.now }
+    {
+        Row::new(self.storage.as_slice(), self.ends.as_slice())
     }
 }
 
@@ -80,74 +88,12 @@ impl BackendMessage for DataRow {
     ghost NeedsNoMemory = { RowNeedsNoMemory };
 
     fn decode_body(alloc: Global, buf: Bytes) -> Result<Self, Error> {
-        let ends = ends_of(alloc, buf.as_slice())?;
+        let mut ends = Vec::new(alloc);
+        read_ends(buf.as_slice(), &mut ends)?;
         Ok(DataRow { storage: buf, ends })
     }
 
     ghost one_value = { one_row };
 
     ghost never_both = { row_or_fault };
-}
-
-// Where the cell at an index begins.
-fn cell_start(ends: &[CellEnd], index: usize) -> usize
-    requires { index < length ends.now }
-    ensures { result ≡ start_of first_cell ends.now index }
-{
-    if index == 0 {
-        FIRST_CELL
-    } else {
-        ends[index - 1].end()
-    }
-}
-
-// The value of the cell at an index.
-fn cell_in<'a>(body: &'a [u8], ends: &[CellEnd], index: usize) -> Option<&'a [u8]>
-    requires within { index < length ends.now }
-    requires rise { EndsRise first_cell ends.now (length body.now) }
-    ensures { slice_get (cells_from body.now first_cell ends.now) index ≡ Some (option_copied result) }
-{
-    let cell = ends[index];
-    if cell.is_null() {
-        return None;
-    }
-    let start = cell_start(ends, index) + CELL_LENGTH;
-    Some(&body[start..cell.end()])
-}
-
-// Where each cell of the body ends.
-fn ends_of(alloc: Global, body: &[u8]) -> Result<Vec<CellEnd>, Error>
-    requires { length body.now ≤ MAX_BODY }
-    ensures answer { Decodes MeansRow IsRowFault RowNeedsNoMemory (λ ends. cells_from body.now first_cell ends.items) None body.now result }
-    ensures rise { IfOk result (λ ends. EndsRise first_cell ends.items (length body.now)) }
-{
-    let count = usize::from(u16_at(body, 0)?);
-    bytes_at(body, FIRST_CELL, CELL_LENGTH * count)?;
-    let mut ends = Vec::with_capacity(alloc, count)?;
-    let mut at = FIRST_CELL;
-    for _index in 0..count {
-        let cell = cell_at(body, at)?;
-        ends.push_reserved(cell);
-        at = cell.end();
-    }
-    Ok(ends)
-}
-
-// Where the cell that begins at an offset ends, and whether it is NULL.
-fn cell_at(body: &[u8], at: usize) -> Result<CellEnd, ProtocolFault>
-    requires within { at ≤ length body.now }
-    requires short { length body.now ≤ MAX_BODY }
-    ensures cell { IfOk result (λ cell. IsEncodedAt SpellsCell body.now at (cell_to body.now at cell) (end_of cell)) }
-    ensures broken { IfErr result (λ fault. IsCellFault body.now at (drop at body.now) fault) }
-{
-    let length = i32_at(body, at)?;
-    let start = at + CELL_LENGTH;
-    match usize::try_from(length) {
-        Ok(length) => {
-            bytes_at(body, start, length)?;
-            Ok(CellEnd::of_value(start + length))
-        }
-        // Every negative length says NULL.
-        Err(_) => Ok(CellEnd::of_null(start)),
-    }
 }

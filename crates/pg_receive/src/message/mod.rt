@@ -16,15 +16,15 @@ pub use authentication::{
     AuthenticationSaslFinal, SaslMechanisms,
 };
 pub use backend_key_data::BackendKeyData;
-pub use command_complete::CommandComplete;
+pub use command_complete::{CommandComplete, rows_affected};
 pub use copy::{CopyInResponse, CopyOutResponse, CopyResponseData};
-pub use data_row::DataRow;
-pub use notification::Notification;
+pub use data_row::{Cells, DataRow, Row, RowIndex};
+pub use notification::{Notification, NotificationRef};
 pub use parameter_description::ParameterDescription;
-pub use parameter_status::ParameterStatus;
+pub use parameter_status::{ParameterStatus, ParameterStatusRef};
 pub use pg_response::message::{
     BackendMessage, CopyData, CopyDone, Fields, Notice, PgSeverity, ReceivedMessage, split_text,
     str_at, text_at, utf8_text,
 };
 pub use ready_for_query::{ReadyForQuery, TransactionStatus};
-pub use row_description::{Field, RowDescription};
+pub use row_description::{Columns, Field, FieldRef, RowDescription};

@@ -1,15 +1,14 @@
 //! A notification from another session.
 
-ghost use Rattle.std.specs.Prelude.{◌≡◌, ◌+◌, ◌<◌, ◌-◌, None, IfOk, IfErr};
+ghost use Rattle.std.specs.Prelude.{◌≡◌, ◌+◌, ◌<◌, ◌-◌, IfOk, IfErr};
 ghost use Rattle.pg_base.specs.declared.error.Error.TheVariants.{OutOfMemory};
-ghost use Rattle.pg_base.specs.Decode.{Decodes};
 ghost use Rattle.pg_base.specs.declared.format.BackendMessageFormat.TheVariants as formats;
 ghost use Rattle.pg_receive.specs.Notification.{Notified, MeansNotification, IsNotificationFault};
 
 use crate::message::{BackendMessage, text_at};
 use bytes::Bytes;
 use pg_base::io::u32_at;
-use pg_base::{BackendMessageFormat, Error};
+use pg_base::{BackendMessageFormat, Error, ProtocolFault};
 use std::alloc::Global;
 use std::marker::Model;
 
@@ -91,7 +90,11 @@ impl BackendMessage for Notification {
     ghost NeedsNoMemory = { λ _. Unit {0} };
 
     fn decode_body(_alloc: Global, mut buf: Bytes) -> Result<Self, Error> {
-        let (process_id, channel, payload) = parts_of(buf.as_slice())?;
+        let NotificationRef {
+            process_id,
+            channel,
+            payload,
+        } = NotificationRef::read(buf.as_slice())?;
         let channel_len = channel.len();
         let texts_len = channel_len + 1 + payload.len();
         buf.advance(PROCESS_LENGTH);
@@ -108,12 +111,30 @@ impl BackendMessage for Notification {
     ghost never_both = { notification_or_fault };
 }
 
-// The number of the process, the channel and the payload.
-fn parts_of(body: &[u8]) -> Result<(u32, &[u8], &[u8]), Error>
-    ensures { Decodes MeansNotification IsNotificationFault (λ _. Unit {0}) (λ parts. record { process_id = parts.0; channel = parts.1.now; payload = parts.2.now }) None body.now result }
-{
-    let process_id = u32_at(body, 0)?;
-    let (channel, after) = text_at(body, PROCESS_LENGTH)?;
-    let (payload, _) = text_at(body, after)?;
-    Ok((process_id, channel, payload))
+/// A [`Notification`] that is borrowed from the body of its message.
+#[derive(Drop)]
+pub struct NotificationRef<'a> {
+    /// The process that notified.
+    pub process_id: u32,
+    /// The channel, without its NUL.
+    pub channel: &'a [u8],
+    /// The payload, without its NUL.
+    pub payload: &'a [u8],
+}
+
+impl<'a> NotificationRef<'a> {
+    /// Reads a body. Its value and its faults are those of [`Notification`].
+    pub fn read(body: &'a [u8]) -> Result<NotificationRef<'a>, ProtocolFault>
+        ensures value { IfOk result (λ n. MeansNotification body.now (record { process_id = n.process_id; channel = n.channel.now; payload = n.payload.now })) }
+        ensures fault { IfErr result (IsNotificationFault body.now) }
+    {
+        let process_id = u32_at(body, 0)?;
+        let (channel, after) = text_at(body, PROCESS_LENGTH)?;
+        let (payload, _) = text_at(body, after)?;
+        Ok(NotificationRef {
+            process_id,
+            channel,
+            payload,
+        })
+    }
 }

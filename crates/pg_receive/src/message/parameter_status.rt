@@ -1,13 +1,13 @@
 //! A setting of the server.
 
-ghost use Rattle.std.specs.Prelude.{None, string_bytes};
+ghost use Rattle.std.specs.Prelude.{None, IfOk, IfErr, string_bytes};
 ghost use Rattle.pg_base.specs.Decode.{Decodes};
 ghost use Rattle.pg_base.specs.declared.format.BackendMessageFormat.TheVariants as formats;
 ghost use Rattle.pg_receive.specs.ParameterStatus.{Setting, MeansSetting, IsSettingFault};
 
 use crate::message::{BackendMessage, str_at};
 use bytes::Bytes;
-use pg_base::{BackendMessageFormat, Error};
+use pg_base::{BackendMessageFormat, Error, ProtocolFault};
 use std::alloc::Global;
 
 /// A setting of the server and its value, reported at the start and whenever it changes.
@@ -51,10 +51,30 @@ impl BackendMessage for ParameterStatus {
 fn setting_of(alloc: Global, body: &[u8]) -> Result<ParameterStatus, Error>
     ensures { Decodes MeansSetting IsSettingFault (λ _. ⊥) (λ status. record { name = string_bytes status.name; value = string_bytes status.value }) None body.now result }
 {
-    let (name, after) = str_at(body, 0)?;
-    let (value, _) = str_at(body, after)?;
+    let ParameterStatusRef { name, value } = ParameterStatusRef::read(body)?;
     Ok(ParameterStatus {
         name: String::from_str(alloc, name)?,
         value: String::from_str(alloc, value)?,
     })
+}
+
+/// A [`ParameterStatus`] that is borrowed from the body of its message.
+#[derive(Drop)]
+pub struct ParameterStatusRef<'a> {
+    /// The setting.
+    pub name: &'a str,
+    /// Its value.
+    pub value: &'a str,
+}
+
+impl<'a> ParameterStatusRef<'a> {
+    /// Reads a body. Its value and its faults are those of [`ParameterStatus`].
+    pub fn read(body: &'a [u8]) -> Result<ParameterStatusRef<'a>, ProtocolFault>
+        ensures value { IfOk result (λ status. MeansSetting body.now (record { name = status.name.now; value = status.value.now })) }
+        ensures fault { IfErr result (IsSettingFault body.now) }
+    {
+        let (name, after) = str_at(body, 0)?;
+        let (value, _) = str_at(body, after)?;
+        Ok(ParameterStatusRef { name, value })
+    }
 }

@@ -1,7 +1,6 @@
 //! The server's word that it is ready for the next query.
 
-ghost use Rattle.std.specs.Prelude.{None};
-ghost use Rattle.pg_base.specs.Decode.{Decodes};
+ghost use Rattle.std.specs.Prelude.{IfOk, IfErr};
 ghost use Rattle.pg_receive.specs.ReadyForQuery.{MeansStatus, IsStatusFault};
 ghost use Rattle.pg_base.specs.declared.format.BackendMessageFormat.TheVariants as formats;
 
@@ -36,6 +35,22 @@ pub struct ReadyForQuery {
     pub transaction_status: TransactionStatus,
 }
 
+impl ReadyForQuery {
+    /// Reads the body of a message: its first byte is the letter of the status.
+    pub fn read(body: &[u8]) -> Result<ReadyForQuery, ProtocolFault>
+        ensures value { IfOk result (λ ready. MeansStatus body.now ready.transaction_status) }
+        ensures fault { IfErr result (IsStatusFault body.now) }
+    {
+        let transaction_status = match bytes_at(body, 0, 1)?[0] {
+            IDLE => TransactionStatus::Idle,
+            TRANSACTION => TransactionStatus::Transaction,
+            ERROR => TransactionStatus::Error,
+            status => return Err(ProtocolFault::UnknownStatus(status)),
+        };
+        Ok(ReadyForQuery { transaction_status })
+    }
+}
+
 impl BackendMessage for ReadyForQuery {
     ghost use Rattle.pg_receive.specs.declared.message.ready_for_query.TransactionStatus.{TransactionStatus};
     ghost use Rattle.pg_receive.specs.ReadyForQuery.Laws.{one_status, status_or_fault};
@@ -55,23 +70,10 @@ impl BackendMessage for ReadyForQuery {
     ghost NeedsNoMemory = { λ _. Unit {0} };
 
     fn decode_body(_alloc: Global, buf: Bytes) -> Result<Self, Error> {
-        let transaction_status = status_of(buf.as_slice())?;
-        Ok(ReadyForQuery { transaction_status })
+        Ok(ReadyForQuery::read(buf.as_slice())?)
     }
 
     ghost one_value = { one_status };
 
     ghost never_both = { status_or_fault };
-}
-
-// The status that the first byte is the letter of.
-fn status_of(body: &[u8]) -> Result<TransactionStatus, Error>
-    ensures { Decodes MeansStatus IsStatusFault (λ _. Unit {0}) (λ status. status) None body.now result }
-{
-    match bytes_at(body, 0, 1)?[0] {
-        IDLE => Ok(TransactionStatus::Idle),
-        TRANSACTION => Ok(TransactionStatus::Transaction),
-        ERROR => Ok(TransactionStatus::Error),
-        status => Err(ProtocolFault::UnknownStatus(status).into()),
-    }
 }

@@ -1,15 +1,19 @@
 //! The columns of a result.
 
-ghost use Rattle.std.specs.Prelude.{◌≡◌, ◌+◌, ◌*◌, ◌≤◌, List, length, drop, map, None, IsOk, IfOk, option_map, string_bytes};
+mod columns;
+
+ghost use Rattle.std.specs.Prelude.{◌≡◌, ◌+◌, ◌*◌, ◌≤◌, List, length, drop, map, None};
 ghost use Rattle.pg_base.specs.Decode.{Decodes};
 ghost use Rattle.pg_base.specs.declared.format.BackendMessageFormat.TheVariants as formats;
 ghost use Rattle.pg_receive.specs.CountedItems.{IsEncodedAt};
-ghost use Rattle.pg_receive.specs.RowDescription.{Column, column_of, table, attribute, numbers_length, SpellsNumbers, SpellsColumn, IsColumnFault, MeansColumns, IsColumnsFault, ColumnsNeedsNoMemory};
+ghost use Rattle.pg_receive.specs.RowDescription.{Column, column_of, SpellsColumn, IsColumnFault, MeansColumns, IsColumnsFault, ColumnsNeedsNoMemory};
 
-use crate::message::{BackendMessage, str_at};
+use crate::message::BackendMessage;
 use bytes::Bytes;
-use pg_base::io::{MAX_BODY, Oid, bytes_at, i16_at, i32_at, u16_at, u32_at};
-use pg_base::{BackendMessageFormat, Error, ProtocolFault};
+use columns::column_at;
+pub use columns::{Columns, FieldRef};
+use pg_base::io::{MAX_BODY, Oid, bytes_at, u16_at};
+use pg_base::{BackendMessageFormat, Error};
 use std::alloc::Global;
 
 // The offset of the first column, after the count.
@@ -98,38 +102,6 @@ fn field_at(alloc: Global, body: &[u8], at: usize) -> Result<(Field, usize), Err
     requires short { length body.now ≤ MAX_BODY }
     ensures { Decodes (λ body found. IsEncodedAt SpellsColumn body at (column_of found.0) found.1) (λ body fault. IsColumnFault body at (drop at body) fault) (λ _. ⊥) (λ found. found) None body.now result }
 {
-    let (name, after) = str_at(body, at)?;
-    let numbers = bytes_at(body, after, NUMBERS_LENGTH)?;
-    let field = field_of(String::from_str(alloc, name)?, numbers)?;
-    Ok((field, after + NUMBERS_LENGTH))
-}
-
-// The column of a name and the numbers after it.
-fn field_of(name: String, numbers: &[u8]) -> Result<Field, ProtocolFault>
-    requires { length numbers.now ≡ numbers_length }
-    ensures whole { IsOk result }
-    ensures name { IfOk result (λ field. (column_of field).name ≡ string_bytes name) }
-    ensures numbers { IfOk result (λ field. SpellsNumbers numbers.now (column_of field)) }
-{
-    Ok(Field {
-        name,
-        relation_id: relation_of(u32_at(numbers, 0)?),
-        relation_attribute_no: attribute_of(i16_at(numbers, 4)?),
-        data_type_id: Oid(u32_at(numbers, 6)?),
-        data_type_size: i16_at(numbers, 10)?,
-        type_modifier: i32_at(numbers, 12)?,
-        format: i16_at(numbers, 16)?,
-    })
-}
-
-fn relation_of(id: u32) -> Option<Oid>
-    ensures { option_map (λ oid. oid.0) result ≡ table id }
-{
-    if id == 0 { None } else { Some(Oid(id)) }
-}
-
-fn attribute_of(number: i16) -> Option<i16>
-    ensures { result ≡ attribute number }
-{
-    if number == 0 { None } else { Some(number) }
+    let (column, end) = column_at(body, at)?;
+    Ok((column.to_field(alloc)?, end))
 }

@@ -16,7 +16,7 @@ use std::test::Fail;
 const SWITCH: usize = 0x5245_4655_5345;
 
 // Turns the refusal of every request on or off, and answers whether requests are refused now.
-fn switch(alloc: Global) -> bool {
+pub fn switch(alloc: Global) -> bool {
     let _ = Vec::<u8>::with_capacity(alloc, SWITCH);
     Vec::<u8>::with_capacity(alloc, 1).is_err()
 }

@@ -2,6 +2,7 @@
 
 mod authentication;
 mod backend_key_data;
+mod columns;
 mod command_complete;
 mod copy;
 mod data_row;
@@ -12,4 +13,5 @@ mod ready_for_query;
 mod received;
 mod response;
 mod row_description;
+mod row_index;
 mod server_message;

@@ -2,7 +2,7 @@
 
 use bytes::Bytes;
 use pg_base::{Error, ProtocolFault};
-use pg_receive::message::{BackendMessage, Notification};
+use pg_receive::message::{BackendMessage, Notification, NotificationRef};
 use std::test::Fail;
 
 const BODY: &[u8] = b"\x34\x20\x10\x02TEST-CHANNEL\0THIS IS A TEST\0";
@@ -15,6 +15,15 @@ fn channel_and_payload(rt: HostRuntime) -> Result<(), Fail> {
     assert_eq!(rt; other.process_id(), 0x34201002);
     assert_eq!(rt; other.channel(), b"TEST-CHANNEL".as_slice());
     assert_eq!(rt; other.payload(), b"THIS IS A TEST".as_slice());
+    Ok(())
+}
+
+#[test]
+fn a_borrowed_notification(rt: HostRuntime) -> Result<(), Fail> {
+    let notification = NotificationRef::read(BODY)?;
+    assert_eq!(rt; notification.process_id, 0x34201002);
+    assert_eq!(rt; notification.channel, b"TEST-CHANNEL".as_slice());
+    assert_eq!(rt; notification.payload, b"THIS IS A TEST".as_slice());
     Ok(())
 }
 

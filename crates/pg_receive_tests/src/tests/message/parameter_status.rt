@@ -2,7 +2,7 @@
 
 use bytes::Bytes;
 use pg_base::{Error, ProtocolFault};
-use pg_receive::message::{BackendMessage, ParameterStatus};
+use pg_receive::message::{BackendMessage, ParameterStatus, ParameterStatusRef};
 use std::test::Fail;
 
 #[test]
@@ -22,6 +22,15 @@ fn names_and_values(rt: HostRuntime) -> Result<(), Fail> {
         assert_eq!(rt; status.name.as_str(), name);
         assert_eq!(rt; status.value.as_str(), value);
     }
+    Ok(())
+}
+
+#[test]
+fn a_borrowed_setting(rt: HostRuntime) -> Result<(), Fail> {
+    let status = ParameterStatusRef::read(b"TimeZone\0UTC\0")?;
+    assert_eq!(rt; [status.name, status.value], ["TimeZone", "UTC"]);
+    let fault = ParameterStatusRef::read(b"a\0b").err();
+    assert_eq!(rt; fault, Some(ProtocolFault::MissingNul { at: 2 }));
     Ok(())
 }
 

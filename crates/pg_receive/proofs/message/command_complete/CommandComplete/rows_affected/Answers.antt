@@ -4,4 +4,4 @@ use Rattle.pg_receive.proofs.message.command_complete.CommandComplete.rows_affec
 pub returns : goal.returns
 returns c =
     let borrowed : c.as_slice.result.now ≡ c.args.self.now = c.as_slice.ensures ∙ c.self.view_is in
-    rw borrowed at c.rows_in.ensures
+    rw borrowed at c.rows_affected.ensures

@@ -1,0 +1,78 @@
+use Rattle.std.proofs.Common.{◌≡◌, ◌+◌, ◌*◌, ◌<◌, ◌≤◌, length, drop, refl, sym, ap, ◌∙◌, arith}
+use Rattle.std.proofs.lemmas.Bool.{false≢true}
+use Rattle.std.proofs.lemmas.Result.{err_from_is_err_and}
+use Rattle.pg_base.proofs.ReadingLemmas.{one_number}
+use Rattle.pg_receive.specs.DataRow.CellEnd.{end_of, cell_to, cells_from, last_end}
+use Rattle.pg_receive.specs.DataRow.{SpellsCell, IsCellFault}
+use Rattle.pg_receive.specs.DataRow.Laws.{cell_takes}
+use Rattle.pg_receive.proofs.DataRowLemmas.{length-cells_from, cells_from-push, last_end-push, ends_rise_push}
+use Rattle.pg_receive.proofs.CountedItemsLemmas.{none_are_at, one_more_is_at, ends_within, counted_items, next_breaks, asks_for_memory}
+use Rattle.pg_receive.proofs.message.data_row.row_index.read_ends.Goals as goal
+
+pub returns-in_err-reserve_exact-clause-answer : goal.returns-in_err-reserve_exact-clause-answer
+returns-in_err-reserve_exact-clause-answer c =
+    let p = err_from_is_err_and c.from_residual-in_err-reserve_exact.result c.from_residual-in_err-reserve_exact.ensures.1 in
+    let n = c.in_ok-u16_at.field-0 in
+    let not_none : c.from-count.result ≡ 0 → ⊥ = λ e. absurd (false≢true (c.in_err-reserve_exact.ensures.succeeds (omega (arith, e, c.clear.ensures.len)))) in
+    let some_are_there : 0 < n = omega (arith, c.from-count.ensures) in
+    rw (p.1, p.2) (asks_for_memory 4 0 c.args.body.now n c.in_ok-u16_at.ensures.found (omega (arith, c.from-count.ensures, c.in_ok-bytes_at.ensures.found.0)) some_are_there)
+
+pub returns-in_err-reserve_exact-clause-memory : goal.returns-in_err-reserve_exact-clause-memory
+returns-in_err-reserve_exact-clause-memory c = λ ran_out cells means.
+    let counts = one_number 2 c.args.body.now c.in_ok-u16_at.field-0 (length cells) (drop 2 c.args.body.now) means.after c.in_ok-u16_at.ensures.found means.count in
+    omega (arith, counts.0, c.in_err-reserve_exact.ensures.full, c.clear.ensures.capacity, c.clear.ensures.len, c.from-count.ensures)
+
+pub loop-index-init : goal.loop-index-init
+loop-index-init c =
+    let reserved = c.in_ok-reserve_exact.ensures in
+    let none = reserved.items ∙ c.clear.ensures.items in
+    let within : 2 ≤ length c.args.body.now = omega (arith, c.in_ok-bytes_at.ensures.found.0) in
+    record {
+      within = within;
+      last = rw none refl;
+      counted = reserved.len ∙ c.clear.ensures.len;
+      room = omega (arith, reserved.ok);
+      rise = rw none within;
+      encoded = rw none (none_are_at SpellsCell c.args.body.now 2);
+    }
+
+pub returns-in_err-cell-clause-answer : goal.returns-in_err-cell-clause-answer
+returns-in_err-cell-clause-answer c =
+    let p = err_from_is_err_and c.from_residual-in_err-cell.result c.from_residual-in_err-cell.ensures.1 in
+    let body = c.args.body.now in
+    let n = c.in_ok-u16_at.field-0 in
+    let row = c.loop-index in
+    let cells = cells_from body 2 row.ends.items in
+    let holds : 2 + 4 * n ≤ length body = omega (arith, c.from-count.ensures, c.in_ok-bytes_at.ensures.found.0) in
+    let fewer : length cells < n = omega (arith, length-cells_from body 2 row.ends.items, row.ends.ok.0, row.invariant.counted, c.from-count.ensures, c.loop-index-test.true) in
+    rw (p.1, p.2) (refl, next_breaks SpellsCell IsCellFault 4 body n row.at cells c.in_err-cell.field-0.0 c.in_ok-u16_at.ensures.found holds fewer row.invariant.encoded c.in_err-cell.ensures.broken)
+
+pub loop-index-preserved : goal.loop-index-preserved
+loop-index-preserved c =
+    let body = c.args.body.now in
+    let entry = c.in_ok-cell.cell in
+    let row = c.loop-index in
+    let ends = row.ends.items in
+    let cell = cell_to body row.at entry in
+    let encoded = c.in_ok-cell.ensures.cell in
+    let pushed = c.push_reserved.ensures in
+    let within : end_of entry ≤ length body = ends_within SpellsCell body row.at (end_of entry) cell row.invariant.within encoded in
+    let rises : last_end 2 ends + 4 ≤ end_of entry = omega (arith, row.invariant.last, encoded.ends, cell_takes encoded.spelled cell encoded.spells) in
+    record {
+      within = rw c.end-at.ensures within;
+      last = c.end-at.ensures ∙ sym (last_end-push 2 ends entry) ∙ ap (last_end 2) (sym pushed.items);
+      counted = omega (arith, pushed.len, row.invariant.counted);
+      room = omega (arith, pushed.capacity, row.invariant.room);
+      rise = rw pushed.items (ends_rise_push 2 ends entry (length body) row.invariant.rise rises within);
+      encoded = rw (pushed.items, c.end-at.ensures, cells_from-push body 2 ends entry, ← row.invariant.last)
+          (one_more_is_at SpellsCell body 2 row.at (end_of entry) (cells_from body 2 ends) cell row.invariant.encoded encoded);
+    }
+
+pub returns-clause-answer : goal.returns-clause-answer
+returns-clause-answer c =
+    let body = c.args.body.now in
+    let n = c.in_ok-u16_at.field-0 in
+    let row = c.loop-index in
+    let cells = cells_from body 2 row.ends.items in
+    let count : length cells ≡ n = omega (arith, length-cells_from body 2 row.ends.items, row.ends.ok.0, row.invariant.counted, c.from-count.ensures) in
+    counted_items SpellsCell body n row.at cells c.in_ok-u16_at.ensures.found (omega arith) count row.invariant.encoded

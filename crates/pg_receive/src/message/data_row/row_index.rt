@@ -1,0 +1,94 @@
+//! Where the cells of a row end, found in its body.
+
+ghost use Rattle.std.specs.Prelude.{◌≡◌, ℕ, ◌+◌, ◌<◌, ◌≤◌, List, Option, length, drop, None, IfOk, IfErr, IsErrOf, OnOk, vec_capacity};
+ghost use Rattle.pg_base.specs.Decode.{Decodes};
+ghost use Rattle.pg_base.specs.declared.error.Error.TheVariants.{OutOfMemory};
+ghost use Rattle.pg_receive.specs.CountedItems.{IsEncodedAt};
+ghost use Rattle.pg_receive.specs.DataRow.CellEnd.{end_of, cell_to, cells_from, first_cell, EndsRise};
+ghost use Rattle.pg_receive.specs.DataRow.{SpellsCell, IsCellFault, MeansRow, IsRowFault, RowNeedsNoMemory};
+
+use crate::message::data_row::cell_end::CellEnd;
+use crate::message::data_row::{CELL_LENGTH, FIRST_CELL, Row};
+use pg_base::io::{MAX_BODY, bytes_at, i32_at, u16_at};
+use pg_base::{Error, ProtocolFault};
+use std::alloc::Global;
+use std::marker::Model;
+
+/// Reads rows from bodies that stay with the caller, one after the other.
+///
+/// It keeps where the cells of the last row end, and so asks for memory only for a row of more cells
+/// than it has room for. In a contract it is the number of cells that it has room for.
+#[derive(Drop)]
+pub struct RowIndex {
+    ends: Vec<CellEnd>,
+}
+
+impl Model for RowIndex {
+    ghost use Rattle.std.specs.Prelude.{ℕ, vec_capacity};
+
+    ghost Value = { ℕ };
+
+    ghost view = { λ index. vec_capacity index.ends };
+}
+
+impl RowIndex {
+    /// An index without room.
+    pub fn new(alloc: Global) -> RowIndex
+        ensures { result ≡ 0 }
+    {
+        RowIndex {
+            ends: Vec::new(alloc),
+        }
+    }
+
+    /// Reads a row from the body of a DataRow, of at most [`MAX_BODY`] bytes. Its value and its faults
+    /// are those of [`DataRow`](crate::message::DataRow).
+    pub fn read<'a>(&'a mut self, body: &'a [u8]) -> Result<Row<'a>, Error>
+        requires { length body.now ≤ MAX_BODY }
+        ensures answer { Decodes MeansRow IsRowFault RowNeedsNoMemory (λ row. row) None body.now result }
+        // Memory runs out only on a row of more cells than there is room for.
+        ensures memory { IsErrOf result OutOfMemory → (cells : List (Option (List ℕ))) → MeansRow body.now cells → self.old < length cells }
+    {
+        read_ends(body, &mut self.ends)?;
+        Ok(Row::new(body, self.ends.as_slice()))
+    }
+}
+
+// Where each cell of the body ends, in place of what the list had.
+pub(super) fn read_ends(body: &[u8], ends: &mut Vec<CellEnd>) -> Result<(), Error>
+    requires { length body.now ≤ MAX_BODY }
+    ensures answer { Decodes MeansRow IsRowFault RowNeedsNoMemory (λ _. cells_from body.now first_cell ends.new.items) None body.now result }
+    ensures rise { OnOk result (EndsRise first_cell ends.new.items (length body.now)) }
+    ensures memory { IsErrOf result OutOfMemory → (cells : List (Option (List ℕ))) → MeansRow body.now cells → vec_capacity ends.old < length cells }
+{
+    let count = usize::from(u16_at(body, 0)?);
+    bytes_at(body, FIRST_CELL, CELL_LENGTH * count)?;
+    ends.clear();
+    ends.reserve_exact(count)?;
+    let mut at = FIRST_CELL;
+    for _index in 0..count {
+        let cell = cell_at(body, at)?;
+        ends.push_reserved(cell);
+        at = cell.end();
+    }
+    Ok(())
+}
+
+// Where the cell that begins at an offset ends, and whether it is NULL.
+fn cell_at(body: &[u8], at: usize) -> Result<CellEnd, ProtocolFault>
+    requires within { at ≤ length body.now }
+    requires short { length body.now ≤ MAX_BODY }
+    ensures cell { IfOk result (λ cell. IsEncodedAt SpellsCell body.now at (cell_to body.now at cell) (end_of cell)) }
+    ensures broken { IfErr result (λ fault. IsCellFault body.now at (drop at body.now) fault) }
+{
+    let length = i32_at(body, at)?;
+    let start = at + CELL_LENGTH;
+    match usize::try_from(length) {
+        Ok(length) => {
+            bytes_at(body, start, length)?;
+            Ok(CellEnd::of_value(start + length))
+        }
+        // Every negative length says NULL.
+        Err(_) => Ok(CellEnd::of_null(start)),
+    }
+}

@@ -1,0 +1,168 @@
+//! The columns of a result, borrowed from their body.
+
+ghost use Rattle.std.specs.Prelude.{◌≡◌, ◌≤◌, List, length, drop, IsOk, IfOk, IfErr, option_map};
+ghost use Rattle.std.specs.Iterator.{YieldsFirstBy, item_count};
+ghost use Rattle.pg_receive.specs.CountedItems.{IsEncodedAt};
+ghost use Rattle.pg_receive.specs.RowDescription.Columns.{column_of_ref};
+ghost use Rattle.pg_receive.specs.RowDescription.{Column, column_of, table, attribute, numbers_length, SpellsNumbers, SpellsColumn, IsColumnFault, MeansColumns, IsColumnsFault};
+
+use crate::message::row_description::{FIRST_COLUMN, Field, LEAST_COLUMN, NUMBERS_LENGTH};
+use crate::message::str_at;
+use pg_base::ProtocolFault;
+use pg_base::io::{MAX_BODY, Oid, bytes_at, i16_at, i32_at, u16_at, u32_at};
+use std::alloc::{AllocError, Global};
+use std::marker::Model;
+
+/// A [`Field`] that is borrowed from the body of its message.
+#[derive(Drop)]
+pub struct FieldRef<'a> {
+    /// The name of the column.
+    pub name: &'a str,
+    /// The table that the column is of, where it is of one.
+    pub relation_id: Option<Oid>,
+    /// The number of the column in its table, where it is of one.
+    pub relation_attribute_no: Option<i16>,
+    /// The type of the column.
+    pub data_type_id: Oid,
+    /// The bytes of the type, below 0 where they vary.
+    pub data_type_size: i16,
+    /// The type's modifier; its meaning depends on the type.
+    pub type_modifier: i32,
+    /// The format code of the values: 0 means text, and 1 means binary.
+    pub format: i16,
+}
+
+impl FieldRef<'_> {
+    ghost use Rattle.pg_receive.specs.RowDescription.Columns.{column_of_ref};
+
+    /// The column with a name of its own.
+    pub fn to_field(&self, alloc: Global) -> Result<Field, AllocError>
+        ensures { IfOk result (λ field. column_of field ≡ column_of_ref self.now) }
+    {
+        Ok(Field {
+            name: String::from_str(alloc, self.name)?,
+            relation_id: self.relation_id,
+            relation_attribute_no: self.relation_attribute_no,
+            data_type_id: self.data_type_id,
+            data_type_size: self.data_type_size,
+            type_modifier: self.type_modifier,
+            format: self.format,
+        })
+    }
+}
+
+/// The columns of a result in order, borrowed from the body of their message: the iterator makes no
+/// String. Documentation: "Message Formats", RowDescription (B).
+#[derive(Drop)]
+pub struct Columns<'a> {
+    body: &'a [u8],
+    // Where the next column begins.
+    at: usize,
+    left: usize,
+}
+
+impl<'a> Model for Columns<'a> {
+    ghost use Rattle.std.specs.Prelude.{List};
+    ghost use Rattle.pg_receive.specs.RowDescription.{Column};
+    ghost use Rattle.pg_receive.specs.RowDescription.Columns.{columns_from, AreColumns};
+
+    ghost Value = { List Column };
+
+    ghost view = { λ columns. columns_from columns.body.now columns.at columns.left };
+
+    ghost invariant = { λ columns. AreColumns columns.body.now columns.at columns.left };
+}
+
+impl<'a> Columns<'a> {
+    /// Reads the body of a RowDescription, of at most [`MAX_BODY`] bytes, to its last column. What it
+    /// has and its faults are those of [`RowDescription`](crate::message::RowDescription).
+    pub fn read(body: &'a [u8]) -> Result<Columns<'a>, ProtocolFault>
+        requires { length body.now ≤ MAX_BODY }
+        ensures value { IfOk result (MeansColumns body.now) }
+        ensures fault { IfErr result (IsColumnsFault body.now) }
+    {
+        let count = usize::from(u16_at(body, 0)?);
+        bytes_at(body, FIRST_COLUMN, LEAST_COLUMN * count)?;
+        let mut at = FIRST_COLUMN;
+        for _index in 0..count {
+            let (_column, end) = column_at(body, at)?;
+            at = end;
+        }
+        Ok(Columns {
+            body,
+            at: FIRST_COLUMN,
+            left: count,
+        })
+    }
+
+    /// How many columns are left.
+    pub fn len(&self) -> usize
+        ensures { result ≡ length self.now }
+    {
+        self.left
+    }
+}
+
+impl<'a> Iterator for Columns<'a> {
+    ghost use Rattle.pg_receive.specs.RowDescription.Columns.{column_of_ref};
+
+    type Item = FieldRef<'a>;
+
+    ghost next_gives = { YieldsFirstBy column_of_ref (λ columns. columns) };
+
+    ghost remaining = { item_count (λ columns. columns) };
+
+    fn next(&mut self) -> Option<FieldRef<'a>> {
+        if self.left == 0 {
+            return None;
+        }
+        let Ok((column, end)) = column_at(self.body, self.at) else {
+            return None;
+        };
+        self.at = end;
+        self.left -= 1;
+        Some(column)
+    }
+}
+
+/// The column at an offset of a body, and the offset after it.
+pub(super) fn column_at(body: &[u8], at: usize) -> Result<(FieldRef<'_>, usize), ProtocolFault>
+    requires within { at ≤ length body.now }
+    requires short { length body.now ≤ MAX_BODY }
+    ensures column { IfOk result (λ found. IsEncodedAt SpellsColumn body.now at (column_of_ref found.0) found.1) }
+    ensures broken { IfErr result (λ fault. IsColumnFault body.now at (drop at body.now) fault) }
+{
+    let (name, after) = str_at(body, at)?;
+    let numbers = bytes_at(body, after, NUMBERS_LENGTH)?;
+    Ok((field_of(name, numbers)?, after + NUMBERS_LENGTH))
+}
+
+// The column of a name and the numbers after it.
+fn field_of<'a>(name: &'a str, numbers: &[u8]) -> Result<FieldRef<'a>, ProtocolFault>
+    requires { length numbers.now ≡ numbers_length }
+    ensures whole { IsOk result }
+    ensures name { IfOk result (λ field. (column_of_ref field).name ≡ name.now) }
+    ensures numbers { IfOk result (λ field. SpellsNumbers numbers.now (column_of_ref field)) }
+{
+    Ok(FieldRef {
+        name,
+        relation_id: relation_of(u32_at(numbers, 0)?),
+        relation_attribute_no: attribute_of(i16_at(numbers, 4)?),
+        data_type_id: Oid(u32_at(numbers, 6)?),
+        data_type_size: i16_at(numbers, 10)?,
+        type_modifier: i32_at(numbers, 12)?,
+        format: i16_at(numbers, 16)?,
+    })
+}
+
+fn relation_of(id: u32) -> Option<Oid>
+    ensures { option_map (λ oid. oid.0) result ≡ table id }
+{
+    if id == 0 { None } else { Some(Oid(id)) }
+}
+
+fn attribute_of(number: i16) -> Option<i16>
+    ensures { result ≡ attribute number }
+{
+    if number == 0 { None } else { Some(number) }
+}
