@@ -2,6 +2,7 @@
 //! layers: see `bench/README.md`.
 #![tactic(auto)]
 
+pub mod borrowed;
 pub mod decode;
 pub mod encode;
 mod script;
