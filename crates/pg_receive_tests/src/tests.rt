@@ -6,6 +6,7 @@ mod kinds;
 mod laws;
 mod memory;
 mod message;
+mod readers;
 mod rows;
 mod short_bodies;
 

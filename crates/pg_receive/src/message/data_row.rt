@@ -10,11 +10,11 @@ ghost use Rattle.pg_base.specs.declared.format.BackendMessageFormat.TheVariants 
 
 use crate::message::BackendMessage;
 use bytes::Bytes;
-use cell_end::CellEnd;
+pub use cell_end::CellEnd;
 use pg_base::{BackendMessageFormat, Error};
 pub use row::{Cells, Row};
-pub use row_index::RowIndex;
 use row_index::read_ends;
+pub use row_index::{RowIndex, cell_at};
 use std::alloc::Global;
 use std::marker::Model;
 

@@ -13,18 +13,18 @@ mod row_description;
 
 pub use authentication::{
     Authentication, AuthenticationMd5Password, AuthenticationSasl, AuthenticationSaslContinue,
-    AuthenticationSaslFinal, SaslMechanisms,
+    AuthenticationSaslFinal, SaslMechanisms, split_name,
 };
 pub use backend_key_data::BackendKeyData;
 pub use command_complete::{CommandComplete, rows_affected};
 pub use copy::{CopyInResponse, CopyOutResponse, CopyResponseData};
-pub use data_row::{Cells, DataRow, Row, RowIndex};
+pub use data_row::{CellEnd, Cells, DataRow, Row, RowIndex, cell_at};
 pub use notification::{Notification, NotificationRef};
 pub use parameter_description::ParameterDescription;
 pub use parameter_status::{ParameterStatus, ParameterStatusRef};
 pub use pg_response::message::{
-    BackendMessage, CopyData, CopyDone, Fields, Notice, PgSeverity, ReceivedMessage, split_text,
+    BackendMessage, CopyData, CopyDone, Fields, Notice, PgSeverity, ReceivedMessage, split_field, split_text,
     str_at, text_at, utf8_text,
 };
 pub use ready_for_query::{ReadyForQuery, TransactionStatus};
-pub use row_description::{Columns, Field, FieldRef, RowDescription};
+pub use row_description::{Columns, Field, FieldRef, RowDescription, column_at};

@@ -10,8 +10,7 @@ ghost use Rattle.pg_receive.specs.RowDescription.{Column, column_of, SpellsColum
 
 use crate::message::BackendMessage;
 use bytes::Bytes;
-use columns::column_at;
-pub use columns::{Columns, FieldRef};
+pub use columns::{Columns, FieldRef, column_at};
 use pg_base::io::{MAX_BODY, Oid, bytes_at, u16_at};
 use pg_base::{BackendMessageFormat, Error};
 use std::alloc::Global;

@@ -45,8 +45,9 @@ impl<'a> Iterator for SaslMechanisms<'a> {
     }
 }
 
-// The name at the front of some bytes, and what follows its NUL.
-fn split_name(bytes: &[u8]) -> Option<(&str, &[u8])>
+/// The name of a mechanism at the front of some bytes, and what follows its NUL. Nothing where the list
+/// ends: at an empty name, one that is not UTF-8, or one without a NUL.
+pub fn split_name(bytes: &[u8]) -> Option<(&str, &[u8])>
     ensures found { IfSome result (λ name. BeginsWithName bytes.now name.0.now name.1.now) }
     ensures none { IfNone result (mechanisms_in bytes.now ≡ []) }
 {

@@ -14,7 +14,7 @@ ghost use Rattle.pg_receive.specs.Authentication.Laws.{one_authentication, authe
 
 use crate::message::BackendMessage;
 use bytes::Bytes;
-pub use mechanisms::SaslMechanisms;
+pub use mechanisms::{SaslMechanisms, split_name};
 use pg_base::io::{bytes_at, u32_at};
 use pg_base::{BackendMessageFormat, Error, ProtocolFault};
 pub use sasl_continue::AuthenticationSaslContinue;

@@ -10,7 +10,7 @@ const NULL: u32 = 1 << 31;
 
 /// The offset after a cell in the body of its row, below 2147483648, and whether the cell is NULL.
 #[derive(Clone, Copy)]
-pub(crate) struct CellEnd(u32);
+pub struct CellEnd(u32);
 
 impl Model for CellEnd {
     ghost Value = { ℕ };
@@ -38,14 +38,14 @@ impl CellEnd {
     }
 
     /// The offset after the cell.
-    pub(crate) fn end(self) -> usize
+    pub fn end(self) -> usize
         ensures { result ≡ end_of self }
     {
         (self.0 % NULL) as usize
     }
 
     /// Whether the cell is NULL.
-    pub(crate) fn is_null(self) -> bool
+    pub fn is_null(self) -> bool
         ensures { result ≡ is_null self }
     {
         self.0 >= NULL

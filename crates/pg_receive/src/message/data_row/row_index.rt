@@ -74,8 +74,8 @@ pub(super) fn read_ends(body: &[u8], ends: &mut Vec<CellEnd>) -> Result<(), Erro
     Ok(())
 }
 
-// Where the cell that begins at an offset ends, and whether it is NULL.
-fn cell_at(body: &[u8], at: usize) -> Result<CellEnd, ProtocolFault>
+/// Where the cell that begins at an offset of a row's body ends, and whether it is NULL.
+pub fn cell_at(body: &[u8], at: usize) -> Result<CellEnd, ProtocolFault>
     requires within { at ≤ length body.now }
     requires short { length body.now ≤ MAX_BODY }
     ensures cell { IfOk result (λ cell. IsEncodedAt SpellsCell body.now at (cell_to body.now at cell) (end_of cell)) }

@@ -125,8 +125,8 @@ impl<'a> Iterator for Columns<'a> {
     }
 }
 
-/// The column at an offset of a body, and the offset after it.
-pub(super) fn column_at(body: &[u8], at: usize) -> Result<(FieldRef<'_>, usize), ProtocolFault>
+/// The column that begins at an offset of the body of a RowDescription, and the offset after it.
+pub fn column_at(body: &[u8], at: usize) -> Result<(FieldRef<'_>, usize), ProtocolFault>
     requires within { at ≤ length body.now }
     requires short { length body.now ≤ MAX_BODY }
     ensures column { IfOk result (λ found. IsEncodedAt SpellsColumn body.now at (column_of_ref found.0) found.1) }

@@ -16,7 +16,7 @@ ghost use Rattle.pg_response.specs.Response.Places.{IsPlaceIn, bytes_in};
 
 use crate::message::{BackendMessage, utf8_text};
 use bytes::Bytes;
-pub use fields::Fields;
+pub use fields::{Fields, split_field};
 use lengths::value_in;
 use pg_base::io::ProtocolDecode;
 use pg_base::{BackendMessageFormat, Error};
