@@ -1,0 +1,57 @@
+use Rattle.std.proofs.Common.{◌≡◌, ℕ, ◌+◌, ◌*◌, ℤ, List, drop, arith, rules, ap, sym, ◌∙◌, pos}
+use Rattle.std.specs.Int.{w8, w16}
+use Rattle.std.proofs.lemmas.Int.{to_z-of_z}
+use mir.Val.{SFits, to_z, of_z}
+use Rattle.pg_base.specs.Reading.{Signed}
+use Rattle.pg_receive.specs.CountedItems.{IsEncodedAt}
+use Rattle.pg_receive.specs.Copy.{SpellsCode, codes_counted}
+use Rattle.pg_c.proofs.ReadLemmas.{gives_more, gives_full}
+use Rattle.pg_c.proofs.read.copy.codes_of.Goals as goal
+use Rattle.pg_c.proofs.read.copy.codes_of.Goals.{then-index-codes, else-index-codes}
+
+code_is_at : (body : List ℕ) (at : ℕ) (code : ℤ) → Signed 2 (drop at body) code (drop (at + 2) body) → IsEncodedAt SpellsCode body at code (at + 2)
+code_is_at body at code p = record { spelled = p.spelled; spells = record { wide = p.wide; is = p.is }; ends = omega (arith, p.wide); parts = p.parts }
+
+pub loop-index-preserved : goal.loop-index-preserved
+loop-index-preserved c =
+    let body = c.args.body.now in
+    let read = c.loop-index in
+    let at = 3 + 2 * read.index in
+    let code = c.in_ok-code.code in
+    let in_range : SFits w16 code = search rules in
+    let same : to_z w16 (of_z w16 code) ≡ code = to_z-of_z w16 code in_range in
+    let encoded = code_is_at body at code c.in_ok-code.ensures.found in
+    let next : 3 + 2 * (read.index + 1) ≡ at + 2 = omega arith in
+    rw next (elim c.if-index-codes.branch [
+      | then-index-codes w ↦ rw (w.codes-is, same) (gives_more SpellsCode (λ (z : ℤ). z) body 3 at (at + 2) read.index c.args.codes.now read.codes code read.invariant encoded w.if-index-codes.true)
+      | else-index-codes w ↦ rw w.codes-is (gives_full SpellsCode (λ (z : ℤ). z) body 3 at (at + 2) read.index c.args.codes.now read.codes code read.invariant encoded (omega (arith, w.if-index-codes.false)))
+    ])
+
+pub returns-clause-formats : goal.returns-clause-formats
+returns-clause-formats c =
+    let body = c.args.body.now in
+    let read = c.loop-index.invariant in
+    let format = c.in_ok-format.format in
+    let columns = c.in_ok-columns.columns in
+    let format_range : SFits w8 format = search rules in
+    let columns_range : SFits w16 columns = search rules in
+    let codes_are : c.code_count-count.result ≡ codes_counted columns = c.code_count-count.ensures ∙ ap codes_counted (to_z-of_z w16 columns columns_range) in
+    let all : c.loop-index.index ≡ c.code_count-count.result = omega (arith, c.loop-index-test.false, c.loop-index.auto.index-end) in
+    record {
+      formats = record { format = c.in_ok-format.format; num_columns = c.in_ok-columns.columns; format_codes = read.items };
+      means = record {
+        columns = drop 1 body;
+        after = drop 3 body;
+        spelled = read.encoded.spelled;
+        rest = drop (3 + 2 * c.loop-index.index) body;
+        format = c.in_ok-format.ensures.found;
+        count = c.in_ok-columns.ensures.found;
+        counted = read.counted ∙ all ∙ codes_are;
+        are_spelled = read.encoded.spells;
+        parts = read.encoded.parts;
+      };
+      format = to_z-of_z w8 format format_range;
+      columns = to_z-of_z w16 columns columns_range;
+      count = ap pos (sym (read.counted ∙ all));
+      given = read.given;
+    }

@@ -1,0 +1,12 @@
+use Rattle.std.proofs.Common.{◌≡◌, refl}
+use Rattle.std.specs.Prelude.{slice_index_or}
+use Rattle.pg_base.specs.Format.{backend_tag}
+use Rattle.pg_c.proofs.FrameLemmas.{message_at}
+use Rattle.pg_c.proofs.read.frame.place_of.Goals as goal
+
+pub returns : goal.returns
+returns c =
+    let stream = c.args.stream.now in
+    let frame = c.args.frame.now in
+    let first : slice_index_or stream 0 0 ≡ backend_tag frame.format = rw c.requires.parts refl in
+    rw first (message_at stream (backend_tag frame.format) frame.body.now frame.rest.now c.requires)

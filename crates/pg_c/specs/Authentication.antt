@@ -1,0 +1,51 @@
+-- What a server asks of a client, as a C program reads it.
+use Rattle.std.specs.Prelude.{◌≡◌, ◌⊎◌, ℕ, ℤ, pos, List, [], ◌∷◌, length}
+use Rattle.pg_base.specs.declared.error.ProtocolFault.{ProtocolFault}
+use Rattle.pg_base.specs.declared.error.ProtocolFault.TheVariants.{UnknownAuthentication}
+use Rattle.pg_receive.specs.Authentication.{AuthenticationValue, accepted, cleartext_password, md5_password, sasl, sasl_continue, sasl_final, method_of, MeansAuthentication, IsAuthenticationFault}
+use Rattle.pg_receive.specs.Authentication.SaslContinue.{ContinueValue}
+use Rattle.pg_c.specs.Put.{IsGiven}
+use Rattle.pg_c.specs.Read.{IsBodyFault}
+use Rattle.pg_c.specs.declared.read.authentication.PgmAuthentication.{PgmAuthentication}
+use Rattle.pg_c.specs.declared.read.authentication.PgmChallenge.{PgmChallenge}
+
+-- the salt of a request for an MD5 digest, and zeros of any other
+abbrev pub salt_of : AuthenticationValue → List ℕ
+salt_of accepted = 0 ∷ 0 ∷ 0 ∷ 0 ∷ []
+salt_of cleartext_password = 0 ∷ 0 ∷ 0 ∷ 0 ∷ []
+salt_of (md5_password salt) = salt
+salt_of (sasl names) = 0 ∷ 0 ∷ 0 ∷ 0 ∷ []
+salt_of (sasl_continue challenge) = 0 ∷ 0 ∷ 0 ∷ 0 ∷ []
+salt_of (sasl_final verifier) = 0 ∷ 0 ∷ 0 ∷ 0 ∷ []
+
+pub record ReadsAuthentication (body : List ℕ) (authentication : PgmAuthentication) : Type 0 where
+  pub value : AuthenticationValue
+  pub means : MeansAuthentication body value
+  pub method : authentication.method ≡ method_of value
+  pub salt : authentication.salt ≡ salt_of value
+
+-- the challenge, whose salt and nonce are given
+pub record ReadsChallenge (body : List ℕ) (challenge : PgmChallenge) (salt_old salt_new nonce_old nonce_new : List ℕ) : Type 0 where
+  pub value : ContinueValue
+  pub means : MeansAuthentication body (sasl_continue value)
+  pub iterations : challenge.iterations ≡ value.iterations
+  pub salt_len : challenge.salt_len ≡ length value.salt
+  pub salt : IsGiven value.salt salt_old salt_new
+  pub nonce_len : challenge.nonce_len ≡ length value.nonce
+  pub nonce : IsGiven value.nonce nonce_old nonce_new
+
+-- the verifier, whose length is the result, is given
+pub record ReadsVerifier (body old new : List ℕ) (result : ℤ) : Type 0 where
+  pub verifier : List ℕ
+  pub means : MeansAuthentication body (sasl_final verifier)
+  pub length_is : result ≡ pos (length verifier)
+  pub given : IsGiven verifier old new
+
+-- the body asks for something else
+pub record IsOtherMethod (body : List ℕ) (fault : ProtocolFault) : Type 0 where
+  pub value : AuthenticationValue
+  pub means : MeansAuthentication body value
+  pub is : fault ≡ UnknownAuthentication (method_of value)
+
+abbrev pub IsAskedFault : List ℕ → ProtocolFault → Type 0
+IsAskedFault body fault = IsBodyFault IsAuthenticationFault body fault ⊎ IsOtherMethod body fault

@@ -1,0 +1,23 @@
+-- How many bytes a message at the front of a stream needs.
+use Rattle.std.specs.Prelude.{◌≡◌, ◌+◌, ◌<◌, ◌≤◌, ◌⊎◌, ℕ, pos, List, length}
+use Rattle.pg_base.specs.Format.{IsBackendTag}
+use Rattle.pg_frames.specs.Stream.{Announces}
+
+-- tag and length need five bytes
+pub record NeedsHeader (bytes : List ℕ) (needed : ℕ) : Type 0 where
+  pub short : length bytes < 5
+  pub five : needed ≡ 5
+
+-- the message goes on after the bytes that have come: its length counts all but the tag
+pub record NeedsBody (bytes : List ℕ) (needed : ℕ) : Type 0 where
+  pub tag : ℕ
+  pub announced : ℕ
+  pub announces : Announces bytes tag (pos announced)
+  pub known : IsBackendTag tag
+  pub least : 4 ≤ announced
+  pub short : length bytes < 1 + announced
+  pub all : needed ≡ 1 + announced
+
+-- more bytes than there are, and just as many as tag and length say
+abbrev pub Needs : List ℕ → ℕ → Type 0
+Needs bytes needed = NeedsHeader bytes needed ⊎ NeedsBody bytes needed

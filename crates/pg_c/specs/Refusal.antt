@@ -1,0 +1,67 @@
+-- The numbers by which a call refuses, and what is reported of a fault.
+use Rattle.std.specs.Prelude.{◌≡◌, ◌⊎◌, ℕ, ℤ, negsuc, None, take}
+use Rattle.pg_base.specs.Error.{error_words}
+use Rattle.pg_base.specs.declared.error.ProtocolFault.{ProtocolFault}
+use Rattle.pg_base.specs.declared.error.ProtocolFault.TheVariants as faults
+use Rattle.pg_base.specs.declared.error.Error.{Error}
+use Rattle.pg_base.specs.declared.error.Error.TheVariants.{Protocol, OutOfMemory}
+use Rattle.pg_c.specs.declared.refusal.PgmFault.{PgmFault}
+
+-- the number of any message or value that is too long
+abbrev pub too_long_number : ℤ
+too_long_number = negsuc 4
+
+-- below 0, in the order of the header; negsuc n is -n - 1
+abbrev pub fault_number : ProtocolFault → ℤ
+fault_number (faults.TooManyParamFormats count) = negsuc 1
+fault_number (faults.TooManyResultFormats count) = negsuc 2
+fault_number (faults.TooManyParamTypes count) = negsuc 3
+fault_number (faults.MessageTooLong length) = too_long_number
+fault_number (faults.WrongFormat expected got) = negsuc 5
+fault_number (faults.BodyTooLong length) = negsuc 6
+fault_number (faults.UnknownMessageType tag) = negsuc 7
+fault_number (faults.UnknownAuthentication method) = negsuc 8
+fault_number (faults.UnknownStatus status) = negsuc 9
+fault_number faults.UnknownSeverity = negsuc 10
+fault_number (faults.Short at needed got) = negsuc 11
+fault_number (faults.MissingNul at) = negsuc 12
+fault_number faults.NotUtf8 = negsuc 13
+fault_number faults.NoticeNotUtf8 = negsuc 14
+fault_number faults.ShortSaslItem = negsuc 15
+fault_number faults.Base64 = negsuc 16
+fault_number (faults.BadLength length) = negsuc 17
+fault_number faults.TextHoldsNul = negsuc 18
+fault_number faults.BadParams = negsuc 19
+
+abbrev pub refusal_number : Error → ℤ
+refusal_number (Protocol reading fault) = fault_number fault
+refusal_number OutOfMemory = negsuc 0
+
+-- the offset that a fault names, or 0
+abbrev pub place_in : ProtocolFault → ℕ
+place_in (faults.Short at needed got) = at
+place_in (faults.MissingNul at) = at
+place_in fault = 0
+
+abbrev pub fault_place : Error → ℕ
+fault_place (Protocol reading fault) = place_in fault
+fault_place OutOfMemory = 0
+
+-- an error is reported with its number, its offset and its words, or without words
+pub record IsReport (error : Error) (fault : PgmFault) (result : ℤ) : Type 0 where
+  pub returned : result ≡ refusal_number error
+  pub number : fault.number ≡ refusal_number error
+  pub at : fault.at ≡ fault_place error
+  pub words : (fault.words_len ≡ 0) ⊎ (take fault.words_len fault.words ≡ error_words error)
+
+-- a fault that the bytes have, of no message read as a kind; or out of memory
+abbrev pub IsErrorOf : (ProtocolFault → Type 0) → Type 0 → Error → Type 0
+IsErrorOf IsFault AsksForMemory (Protocol reading fault) = (reading ≡ None) × IsFault fault
+IsErrorOf IsFault AsksForMemory OutOfMemory = AsksForMemory
+
+-- a call that reads refuses for a fault that the bytes have, and changes nothing else; memory ran out
+-- only where it was asked for
+pub record Refuses (IsFault : ProtocolFault → Type 0) (AsksForMemory : Type 0) (fault : PgmFault) (result : ℤ) : Type 0 where
+  pub error : Error
+  pub is : IsErrorOf IsFault AsksForMemory error
+  pub report : IsReport error fault result

@@ -1,0 +1,11 @@
+//! The messages as functions for C, and for languages that call C.
+//!
+//! Nothing is kept after a call and no memory changes hands: a message is written into the caller's
+//! bytes, and what is read is given as places in the bytes that were passed. `clients/header` makes
+//! the C header of the exports here.
+#![tactic(auto)]
+
+pub mod place;
+pub mod put;
+pub mod read;
+pub mod refusal;

@@ -1,0 +1,9 @@
+//! Places in the bytes that a caller passed.
+
+/// A place in the bytes that were passed: `len` of them from `at` on.
+#[repr(C)]
+#[derive(Clone, Copy)]
+pub struct PgmSpan {
+    pub at: usize,
+    pub len: usize,
+}

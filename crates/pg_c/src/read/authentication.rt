@@ -1,0 +1,198 @@
+//! What the server asks of a client that opens a session.
+
+ghost use Rattle.std.specs.Prelude.{◌≡◌, ◌<ℤ◌, ◌≤ℤ◌, ⊤, pos, drop, length, None, IfOk, IfErr};
+ghost use Rattle.pg_base.specs.declared.error.Error.TheVariants.{Protocol};
+ghost use Rattle.pg_base.specs.declared.error.ProtocolFault.TheVariants.{UnknownAuthentication};
+ghost use Rattle.pg_receive.specs.Authentication.Mechanisms.{mechanisms_in};
+ghost use Rattle.pg_receive.specs.Authentication.{MeansAuthentication, IsAuthenticationFault, sasl_continue, sasl_final, method_of};
+ghost use Rattle.pg_receive.specs.Authentication.SaslContinue.Shown.{continue_shown};
+ghost use Rattle.pg_receive.specs.Authentication.Shown.{authentication_shown};
+ghost use Rattle.pg_c.specs.Authentication.{ReadsAuthentication, ReadsChallenge, ReadsVerifier, IsAskedFault, salt_of};
+ghost use Rattle.pg_c.specs.Place.{part};
+ghost use Rattle.pg_c.specs.Read.{AreGiven, IsBodyFault};
+ghost use Rattle.pg_c.specs.Refusal.{Refuses, IsErrorOf};
+
+use crate::place::PgmSpan;
+use crate::put::give;
+use crate::read::check_body;
+use crate::refusal::{PgmFault, report};
+use bytes::Bytes;
+use pg_base::{Error, ProtocolFault};
+use pg_receive::message::{
+    Authentication, AuthenticationSaslContinue, AuthenticationSaslFinal, BackendMessage, split_name,
+};
+use std::alloc::Global;
+
+// The bytes of the number of the method.
+const METHOD_LENGTH: usize = 4;
+
+/// What the server asks for: 0 nothing more, 3 a password in clear, 5 an MD5 digest with this salt, 10
+/// SASL, 11 and 12 what follows in a SASL exchange.
+#[repr(C)]
+#[derive(Clone, Copy)]
+pub struct PgmAuthentication {
+    pub method: u32,
+    pub salt: [u8; 4],
+}
+
+/// The challenge of a SASL exchange: how long its salt and its nonce are, in bytes.
+#[repr(C)]
+#[derive(Clone, Copy)]
+pub struct PgmChallenge {
+    pub iterations: u32,
+    pub salt_len: usize,
+    pub nonce_len: usize,
+}
+
+/// What the server asks for, by the body of its Authentication. 0, or why it is refused.
+#[unsafe(no_mangle)]
+pub extern "C" fn pgm_read_authentication(
+    alloc: Global,
+    body: &[u8],
+    authentication: &mut PgmAuthentication,
+    fault: &mut PgmFault,
+) -> i32
+    ensures value { result ≡ pos 0 → ReadsAuthentication body.now authentication.new }
+    ensures fault { result <ℤ pos 0 → Refuses (IsBodyFault IsAuthenticationFault body.now) ⊤ fault.new result }
+{
+    match authentication_of(alloc, body) {
+        Ok(asked) => {
+            *authentication = shown(&asked);
+            0
+        }
+        Err(error) => report(alloc, error, fault),
+    }
+}
+
+fn authentication_of(alloc: Global, body: &[u8]) -> Result<Authentication, Error>
+    ensures value { IfOk result (λ asked. MeansAuthentication body.now (authentication_shown asked)) }
+    ensures fault { IfErr result (IsErrorOf (IsBodyFault IsAuthenticationFault body.now) ⊤) }
+{
+    check_body(body)?;
+    let body = Bytes::copy_from_slice(alloc, body)?;
+    Authentication::decode_body(alloc, body)
+}
+
+fn shown(asked: &Authentication) -> PgmAuthentication
+    ensures method { result.method ≡ method_of (authentication_shown asked.now) }
+    ensures salt { result.salt ≡ salt_of (authentication_shown asked.now) }
+{
+    let (method, salt) = match asked {
+        Authentication::Ok => (0, [0; 4]),
+        Authentication::CleartextPassword => (3, [0; 4]),
+        Authentication::Md5Password(password) => (5, password.salt),
+        Authentication::Sasl(_) => (10, [0; 4]),
+        Authentication::SaslContinue(_) => (11, [0; 4]),
+        Authentication::SaslFinal(_) => (12, [0; 4]),
+    };
+    PgmAuthentication { method, salt }
+}
+
+/// The mechanisms that the server offers, by the body of an Authentication of method 10: how many there
+/// are. As many as there is room for are written.
+#[unsafe(no_mangle)]
+pub extern "C" fn pgm_read_mechanisms(body: &[u8], mechanisms: &mut [PgmSpan]) -> usize
+    ensures count { result ≡ length (mechanisms_in (drop 4 body.now)) }
+    ensures given { AreGiven (part body.now) (mechanisms_in (drop 4 body.now)) mechanisms.old mechanisms.new }
+{
+    if body.len() < METHOD_LENGTH {
+        return 0;
+    }
+    let mut rest = &body[METHOD_LENGTH..];
+    let mut at = METHOD_LENGTH;
+    let mut count: usize = 0;
+    while let Some((name, after)) = split_name(rest) {
+        if count < mechanisms.len() {
+            mechanisms[count] = PgmSpan {
+                at,
+                len: name.len(),
+            };
+        }
+        at += name.len() + 1;
+        count += 1;
+        rest = after;
+    }
+    count
+}
+
+/// The challenge of a SASL exchange, by the body of an Authentication of method 11. Salt and nonce are
+/// written where their rooms are long enough. 0, or why it is refused.
+#[unsafe(no_mangle)]
+pub extern "C" fn pgm_read_challenge(
+    alloc: Global,
+    body: &[u8],
+    challenge: &mut PgmChallenge,
+    salt: &mut [u8],
+    nonce: &mut [u8],
+    fault: &mut PgmFault,
+) -> i32
+    ensures value { result ≡ pos 0 → ReadsChallenge body.now challenge.new salt.old salt.new nonce.old nonce.new }
+    ensures fault { result <ℤ pos 0 → Refuses (IsAskedFault body.now) ⊤ fault.new result }
+{
+    match challenge_of(alloc, body) {
+        Ok(read) => {
+            *challenge = lengths_of(&read);
+            give(read.salt.as_slice(), salt);
+            give(read.nonce.as_bytes(), nonce);
+            0
+        }
+        Err(error) => report(alloc, error, fault),
+    }
+}
+
+fn lengths_of(challenge: &AuthenticationSaslContinue) -> PgmChallenge
+    ensures iterations { result.iterations ≡ (continue_shown challenge.now).iterations }
+    ensures salt { result.salt_len ≡ length (continue_shown challenge.now).salt }
+    ensures nonce { result.nonce_len ≡ length (continue_shown challenge.now).nonce }
+{
+    PgmChallenge {
+        iterations: challenge.iterations,
+        salt_len: challenge.salt.len(),
+        nonce_len: challenge.nonce.len(),
+    }
+}
+
+fn challenge_of(alloc: Global, body: &[u8]) -> Result<AuthenticationSaslContinue, Error>
+    ensures value { IfOk result (λ challenge. MeansAuthentication body.now (sasl_continue (continue_shown challenge))) }
+    ensures fault { IfErr result (IsErrorOf (IsAskedFault body.now) ⊤) }
+{
+    match authentication_of(alloc, body)? {
+        Authentication::SaslContinue(challenge) => Ok(challenge),
+        other => Err(unexpected(&other)),
+    }
+}
+
+/// The verifier that ends a SASL exchange, by the body of an Authentication of method 12: its length in
+/// bytes. It is written where its room is that long.
+#[unsafe(no_mangle)]
+pub extern "C" fn pgm_read_verifier(
+    alloc: Global,
+    body: &[u8],
+    verifier: &mut [u8],
+    fault: &mut PgmFault,
+) -> isize
+    ensures value { pos 0 ≤ℤ result → ReadsVerifier body.now verifier.old verifier.new result }
+    ensures fault { result <ℤ pos 0 → Refuses (IsAskedFault body.now) ⊤ fault.new result }
+{
+    match verifier_of(alloc, body) {
+        Ok(end) => give(end.verifier.as_slice(), verifier),
+        Err(error) => report(alloc, error, fault) as isize,
+    }
+}
+
+fn verifier_of(alloc: Global, body: &[u8]) -> Result<AuthenticationSaslFinal, Error>
+    ensures value { IfOk result (λ end. MeansAuthentication body.now (sasl_final end.verifier.items)) }
+    ensures fault { IfErr result (IsErrorOf (IsAskedFault body.now) ⊤) }
+{
+    match authentication_of(alloc, body)? {
+        Authentication::SaslFinal(end) => Ok(end),
+        other => Err(unexpected(&other)),
+    }
+}
+
+// What was asked is not what the caller reads.
+fn unexpected(asked: &Authentication) -> Error
+    ensures { result ≡ Protocol None (UnknownAuthentication (method_of (authentication_shown asked.now))) }
+{
+    ProtocolFault::UnknownAuthentication(shown(asked).method).into()
+}

@@ -1,0 +1,140 @@
+//! The columns of a result, and the types of a statement's parameters.
+
+ghost use Rattle.std.specs.Prelude.{◌≡◌, ◌≤◌, ◌<ℤ◌, ◌≤ℤ◌, ℕ, List, pos, length, IfOk, IfErr};
+ghost use Rattle.std.specs.Option.{option_map_or};
+ghost use Rattle.pg_receive.specs.CountedItems.{IsEncodedAt};
+ghost use Rattle.pg_receive.specs.ParameterDescription.{SpellsType, IsTypesFault};
+ghost use Rattle.pg_receive.specs.RowDescription.Columns.{column_of_ref};
+ghost use Rattle.pg_receive.specs.RowDescription.{SpellsColumn, IsColumnsFault};
+ghost use Rattle.pg_c.specs.Columns.{column_in};
+ghost use Rattle.pg_c.specs.Read.{ReadsItems, IsBodyFault};
+ghost use Rattle.pg_c.specs.Refusal.{Refuses};
+
+use crate::place::PgmSpan;
+use crate::read::check_body;
+use crate::refusal::{PgmFault, report};
+use pg_base::ProtocolFault;
+use pg_base::io::{Oid, bytes_at, u16_at, u32_at};
+use pg_receive::message::{FieldRef, column_at};
+use std::alloc::Global;
+
+// Where the first column or type begins, after the count.
+const FIRST: usize = 2;
+
+// The least bytes of a column.
+const LEAST_COLUMN: usize = 19;
+
+const TYPE_LENGTH: usize = 4;
+
+/// A column of a result. `table` and `attribute` are 0 where it is of no table. `type_size` is below 0
+/// where it varies. `format` is 0 for text, 1 for binary.
+#[repr(C)]
+#[derive(Clone, Copy)]
+pub struct PgmColumn {
+    pub name: PgmSpan,
+    pub table: u32,
+    pub attribute: i16,
+    pub type_id: u32,
+    pub type_size: i16,
+    pub type_modifier: i32,
+    pub format: i16,
+}
+
+/// The columns of a result, by the body of its RowDescription: how many there are. As many as there is
+/// room for are written; the rest are read too.
+#[unsafe(no_mangle)]
+pub extern "C" fn pgm_read_columns(
+    alloc: Global,
+    body: &[u8],
+    columns: &mut [PgmColumn],
+    fault: &mut PgmFault,
+) -> isize
+    ensures columns { pos 0 ≤ℤ result → ReadsItems SpellsColumn (column_in body.now) body.now columns.old columns.new result }
+    ensures fault { result <ℤ pos 0 → Refuses (IsBodyFault IsColumnsFault body.now) ⊥ fault.new result }
+{
+    match columns_of(body, columns) {
+        Ok(count) => count as isize,
+        Err(why) => report(alloc, why.into(), fault) as isize,
+    }
+}
+
+fn columns_of(body: &[u8], columns: &mut [PgmColumn]) -> Result<usize, ProtocolFault>
+    ensures small { IfOk result (λ count. count ≤ 65535) }
+    ensures columns { IfOk result (λ count. ReadsItems SpellsColumn (column_in body.now) body.now columns.old columns.new (pos count)) }
+    ensures fault { IfErr result (IsBodyFault IsColumnsFault body.now) }
+{
+    check_body(body)?;
+    let count = usize::from(u16_at(body, 0)?);
+    bytes_at(body, FIRST, LEAST_COLUMN * count)?;
+    let mut at = FIRST;
+    for index in 0..count {
+        let (column, end) = column_at(body, at)?;
+        if index < columns.len() {
+            columns[index] = place_of(at, &column);
+        }
+        at = end;
+    }
+    Ok(count)
+}
+
+// The place of the column that begins at an offset.
+fn place_of(at: usize, column: &FieldRef<'_>) -> PgmColumn
+    ensures { (body : List ℕ) (end : ℕ) → IsEncodedAt SpellsColumn body at (column_of_ref column.now) end → column_in body result ≡ column_of_ref column.now }
+{
+    PgmColumn {
+        name: PgmSpan {
+            at,
+            len: column.name.len(),
+        },
+        table: table_of(column.relation_id),
+        attribute: column.relation_attribute_no.unwrap_or(0),
+        type_id: column.data_type_id.0,
+        type_size: column.data_type_size,
+        type_modifier: column.type_modifier,
+        format: column.format,
+    }
+}
+
+fn table_of(id: Option<Oid>) -> u32
+    ensures { result ≡ option_map_or (λ oid. oid.0) id 0 }
+{
+    match id {
+        Some(Oid(number)) => number,
+        None => 0,
+    }
+}
+
+/// The types of a statement's parameters, by the body of its ParameterDescription: how many there are.
+/// As many as there is room for are written.
+#[unsafe(no_mangle)]
+pub extern "C" fn pgm_read_parameter_types(
+    alloc: Global,
+    body: &[u8],
+    types: &mut [u32],
+    fault: &mut PgmFault,
+) -> isize
+    ensures types { pos 0 ≤ℤ result → ReadsItems SpellsType (λ number. number) body.now types.old types.new result }
+    ensures fault { result <ℤ pos 0 → Refuses (IsBodyFault IsTypesFault body.now) ⊥ fault.new result }
+{
+    match types_of(body, types) {
+        Ok(count) => count as isize,
+        Err(why) => report(alloc, why.into(), fault) as isize,
+    }
+}
+
+fn types_of(body: &[u8], types: &mut [u32]) -> Result<usize, ProtocolFault>
+    ensures small { IfOk result (λ count. count ≤ 65535) }
+    ensures types { IfOk result (λ count. ReadsItems SpellsType (λ number. number) body.now types.old types.new (pos count)) }
+    ensures fault { IfErr result (IsBodyFault IsTypesFault body.now) }
+{
+    check_body(body)?;
+    let count = usize::from(u16_at(body, 0)?);
+    bytes_at(body, FIRST, TYPE_LENGTH * count)?;
+    for index in 0..count {
+        let number = u32_at(body, FIRST + TYPE_LENGTH * index)?;
+        if index < types.len() {
+            types[index] = number;
+        }
+    }
+    Ok(count)
+}

@@ -1,0 +1,79 @@
+//! How the data of a COPY is spelled.
+
+ghost use Rattle.std.specs.Prelude.{◌≡◌, ◌≤◌, ◌<ℤ◌, ◌≤ℤ◌, pos, length, IfOk, IfErr};
+ghost use Rattle.pg_receive.specs.Copy.{codes_counted, IsFormatsFault};
+ghost use Rattle.pg_c.specs.Copy.{ReadsFormats};
+ghost use Rattle.pg_c.specs.Read.{IsBodyFault};
+ghost use Rattle.pg_c.specs.Refusal.{Refuses};
+
+use crate::read::check_body;
+use crate::refusal::{PgmFault, report};
+use pg_base::ProtocolFault;
+use pg_base::io::{bytes_at, i8_at, i16_at};
+use std::alloc::Global;
+
+// The offsets of the count of columns and of the first code.
+const COLUMNS: usize = 1;
+
+const FIRST_CODE: usize = 3;
+
+const CODE_LENGTH: usize = 2;
+
+/// How the data of a COPY is spelled: 0 for text, 1 for binary. `columns` may be below 0, which means
+/// none.
+#[repr(C)]
+#[derive(Clone, Copy)]
+pub struct PgmCopyResponse {
+    pub format: i8,
+    pub columns: i16,
+}
+
+/// How the data of a COPY is spelled, by the body of a CopyInResponse or CopyOutResponse: how many
+/// columns have a code. As many codes as there is room for are written.
+#[unsafe(no_mangle)]
+pub extern "C" fn pgm_read_copy_response(
+    alloc: Global,
+    body: &[u8],
+    response: &mut PgmCopyResponse,
+    codes: &mut [i16],
+    fault: &mut PgmFault,
+) -> isize
+    ensures formats { pos 0 ≤ℤ result → ReadsFormats body.now response.new codes.old codes.new result }
+    ensures fault { result <ℤ pos 0 → Refuses (IsBodyFault IsFormatsFault body.now) ⊥ fault.new result }
+{
+    match codes_of(body, response, codes) {
+        Ok(count) => count as isize,
+        Err(why) => report(alloc, why.into(), fault) as isize,
+    }
+}
+
+fn codes_of(
+    body: &[u8],
+    response: &mut PgmCopyResponse,
+    codes: &mut [i16],
+) -> Result<usize, ProtocolFault>
+    ensures small { IfOk result (λ count. count ≤ 65535) }
+    ensures formats { IfOk result (λ count. ReadsFormats body.now response.new codes.old codes.new (pos count)) }
+    ensures fault { IfErr result (IsBodyFault IsFormatsFault body.now) }
+{
+    check_body(body)?;
+    let format = i8_at(body, 0)?;
+    let columns = i16_at(body, COLUMNS)?;
+    let count = code_count(columns);
+    bytes_at(body, FIRST_CODE, CODE_LENGTH * count)?;
+    for index in 0..count {
+        let code = i16_at(body, FIRST_CODE + CODE_LENGTH * index)?;
+        if index < codes.len() {
+            codes[index] = code;
+        }
+    }
+    *response = PgmCopyResponse { format, columns };
+    Ok(count)
+}
+
+// How many codes follow a count of columns.
+fn code_count(columns: i16) -> usize
+    ensures { result ≡ codes_counted columns }
+{
+    usize::try_from(columns).unwrap_or(0)
+}

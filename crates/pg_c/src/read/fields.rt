@@ -1,0 +1,73 @@
+//! The fields of an error or a notice, and how grave it is.
+
+ghost use Rattle.std.specs.Prelude.{◌≡◌, ◌<ℤ◌, ◌≤ℤ◌, ⊤, pos, length, IfOk, IfErr};
+ghost use Rattle.pg_response.specs.Response.Fields.{fields_in};
+ghost use Rattle.pg_response.specs.Response.Severity.{severity_number};
+ghost use Rattle.pg_response.specs.Response.{IsNoticeFault};
+ghost use Rattle.pg_c.specs.Fields.{field_in, IsSeverityOf};
+ghost use Rattle.pg_c.specs.Read.{AreGiven, IsBodyFault};
+ghost use Rattle.pg_c.specs.Refusal.{Refuses, IsErrorOf};
+
+use crate::place::PgmSpan;
+use crate::read::check_body;
+use crate::refusal::{PgmFault, report};
+use bytes::Bytes;
+use pg_base::Error;
+use pg_receive::message::{BackendMessage, Notice, PgSeverity};
+use pg_response::message::split_field;
+use std::alloc::Global;
+
+/// A field of an error or a notice, by its letter.
+#[repr(C)]
+#[derive(Clone, Copy)]
+pub struct PgmField {
+    pub letter: u8,
+    pub value: PgmSpan,
+}
+
+/// The fields of an error or a notice, in order: how many there are. As many as there is room for are
+/// written.
+#[unsafe(no_mangle)]
+pub extern "C" fn pgm_read_fields(body: &[u8], fields: &mut [PgmField]) -> usize
+    ensures count { result ≡ length (fields_in body.now) }
+    ensures given { AreGiven (field_in body.now) (fields_in body.now) fields.old fields.new }
+{
+    let mut rest = body;
+    let mut at: usize = 0;
+    let mut count: usize = 0;
+    while let Some((letter, value, after)) = split_field(rest) {
+        if count < fields.len() {
+            let value = PgmSpan {
+                at: at + 1,
+                len: value.len(),
+            };
+            fields[count] = PgmField { letter, value };
+        }
+        at += value.len() + 2;
+        count += 1;
+        rest = after;
+    }
+    count
+}
+
+/// How grave an error or a notice is: 0 PANIC, 1 FATAL, 2 ERROR, 3 WARNING, 4 NOTICE, 5 DEBUG, 6 INFO,
+/// 7 LOG.
+#[unsafe(no_mangle)]
+pub extern "C" fn pgm_read_severity(alloc: Global, body: &[u8], fault: &mut PgmFault) -> i32
+    ensures severity { pos 0 ≤ℤ result → IsSeverityOf body.now result }
+    ensures fault { result <ℤ pos 0 → Refuses (IsBodyFault IsNoticeFault body.now) ⊤ fault.new result }
+{
+    match severity_of(alloc, body) {
+        Ok(severity) => severity as i32,
+        Err(error) => report(alloc, error, fault),
+    }
+}
+
+fn severity_of(alloc: Global, body: &[u8]) -> Result<PgSeverity, Error>
+    ensures severity { IfOk result (λ severity. IsSeverityOf body.now (pos (severity_number severity))) }
+    ensures fault { IfErr result (IsErrorOf (IsBodyFault IsNoticeFault body.now) ⊤) }
+{
+    check_body(body)?;
+    let body = Bytes::copy_from_slice(alloc, body)?;
+    Ok(Notice::decode_body(alloc, body)?.severity())
+}

@@ -1,0 +1,83 @@
+//! The message at the front of a stream.
+
+ghost use Rattle.std.specs.Prelude.{◌≡◌, ◌≤◌, ◌<◌, ◌<ℤ◌, pos, drop, length};
+ghost use Rattle.pg_base.specs.Cutting.{Begins};
+ghost use Rattle.pg_base.specs.Format.{backend_tag};
+ghost use Rattle.pg_frames.specs.Stream.{WantsMore, IsStreamFault};
+ghost use Rattle.pg_c.specs.Frame.{Needs};
+ghost use Rattle.pg_c.specs.Place.{part};
+ghost use Rattle.pg_c.specs.Refusal.{Refuses};
+
+use crate::place::PgmSpan;
+use crate::refusal::{PgmFault, report};
+use pg_base::io::i32_at;
+use pg_frames::{Frame, next_frame};
+use std::alloc::Global;
+
+// The bytes before a body: the tag and the length.
+const HEADER: usize = 5;
+
+/// A message at the front of a stream. `length` is how many bytes of the stream it takes; where it isn't
+/// whole, how many are needed at least.
+#[repr(C)]
+#[derive(Clone, Copy)]
+pub struct PgmFrame {
+    pub tag: u8,
+    pub body: PgmSpan,
+    pub length: usize,
+}
+
+/// The message at the front of a stream: 1 where it is whole, 0 where more bytes are needed. Refused
+/// where no message from a server has this tag, or its length is below 4: then, whatever comes next.
+#[unsafe(no_mangle)]
+pub extern "C" fn pgm_next_frame(
+    alloc: Global,
+    stream: &[u8],
+    frame: &mut PgmFrame,
+    fault: &mut PgmFault,
+) -> i32
+    ensures whole { result ≡ pos 1 → Begins stream.now frame.new.tag (part stream.now frame.new.body) (drop frame.new.length stream.now) }
+    ensures part { result ≡ pos 0 → Needs stream.now frame.new.length }
+    ensures fault { result <ℤ pos 0 → Refuses (IsStreamFault stream.now) ⊥ fault.new result }
+{
+    match next_frame(stream) {
+        Ok(Some(whole)) => {
+            *frame = place_of(stream, &whole);
+            1
+        }
+        Ok(None) => {
+            frame.length = needed(stream);
+            0
+        }
+        Err(why) => report(alloc, why.into(), fault),
+    }
+}
+
+// Where the message at the front is.
+fn place_of(stream: &[u8], frame: &Frame<'_>) -> PgmFrame
+    requires { Begins stream.now (backend_tag frame.now.format) frame.now.body.now frame.now.rest.now }
+    ensures { Begins stream.now result.tag (part stream.now result.body) (drop result.length stream.now) }
+{
+    PgmFrame {
+        tag: stream[0],
+        body: PgmSpan {
+            at: HEADER,
+            len: frame.body.len(),
+        },
+        length: HEADER + frame.body.len(),
+    }
+}
+
+// How many bytes the message at the front needs.
+fn needed(stream: &[u8]) -> usize
+    requires { WantsMore stream.now }
+    ensures { Needs stream.now result }
+{
+    if stream.len() < HEADER {
+        return HEADER;
+    }
+    match i32_at(stream, 1) {
+        Ok(announced) => 1 + announced.unsigned_abs() as usize,
+        Err(_) => HEADER,
+    }
+}

@@ -1,0 +1,31 @@
+//! Messages from the server, read where they are.
+//!
+//! Bodies are those of the frames of `pgm_next_frame`. Places are in the bytes that were passed. A call
+//! refuses by a number below 0, and then fills `fault`; an array of places may have been written in
+//! part by then.
+
+mod authentication;
+mod columns;
+mod copy;
+mod fields;
+mod frame;
+mod row;
+mod status;
+
+ghost use Rattle.std.specs.Prelude.{◌≡◌, ◌≤◌, ◌<◌, length, OnOk, IfErr};
+ghost use Rattle.pg_c.specs.Read.{max_body};
+ghost use Rattle.pg_base.specs.declared.error.ProtocolFault.TheVariants.{BodyTooLong};
+
+use pg_base::ProtocolFault;
+use pg_base::io::MAX_BODY;
+
+/// Whether a message can have a body of this length.
+pub(crate) fn check_body(body: &[u8]) -> Result<(), ProtocolFault>
+    ensures ok { OnOk result (length body.now ≤ max_body) }
+    ensures err { IfErr result (λ fault. (max_body < length body.now) × (fault ≡ BodyTooLong (length body.now))) }
+{
+    if body.len() > MAX_BODY {
+        return Err(ProtocolFault::BodyTooLong(body.len()));
+    }
+    Ok(())
+}

@@ -1,0 +1,83 @@
+//! The cells of a row.
+
+ghost use Rattle.std.specs.Prelude.{◌≡◌, ◌+◌, ◌≤◌, ◌<ℤ◌, ◌≤ℤ◌, ℕ, List, pos, length, IfOk, IfErr};
+ghost use Rattle.pg_receive.specs.DataRow.CellEnd.{end_of, cell_to};
+ghost use Rattle.pg_receive.specs.DataRow.{SpellsCell, IsRowFault};
+ghost use Rattle.pg_c.specs.Read.{ReadsItems, IsBodyFault};
+ghost use Rattle.pg_c.specs.Row.{cell_in};
+ghost use Rattle.pg_c.specs.Refusal.{Refuses};
+
+use crate::read::check_body;
+use crate::refusal::{PgmFault, report};
+use pg_base::ProtocolFault;
+use pg_base::io::{MAX_BODY, bytes_at, u16_at};
+use pg_receive::message::{CellEnd, cell_at};
+use std::alloc::Global;
+
+// Where the first cell begins, after the count.
+const FIRST_CELL: usize = 2;
+
+// The bytes of a cell's length.
+const CELL_LENGTH: usize = 4;
+
+/// A cell of a row: `len` bytes from `at` on, or NULL where `len` is -1.
+#[repr(C)]
+#[derive(Clone, Copy)]
+pub struct PgmCell {
+    pub at: u32,
+    pub len: i32,
+}
+
+/// The cells of a row, by the body of its DataRow: how many it has. As many as there is room for are
+/// written; the rest are read too, so a row is refused for any of its cells.
+#[unsafe(no_mangle)]
+pub extern "C" fn pgm_read_row(
+    alloc: Global,
+    body: &[u8],
+    cells: &mut [PgmCell],
+    fault: &mut PgmFault,
+) -> isize
+    ensures row { pos 0 ≤ℤ result → ReadsItems SpellsCell (cell_in body.now) body.now cells.old cells.new result }
+    ensures fault { result <ℤ pos 0 → Refuses (IsBodyFault IsRowFault body.now) ⊥ fault.new result }
+{
+    match cells_of(body, cells) {
+        Ok(count) => count as isize,
+        Err(why) => report(alloc, why.into(), fault) as isize,
+    }
+}
+
+fn cells_of(body: &[u8], cells: &mut [PgmCell]) -> Result<usize, ProtocolFault>
+    ensures small { IfOk result (λ count. count ≤ 65535) }
+    ensures row { IfOk result (λ count. ReadsItems SpellsCell (cell_in body.now) body.now cells.old cells.new (pos count)) }
+    ensures fault { IfErr result (IsBodyFault IsRowFault body.now) }
+{
+    check_body(body)?;
+    let count = usize::from(u16_at(body, 0)?);
+    bytes_at(body, FIRST_CELL, CELL_LENGTH * count)?;
+    let mut at = FIRST_CELL;
+    for index in 0..count {
+        let cell = cell_at(body, at)?;
+        if index < cells.len() {
+            cells[index] = place_of(at, cell);
+        }
+        at = cell.end();
+    }
+    Ok(count)
+}
+
+// The place of the cell that begins at an offset.
+fn place_of(at: usize, cell: CellEnd) -> PgmCell
+    requires wide { at + 4 ≤ end_of cell }
+    requires short { end_of cell ≤ MAX_BODY }
+    ensures { (body : List ℕ) → cell_in body result ≡ cell_to body at cell }
+{
+    let start = at + CELL_LENGTH;
+    PgmCell {
+        at: start as u32,
+        len: if cell.is_null() {
+            -1
+        } else {
+            (cell.end() - start) as i32
+        },
+    }
+}

@@ -1,0 +1,148 @@
+//! Notifications, settings, keys, and what a command and a session report of themselves.
+
+ghost use Rattle.std.specs.Prelude.{◌≡◌, ◌<ℤ◌, ◌≤ℤ◌, pos};
+ghost use Rattle.pg_receive.specs.BackendKeyData.{MeansKey, IsKeyFault};
+ghost use Rattle.pg_receive.specs.CommandComplete.{row_count};
+ghost use Rattle.pg_receive.specs.Notification.{MeansNotification, IsNotificationFault};
+ghost use Rattle.pg_receive.specs.ParameterStatus.{MeansSetting, IsSettingFault};
+ghost use Rattle.pg_receive.specs.ReadyForQuery.{IsStatusFault};
+ghost use Rattle.pg_c.specs.Place.{part};
+ghost use Rattle.pg_c.specs.Refusal.{Refuses};
+ghost use Rattle.pg_c.specs.Status.{IsStatusLetter};
+
+use crate::place::PgmSpan;
+use crate::refusal::{PgmFault, report};
+use pg_receive::message::{
+    BackendKeyData, NotificationRef, ParameterStatusRef, ReadyForQuery, rows_affected,
+};
+use std::alloc::Global;
+
+/// A notification from another session.
+#[repr(C)]
+#[derive(Clone, Copy)]
+pub struct PgmNotification {
+    pub process_id: u32,
+    pub channel: PgmSpan,
+    pub payload: PgmSpan,
+}
+
+/// A setting of the server and its value.
+#[repr(C)]
+#[derive(Clone, Copy)]
+pub struct PgmParameterStatus {
+    pub name: PgmSpan,
+    pub value: PgmSpan,
+}
+
+/// What a request to cancel has to name.
+#[repr(C)]
+#[derive(Clone, Copy)]
+pub struct PgmKeyData {
+    pub process_id: u32,
+    pub secret_key: u32,
+}
+
+/// A notification, by the body of its NotificationResponse. 0, or why it is refused.
+#[unsafe(no_mangle)]
+pub extern "C" fn pgm_read_notification(
+    alloc: Global,
+    body: &[u8],
+    notification: &mut PgmNotification,
+    fault: &mut PgmFault,
+) -> i32
+    ensures value { result ≡ pos 0 → MeansNotification body.now (record { process_id = notification.new.process_id; channel = part body.now notification.new.channel; payload = part body.now notification.new.payload }) }
+    ensures fault { result <ℤ pos 0 → Refuses (IsNotificationFault body.now) ⊥ fault.new result }
+{
+    match NotificationRef::read(body) {
+        Ok(read) => {
+            let channel = PgmSpan {
+                at: 4,
+                len: read.channel.len(),
+            };
+            *notification = PgmNotification {
+                process_id: read.process_id,
+                channel,
+                payload: PgmSpan {
+                    at: channel.at + channel.len + 1,
+                    len: read.payload.len(),
+                },
+            };
+            0
+        }
+        Err(why) => report(alloc, why.into(), fault),
+    }
+}
+
+/// A setting of the server, by the body of its ParameterStatus. 0, or why it is refused.
+#[unsafe(no_mangle)]
+pub extern "C" fn pgm_read_parameter_status(
+    alloc: Global,
+    body: &[u8],
+    status: &mut PgmParameterStatus,
+    fault: &mut PgmFault,
+) -> i32
+    ensures value { result ≡ pos 0 → MeansSetting body.now (record { name = part body.now status.new.name; value = part body.now status.new.value }) }
+    ensures fault { result <ℤ pos 0 → Refuses (IsSettingFault body.now) ⊥ fault.new result }
+{
+    match ParameterStatusRef::read(body) {
+        Ok(read) => {
+            *status = PgmParameterStatus {
+                name: PgmSpan {
+                    at: 0,
+                    len: read.name.len(),
+                },
+                value: PgmSpan {
+                    at: read.name.len() + 1,
+                    len: read.value.len(),
+                },
+            };
+            0
+        }
+        Err(why) => report(alloc, why.into(), fault),
+    }
+}
+
+/// What a request to cancel has to name, by the body of a BackendKeyData. 0, or why it is refused.
+#[unsafe(no_mangle)]
+pub extern "C" fn pgm_read_key_data(
+    alloc: Global,
+    body: &[u8],
+    key: &mut PgmKeyData,
+    fault: &mut PgmFault,
+) -> i32
+    ensures value { result ≡ pos 0 → MeansKey body.now (record { process_id = key.new.process_id; secret_key = key.new.secret_key }) }
+    ensures fault { result <ℤ pos 0 → Refuses (IsKeyFault body.now) ⊥ fault.new result }
+{
+    match BackendKeyData::read(body) {
+        Ok(read) => {
+            *key = PgmKeyData {
+                process_id: read.process_id,
+                secret_key: read.secret_key,
+            };
+            0
+        }
+        Err(why) => report(alloc, why.into(), fault),
+    }
+}
+
+/// How many rows a command had to do with, by the body of its CommandComplete: the number after the
+/// last space, and 0 where there is none.
+#[unsafe(no_mangle)]
+pub extern "C" fn pgm_read_rows_affected(body: &[u8]) -> u64
+    ensures { result ≡ row_count body.now }
+{
+    rows_affected(body)
+}
+
+/// The letter of the transaction's status, by the body of a ReadyForQuery: I where none is open, T in
+/// one, E in one that has failed.
+#[unsafe(no_mangle)]
+pub extern "C" fn pgm_read_ready(alloc: Global, body: &[u8], fault: &mut PgmFault) -> i32
+    ensures value { pos 0 ≤ℤ result → IsStatusLetter body.now result }
+    ensures fault { result <ℤ pos 0 → Refuses (IsStatusFault body.now) ⊥ fault.new result }
+{
+    match ReadyForQuery::read(body) {
+        Ok(ready) => ready.transaction_status as i32,
+        Err(why) => report(alloc, why.into(), fault),
+    }
+}

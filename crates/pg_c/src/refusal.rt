@@ -1,0 +1,144 @@
+//! Why a call refuses, as a number and in words.
+
+ghost use Rattle.std.specs.Prelude.{◌≡◌};
+ghost use Rattle.pg_c.specs.Refusal.{fault_number, refusal_number, fault_place, IsReport};
+
+use pg_base::{Error, ProtocolFault};
+use std::alloc::Global;
+
+/// No memory was there.
+pub const OUT_OF_MEMORY: i32 = -1;
+
+/// More parameter formats than a message can count.
+pub const TOO_MANY_PARAM_FORMATS: i32 = -2;
+
+/// More result formats than a message can count.
+pub const TOO_MANY_RESULT_FORMATS: i32 = -3;
+
+/// More parameter types than a message can count.
+pub const TOO_MANY_PARAM_TYPES: i32 = -4;
+
+/// A message is longer than its length field can say.
+pub const MESSAGE_TOO_LONG: i32 = -5;
+
+/// A message was read as one of another kind.
+pub const WRONG_FORMAT: i32 = -6;
+
+/// A received body is longer than a length field can say.
+pub const BODY_TOO_LONG: i32 = -7;
+
+/// No message from the server has this tag.
+pub const UNKNOWN_MESSAGE_TYPE: i32 = -8;
+
+/// A method of authentication that isn't known here.
+pub const UNKNOWN_AUTHENTICATION: i32 = -9;
+
+/// No transaction status has this letter.
+pub const UNKNOWN_STATUS: i32 = -10;
+
+/// No severity has this word.
+pub const UNKNOWN_SEVERITY: i32 = -11;
+
+/// A body has fewer bytes than are needed.
+pub const SHORT: i32 = -12;
+
+/// A text has no end.
+pub const MISSING_NUL: i32 = -13;
+
+/// A text is not UTF-8.
+pub const NOT_UTF8: i32 = -14;
+
+/// A text of an error or a notice is not UTF-8.
+pub const NOTICE_NOT_UTF8: i32 = -15;
+
+/// An item of SASL data has no room for a key and its separator.
+pub const SHORT_SASL_ITEM: i32 = -16;
+
+/// A value of SASL data is not base64.
+pub const BASE64: i32 = -17;
+
+/// The length of a message is below 4.
+pub const BAD_LENGTH: i32 = -18;
+
+/// A text to be sent holds a NUL.
+pub const TEXT_HOLDS_NUL: i32 = -19;
+
+/// The values of a Bind can't be counted.
+pub const BAD_PARAMS: i32 = -20;
+
+/// What is wrong with bytes that were read. `number` is what the call returned. `at` is an offset in
+/// them, where the fault has one, else 0. `words` are `words_len` bytes of ASCII, none where there was
+/// no memory for them.
+#[repr(C)]
+pub struct PgmFault {
+    pub number: i32,
+    pub at: usize,
+    pub words_len: usize,
+    pub words: [u8; 256],
+}
+
+/// The number of an error.
+pub fn number_of(error: Error) -> i32
+    ensures { result ≡ refusal_number error }
+{
+    match error {
+        Error::OutOfMemory => OUT_OF_MEMORY,
+        Error::Protocol { fault, .. } => number_of_fault(fault),
+    }
+}
+
+fn number_of_fault(fault: ProtocolFault) -> i32
+    ensures { result ≡ fault_number fault }
+{
+    match fault {
+        ProtocolFault::TooManyParamFormats(_) => TOO_MANY_PARAM_FORMATS,
+        ProtocolFault::TooManyResultFormats(_) => TOO_MANY_RESULT_FORMATS,
+        ProtocolFault::TooManyParamTypes(_) => TOO_MANY_PARAM_TYPES,
+        ProtocolFault::MessageTooLong(_) => MESSAGE_TOO_LONG,
+        ProtocolFault::WrongFormat { .. } => WRONG_FORMAT,
+        ProtocolFault::BodyTooLong(_) => BODY_TOO_LONG,
+        ProtocolFault::UnknownMessageType(_) => UNKNOWN_MESSAGE_TYPE,
+        ProtocolFault::UnknownAuthentication(_) => UNKNOWN_AUTHENTICATION,
+        ProtocolFault::UnknownStatus(_) => UNKNOWN_STATUS,
+        ProtocolFault::UnknownSeverity => UNKNOWN_SEVERITY,
+        ProtocolFault::Short { .. } => SHORT,
+        ProtocolFault::MissingNul { .. } => MISSING_NUL,
+        ProtocolFault::NotUtf8 => NOT_UTF8,
+        ProtocolFault::NoticeNotUtf8 => NOTICE_NOT_UTF8,
+        ProtocolFault::ShortSaslItem => SHORT_SASL_ITEM,
+        ProtocolFault::Base64 => BASE64,
+        ProtocolFault::BadLength(_) => BAD_LENGTH,
+        ProtocolFault::TextHoldsNul => TEXT_HOLDS_NUL,
+        ProtocolFault::BadParams => BAD_PARAMS,
+    }
+}
+
+// The offset that an error names, 0 where it names none.
+fn place_of(error: Error) -> usize
+    ensures { result ≡ fault_place error }
+{
+    match error {
+        Error::Protocol {
+            fault: ProtocolFault::Short { at, .. } | ProtocolFault::MissingNul { at },
+            ..
+        } => at,
+        _ => 0,
+    }
+}
+
+/// Fills the fault with an error, and gives its number.
+pub fn report(alloc: Global, error: Error, fault: &mut PgmFault) -> i32
+    ensures { IsReport error fault.new result }
+{
+    let number = number_of(error);
+    fault.number = number;
+    fault.at = place_of(error);
+    fault.words_len = 0;
+    if let Ok(words) = error.to_string(alloc) {
+        if words.len() <= fault.words.len() {
+            fault.words[..words.len()].copy_from_slice(words.as_bytes());
+            fault.words_len = words.len();
+        }
+    }
+    number
+}
