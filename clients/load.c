@@ -1,0 +1,281 @@
+#define _DEFAULT_SOURCE
+
+#include "load.h"
+#include "progress.h"
+#include "wait.h"
+
+#include <errno.h>
+#include <inttypes.h>
+#include <stdio.h>
+#include <string.h>
+#include <sys/uio.h>
+#include <unistd.h>
+
+enum { HEAD = 5, BLOCK = 65536 };
+
+/* How far it is. */
+enum phase {
+    ASKED,   /* the query is sent, its answer not there */
+    SENDING, /* the server takes data */
+    ENDED,   /* a CopyDone is put */
+    STOPPED  /* by an error of the server, or a CopyFail is put */
+};
+
+struct load {
+    struct connection *connection;
+    int file;
+    const char *file_name;
+    enum phase phase;
+    enum status status; /* of what stopped it */
+    bool is_stored;     /* the server says so */
+    bool is_ready;      /* the server is, for the next query */
+    uint64_t rows;
+    uint64_t sent; /* bytes of data */
+    struct progress progress;
+    /* The message that is being sent: its head, its data, and how much of both is sent. */
+    size_t block_at;
+    size_t block_len;
+    uint8_t head[HEAD];
+    uint8_t data[BLOCK];
+};
+
+static bool has_block(const struct load *load)
+{
+    return load->block_at < load->block_len;
+}
+
+static bool has_output(const struct load *load)
+{
+    const struct buffer *output = &load->connection->output;
+    return has_block(load) || output->start < output->end;
+}
+
+/* Ends the data by a CopyFail, with words that the server reports. */
+static void give_up(struct load *load, enum status status, const char *reason)
+{
+    load->status = status;
+    load->phase = STOPPED;
+    PUT(load->connection,
+        pgm_put_copy_fail((const uint8_t *)reason, strlen(reason), SPARE(load->connection)));
+}
+
+static void begin_block(struct load *load, size_t len)
+{
+    int32_t refusal = pgm_put_copy_head(len, load->head);
+    if (refusal < 0) {
+        give_up(load, complain(STATUS_LOCAL, "a block of %zu bytes is refused", len), "a block is refused");
+        return;
+    }
+    load->block_at = 0;
+    load->block_len = HEAD + len;
+}
+
+/* Reads the next block of the file. */
+static void read_block(struct load *load)
+{
+    ssize_t count = read(load->file, load->data, BLOCK);
+    if (count > 0) {
+        begin_block(load, (size_t)count);
+    } else if (count == 0) {
+        load->phase = ENDED;
+        PUT(load->connection, pgm_put_copy_done(SPARE(load->connection)));
+    } else if (errno != EAGAIN && errno != EWOULDBLOCK && errno != EINTR) {
+        complain(STATUS_LOCAL, "%s can't be read: %s", load->file_name, strerror(errno));
+        give_up(load, STATUS_LOCAL, "the client can't read its file");
+    }
+}
+
+/* Sends what the socket takes of the block. */
+static void send_block(struct load *load)
+{
+    size_t head = load->block_at < HEAD ? load->block_at : HEAD;
+    size_t data = load->block_at - head;
+    struct iovec parts[] = {
+        {.iov_base = load->head + head, .iov_len = HEAD - head},
+        {.iov_base = load->data + data, .iov_len = load->block_len - HEAD - data},
+    };
+    ssize_t count = writev(load->connection->socket, parts, 2);
+    if (count >= 0) {
+        size_t of_head = (size_t)count < parts[0].iov_len ? (size_t)count : parts[0].iov_len;
+        load->block_at += (size_t)count;
+        load->sent += (size_t)count - of_head;
+        progress_show(&load->progress, load->sent);
+    } else if (errno != EAGAIN && errno != EWOULDBLOCK && errno != EINTR) {
+        /* The next read says why. */
+        load->connection->is_gone = true;
+        load->block_at = load->block_len;
+    }
+}
+
+static void send_some(struct load *load)
+{
+    if (has_block(load))
+        send_block(load);
+    if (!has_block(load) && has_output(load))
+        connection_write(load->connection);
+}
+
+static enum status take_error(struct load *load, const struct message *message)
+{
+    progress_end(&load->progress);
+    report(message);
+    if (load->status == STATUS_OK)
+        load->status = STATUS_SERVER;
+    load->phase = STOPPED;
+    return STATUS_OK;
+}
+
+static enum status take_count(struct load *load, const struct message *message)
+{
+    if (load->phase != ENDED)
+        return complain_of_message(message);
+    load->is_stored = true;
+    load->rows = pgm_read_rows_affected(message->body, message->len);
+    return STATUS_OK;
+}
+
+static enum status take_ready(struct load *load, const struct message *message)
+{
+    if (load->phase != STOPPED && !load->is_stored)
+        return complain_of_message(message);
+    load->is_ready = true;
+    return check_ready(message);
+}
+
+/* Takes the server's word that it waits for data. */
+static enum status take_start(struct load *load, const struct message *message)
+{
+    pgm_copy_response response;
+    pgm_fault fault;
+    int16_t codes[1];
+    if (load->phase != ASKED)
+        return complain_of_message(message);
+    if (pgm_read_copy_response(message->body, message->len, &response, codes, 1, &fault) < 0)
+        return complain_of_fault(&fault);
+    if (response.format != 0)
+        return complain(STATUS_PROTOCOL, "the server waits for another format than text");
+    load->phase = SENDING;
+    return STATUS_OK;
+}
+
+static enum status take_notice(struct load *load, const struct message *message)
+{
+    progress_end(&load->progress);
+    report(message);
+    return STATUS_OK;
+}
+
+static enum status take(struct load *load, const struct message *message)
+{
+    switch (message->tag) {
+    case 'G': return take_start(load, message);
+    case 'E': return take_error(load, message);
+    case 'C': return take_count(load, message);
+    case 'Z': return take_ready(load, message);
+    case 'N': return take_notice(load, message);
+    case 'A':
+    case 'S': return STATUS_OK;
+    default: return complain_of_message(message);
+    }
+}
+
+static enum status take_all(struct load *load)
+{
+    for (;;) {
+        struct message message;
+        enum status status = connection_next(load->connection, &message);
+        if (status != STATUS_OK || message.tag == 0)
+            return status;
+        status = take(load, &message);
+        if (status != STATUS_OK || load->is_ready)
+            return status;
+    }
+}
+
+/* Waits for the socket or for the file, and reads and sends what is possible. */
+static enum status step(struct load *load)
+{
+    bool is_hungry = load->phase == SENDING && !has_output(load) && !load->connection->is_gone;
+    struct pollfd ready[] = {
+        {.fd = load->connection->socket, .events = POLLIN},
+        {.fd = is_hungry ? load->file : -1, .events = POLLIN},
+    };
+    if (has_output(load))
+        ready[0].events |= POLLOUT;
+    enum status status = wait_for(ready, 2, -1);
+    if (status != STATUS_OK)
+        return status;
+    if (ready[0].revents & (POLLIN | POLLHUP | POLLERR))
+        status = connection_read(load->connection);
+    if (status == STATUS_OK)
+        status = take_all(load);
+    if (ready[1].revents != 0 && status == STATUS_OK && load->phase == SENDING)
+        read_block(load);
+    if (status == STATUS_OK)
+        send_some(load);
+    return status;
+}
+
+/* What the server is known to have stored after the connection broke. */
+static void explain_break(const struct load *load)
+{
+    if (load->is_stored)
+        complain(STATUS_BROKEN, "the server had confirmed %" PRIu64 " rows before", load->rows);
+    else if (load->phase == ENDED)
+        complain(STATUS_BROKEN, "all %" PRIu64 " bytes of data were sent, and the server confirmed nothing: the"
+                 " rows may be stored or not", load->sent);
+    else
+        complain(STATUS_BROKEN, "%" PRIu64 " bytes of data were sent, and the server confirmed nothing: no row"
+                 " is stored, since a COPY is one statement", load->sent);
+}
+
+static enum status interrupt(struct load *load, enum status status)
+{
+    if (load->phase != SENDING && load->phase != ENDED)
+        return status;
+    progress_end(&load->progress);
+    if (load->phase == SENDING) {
+        give_up(load, status, "the client was interrupted");
+        return STATUS_OK;
+    }
+    return complain(status, "interrupted while the server stores the rows: they may be stored or not");
+}
+
+/* Goes on until the server is ready for another query. */
+static enum status run(struct load *load)
+{
+    /* Messages may have come with the end of the login. */
+    enum status status = take_all(load);
+    while (status == STATUS_OK && !load->is_ready) {
+        status = load->connection->failure;
+        if (status == STATUS_OK)
+            status = step(load);
+        if (status == STATUS_INTERRUPTED || status == STATUS_TERMINATED)
+            status = interrupt(load, status);
+    }
+    progress_end(&load->progress);
+    if (status == STATUS_BROKEN)
+        explain_break(load);
+    return load->status != STATUS_OK ? load->status : status;
+}
+
+/* Prints the tag of the command. */
+static enum status print_count(const struct load *load)
+{
+    if (printf("COPY %" PRIu64 "\n", load->rows) < 0 || fflush(stdout) == EOF)
+        return complain(STATUS_LOCAL, "%" PRIu64 " rows are stored, but that can't be written: %s", load->rows,
+                        strerror(errno));
+    return STATUS_OK;
+}
+
+enum status load_file(struct connection *connection, const struct buffer *query, int file,
+                      const char *file_name)
+{
+    struct load load = {.connection = connection, .file = file, .file_name = file_name, .phase = ASKED};
+    progress_begin(&load.progress);
+    PUT(connection, pgm_put_query(query->bytes + query->start, query->end - query->start, SPARE(connection)));
+    enum status status = run(&load);
+    if (load.is_ready && !has_block(&load))
+        connection_terminate(connection);
+    return status == STATUS_OK ? print_count(&load) : status;
+}

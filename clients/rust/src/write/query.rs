@@ -1,0 +1,81 @@
+//! Queries, and what describes, runs and closes statements and portals.
+
+use super::{Messages, Portal, Statement};
+use crate::error::Refusal;
+use crate::sys;
+use std::num::NonZeroU32;
+
+impl Messages {
+    /// Runs the statements of a text: Query.
+    ///
+    /// Refused with [`TextHoldsNul`](Refusal::TextHoldsNul) where the text holds a NUL.
+    pub fn query(&mut self, query: &str) -> Result<&mut Self, Refusal> {
+        self.put(|out| {
+            // SAFETY: both are slices, valid for their lengths, and `&mut` keeps `out` apart.
+            unsafe { sys::pgm_put_query(query.as_ptr(), query.len(), out.as_mut_ptr(), out.len()) }
+        })
+    }
+
+    /// Asks for the parameters and the columns of a statement: Describe.
+    pub fn describe_statement(&mut self, statement: Statement) -> Result<&mut Self, Refusal> {
+        self.put(|out| {
+            // SAFETY: `out` is a slice, valid for its length.
+            unsafe { sys::pgm_put_describe_statement(statement.0, out.as_mut_ptr(), out.len()) }
+        })
+    }
+
+    /// Asks for the columns of a portal: Describe.
+    pub fn describe_portal(&mut self, portal: Portal) -> Result<&mut Self, Refusal> {
+        self.put(|out| {
+            // SAFETY: `out` is a slice, valid for its length.
+            unsafe { sys::pgm_put_describe_portal(portal.0, out.as_mut_ptr(), out.len()) }
+        })
+    }
+
+    /// Runs a portal, up to so many rows, or to the last one: Execute.
+    ///
+    /// `NonZeroU32::new(limit)` makes a limit of a number, where 0 means no limit.
+    pub fn execute(
+        &mut self,
+        portal: Portal,
+        limit: Option<NonZeroU32>,
+    ) -> Result<&mut Self, Refusal> {
+        let limit = limit.map_or(0, NonZeroU32::get);
+        self.put(|out| {
+            // SAFETY: `out` is a slice, valid for its length.
+            unsafe { sys::pgm_put_execute(portal.0, limit, out.as_mut_ptr(), out.len()) }
+        })
+    }
+
+    /// Closes a statement: Close.
+    pub fn close_statement(&mut self, statement: Statement) -> Result<&mut Self, Refusal> {
+        self.put(|out| {
+            // SAFETY: `out` is a slice, valid for its length.
+            unsafe { sys::pgm_put_close_statement(statement.0, out.as_mut_ptr(), out.len()) }
+        })
+    }
+
+    /// Closes a portal: Close.
+    pub fn close_portal(&mut self, portal: Portal) -> Result<&mut Self, Refusal> {
+        self.put(|out| {
+            // SAFETY: `out` is a slice, valid for its length.
+            unsafe { sys::pgm_put_close_portal(portal.0, out.as_mut_ptr(), out.len()) }
+        })
+    }
+
+    /// Asks the server to send the answers that it holds back: Flush.
+    pub fn flush(&mut self) -> Result<&mut Self, Refusal> {
+        self.put(|out| {
+            // SAFETY: `out` is a slice, valid for its length.
+            unsafe { sys::pgm_put_flush(out.as_mut_ptr(), out.len()) }
+        })
+    }
+
+    /// Ends a run of messages, which the server answers with ReadyForQuery: Sync.
+    pub fn sync(&mut self) -> Result<&mut Self, Refusal> {
+        self.put(|out| {
+            // SAFETY: `out` is a slice, valid for its length.
+            unsafe { sys::pgm_put_sync(out.as_mut_ptr(), out.len()) }
+        })
+    }
+}

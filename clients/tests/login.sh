@@ -1,0 +1,97 @@
+# Logins by each method, and what can be wrong before one. Sourced by `test`.
+
+# Logs in by TCP, and out again.
+log_in() {
+    "$programs/pg_listen" -h 127.0.0.1 -U "$1" -d postgres -n 0 channel < /dev/null
+}
+
+make_users() {
+    sql "SET password_encryption = 'scram-sha-256'; CREATE ROLE by_scram LOGIN PASSWORD 'pass word ''1'
+         ; CREATE ROLE by_clear LOGIN PASSWORD 'pass word ''1'; CREATE ROLE by_trust LOGIN
+         ; SET password_encryption = md5; CREATE ROLE by_md5 LOGIN PASSWORD 'pass word ''1'"
+}
+
+test_passwords() {
+    local user
+    for user in by_clear by_md5 by_scram; do
+        PGPASSWORD="pass word '1" try log_in "$user"
+        expect "login $user" 0 listening
+        PGPASSWORD=wrong try log_in "$user"
+        expect "login $user with a wrong password" 3 28P01
+        try log_in "$user"
+        expect "login $user without a password" 3 PGPASSWORD
+    done
+    try log_in by_trust
+    expect 'login by_trust' 0 listening
+    PGPASSWORD=$'\377' try log_in by_clear
+    expect 'a password that is not UTF-8' 1 'not UTF-8'
+    try log_in nobody_is_called_so
+    expect 'login of an unknown user' 3 28000
+}
+
+test_without_crypto() {
+    local programs=out/plain
+    PGPASSWORD="pass word '1" try log_in by_clear
+    expect 'without libcrypto: in clear text' 0
+    PGPASSWORD="pass word '1" try log_in by_md5
+    expect 'without libcrypto: MD5 is refused' 3 'built without libcrypto'
+    PGPASSWORD="pass word '1" try log_in by_scram
+    expect 'without libcrypto: SCRAM is refused' 3 'built without libcrypto'
+}
+
+# Types a password at a terminal, after the prompt is there.
+type_password() {
+    (sleep 1; printf '%s\n' "$1"; sleep 1) |
+        script -q -e -c "$programs/pg_listen -h 127.0.0.1 -U by_scram -d postgres -n 0 channel" /dev/null
+}
+
+test_terminal() {
+    if ! command -v script > /dev/null; then
+        echo 'left out: a password at a terminal, since there is no script(1)'
+        return
+    fi
+    try type_password "pass word '1"
+    expect 'a password at a terminal' 0
+    case $output in
+    *'pass word'*) bad 'a password at a terminal is not shown' "$output" ;;
+    *) ok 'a password at a terminal is not shown' ;;
+    esac
+    try type_password wrong
+    expect 'a wrong password at a terminal' 3
+    try type_password $'\003'
+    expect 'Ctrl-C at the prompt' 130
+}
+
+test_addresses() {
+    local listen=$programs/pg_listen
+    try "$listen" -n 0 channel
+    expect 'a Unix socket' 0
+    try "$listen" -h no.such.host.invalid -n 0 channel
+    expect 'a host that is not there' 2 no.such.host.invalid
+    try "$listen" -h 127.0.0.1 -p "$(free_port)" -n 0 channel
+    expect 'a port where nobody waits' 2 'Connection refused'
+    try "$listen" -h /nowhere -n 0 channel
+    expect 'a folder without a socket' 2 'No such file'
+    try "$listen" -h "/$(printf '%0200d' 0)" -n 0 channel
+    expect 'a folder with a long name' 2 'too long'
+    try "$listen" -p 123456 -n 0 channel
+    expect 'a port that no port can be' 1 123456
+    try "$listen" -d no_such_database -n 0 channel
+    expect 'a database that is not there' 3 3D000
+    try "$listen"
+    expect 'no channel' 1 usage
+    try "$listen" -n -1 channel
+    expect 'a count below 0' 1 usage
+    try "$listen" -x channel
+    expect 'an unknown option' 1 usage
+    try "$listen" --help
+    expect 'help' 0
+}
+
+test_login() {
+    make_users
+    test_passwords
+    test_without_crypto
+    test_terminal
+    test_addresses
+}

@@ -1,0 +1,92 @@
+/* ppoll is in POSIX since 2024; glibc shows it to this alone. */
+#define _GNU_SOURCE
+
+#include "wait.h"
+
+#include <errno.h>
+#include <fcntl.h>
+#include <signal.h>
+#include <string.h>
+#include <time.h>
+#include <unistd.h>
+
+static volatile sig_atomic_t caught_signal;
+
+static void note_signal(int number)
+{
+    caught_signal = number;
+}
+
+/* A write that a signal meets goes on; ppoll doesn't. */
+void catch_signals(void)
+{
+    struct sigaction action = {.sa_handler = note_signal, .sa_flags = SA_RESTART | SA_RESETHAND};
+    sigemptyset(&action.sa_mask);
+    if (sigaction(SIGINT, &action, NULL) < 0 || sigaction(SIGTERM, &action, NULL) < 0)
+        complain(STATUS_LOCAL, "signals can't be caught: %s", strerror(errno));
+}
+
+static void ignore_broken_pipes(void)
+{
+    struct sigaction action = {.sa_handler = SIG_IGN};
+    sigemptyset(&action.sa_mask);
+    if (sigaction(SIGPIPE, &action, NULL) < 0)
+        complain(STATUS_LOCAL, "SIGPIPE can't be ignored: %s", strerror(errno));
+}
+
+static void open_standard_descriptors(void)
+{
+    /* Standard input can then not be read, and the others can't be written. */
+    static const int modes[] = {O_WRONLY, O_RDONLY, O_RDONLY};
+    for (int number = 0; number < 3; number++)
+        if (fcntl(number, F_GETFD) < 0 && errno == EBADF && open("/dev/null", modes[number]) < 0)
+            return;
+}
+
+void prepare_process(void)
+{
+    open_standard_descriptors();
+    ignore_broken_pipes();
+}
+
+static enum status take_signal(void)
+{
+    int number = caught_signal;
+    caught_signal = 0;
+    if (number == 0)
+        return STATUS_OK;
+    return number == SIGTERM ? STATUS_TERMINATED : STATUS_INTERRUPTED;
+}
+
+/* Waits once, with the signals blocked from before the test for one until ppoll waits, so that none comes
+ * between the two. Where a descriptor is ready at once a signal comes after ppoll. */
+static int wait_once(struct pollfd *descriptors, nfds_t count, const struct timespec *limit)
+{
+    sigset_t signals, before;
+    int ready = 0;
+    sigemptyset(&signals);
+    sigaddset(&signals, SIGINT);
+    sigaddset(&signals, SIGTERM);
+    if (sigprocmask(SIG_BLOCK, &signals, &before) < 0)
+        return -1;
+    if (caught_signal == 0)
+        ready = ppoll(descriptors, count, limit, &before);
+    int failure = errno;
+    if (sigprocmask(SIG_SETMASK, &before, NULL) < 0)
+        return -1;
+    errno = failure;
+    return ready;
+}
+
+enum status wait_for(struct pollfd *descriptors, nfds_t count, int milliseconds)
+{
+    struct timespec limit = {.tv_sec = milliseconds / 1000, .tv_nsec = milliseconds % 1000 * 1000000L};
+    for (;;) {
+        int ready = wait_once(descriptors, count, milliseconds < 0 ? NULL : &limit);
+        enum status status = take_signal();
+        if (status != STATUS_OK || ready >= 0)
+            return status;
+        if (errno != EINTR)
+            return complain(STATUS_LOCAL, "poll: %s", strerror(errno));
+    }
+}

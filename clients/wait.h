@@ -1,0 +1,22 @@
+/* Waiting for descriptors, or for a signal to end. */
+#ifndef WAIT_H
+#define WAIT_H
+
+#include "status.h"
+
+#include <poll.h>
+
+/* From now on SIGINT and SIGTERM are noted, and `wait_for` answers the status for them. The second one
+ * ends the program at once. */
+void catch_signals(void);
+
+/* What each program does first. A write to a connection or a pipe that is gone then fails and doesn't end
+ * the program. Those of the descriptors 0 to 2 that are closed are opened so that each use of them
+ * fails: else a socket may get such a number, and be written to by mistake. */
+void prepare_process(void);
+
+/* Waits until one of the descriptors is ready, or so many milliseconds have passed; below 0 is for
+ * ever. Answers STATUS_OK, or the status for a signal. */
+enum status wait_for(struct pollfd *descriptors, nfds_t count, int milliseconds);
+
+#endif
