@@ -1,6 +1,6 @@
 //! The client's part of a COPY.
 
-ghost use Rattle.std.specs.Prelude.{◌≡◌, ◌≢◌, ◌<◌, ◌++◌, ℕ, List, pos, length, true, false, Some};
+ghost use Rattle.std.specs.Prelude.{◌≡◌, ◌≢◌, ◌<◌, ◌≤ℤ◌, ◌++◌, ℕ, List, pos, length, true, false, Some};
 ghost use Rattle.std.specs.Str.{is_utf8};
 ghost use Rattle.pg_base.specs.declared.error.ProtocolFault.TheVariants.{NotUtf8};
 ghost use Rattle.pg_request.specs.Message as message;
@@ -26,6 +26,7 @@ pub extern "C" fn pgm_put_copy_data(alloc: Global, data: &[u8], out: &mut [u8]) 
 /// why there are none.
 #[unsafe(no_mangle)]
 pub extern "C" fn pgm_put_copy_head(len: usize, head: &mut [u8; 5]) -> i32
+    ensures result { result ≤ℤ pos 0 }
     ensures head { (bytes : List ℕ) → length bytes ≡ len → result ≡ pos 0 → head.new ++ bytes ≡ text (message.CopyData bytes) }
     ensures refused { (bytes : List ℕ) → length bytes ≡ len → result ≢ pos 0 → (result ≡ too_long_number) × (head.new ≡ head.old) }
 {

@@ -52,6 +52,7 @@ pub extern "C" fn pgm_read_authentication(
     authentication: &mut PgmAuthentication,
     fault: &mut PgmFault,
 ) -> i32
+    ensures result { result ≤ℤ pos 0 }
     ensures value { result ≡ pos 0 → ReadsAuthentication body.now authentication.new }
     ensures fault { result <ℤ pos 0 → Refuses (IsBodyFault IsAuthenticationFault body.now) ⊤ fault.new result }
 {
@@ -126,6 +127,7 @@ pub extern "C" fn pgm_read_challenge(
     nonce: &mut [u8],
     fault: &mut PgmFault,
 ) -> i32
+    ensures result { result ≤ℤ pos 0 }
     ensures value { result ≡ pos 0 → ReadsChallenge body.now challenge.new salt.old salt.new nonce.old nonce.new }
     ensures fault { result <ℤ pos 0 → Refuses (IsAskedFault body.now) ⊤ fault.new result }
 {

@@ -1,6 +1,6 @@
 //! The message at the front of a stream.
 
-ghost use Rattle.std.specs.Prelude.{◌≡◌, ◌≤◌, ◌<◌, ◌<ℤ◌, pos, drop, length};
+ghost use Rattle.std.specs.Prelude.{◌≡◌, ◌≤◌, ◌<◌, ◌<ℤ◌, ◌≤ℤ◌, pos, drop, length};
 ghost use Rattle.pg_base.specs.Cutting.{Begins};
 ghost use Rattle.pg_base.specs.Format.{backend_tag};
 ghost use Rattle.pg_frames.specs.Stream.{WantsMore, IsStreamFault};
@@ -36,6 +36,7 @@ pub extern "C" fn pgm_next_frame(
     frame: &mut PgmFrame,
     fault: &mut PgmFault,
 ) -> i32
+    ensures result { result ≤ℤ pos 1 }
     ensures whole { result ≡ pos 1 → Begins stream.now frame.new.tag (part stream.now frame.new.body) (drop frame.new.length stream.now) }
     ensures part { result ≡ pos 0 → Needs stream.now frame.new.length }
     ensures fault { result <ℤ pos 0 → Refuses (IsStreamFault stream.now) ⊥ fault.new result }

@@ -50,6 +50,7 @@ pub extern "C" fn pgm_read_notification(
     notification: &mut PgmNotification,
     fault: &mut PgmFault,
 ) -> i32
+    ensures result { result ≤ℤ pos 0 }
     ensures value { result ≡ pos 0 → MeansNotification body.now (record { process_id = notification.new.process_id; channel = part body.now notification.new.channel; payload = part body.now notification.new.payload }) }
     ensures fault { result <ℤ pos 0 → Refuses (IsNotificationFault body.now) ⊥ fault.new result }
 {
@@ -81,6 +82,7 @@ pub extern "C" fn pgm_read_parameter_status(
     status: &mut PgmParameterStatus,
     fault: &mut PgmFault,
 ) -> i32
+    ensures result { result ≤ℤ pos 0 }
     ensures value { result ≡ pos 0 → MeansSetting body.now (record { name = part body.now status.new.name; value = part body.now status.new.value }) }
     ensures fault { result <ℤ pos 0 → Refuses (IsSettingFault body.now) ⊥ fault.new result }
 {
@@ -110,6 +112,7 @@ pub extern "C" fn pgm_read_key_data(
     key: &mut PgmKeyData,
     fault: &mut PgmFault,
 ) -> i32
+    ensures result { result ≤ℤ pos 0 }
     ensures value { result ≡ pos 0 → MeansKey body.now (record { process_id = key.new.process_id; secret_key = key.new.secret_key }) }
     ensures fault { result <ℤ pos 0 → Refuses (IsKeyFault body.now) ⊥ fault.new result }
 {
