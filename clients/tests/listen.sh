@@ -1,9 +1,9 @@
 # Notifications. Sourced by `test`.
 
-# Starts pg_listen, and waits until it listens. Leaves its process in $listening.
+# Starts pg_listen with its output to a file, and waits until it listens. Leaves its process in $listening.
 start_listening() {
     : > "$work/errors"
-    "$programs/pg_listen" "$@" > "$work/lines" 2> "$work/errors" &
+    "$programs/pg_listen" "${@:2}" > "$1" 2> "$work/errors" &
     listening=$!
     await grep -q '^listening$' "$work/errors" || bad 'listening' "$(cat "$work/errors")"
 }
@@ -18,7 +18,7 @@ end_listening() {
 test_payloads() {
     local odd=$'we"ird Chän\'nel' long process
     long=$(printf '%07999d' 0)
-    start_listening -n 5 plain "$odd"
+    start_listening "$work/lines" -n 5 plain "$odd"
     process=$(sql "NOTIFY plain; SELECT pg_notify('plain', '$long');
                    SELECT pg_notify('we\"ird Chän''nel', E'tab\\tline\\nback\\\\slash\\rGrüße');
                    SELECT pg_notify('other', 'not for us'); NOTIFY \"we\"\"ird Chän'nel\", ' ';
@@ -38,24 +38,22 @@ has_lines() {
 }
 
 test_ends() {
-    start_listening plain
+    start_listening "$work/lines" plain
     sql "NOTIFY plain, 'one'"
     await has_lines 1 && ok 'a line comes at once' || bad 'a line comes at once' 'it does not'
     kill -INT "$listening"
     end_listening
     expect 'Ctrl-C while listening' 130
-    start_listening plain
+    start_listening "$work/lines" plain
     kill -TERM "$listening"
     end_listening
     expect 'SIGTERM while listening' 143
-    start_listening plain
+    start_listening "$work/lines" plain
     sql "SELECT pg_terminate_backend(pid) FROM pg_stat_activity
          WHERE application_name = 'pg_listen'" > /dev/null
     end_listening
     expect 'the server ends the listener' 4 57P01
-    "$programs/pg_listen" plain > /dev/full 2> "$work/errors" &
-    listening=$!
-    await grep -q '^listening$' "$work/errors"
+    start_listening /dev/full plain
     sql 'NOTIFY plain'
     end_listening
     expect 'notifications into a full disk' 7 'No space'
