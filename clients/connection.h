@@ -28,7 +28,7 @@ struct connection {
 /* Takes the answer of a pgm_put_* call; whether the call is to be made again. */
 bool connection_put(struct connection *connection, ptrdiff_t length);
 
-/* Connects, and logs in. From then on signals come while it waits. */
+/* Connects, and logs in. From then on SIGINT and SIGTERM end what waits, by a status of their own. */
 enum status connection_open(struct connection *connection, struct options *options);
 
 /* Says good-bye where that can be sent at once. */

@@ -92,7 +92,7 @@ static enum status answer_once(struct login *login, const pgm_authentication *as
     }
 }
 
-static enum status accept(struct login *login)
+static enum status accept_login(struct login *login)
 {
     if (scram_is_open(&login->scram))
         return complain(STATUS_PROTOCOL, "the server didn't show that it knows the password");
@@ -111,7 +111,7 @@ static enum status answer(struct login *login, const struct message *message)
     if (login->is_accepted)
         return complain_of_message(message);
     switch (asked.method) {
-    case METHOD_ACCEPTED: return accept(login);
+    case METHOD_ACCEPTED: return accept_login(login);
     case METHOD_CLEAR_TEXT:
     case METHOD_MD5:
     case METHOD_SASL: return answer_once(login, &asked, message);
@@ -128,8 +128,8 @@ static enum status take(struct login *login, const struct message *message)
     case 'R': return answer(login, message);
     case 'E': report(message); return STATUS_REFUSED;
     case 'N': report(message); return STATUS_OK;
+    case 'K':
     case 'S': return STATUS_OK;
-    case 'K': return STATUS_OK;
     case 'Z':
         if (!login->is_accepted)
             return complain_of_message(message);

@@ -29,7 +29,7 @@ is_loading() {
 
 # Waits for the load, and leaves what it said as `try` does.
 end_load() {
-    wait "$loading"
+    reap "$loading"
     status=$?
     output=$(cat "$work/output")
     errors=$(cat "$work/errors")
@@ -113,7 +113,7 @@ test_signal_before_rows() {
     expect 'Ctrl-C while the table is locked' 130
     kill "$holder"
     sql "SELECT pg_terminate_backend(pid) FROM pg_locks WHERE relation = 'by_copy'::regclass" > /dev/null
-    wait "$holder" 2> /dev/null
+    reap "$holder"
 }
 
 is_held() {

@@ -20,7 +20,7 @@ start_fake() {
 against_file() {
     start_fake
     PGHOST=127.0.0.1 PGPORT=$fake_port PGUSER=ann PGDATABASE=ann PGPASSWORD=pw try timeout 20 "$@"
-    wait "$faking"
+    reap "$faking"
 }
 
 # The same for bytes that printf writes.
@@ -117,14 +117,14 @@ test_random_bytes() {
 record_of() {
     printf "$2" > "$work/said"
     start_fake
-    start_recording -1 -h 127.0.0.1 -p "$fake_port"
+    start_recording "$work/lines" -1 -h 127.0.0.1 -p "$fake_port"
     exec 3<> "/dev/tcp/127.0.0.1/$record_port"
     printf 'any client' >&3
     cat <&3 > "$work/passed"
     exec 3>&-
-    wait "$recording"
+    reap "$recording"
     same "recording: $1" "$? $(cat "$work/lines")" "0 $3"
-    wait "$faking"
+    reap "$faking"
     cmp "$work/said" "$work/passed" > "$work/difference"
     same "recording: $1, passed unchanged" "$(cat "$work/difference")$(cat "$work/heard")" 'any client'
     if [ -n "${PG_TOOL:-}" ]; then

@@ -9,7 +9,7 @@ start_listening() {
 }
 
 end_listening() {
-    wait "$listening"
+    reap "$listening"
     status=$?
     output=$(cat "$work/lines")
     errors=$(cat "$work/errors")

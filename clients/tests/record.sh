@@ -1,14 +1,11 @@
 # Recordings of what a server says. Sourced by `test`.
 
-# Starts pg_record on a free port, and leaves its process in $recording, its port in $record_port.
+# Starts pg_record on a free port with its lines to a file. Leaves its process in $recording, its port in
+# $record_port.
 start_recording() {
     : > "$work/errors.record"
-    "$programs/pg_record" "$@" 0 > "$work/lines" 2> "$work/errors.record" &
+    "$programs/pg_record" "${@:2}" 0 > "$1" 2> "$work/errors.record" &
     recording=$!
-    await_recording
-}
-
-await_recording() {
     if ! await grep -q '^listening on' "$work/errors.record"; then
         bad 'start of a recording' "$(cat "$work/errors.record")"
     fi
@@ -22,7 +19,7 @@ through() {
 
 stop_recording() {
     kill "$recording"
-    wait "$recording" 2> /dev/null
+    reap "$recording"
 }
 
 query_through() {
@@ -100,7 +97,7 @@ as_tags() {
 }
 
 test_lines() {
-    start_recording
+    start_recording "$work/lines"
     run_pgbench
     query_through 'COPY (SELECT 1) TO STDOUT' > /dev/null
     try query_through 'SELECT * FROM no_such_table'
@@ -123,7 +120,7 @@ test_lines() {
 
 test_bytes_through() {
     head -n 100000 "$work/rows" > "$work/some_rows"
-    start_recording
+    start_recording "$work/lines"
     make_table by_copy
     try through "$programs/pg_copy" by_copy "$work/some_rows"
     same 'rows to the server pass unchanged' "$status $output" '0 COPY 100000'
@@ -147,7 +144,7 @@ test_pressure() {
         echo 'left out: the memory of pg_record, since there is no /proc'
         return
     fi
-    start_recording
+    start_recording "$work/lines"
     exec 3<> "/dev/tcp/127.0.0.1/$record_port"
     { printf "$startup"; query "SELECT repeat('x', 1000) FROM generate_series(1, 300000)"; } >&3
     sleep 2
@@ -163,25 +160,23 @@ test_pressure() {
 }
 
 test_ends_of_recordings() {
-    start_recording -1
+    start_recording "$work/lines" -1
     same 'a single connection' "$(query_through 'SELECT 8')" 8
-    wait "$recording"
+    reap "$recording"
     same 'it ends after that' "$?" 0
-    start_recording -1 -h 127.0.0.1 -p "$(free_port)"
+    start_recording "$work/lines" -1 -h 127.0.0.1 -p "$(free_port)"
     query_through 'SELECT 9' > /dev/null 2>&1
-    wait "$recording"
+    reap "$recording"
     same 'a server that is not there' "$?" 2
-    start_recording
+    start_recording "$work/lines"
     try "$programs/pg_record" "$record_port"
     expect 'a port that is in use' 2 'in use'
     stop_recording
     try "$programs/pg_record" 70000
     expect 'a port above the last' 1 usage
-    "$programs/pg_record" -1 0 > /dev/full 2> "$work/errors.record" &
-    recording=$!
-    await_recording
+    start_recording /dev/full -1
     query_through 'SELECT 10' > /dev/null 2>&1
-    wait "$recording"
+    reap "$recording"
     same 'a recording onto a full disk' "$?" 7
 }
 

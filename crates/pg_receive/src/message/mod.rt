@@ -23,8 +23,8 @@ pub use notification::{Notification, NotificationRef};
 pub use parameter_description::ParameterDescription;
 pub use parameter_status::{ParameterStatus, ParameterStatusRef};
 pub use pg_response::message::{
-    BackendMessage, CopyData, CopyDone, Fields, Notice, PgSeverity, ReceivedMessage, split_field, split_text,
-    str_at, text_at, utf8_text,
+    BackendMessage, CopyData, CopyDone, Fields, Notice, PgSeverity, ReceivedMessage, split_field,
+    split_text, str_at, text_at, utf8_text,
 };
 pub use ready_for_query::{ReadyForQuery, TransactionStatus};
 pub use row_description::{Columns, Field, FieldRef, RowDescription, column_at};
