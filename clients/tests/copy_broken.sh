@@ -112,7 +112,7 @@ test_signal_before_rows() {
     end_load
     expect 'Ctrl-C while the table is locked' 130
     kill "$holder"
-    sql "SELECT pg_terminate_backend(pid) FROM pg_locks WHERE relation = 'by_copy'::regclass" > /dev/null
+    sql "SELECT pg_terminate_backend(pid) FROM pg_locks WHERE relation = 'by_copy'::regclass" > /dev/null 2>&1
     reap "$holder"
 }
 
