@@ -1,11 +1,11 @@
 -- What defines a message to the server, the limits on one, and its frame. Documentation: "Messaging
 -- Overview" and "Message Formats".
-use Rattle.std.specs.Prelude.{◌≡◌, ℕ, ◌+◌, ◌-◌, ◌^◌, min, List, ◌++◌, length, Option, Some, None, Result, Ok, Err, Vec, nat_le, if◌then◌else◌}
+use Rattle.std.specs.Prelude.{◌≡◌, ℕ, ◌+◌, ◌-◌, ◌^◌, min, List, ◌++◌, length, Option, Some, None, Result, Ok, Err, MatchOption, Vec, nat_le, if◌then◌else◌}
 use Rattle.std.specs.declared.alloc.Global.{Global}
 use Rattle.pg_base.specs.declared.error.ProtocolFault.{ProtocolFault}
 use Rattle.pg_base.specs.declared.error.ProtocolFault.TheVariants.{MessageTooLong}
 use Rattle.pg_base.specs.declared.error.Error.{Error}
-use Rattle.pg_base.specs.declared.error.Error.TheVariants.{Protocol}
+use Rattle.pg_base.specs.declared.error.Error.TheVariants.{Protocol, OutOfMemory}
 use Rattle.pg_base.specs.declared.format.FrontendMessageFormat.{FrontendMessageFormat}
 use Rattle.pg_base.specs.Cutting.{max_length, frame}
 use Rattle.pg_base.specs.Encode.{EncodesFrame}
@@ -68,6 +68,20 @@ text law = frame (tag law) law.body
 -- what a call answers that encodes the message
 abbrev pub EncodesMessage : Law → Vec ℕ Global → Vec ℕ Global → Result (Unit {0}) Error → Type 0
 EncodesMessage law old new result = EncodesFrame (tag law) law.body (fault law) (hint law) old new result
+
+-- refused exactly where a reader wouldn't get it back, for this fault; memory may run out
+abbrev pub IsRoundTripAnswer : Type 0 → Option ProtocolFault → Result (Unit {0}) Error → Type 0
+IsRoundTripAnswer CanRoundTrip round_trip_fault (Ok _) = CanRoundTrip
+IsRoundTripAnswer CanRoundTrip round_trip_fault (Err (Protocol reading fault)) = (reading ≡ None) × (round_trip_fault ≡ Some fault) × ¬ CanRoundTrip
+IsRoundTripAnswer CanRoundTrip round_trip_fault (Err OutOfMemory) = CanRoundTrip
+
+-- refused exactly where it breaks a limit, for the first that it breaks, or else where a reader wouldn't
+-- get it back
+abbrev pub IsStrictAnswerOf : Option ProtocolFault → Type 0 → Option ProtocolFault → Result (Unit {0}) Error → Type 0
+IsStrictAnswerOf limit CanRoundTrip round_trip_fault answer = MatchOption limit (IsRoundTripAnswer CanRoundTrip round_trip_fault answer) (λ fault. answer ≡ Err (Protocol None fault))
+
+abbrev pub IsStrictAnswer : Law → Result (Unit {0}) Error → Type 0
+IsStrictAnswer law answer = IsStrictAnswerOf (fault law) law.CanRoundTrip law.round_trip_fault answer
 
 -- how much spare room the message asks for, or why it is refused
 abbrev pub room_or_fault : Option ProtocolFault → ℕ → Result ℕ Error

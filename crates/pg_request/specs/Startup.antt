@@ -1,8 +1,9 @@
 -- Startup: opens a session; it has no tag. Documentation: "Message Formats", StartupMessage (F).
-use Rattle.std.specs.Prelude.{ℕ, ◌+◌, List, [], ◌∷◌, ◌++◌, map, length, codes, option_copied, Option, Some, None}
+use Rattle.std.specs.Prelude.{ℕ, ◌+◌, ◌<◌, List, [], ◌∷◌, ◌++◌, map, length, codes, option_copied, Option, Some, None, MatchOption}
 use Rattle.std.specs.Borrow.{Bor}
-use Rattle.std.specs.List.{flat_map}
+use Rattle.std.specs.List.{flat_map, All}
 use Rattle.pg_base.specs.Numbers.{be32}
+use Rattle.pg_base.specs.Reading.{HoldsNo}
 use Rattle.pg_base.specs.Text.{ended}
 use Rattle.pg_request.specs.declared.message.startup.Startup.{Startup}
 
@@ -31,6 +32,21 @@ startup_body s =
 -- the whole, after its length
 abbrev pub startup_text : StartupFields → List ℕ
 startup_text s = be32 (length (startup_body s) + 4) ++ startup_body s
+
+-- a reader gets the setting back: a NUL would end the name or the value, and an empty name the settings
+pub record IsReadable (pair : List ℕ × List ℕ) : Type 0 where
+  pub named : 0 < length pair.0
+  pub name : HoldsNo 0 pair.0
+  pub value : HoldsNo 0 pair.1
+
+abbrev pub IsReadableWhereThere : Option (List ℕ) → Type 0
+IsReadableWhereThere value = MatchOption value (Unit {0}) (HoldsNo 0)
+
+-- a reader gets all settings back
+pub record StartupCanRoundTrip (s : StartupFields) : Type 0 where
+  pub username : IsReadableWhereThere s.username
+  pub database : IsReadableWhereThere s.database
+  pub params : All IsReadable s.params
 
 -- a name and a value as the program borrows them
 abbrev pub setting_of : Bor (List ℕ) × Bor (List ℕ) → List ℕ × List ℕ

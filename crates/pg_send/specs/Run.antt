@@ -1,11 +1,12 @@
 -- A run of messages into one buffer, each with its answer.
-use Rattle.std.specs.Prelude.{◌≡◌, ℕ, ◌+◌, ◌-◌, ◌^◌, ◌<◌, ◌≤◌, min, Vec, vec_len, vec_capacity, List, [], ◌∷◌, ◌++◌, length, Bool, true, false, Some, None, MatchOption, Result, Ok, Err}
+use Rattle.std.specs.Prelude.{◌≡◌, ℕ, ◌+◌, ◌-◌, ◌^◌, ◌<◌, ◌≤◌, min, Vec, vec_len, vec_capacity, List, [], ◌∷◌, ◌++◌, length, Bool, true, false, Result, Ok, Err}
 use Rattle.pg_base.specs.declared.error.Error.{Error}
 use Rattle.pg_base.specs.declared.error.Error.TheVariants.{Protocol, OutOfMemory}
 use Rattle.std.specs.declared.alloc.Global.{Global}
 use Rattle.pg_base.specs.Cutting.{IsCutInto}
 use Rattle.pg_base.specs.Encode.{IsAnswer}
-use Rattle.pg_request.specs.Message.{Message, tag, body, hint, fault, text, CanRoundTrip, round_trip_fault, RoundTrips}
+use Rattle.pg_request.specs.Frame as law
+use Rattle.pg_request.specs.Message.{Message, law_of, tag, body, hint, fault, text, CanRoundTrip, RoundTrips}
 
 abbrev pub Answer : Type 0
 Answer = Result (Unit {0}) Error
@@ -40,16 +41,9 @@ AreAnswers IsAnswerTo (m ∷ ms) (answer ∷ answers) = IsAnswerTo m answer × A
 abbrev pub IsLimitAnswer : Message → Answer → Type 0
 IsLimitAnswer m answer = IsAnswer (fault m) answer
 
--- refused exactly where it can't make the round trip, for the fault of its kind; memory may run out
-abbrev pub IsRoundTripAnswer : Message → Answer → Type 0
-IsRoundTripAnswer m (Ok _) = CanRoundTrip m
-IsRoundTripAnswer m (Err (Protocol reading fault)) = (reading ≡ None) × (round_trip_fault m ≡ Some fault) × ¬ (CanRoundTrip m)
-IsRoundTripAnswer m (Err OutOfMemory) = CanRoundTrip m
-
--- refused exactly where it breaks a limit, for the first that it breaks, or else where it can't make the
--- round trip
+-- refused exactly where it breaks a limit, or else where a reader wouldn't get it back
 abbrev pub IsStrictAnswer : Message → Answer → Type 0
-IsStrictAnswer m answer = MatchOption (fault m) (IsRoundTripAnswer m answer) (λ f. answer ≡ Err (Protocol None f))
+IsStrictAnswer m answer = law.IsStrictAnswer (law_of m) answer
 
 -- the rule of a run, which may be strict
 abbrev pub IsAnswerOf : Bool → Message → Answer → Type 0

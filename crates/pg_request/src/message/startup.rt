@@ -1,11 +1,13 @@
 //! The opening of a session.
 
-ghost use Rattle.std.specs.Prelude.{◌≡◌, ◌+◌, ◌≤◌, ◌++◌, None, codes, length, option_copied, vec_len, vec_capacity};
-ghost use Rattle.std.specs.List.{flat_map};
+ghost use Rattle.std.specs.Prelude.{◌≡◌, ◌+◌, ◌≤◌, ◌++◌, None, IfErr, OnOk, codes, length, option_copied, vec_len, vec_capacity};
+ghost use Rattle.std.specs.List.{flat_map, All};
+ghost use Rattle.pg_base.specs.declared.error.ProtocolFault.TheVariants.{TextHoldsNul};
 ghost use Rattle.pg_request.specs.Frame.{first_fault, saturated};
-ghost use Rattle.pg_request.specs.Startup.{setting, setting_where_there, settings_of, startup_body, startup_text};
+ghost use Rattle.pg_request.specs.Startup.{setting, setting_where_there, settings_of, startup_body, startup_text, IsReadable, IsReadableWhereThere, StartupCanRoundTrip};
 
 use crate::message::parts::{put_text, put_u32};
+use crate::message::round_trip::check_text;
 use pg_base::io::{MAX_LENGTH, ProtocolEncode};
 use pg_base::{Error, ProtocolFault};
 
@@ -22,12 +24,24 @@ pub struct Startup<'a> {
     pub username: Option<&'a str>,
     /// The server takes that of the user's name where there is none.
     pub database: Option<&'a str>,
-    /// Names and values of further settings. A NUL in one, or an empty name, is sent as it is.
+    /// Names and values of further settings. A NUL in one, or an empty name, is sent as it is;
+    /// [`Startup::check_round_trip`] refuses it.
     pub params: &'a [(&'a str, &'a str)],
 }
 
 impl Startup<'_> {
     ghost use Rattle.pg_request.specs.Startup.{startup_fields};
+
+    /// Whether a server would get the settings back: refused with `TextHoldsNul` where a text holds a
+    /// NUL, which ends it for the server, or a name is empty, which ends the settings.
+    pub fn check_round_trip(&self) -> Result<(), ProtocolFault>
+        ensures ok { OnOk result (StartupCanRoundTrip (startup_fields self.now)) }
+        ensures fault { IfErr result (λ fault. (fault ≡ TextHoldsNul) × ¬ (StartupCanRoundTrip (startup_fields self.now))) }
+    {
+        check_optional(self.username)?;
+        check_optional(self.database)?;
+        check_params(self.params)
+    }
 
     // The length of the whole in bytes, which saturates.
     fn text_len(&self) -> usize
@@ -117,4 +131,35 @@ fn put_params(params: &[(&str, &str)], buf: &mut Vec<u8>)
     for (name, value) in params {
         put_setting(name, value, buf);
     }
+}
+
+fn check_optional(value: Option<&str>) -> Result<(), ProtocolFault>
+    ensures ok { OnOk result (IsReadableWhereThere (option_copied value.entry)) }
+    ensures fault { IfErr result (λ fault. (fault ≡ TextHoldsNul) × ¬ (IsReadableWhereThere (option_copied value.entry))) }
+{
+    match value {
+        Some(value) => check_text(value),
+        None => Ok(()),
+    }
+}
+
+fn check_params(params: &[(&str, &str)]) -> Result<(), ProtocolFault>
+    ensures ok { OnOk result (All IsReadable (settings_of params.now)) }
+    ensures fault { IfErr result (λ fault. (fault ≡ TextHoldsNul) × ¬ (All IsReadable (settings_of params.now))) }
+{
+    for (name, value) in params {
+        check_setting(name, value)?;
+    }
+    Ok(())
+}
+
+fn check_setting(name: &str, value: &str) -> Result<(), ProtocolFault>
+    ensures ok { OnOk result (IsReadable (name.now, value.now)) }
+    ensures fault { IfErr result (λ fault. (fault ≡ TextHoldsNul) × ¬ (IsReadable (name.now, value.now))) }
+{
+    if name.is_empty() {
+        return Err(ProtocolFault::TextHoldsNul);
+    }
+    check_text(name)?;
+    check_text(value)
 }

@@ -2,8 +2,8 @@
 //! SSLRequest.
 
 use super::refusing::{Adds, assert_adds, assert_all_or_nothing};
-use pg_base::Error;
 use pg_base::io::ProtocolEncode;
+use pg_base::{Error, ProtocolFault};
 use pg_send::message::{SslRequest, Startup};
 use std::alloc::{AllocError, Global};
 use std::process::Abort;
@@ -67,6 +67,62 @@ fn a_user_and_params_are_one_list(rt: HostRuntime) -> Result<(), AllocError> {
         params: &[("user", "a"), ("b", "")],
     };
     assert_startup(&rt, rt.alloc(), by_params, text)
+}
+
+#[test]
+fn a_startup_that_a_server_gets_back(rt: HostRuntime) {
+    let with_user = Startup {
+        username: Some("postgres"),
+        database: Some(""),
+        params: &[("application_name", ""), ("options", "-c geqo=off")],
+    };
+    assert_eq!(rt; with_user.check_round_trip(), Ok(()));
+    let without_settings = Startup {
+        username: None,
+        database: None,
+        params: &[],
+    };
+    assert_eq!(rt; without_settings.check_round_trip(), Ok(()));
+}
+
+fn assert_refused(
+    rt: &impl Abort,
+    username: Option<&str>,
+    database: Option<&str>,
+    params: &[(&str, &str)],
+) {
+    let startup = Startup {
+        username,
+        database,
+        params,
+    };
+    assert_eq!(rt;
+        startup.check_round_trip(),
+        Err(ProtocolFault::TextHoldsNul)
+    );
+}
+
+#[test]
+fn a_user_or_a_database_that_holds_a_nul(rt: HostRuntime) {
+    assert_refused(&rt, Some("a\0b"), Some("b"), &[]);
+    assert_refused(&rt, Some("\0"), None, &[]);
+    assert_refused(&rt, Some("a"), Some("b\0"), &[]);
+    assert_refused(&rt, None, Some("\0b"), &[]);
+}
+
+#[test]
+fn a_setting_that_holds_a_nul(rt: HostRuntime) {
+    assert_refused(&rt, None, None, &[("user\0", "a")]);
+    assert_refused(&rt, None, None, &[("user", "a\0b")]);
+    assert_refused(&rt, Some("a"), Some("b"), &[("c", "d"), ("e\0f", "")]);
+    assert_refused(&rt, Some("a"), Some("b"), &[("c", "\0"), ("e", "f")]);
+}
+
+#[test]
+fn a_setting_without_a_name(rt: HostRuntime) {
+    assert_refused(&rt, None, None, &[("", "a")]);
+    assert_refused(&rt, None, None, &[("", "")]);
+    assert_refused(&rt, Some("a"), Some("b"), &[("c", "d"), ("", "e")]);
 }
 
 #[test]
