@@ -1,8 +1,8 @@
 -- The cells of a row, from where they end.
-use Rattle.std.proofs.Common.{◌≡◌, ℕ, zero, suc, ◌+◌, ◌-◌, ◌%◌, ◌<◌, ◌≤◌, pos, List, [], ◌∷◌, ◌++◌, Option, Some, None, length, get_or, take, drop, false, true, inl, inr, refl, sym, ap, ◌∙◌, arith, append_assoc, length-append, length-take, length-drop}
-use Rattle.std.specs.Prelude.{slice_get, slice_range}
-use Rattle.std.proofs.lemmas.Bool.{cases_lt, both_ways, le-leb, lt-leb}
-use Rattle.std.proofs.lemmas.List.{take-append-drop, drop-drop}
+use Rattle.std.proofs.Common.{◌≡◌, ℕ, zero, suc, ◌+◌, ◌-◌, ◌<◌, ◌≤◌, pos, List, [], ◌∷◌, ◌++◌, Option, Some, None, length, get_or, take, drop, false, true, inl, inr, refl, sym, ap, ◌∙◌, arith, append_assoc, length-append, length-take, length-drop}
+use Rattle.std.specs.Prelude.{slice_get, slice_range, is_none}
+use Rattle.std.proofs.lemmas.Bool.{cases_lt, both_ways, le-leb}
+use Rattle.std.proofs.lemmas.List.{take-append-drop, drop-drop, take_at, drop_at}
 use Rattle.pg_base.specs.Reading.{Signed}
 use Rattle.pg_receive.specs.DataRow.CellEnd.{null_bit, is_null, end_of, cell_to, cells_from, last_end, start_of, EndsRise}
 use Rattle.pg_receive.specs.DataRow.{SpellsCell}
@@ -63,19 +63,32 @@ pub cell_to-null : (body : List ℕ) (start entry : ℕ) → is_null entry ≡ t
 cell_to-null body start entry null = rw null refl
 
 -- a value follows its length
-pub value_is_at : (body : List ℕ) (at n : ℕ) → Signed 4 (drop at body) (pos n) (drop (at + 4) body) → at + 4 + n ≤ length body → at + 4 + n < null_bit → n ≤ 2147483647
-    → IsEncodedAt SpellsCell body at (cell_to body at (at + 4 + n)) (end_of (at + 4 + n))
-value_is_at body at n length_is fits small max =
-    let value = take n (drop (at + 4) body) in
-    let size : length value ≡ n = omega (arith, length-take n (drop (at + 4) body), length-drop (at + 4) body) in
-    let end_is : (at + 4 + n) % null_bit ≡ at + 4 + n = omega arith in
-    let count_is : at + 4 + n - (at + 4) ≡ n = omega arith in
-    rw (lt-leb null_bit (at + 4 + n) small, end_is, count_is) (record {
+pub value_is_at : (body value : List ℕ) (at n : ℕ) → Signed 4 (drop at body) (pos n) (drop (at + 4) body) → at + 4 + n ≤ length body → n ≤ 2147483647 → value ≡ take n (drop (at + 4) body)
+    → IsEncodedAt SpellsCell body at (Some value) (at + 4 + n)
+value_is_at body value at n length_is fits max is =
+    let after = drop (at + 4) body in
+    let size : length value ≡ n = ap length is ∙ omega (arith, length-take n after, length-drop (at + 4) body) in
+    record {
       spelled = length_is.spelled ++ value;
       spells = record { field = length_is.spelled; wide = length_is.wide; counts = sym length_is.is ∙ ap pos (sym size); fits = omega arith; parts = refl };
       ends = omega (arith, length-append length_is.spelled value, size, length_is.wide);
       parts =
-          let after = drop (at + 4) body in
-          let split : after ≡ value ++ drop (at + 4 + n) body = sym (take-append-drop n after) ∙ ap (λ (l : List ℕ). value ++ l) (drop-drop n (at + 4) body) in
+          let split : after ≡ value ++ drop (at + 4 + n) body = sym (take-append-drop n after) ∙ ap (λ (l : List ℕ). l ++ drop n after) (sym is) ∙ ap (λ (l : List ℕ). value ++ l) (drop-drop n (at + 4) body) in
           length_is.parts ∙ ap (λ (l : List ℕ). length_is.spelled ++ l) split ∙ sym (append_assoc length_is.spelled value (drop (at + 4 + n) body));
-    })
+    }
+
+-- where a value is
+pub value_at : (body value : List ℕ) (at end : ℕ) → IsEncodedAt SpellsCell body at (Some value) end → (end ≡ at + 4 + length value) × (slice_range body (at + 4) end ≡ value)
+value_at body value at end p =
+    let field = p.spells.field in
+    let long : end ≡ at + 4 + length value = omega (arith, p.ends, ap length p.spells.parts, length-append field value, p.spells.wide) in
+    let count : end - (at + 4) ≡ length value = omega (arith, long) in
+    let parts : drop at body ≡ field ++ (value ++ drop end body) =
+    p.parts ∙ ap (λ (l : List ℕ). l ++ drop end body) p.spells.parts ∙ append_assoc field value (drop end body) in
+    let after : drop (at + 4) body ≡ value ++ drop end body = sym (drop-drop 4 at body) ∙ ap (drop 4) parts ∙ drop_at field (value ++ drop end body) 4 p.spells.wide in
+    (long, rw (count, after) (take_at value (drop end body) (length value) refl))
+
+-- an entry that says where a cell ends, and whether it is NULL, gives the cell
+pub entry_gives : (body : List ℕ) (cell : Option (List ℕ)) (at end entry : ℕ) → IsEncodedAt SpellsCell body at cell end → end_of entry ≡ end → is_null entry ≡ is_none cell → cell_to body at entry ≡ cell
+entry_gives body None at end entry p ends null = cell_to-null body at entry null
+entry_gives body (Some value) at end entry p ends null = cell_to-value body at entry null ∙ ap Some (rw ends ((value_at body value at end p).1))

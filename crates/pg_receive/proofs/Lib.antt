@@ -3,6 +3,7 @@ pub mod AuthenticationSaslItemsLemmas
 pub mod AuthenticationSaslLemmas
 pub mod CommandCompleteLemmas
 pub mod CountedItemsLemmas
+pub mod CountedItemsReadingLemmas
 pub mod DataRowLemmas
 pub mod NotificationLemmas
 pub mod RowDescriptionColumnsLemmas

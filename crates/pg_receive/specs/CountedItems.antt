@@ -1,5 +1,6 @@
 -- Items one after the other, each as it is spelled, after a count of two bytes.
 pub mod Laws
+pub mod Reading
 use Rattle.std.specs.Prelude.{◌≡◌, ℕ, ◌+◌, ◌*◌, ◌<◌, ◌≤◌, List, [], ◌∷◌, ◌++◌, length, drop, ◌⊎◌}
 use Rattle.pg_base.specs.Numbers.{max_count}
 use Rattle.pg_base.specs.declared.error.ProtocolFault.{ProtocolFault}

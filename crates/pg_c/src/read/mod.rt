@@ -13,7 +13,7 @@ mod row;
 mod status;
 
 ghost use Rattle.std.specs.Prelude.{◌≡◌, ◌≤◌, ◌<◌, length, OnOk, IfErr};
-ghost use Rattle.pg_c.specs.Read.{max_body};
+ghost use Rattle.pg_response.specs.Received.{max_body};
 ghost use Rattle.pg_base.specs.declared.error.ProtocolFault.TheVariants.{BodyTooLong};
 
 use pg_base::ProtocolFault;

@@ -1,7 +1,7 @@
 //! The cells of a row.
 
-ghost use Rattle.std.specs.Prelude.{◌≡◌, ◌+◌, ◌≤◌, ◌<ℤ◌, ◌≤ℤ◌, ℕ, List, pos, length, IfOk, IfErr};
-ghost use Rattle.pg_receive.specs.DataRow.CellEnd.{end_of, cell_to};
+ghost use Rattle.std.specs.Prelude.{◌≡◌, ◌+◌, ◌≤◌, ◌<ℤ◌, ◌≤ℤ◌, ℕ, List, pos, length, option_copied, IfOk, IfErr};
+ghost use Rattle.pg_receive.specs.CountedItems.{IsEncodedAt};
 ghost use Rattle.pg_receive.specs.DataRow.{SpellsCell, IsRowFault};
 ghost use Rattle.pg_c.specs.Read.{ReadsItems, IsBodyFault};
 ghost use Rattle.pg_c.specs.Row.{cell_in};
@@ -11,7 +11,7 @@ use crate::read::check_body;
 use crate::refusal::{PgmFault, report};
 use pg_base::ProtocolFault;
 use pg_base::io::{MAX_BODY, bytes_at, u16_at};
-use pg_receive::message::{CellEnd, cell_at};
+use pg_receive::message::cell_at;
 use std::alloc::Global;
 
 // Where the first cell begins, after the count.
@@ -56,28 +56,28 @@ fn cells_of(body: &[u8], cells: &mut [PgmCell]) -> Result<usize, ProtocolFault>
     bytes_at(body, FIRST_CELL, CELL_LENGTH * count)?;
     let mut at = FIRST_CELL;
     for index in 0..count {
-        let cell = cell_at(body, at)?;
+        let (cell, end) = cell_at(body, at)?;
         if index < cells.len() {
-            cells[index] = place_of(at, cell);
+            cells[index] = place_of(at, cell, end);
         }
-        at = cell.end();
+        at = end;
     }
     Ok(count)
 }
 
-// The place of the cell that begins at an offset.
-fn place_of(at: usize, cell: CellEnd) -> PgmCell
-    requires wide { at + 4 ≤ end_of cell }
-    requires short { end_of cell ≤ MAX_BODY }
-    ensures { (body : List ℕ) → cell_in body result ≡ cell_to body at cell }
+// The place of the cell from one offset to another.
+fn place_of(at: usize, cell: Option<&[u8]>, end: usize) -> PgmCell
+    requires wide { at + 4 ≤ end }
+    requires short { end ≤ MAX_BODY }
+    ensures { (body : List ℕ) → IsEncodedAt SpellsCell body at (option_copied cell.entry) end → cell_in body result ≡ option_copied cell.entry }
 {
     let start = at + CELL_LENGTH;
     PgmCell {
         at: start as u32,
-        len: if cell.is_null() {
+        len: if cell.is_none() {
             -1
         } else {
-            (cell.end() - start) as i32
+            (end - start) as i32
         },
     }
 }

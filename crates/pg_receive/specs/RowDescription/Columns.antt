@@ -2,6 +2,7 @@
 use Rattle.std.specs.Prelude.{ℕ, zero, suc, ◌+◌, ◌==◌, ◌≤◌, List, [], ◌∷◌, length, take, drop, option_map, if◌then◌else◌}
 use Rattle.pg_base.specs.declared.io.Oid.{Oid}
 use Rattle.pg_base.specs.Numbers.{num, int}
+use Rattle.pg_response.specs.Received.{max_body}
 use Rattle.pg_receive.specs.declared.message.row_description.columns.FieldRef.{FieldRef}
 use Rattle.pg_receive.specs.CountedItems.{SpellItems, IsEncodedAt}
 use Rattle.pg_receive.specs.RowDescription.{Column, table, attribute, numbers_length, SpellsColumn}
@@ -56,5 +57,5 @@ end_from body at (suc n) = end_from body (at + first_length (drop at body)) n
 pub record AreColumns (body : List ℕ) (at n : ℕ) : Type 0 where
   pub end : ℕ
   pub starts : at ≤ length body
-  pub short : length body ≤ 2147483643
+  pub short : length body ≤ max_body
   pub encoded : IsEncodedAt (SpellItems SpellsColumn) body at (columns_from body at n) end

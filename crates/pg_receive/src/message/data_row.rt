@@ -1,8 +1,10 @@
 //! A row of values.
 
+mod cell;
 mod cell_end;
 mod row;
 mod row_index;
+mod row_reader;
 
 ghost use Rattle.std.specs.Prelude.{◌≡◌, ℕ, ◌<◌, List, Option, length, Some, slice_get};
 ghost use Rattle.std.specs.Option.{option_copied};
@@ -10,11 +12,13 @@ ghost use Rattle.pg_base.specs.declared.format.BackendMessageFormat.TheVariants 
 
 use crate::message::BackendMessage;
 use bytes::Bytes;
-pub use cell_end::CellEnd;
+pub use cell::cell_at;
+use cell_end::CellEnd;
 use pg_base::{BackendMessageFormat, Error};
 pub use row::{Cells, Row};
+pub use row_index::RowIndex;
 use row_index::read_ends;
-pub use row_index::{RowIndex, cell_at};
+pub use row_reader::RowReader;
 use std::alloc::Global;
 use std::marker::Model;
 

@@ -18,7 +18,7 @@ pub use authentication::{
 pub use backend_key_data::BackendKeyData;
 pub use command_complete::{CommandComplete, rows_affected};
 pub use copy::{CopyInResponse, CopyOutResponse, CopyResponseData};
-pub use data_row::{CellEnd, Cells, DataRow, Row, RowIndex, cell_at};
+pub use data_row::{Cells, DataRow, Row, RowIndex, RowReader, cell_at};
 pub use notification::{Notification, NotificationRef};
 pub use parameter_description::ParameterDescription;
 pub use parameter_status::{ParameterStatus, ParameterStatusRef};
@@ -27,4 +27,4 @@ pub use pg_response::message::{
     split_text, str_at, text_at, utf8_text,
 };
 pub use ready_for_query::{ReadyForQuery, TransactionStatus};
-pub use row_description::{Columns, Field, FieldRef, RowDescription, column_at};
+pub use row_description::{ColumnReader, Columns, Field, FieldRef, RowDescription, column_at};

@@ -1,5 +1,6 @@
 //! The columns of a result.
 
+mod column_reader;
 mod columns;
 
 ghost use Rattle.std.specs.Prelude.{◌≡◌, ◌+◌, ◌*◌, ◌≤◌, List, length, drop, map, None};
@@ -10,6 +11,7 @@ ghost use Rattle.pg_receive.specs.RowDescription.{Column, column_of, SpellsColum
 
 use crate::message::BackendMessage;
 use bytes::Bytes;
+pub use column_reader::ColumnReader;
 pub use columns::{Columns, FieldRef, column_at};
 use pg_base::io::{MAX_BODY, Oid, bytes_at, u16_at};
 use pg_base::{BackendMessageFormat, Error};

@@ -14,4 +14,5 @@ mod received;
 mod response;
 mod row_description;
 mod row_index;
+mod row_reader;
 mod server_message;

@@ -8,12 +8,8 @@ use std::test::Fail;
 fn cells_at_offsets(rt: HostRuntime) -> Result<(), Fail> {
     let body = b"\0\x02\0\0\0\x02ab\xFF\xFF\xFF\xFF".as_slice();
     assert!(rt; body.len() == 12);
-    let value = cell_at(body, 2)?;
-    assert_eq!(rt; value.end(), 8);
-    assert!(rt; !value.is_null());
-    let null = cell_at(body, 8)?;
-    assert_eq!(rt; null.end(), 12);
-    assert!(rt; null.is_null());
+    assert_eq!(rt; cell_at(body, 2)?, (Some(b"ab".as_slice()), 8));
+    assert_eq!(rt; cell_at(body, 8)?, (None, 12));
     assert!(rt; cell_at(body, 9).is_err());
     Ok(())
 }

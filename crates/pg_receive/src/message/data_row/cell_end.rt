@@ -1,6 +1,6 @@
 //! Where a cell of a row ends.
 
-ghost use Rattle.std.specs.Prelude.{◌≡◌, ℕ, ◌+◌, ◌<◌};
+ghost use Rattle.std.specs.Prelude.{◌≡◌, ℕ, ◌<◌};
 ghost use Rattle.pg_receive.specs.DataRow.CellEnd.{null_bit, end_of, is_null};
 
 use std::marker::Model;
@@ -21,20 +21,14 @@ impl Model for CellEnd {
 }
 
 impl CellEnd {
-    /// The end of a value.
-    pub(crate) fn of_value(end: usize) -> CellEnd
+    /// The end of a cell, and whether it is NULL.
+    pub fn new(end: usize, null: bool) -> CellEnd
         requires { end < null_bit }
-        ensures { result ≡ end }
+        ensures end { end_of result ≡ end }
+        ensures null { is_null result ≡ null }
     {
-        CellEnd(end as u32)
-    }
-
-    /// The end of a cell that is NULL.
-    pub(crate) fn of_null(end: usize) -> CellEnd
-        requires { end < null_bit }
-        ensures { result ≡ null_bit + end }
-    {
-        CellEnd(NULL + end as u32)
+        let end = end as u32;
+        CellEnd(if null { NULL + end } else { end })
     }
 
     /// The offset after the cell.

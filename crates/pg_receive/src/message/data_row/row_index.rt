@@ -1,16 +1,16 @@
 //! Where the cells of a row end, found in its body.
 
-ghost use Rattle.std.specs.Prelude.{◌≡◌, ℕ, ◌+◌, ◌<◌, ◌≤◌, List, Option, length, drop, None, IfOk, IfErr, IsErrOf, OnOk, vec_capacity};
+ghost use Rattle.std.specs.Prelude.{◌≡◌, ℕ, ◌<◌, ◌≤◌, List, Option, length, None, IsErrOf, OnOk, vec_capacity};
 ghost use Rattle.pg_base.specs.Decode.{Decodes};
 ghost use Rattle.pg_base.specs.declared.error.Error.TheVariants.{OutOfMemory};
-ghost use Rattle.pg_receive.specs.CountedItems.{IsEncodedAt};
-ghost use Rattle.pg_receive.specs.DataRow.CellEnd.{end_of, cell_to, cells_from, first_cell, EndsRise};
-ghost use Rattle.pg_receive.specs.DataRow.{SpellsCell, IsCellFault, MeansRow, IsRowFault, RowNeedsNoMemory};
+ghost use Rattle.pg_receive.specs.DataRow.CellEnd.{cells_from, first_cell, EndsRise};
+ghost use Rattle.pg_receive.specs.DataRow.{MeansRow, IsRowFault, RowNeedsNoMemory};
 
+use crate::message::data_row::cell::cell_at;
 use crate::message::data_row::cell_end::CellEnd;
 use crate::message::data_row::{CELL_LENGTH, FIRST_CELL, Row};
-use pg_base::io::{MAX_BODY, bytes_at, i32_at, u16_at};
-use pg_base::{Error, ProtocolFault};
+use pg_base::Error;
+use pg_base::io::{MAX_BODY, bytes_at, u16_at};
 use std::alloc::Global;
 use std::marker::Model;
 
@@ -67,28 +67,9 @@ pub(super) fn read_ends(body: &[u8], ends: &mut Vec<CellEnd>) -> Result<(), Erro
     ends.reserve_exact(count)?;
     let mut at = FIRST_CELL;
     for _index in 0..count {
-        let cell = cell_at(body, at)?;
-        ends.push_reserved(cell);
-        at = cell.end();
+        let (cell, end) = cell_at(body, at)?;
+        ends.push_reserved(CellEnd::new(end, cell.is_none()));
+        at = end;
     }
     Ok(())
-}
-
-/// Where the cell that begins at an offset of a row's body ends, and whether it is NULL.
-pub fn cell_at(body: &[u8], at: usize) -> Result<CellEnd, ProtocolFault>
-    requires within { at ≤ length body.now }
-    requires short { length body.now ≤ MAX_BODY }
-    ensures cell { IfOk result (λ cell. IsEncodedAt SpellsCell body.now at (cell_to body.now at cell) (end_of cell)) }
-    ensures broken { IfErr result (λ fault. IsCellFault body.now at (drop at body.now) fault) }
-{
-    let length = i32_at(body, at)?;
-    let start = at + CELL_LENGTH;
-    match usize::try_from(length) {
-        Ok(length) => {
-            bytes_at(body, start, length)?;
-            Ok(CellEnd::of_value(start + length))
-        }
-        // Every negative length says NULL.
-        Err(_) => Ok(CellEnd::of_null(start)),
-    }
 }

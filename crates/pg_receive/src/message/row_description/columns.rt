@@ -1,6 +1,6 @@
 //! The columns of a result, borrowed from their body.
 
-ghost use Rattle.std.specs.Prelude.{◌≡◌, ◌≤◌, List, length, drop, IsOk, IfOk, IfErr, option_map};
+ghost use Rattle.std.specs.Prelude.{◌≡◌, ◌≤◌, List, length, drop, slice_get, IsOk, IfOk, IfErr, option_map};
 ghost use Rattle.std.specs.Iterator.{YieldsFirstBy, item_count};
 ghost use Rattle.pg_receive.specs.CountedItems.{IsEncodedAt};
 ghost use Rattle.pg_receive.specs.RowDescription.Columns.{column_of_ref};
@@ -100,6 +100,19 @@ impl<'a> Columns<'a> {
         ensures { result ≡ length self.now }
     {
         self.left
+    }
+
+    /// The column at an index, counted from those that are left, where there is one. It goes over the
+    /// columns in front of it.
+    pub fn get(&self, index: usize) -> Option<FieldRef<'a>>
+        ensures { option_map column_of_ref result ≡ slice_get self.now index }
+    {
+        let mut columns = Columns {
+            body: self.body,
+            at: self.at,
+            left: self.left,
+        };
+        columns.nth(index)
     }
 }
 

@@ -2,7 +2,7 @@
 
 use pg_base::ProtocolFault;
 use pg_base::io::Oid;
-use pg_receive::message::Columns;
+use pg_receive::message::{ColumnReader, Columns};
 use std::test::Fail;
 
 // A column `id` of a table, and one without a name.
@@ -30,6 +30,48 @@ fn numbers_of_a_column(rt: HostRuntime) -> Result<(), Fail> {
     assert_eq!(rt; id.data_type_size, 4);
     assert_eq!(rt; id.type_modifier, -1);
     assert_eq!(rt; id.format, 1);
+    Ok(())
+}
+
+#[test]
+fn columns_by_index(rt: HostRuntime) -> Result<(), Fail> {
+    assert!(rt; TWO.len() < 100);
+    let mut columns = Columns::read(TWO)?;
+    assert_eq!(rt; columns.get(0).ok_or("the first")?.name, "id");
+    assert_eq!(rt; columns.get(1).ok_or("the second")?.name, "");
+    assert!(rt; columns.get(2).is_none());
+    columns.next().ok_or("a column")?;
+    assert_eq!(rt; columns.get(0).ok_or("the one left")?.name, "");
+    assert!(rt; columns.get(1).is_none());
+    Ok(())
+}
+
+#[test]
+fn columns_one_by_one(rt: HostRuntime) -> Result<(), Fail> {
+    assert!(rt; TWO.len() < 100);
+    let mut columns = ColumnReader::new(TWO)?;
+    assert_eq!(rt; columns.len(), 2);
+    let id = columns.next_column()?.ok_or("the first")?;
+    assert_eq!(rt; id.name, "id");
+    assert_eq!(rt; id.type_modifier, -1);
+    assert_eq!(rt; columns.len(), 1);
+    assert_eq!(rt; columns.next_column()?.ok_or("the second")?.name, "");
+    assert!(rt; columns.next_column()?.is_none());
+    Ok(())
+}
+
+#[test]
+fn columns_until_one_is_broken(rt: HostRuntime) -> Result<(), Fail> {
+    let body =
+        b"\0\x02a\0\0\0\0\0\0\0\0\0\0\x17\0\x04\xFF\xFF\xFF\xFF\0\0bbbbbbbbbbbbbbbbbbbb".as_slice();
+    assert!(rt; body.len() < 100);
+    let mut columns = ColumnReader::new(body)?;
+    assert_eq!(rt; columns.next_column()?.ok_or("the first")?.name, "a");
+    let fault = ProtocolFault::MissingNul { at: 22 };
+    assert_eq!(rt; columns.next_column().err(), Some(fault));
+    assert_eq!(rt; columns.next_column().err(), Some(fault));
+    assert_eq!(rt; columns.len(), 1);
+    assert!(rt; ColumnReader::new(&body[..21]).is_err());
     Ok(())
 }
 

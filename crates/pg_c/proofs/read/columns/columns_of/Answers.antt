@@ -1,4 +1,4 @@
-use Rattle.std.proofs.Common.{◌≡◌, arith}
+use Rattle.std.proofs.Common.{arith}
 use Rattle.pg_receive.specs.RowDescription.Columns.{column_of_ref}
 use Rattle.pg_receive.specs.RowDescription.{SpellsColumn}
 use Rattle.pg_receive.proofs.CountedItemsLemmas.{ends_within}

@@ -1,7 +1,7 @@
-use Rattle.std.proofs.Common.{◌≡◌, refl, ap, ◌∙◌, rules}
+use Rattle.std.proofs.Common.{refl, ap, ◌∙◌, rules}
 use Rattle.std.specs.Int.{w16, w32}
 use Rattle.std.proofs.lemmas.Int.{to_z-of_z}
-use mir.Val.{SFits, to_z, of_z}
+use mir.Val.{SFits}
 use Rattle.pg_receive.specs.RowDescription.{table, attribute}
 use Rattle.pg_receive.specs.RowDescription.Columns.{column_of_ref}
 use Rattle.pg_c.proofs.ColumnLemmas.{name_is, table_is, attribute_is}

@@ -1,11 +1,12 @@
-use Rattle.std.proofs.Common.{◌≡◌, ◌+◌, ◌*◌, ◌<◌, ◌≤◌, length, drop, refl, sym, ap, ◌∙◌, arith}
+use Rattle.std.specs.Option.{is_none, is_some}
+use Rattle.std.proofs.Common.{◌≡◌, ℕ, List, Bor, Option, Some, None, Bool, true, false, not, ◌+◌, ◌*◌, ◌<◌, ◌≤◌, length, drop, refl, sym, ap, ◌∙◌, option_copied, arith}
 use Rattle.std.proofs.lemmas.Bool.{false≢true}
 use Rattle.std.proofs.lemmas.Result.{err_from_is_err_and}
 use Rattle.pg_base.proofs.ReadingLemmas.{one_number}
 use Rattle.pg_receive.specs.DataRow.CellEnd.{end_of, cell_to, cells_from, last_end}
 use Rattle.pg_receive.specs.DataRow.{SpellsCell, IsCellFault}
 use Rattle.pg_receive.specs.DataRow.Laws.{cell_takes}
-use Rattle.pg_receive.proofs.DataRowLemmas.{length-cells_from, cells_from-push, last_end-push, ends_rise_push}
+use Rattle.pg_receive.proofs.DataRowLemmas.{length-cells_from, cells_from-push, last_end-push, ends_rise_push, entry_gives}
 use Rattle.pg_receive.proofs.CountedItemsLemmas.{none_are_at, one_more_is_at, ends_within, counted_items, next_breaks, asks_for_memory}
 use Rattle.pg_receive.proofs.message.data_row.row_index.read_ends.Goals as goal
 
@@ -47,25 +48,37 @@ returns-in_err-cell-clause-answer c =
     let fewer : length cells < n = omega (arith, length-cells_from body 2 row.ends.items, row.ends.ok.0, row.invariant.counted, c.from-count.ensures, c.loop-index-test.true) in
     rw (p.1, p.2) (refl, next_breaks SpellsCell IsCellFault 4 body n row.at cells c.in_err-cell.field-0.0 c.in_ok-u16_at.ensures.found holds fewer row.invariant.encoded c.in_err-cell.ensures.broken)
 
+turned : (none some : Bool) → some ≡ not none → none ≡ not some
+turned true some e = rw e refl
+turned false some e = rw e refl
+
+copied_none : (cell : Option (Bor (List ℕ))) → is_none (option_copied cell) ≡ is_none cell
+copied_none None = refl
+copied_none (Some value) = refl
+
 pub loop-index-preserved : goal.loop-index-preserved
 loop-index-preserved c =
     let body = c.args.body.now in
-    let entry = c.in_ok-cell.cell in
+    let cell = option_copied c.in_ok-cell.cell in
+    let end = c.in_ok-cell.end in
+    let entry = c.new.result in
     let row = c.loop-index in
     let ends = row.ends.items in
-    let cell = cell_to body row.at entry in
     let encoded = c.in_ok-cell.ensures.cell in
+    let made = c.new.ensures in
     let pushed = c.push_reserved.ensures in
-    let within : end_of entry ≤ length body = ends_within SpellsCell body row.at (end_of entry) cell row.invariant.within encoded in
-    let rises : last_end 2 ends + 4 ≤ end_of entry = omega (arith, row.invariant.last, encoded.ends, cell_takes encoded.spelled cell encoded.spells) in
+    let within : end ≤ length body = ends_within SpellsCell body row.at end cell row.invariant.within encoded in
+    let said : c.is_none.result ≡ is_none c.in_ok-cell.cell = turned c.is_none.result (is_some c.in_ok-cell.cell) c.is_none.ensures in
+    let gives : cell_to body row.at entry ≡ cell = entry_gives body cell row.at end entry encoded made.end (rw (copied_none c.in_ok-cell.cell) (made.null ∙ said)) in
+    let rises : last_end 2 ends + 4 ≤ end_of entry = omega (arith, row.invariant.last, made.end, encoded.ends, cell_takes encoded.spelled cell encoded.spells) in
     record {
-      within = rw c.end-at.ensures within;
-      last = c.end-at.ensures ∙ sym (last_end-push 2 ends entry) ∙ ap (last_end 2) (sym pushed.items);
+      within = within;
+      last = sym made.end ∙ sym (last_end-push 2 ends entry) ∙ ap (last_end 2) (sym pushed.items);
       counted = omega (arith, pushed.len, row.invariant.counted);
       room = omega (arith, pushed.capacity, row.invariant.room);
-      rise = rw pushed.items (ends_rise_push 2 ends entry (length body) row.invariant.rise rises within);
-      encoded = rw (pushed.items, c.end-at.ensures, cells_from-push body 2 ends entry, ← row.invariant.last)
-          (one_more_is_at SpellsCell body 2 row.at (end_of entry) (cells_from body 2 ends) cell row.invariant.encoded encoded);
+      rise = rw pushed.items (ends_rise_push 2 ends entry (length body) row.invariant.rise rises (omega (arith, made.end, within)));
+      encoded = rw (pushed.items, cells_from-push body 2 ends entry, ← row.invariant.last, gives)
+          (one_more_is_at SpellsCell body 2 row.at end (cells_from body 2 ends) cell row.invariant.encoded encoded);
     }
 
 pub returns-clause-answer : goal.returns-clause-answer

@@ -1,0 +1,28 @@
+//! One cell of a row.
+
+ghost use Rattle.std.specs.Prelude.{◌≡◌, ◌≤◌, length, drop, IfOk, IfErr, option_copied};
+ghost use Rattle.pg_receive.specs.CountedItems.{IsEncodedAt};
+ghost use Rattle.pg_receive.specs.DataRow.{SpellsCell, IsCellFault};
+
+use crate::message::data_row::CELL_LENGTH;
+use pg_base::ProtocolFault;
+use pg_base::io::{MAX_BODY, bytes_at, i32_at};
+
+/// The value of the cell that begins at an offset of the body of a DataRow, nothing for NULL, and the
+/// offset after the cell.
+pub fn cell_at(body: &[u8], at: usize) -> Result<(Option<&[u8]>, usize), ProtocolFault>
+    requires within { at ≤ length body.now }
+    requires short { length body.now ≤ MAX_BODY }
+    ensures cell { IfOk result (λ found. IsEncodedAt SpellsCell body.now at (option_copied found.0) found.1) }
+    ensures broken { IfErr result (λ fault. IsCellFault body.now at (drop at body.now) fault) }
+{
+    let length = i32_at(body, at)?;
+    let start = at + CELL_LENGTH;
+    // Every negative length says NULL.
+    if length < 0 {
+        return Ok((None, start));
+    }
+    let length = length.cast_unsigned() as usize;
+    let value = bytes_at(body, start, length)?;
+    Ok((Some(value), start + length))
+}

@@ -1,0 +1,78 @@
+//! The cells of a row, read one by one.
+
+ghost use Rattle.std.specs.Prelude.{◌≡◌, ◌≤◌, length, option_copied, IfOk, IfErr, MatchOption};
+ghost use Rattle.pg_receive.specs.CountedItems.{IsCountFault};
+ghost use Rattle.pg_receive.specs.CountedItems.Reading.{Begins, IsRead, AllAreRead, NextIsBroken};
+ghost use Rattle.pg_receive.specs.DataRow.{SpellsCell, IsCellFault, least_cell};
+
+use crate::message::data_row::cell::cell_at;
+use crate::message::data_row::{CELL_LENGTH, FIRST_CELL};
+use pg_base::ProtocolFault;
+use pg_base::io::{MAX_BODY, bytes_at, u16_at};
+use std::marker::Model;
+
+/// Reads the cells of a row from its body, each when it is asked for: it goes over the body once, and
+/// asks for no memory. A fault is found at the cell that has it, where
+/// [`RowIndex`](crate::message::RowIndex) finds it before the first cell is given.
+///
+/// In a contract it is how far the body is read, and how many cells are left.
+/// Documentation: "Message Formats", DataRow (B).
+#[derive(Drop)]
+pub struct RowReader<'a> {
+    body: &'a [u8],
+    // Where the next cell begins.
+    at: usize,
+    left: usize,
+}
+
+impl<'a> Model for RowReader<'a> {
+    ghost use Rattle.std.specs.Prelude.{◌≤◌, length};
+    ghost use Rattle.pg_response.specs.Received.{max_body};
+    ghost use Rattle.pg_receive.specs.CountedItems.Reading.{Reading};
+
+    ghost Value = { Reading };
+
+    ghost view = { λ reader. record { body = reader.body.now; at = reader.at; left = reader.left } };
+
+    ghost invariant = { λ reader. (reader.at ≤ length reader.body.now) × (length reader.body.now ≤ max_body) };
+}
+
+impl<'a> RowReader<'a> {
+    /// Begins with the body of a DataRow, of at most [`MAX_BODY`] bytes. Refused where the count is
+    /// missing, or the body is shorter than so many cells that are NULL.
+    pub fn new(body: &'a [u8]) -> Result<RowReader<'a>, ProtocolFault>
+        requires { length body.now ≤ MAX_BODY }
+        ensures row { IfOk result (Begins SpellsCell IsCellFault least_cell body.now) }
+        ensures fault { IfErr result (IsCountFault least_cell body.now) }
+    {
+        let left = usize::from(u16_at(body, 0)?);
+        bytes_at(body, FIRST_CELL, CELL_LENGTH * left)?;
+        Ok(RowReader {
+            body,
+            at: FIRST_CELL,
+            left,
+        })
+    }
+
+    /// How many cells are left.
+    pub fn len(&self) -> usize
+        ensures { result ≡ self.now.left }
+    {
+        self.left
+    }
+
+    /// The next cell, nothing for NULL; or nothing where none is left. After a fault the reader is as
+    /// it was.
+    pub fn next_cell(&mut self) -> Result<Option<Option<&'a [u8]>>, ProtocolFault>
+        ensures cell { IfOk result (λ found. MatchOption found (AllAreRead SpellsCell self.old self.new) (λ cell. IsRead SpellsCell IsCellFault self.old self.new (option_copied cell))) }
+        ensures fault { IfErr result (λ fault. NextIsBroken SpellsCell IsCellFault self.old fault × (self.new ≡ self.old)) }
+    {
+        if self.left == 0 {
+            return Ok(None);
+        }
+        let (cell, end) = cell_at(self.body, self.at)?;
+        self.at = end;
+        self.left -= 1;
+        Ok(Some(cell))
+    }
+}
