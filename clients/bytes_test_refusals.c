@@ -33,10 +33,29 @@ struct parts {
         CHECK((tally), memcmp(out, before, ROOM) == 0);      \
     } while (0)
 
+/* A setting of two constant texts. */
+#define SETTING(name, value)                                                        \
+    {(const uint8_t *)(name), sizeof(name) - 1, (const uint8_t *)(value), sizeof(value) - 1}
+
+/* Settings that a server would read as others. */
+static void refuse_settings(struct tally *tally)
+{
+    static const pgm_setting not_utf8[] = {SETTING("user", "\377")};
+    static const pgm_setting name[] = {SETTING("user", "a"), SETTING("b\0c", "d")};
+    static const pgm_setting value[] = {SETTING("user", "a\0b"), SETTING("c", "d")};
+    static const pgm_setting last[] = {SETTING("user", "a\0")};
+    static const pgm_setting unnamed[] = {SETTING("user", "a"), SETTING("", "b")};
+    static const pgm_setting empty[] = {SETTING("", "")};
+    REFUSES(tally, PGM_NOT_UTF8, pgm_put_startup(not_utf8, 1, out, ROOM));
+    REFUSES(tally, PGM_TEXT_HOLDS_NUL, pgm_put_startup(name, 2, out, ROOM));
+    REFUSES(tally, PGM_TEXT_HOLDS_NUL, pgm_put_startup(value, 2, out, ROOM));
+    REFUSES(tally, PGM_TEXT_HOLDS_NUL, pgm_put_startup(last, 1, out, ROOM));
+    REFUSES(tally, PGM_TEXT_HOLDS_NUL, pgm_put_startup(unnamed, 2, out, ROOM));
+    REFUSES(tally, PGM_TEXT_HOLDS_NUL, pgm_put_startup(empty, 1, out, ROOM));
+}
+
 static void refuse_texts(struct tally *tally)
 {
-    static const pgm_setting broken = {(const uint8_t *)"user", 4, (const uint8_t *)"\377", 1};
-    REFUSES(tally, PGM_NOT_UTF8, pgm_put_startup(&broken, 1, out, ROOM));
     REFUSES(tally, PGM_NOT_UTF8, pgm_put_password(BYTES("\377"), out, ROOM));
     REFUSES(tally, PGM_NOT_UTF8, pgm_put_sasl_initial(BYTES("\377"), false, out, ROOM));
     REFUSES(tally, PGM_NOT_UTF8, pgm_put_sasl_response(BYTES("\377"), out, ROOM));
@@ -94,6 +113,7 @@ void test_refusals(struct tally *tally)
     struct parts parts;
     bool is_made = make_parts(&parts);
     CHECK(tally, is_made);
+    refuse_settings(tally);
     refuse_texts(tally);
     refuse_length(tally);
     if (is_made)

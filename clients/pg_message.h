@@ -61,7 +61,7 @@ enum {
     PGM_BASE64 = -17,
     /* The length of a message is below 4. */
     PGM_BAD_LENGTH = -18,
-    /* A text to be sent holds a NUL. */
+    /* A text to be sent holds a NUL, or the name of a setting is empty. */
     PGM_TEXT_HOLDS_NUL = -19,
     /* The values of a Bind can't be counted. */
     PGM_BAD_PARAMS = -20,
@@ -83,7 +83,7 @@ typedef struct {
     size_t len;
 } pgm_span;
 
-/* The name of a setting and its value. */
+/* The name of a setting and its value, in UTF-8. */
 typedef struct {
     const uint8_t *name;
     size_t name_len;
@@ -170,14 +170,16 @@ typedef struct {
     size_t nonce_len;
 } pgm_challenge;
 
-/* Opens a session with these settings, of which `user` is required by the server. */
+/* Opens a session with these settings, of which `user` is required by the server. A name or a value
+ * that holds a NUL, or an empty name, is refused as a text that holds a NUL: the server would read
+ * other settings. */
 ptrdiff_t pgm_put_startup(const pgm_setting *settings, size_t settings_len, uint8_t *out,
     size_t out_len);
 
 /* Asks for an encrypted connection, before the session is opened. */
 ptrdiff_t pgm_put_ssl_request(uint8_t *out, size_t out_len);
 
-/* Answers a request for a password with the password. */
+/* Answers a request for a password with the password, in UTF-8. */
 ptrdiff_t pgm_put_password(const uint8_t *password, size_t password_len, uint8_t *out,
     size_t out_len);
 
@@ -185,34 +187,35 @@ ptrdiff_t pgm_put_password(const uint8_t *password, size_t password_len, uint8_t
  * hexadecimal, of the user's name after the password. */
 ptrdiff_t pgm_put_md5_password(const uint8_t digest[16], uint8_t *out, size_t out_len);
 
-/* Chooses SCRAM-SHA-256, or SCRAM-SHA-256-PLUS where `plus`, and begins it. */
+/* Chooses SCRAM-SHA-256, or SCRAM-SHA-256-PLUS where `plus`, and begins it with `response`, in
+ * UTF-8. */
 ptrdiff_t pgm_put_sasl_initial(const uint8_t *response, size_t response_len, bool plus,
     uint8_t *out, size_t out_len);
 
-/* Answers a challenge of the SASL exchange. */
+/* Answers a challenge of the SASL exchange, in UTF-8. */
 ptrdiff_t pgm_put_sasl_response(const uint8_t *response, size_t response_len, uint8_t *out,
     size_t out_len);
 
 /* Ends the session. */
 ptrdiff_t pgm_put_terminate(uint8_t *out, size_t out_len);
 
-/* Runs the statements of a text. */
+/* Runs the statements of a text, in UTF-8. */
 ptrdiff_t pgm_put_query(const uint8_t *query, size_t query_len, uint8_t *out, size_t out_len);
 
-/* Describes a prepared statement, by its number; 0 is the unnamed one. */
+/* Describes the prepared statement `sqlx_s_N`, by its number N; 0 is the unnamed one. */
 ptrdiff_t pgm_put_describe_statement(uint32_t statement, uint8_t *out, size_t out_len);
 
-/* Describes a portal, by its number; 0 is the unnamed one. */
+/* Describes the portal `sqlx_p_N`, by its number N; 0 is the unnamed one. */
 ptrdiff_t pgm_put_describe_portal(uint32_t portal, uint8_t *out, size_t out_len);
 
-/* Closes a prepared statement, by its number; 0 is the unnamed one. */
+/* Closes the prepared statement `sqlx_s_N`, by its number N; 0 is the unnamed one. */
 ptrdiff_t pgm_put_close_statement(uint32_t statement, uint8_t *out, size_t out_len);
 
-/* Closes a portal, by its number; 0 is the unnamed one. */
+/* Closes the portal `sqlx_p_N`, by its number N; 0 is the unnamed one. */
 ptrdiff_t pgm_put_close_portal(uint32_t portal, uint8_t *out, size_t out_len);
 
-/* Runs a portal, by its number; 0 is the unnamed one. `limit` is the most rows to send back, 0 for
- * all of them. */
+/* Runs the portal `sqlx_p_N`, by its number N; 0 is the unnamed one. `limit` is the most rows to
+ * send back, 0 for all of them. */
 ptrdiff_t pgm_put_execute(uint32_t portal, uint32_t limit, uint8_t *out, size_t out_len);
 
 /* Asks for the answers that the server still has to send. */
@@ -221,20 +224,21 @@ ptrdiff_t pgm_put_flush(uint8_t *out, size_t out_len);
 /* Ends a run of messages: the server answers that it is ready. */
 ptrdiff_t pgm_put_sync(uint8_t *out, size_t out_len);
 
-/* Prepares a statement, by its number; 0 is the unnamed one. `types` are those of the parameters
- * from the first on; the server infers those that are 0 or missing. */
+/* Prepares a statement: the number N names it `sqlx_s_N` on the wire, and 0 is the unnamed one. The
+ * query is in UTF-8. `types` are those of the parameters from the first on; the server infers those
+ * that are 0 or missing. */
 ptrdiff_t pgm_put_parse(uint32_t statement, const uint8_t *query, size_t query_len,
     const uint32_t *types, size_t types_len, uint8_t *out, size_t out_len);
 
-/* Makes a portal of a prepared statement and the values of its parameters; 0 is the unnamed one of
- * each. Formats: 0 is text, anything else binary; none where all are text, one for all, or one
- * each. */
+/* Makes a portal of a prepared statement and the values of its parameters. The number N names the
+ * portal `sqlx_p_N` on the wire, and the statement `sqlx_s_N`; 0 is the unnamed one of each.
+ * Formats: 0 is text, anything else binary; none where all are text, one for all, or one each. */
 ptrdiff_t pgm_put_bind(uint32_t portal, uint32_t statement, const uint8_t *formats,
     size_t formats_len, const pgm_value *values, size_t values_len, const uint8_t *result_formats,
     size_t result_formats_len, uint8_t *out, size_t out_len);
 
 /* A batch: Parse of the unnamed statement, Bind of the unnamed portal, Describe of it, Execute, and
- * Sync. Formats are as in `pgm_put_bind`. */
+ * Sync. The query is in UTF-8. Formats are as in `pgm_put_bind`. */
 ptrdiff_t pgm_put_batch(const uint8_t *query, size_t query_len, const uint8_t *formats,
     size_t formats_len, const pgm_value *values, size_t values_len, const uint8_t *result_formats,
     size_t result_formats_len, uint8_t *out, size_t out_len);
@@ -249,7 +253,7 @@ int32_t pgm_put_copy_head(size_t len, uint8_t head[5]);
 /* The end of the data of a COPY. */
 ptrdiff_t pgm_put_copy_done(uint8_t *out, size_t out_len);
 
-/* Fails a COPY, and says why. */
+/* Fails a COPY, and says why, in UTF-8. */
 ptrdiff_t pgm_put_copy_fail(const uint8_t *reason, size_t reason_len, uint8_t *out, size_t out_len);
 
 /* The message at the front of a stream: 1 where it is whole, 0 where more bytes are needed. Refused

@@ -44,7 +44,7 @@ pub enum Refusal {
     Base64,
     /// The length of the message is below 4.
     BadLength,
-    /// A text to be sent holds a NUL, where the server would end it.
+    /// A text to be sent holds a NUL, where the server would end it, or the name of a setting is empty.
     TextHoldsNul,
     /// The values of a Bind cannot be counted.
     BadParams,

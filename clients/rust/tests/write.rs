@@ -40,6 +40,7 @@ fn startup() {
     assert_writes!(b"\0\0\0\x09\0\x03\0\0\0", startup(&[]));
     assert_refused!(TextHoldsNul, startup(&[("user", "bob\0role\0admin")]));
     assert_refused!(TextHoldsNul, startup(&[("user\0", "bob")]));
+    assert_refused!(TextHoldsNul, startup(&[("user", "bob"), ("", "db")]));
 }
 
 #[test]

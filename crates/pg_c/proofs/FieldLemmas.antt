@@ -1,10 +1,10 @@
 -- The fields of an error or a notice are given one by one.
 use Rattle.std.proofs.Common.{◌≡◌, ℕ, ◌+◌, ◌<◌, ◌≤◌, List, [], ◌∷◌, ◌++◌, length, set, refl, sym, ap, ◌∙◌, arith, append_assoc, length-append}
-use Rattle.pg_response.specs.Response.Fields.{Field, BeginsWithField, fields_in}
+use Rattle.pg_response.specs.Response.Fields.{BeginsWithField, fields_in}
 use Rattle.pg_response.proofs.ResponseFieldsLemmas.{fields_at}
 use Rattle.pg_c.specs.Fields.{field_in}
 use Rattle.pg_c.specs.declared.read.fields.PgmField.{PgmField}
-use Rattle.pg_c.proofs.ListLemmas.{GivesAll, next_parts, one_more, no_more}
+use Rattle.pg_c.proofs.ListLemmas.{GivesAll, one_more, no_more}
 use Rattle.pg_c.proofs.PlaceLemmas.{part_is}
 
 abbrev pub GivesFields : List ℕ → List ℕ → ℕ → ℕ → List PgmField → List PgmField → Type 0

@@ -1,10 +1,10 @@
 -- What a call that writes a message into the caller's room answers, as a number of C's `ptrdiff_t`.
-use Rattle.std.specs.Prelude.{◌≡◌, ◌≤◌, ◌<◌, ◌⊎◌, ℕ, ℤ, pos, List, [], ◌∷◌, ◌++◌, length, drop, Option, Some, None, Result, Ok, Err, MatchOption}
+use Rattle.std.specs.Prelude.{◌≡◌, ◌≤◌, ◌<◌, ◌⊎◌, ℕ, ℤ, pos, List, [], ◌∷◌, ◌++◌, length, drop, Option, None, Result, Ok, Err}
 use Rattle.pg_base.specs.Encode.{IsAnswer}
 use Rattle.pg_base.specs.declared.error.Error.{Error}
 use Rattle.pg_base.specs.declared.error.Error.TheVariants.{Protocol, OutOfMemory}
 use Rattle.pg_base.specs.declared.error.ProtocolFault.{ProtocolFault}
-use Rattle.pg_request.specs.Frame.{Law, fault, text}
+use Rattle.pg_request.specs.Frame.{Law, IsStrictAnswer, text}
 use Rattle.pg_request.specs.Message.{Message, law_of}
 use Rattle.pg_c.specs.Refusal.{refusal_number}
 
@@ -20,18 +20,6 @@ pub record IsGiven (text old new : List ℕ) : Type 0 where
 abbrev pub IsPut : List ℕ → Answer → List ℕ → List ℕ → ℤ → Type 0
 IsPut text (Ok _) old new result = (result ≡ pos (length text)) × IsGiven text old new
 IsPut text (Err error) old new result = (result ≡ refusal_number error) × (new ≡ old)
-
--- refused exactly where the message can't make the round trip, for the fault of its kind; memory may
--- run out
-abbrev pub IsRoundTripAnswer : Law → Answer → Type 0
-IsRoundTripAnswer law (Ok _) = law.CanRoundTrip
-IsRoundTripAnswer law (Err (Protocol reading fault)) = (reading ≡ None) × (law.round_trip_fault ≡ Some fault) × ¬ law.CanRoundTrip
-IsRoundTripAnswer law (Err OutOfMemory) = law.CanRoundTrip
-
--- refused exactly where it breaks a limit, for the first that it breaks, or else where it can't make the
--- round trip
-abbrev pub IsStrictAnswer : Law → Answer → Type 0
-IsStrictAnswer law answer = MatchOption (fault law) (IsRoundTripAnswer law answer) (λ f. answer ≡ Err (Protocol None f))
 
 -- the message of a law is put, or refused as it has to be
 pub record PutsLaw (law : Law) (old new : List ℕ) (result : ℤ) : Type 0 where

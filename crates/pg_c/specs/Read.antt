@@ -2,11 +2,8 @@
 use Rattle.std.specs.Prelude.{◌≡◌, ◌<◌, ◌≤◌, ◌⊎◌, ℕ, ℤ, pos, List, map, take, drop, length}
 use Rattle.pg_base.specs.declared.error.ProtocolFault.{ProtocolFault}
 use Rattle.pg_base.specs.declared.error.ProtocolFault.TheVariants.{BodyTooLong}
+use Rattle.pg_response.specs.Received.{max_body}
 use Rattle.pg_receive.specs.CountedItems.{CountedItems}
-
--- the greatest length of a body
-abbrev pub max_body : ℕ
-max_body = 2147483643
 
 -- a body that is longer than any, or has a fault
 abbrev pub IsBodyFault : (List ℕ → ProtocolFault → Type 0) → List ℕ → ProtocolFault → Type 0

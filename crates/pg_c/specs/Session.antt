@@ -1,11 +1,11 @@
 -- The settings that open a session.
-use Rattle.std.specs.Prelude.{◌≡◌, ◌⊎◌, ◌&&◌, ℕ, ℤ, Bool, List, [], map, length, None, Err}
-use Rattle.std.specs.List.{list_all}
+use Rattle.std.specs.Prelude.{◌⊎◌, ◌&&◌, ℕ, ℤ, Bool, List, [], map, length, Some, None, Err}
 use Rattle.std.specs.Str.{is_utf8}
 use Rattle.pg_base.specs.declared.error.Error.TheVariants.{OutOfMemory}
-use Rattle.pg_request.specs.Frame.{first_fault}
-use Rattle.pg_request.specs.Startup.{StartupFields, startup_body, startup_text}
-use Rattle.pg_c.specs.Put.{PutsText, IsPut}
+use Rattle.pg_base.specs.declared.error.ProtocolFault.TheVariants.{TextHoldsNul}
+use Rattle.pg_request.specs.Frame.{first_fault, IsStrictAnswerOf}
+use Rattle.pg_request.specs.Startup.{StartupFields, StartupCanRoundTrip, startup_body, startup_text}
+use Rattle.pg_c.specs.Put.{Answer, IsPut}
 use Rattle.pg_c.specs.declared.put.session.PgmSetting.{PgmSetting}
 
 abbrev pub name_and_value : PgmSetting → List ℕ × List ℕ
@@ -18,8 +18,13 @@ is_text setting = is_utf8 setting.name.now && is_utf8 setting.value.now
 abbrev pub startup_of : List PgmSetting → StartupFields
 startup_of settings = record { username = None; database = None; params = map name_and_value settings }
 
--- the startup message of these settings, where memory may run out before it is made
+-- the startup message of these settings is put, or refused for its length, or else exactly where the
+-- server wouldn't get them back
+pub record PutsSettings (fields : StartupFields) (old new : List ℕ) (result : ℤ) : Type 0 where
+  pub answer : Answer
+  pub is : IsStrictAnswerOf (first_fault None (length (startup_body fields))) (StartupCanRoundTrip fields) (Some TextHoldsNul) answer
+  pub put : IsPut (startup_text fields) answer old new result
+
+-- the same, where memory may run out before the message is made
 abbrev pub PutsStartup : List PgmSetting → List ℕ → List ℕ → ℤ → Type 0
-PutsStartup settings old new result =
-    PutsText (startup_text (startup_of settings)) (first_fault None (length (startup_body (startup_of settings)))) old new result
-    ⊎ IsPut [] (Err OutOfMemory) old new result
+PutsStartup settings old new result = PutsSettings (startup_of settings) old new result ⊎ IsPut [] (Err OutOfMemory) old new result

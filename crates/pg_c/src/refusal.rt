@@ -60,7 +60,7 @@ pub const BASE64: i32 = -17;
 /// The length of a message is below 4.
 pub const BAD_LENGTH: i32 = -18;
 
-/// A text to be sent holds a NUL.
+/// A text to be sent holds a NUL, or the name of a setting is empty.
 pub const TEXT_HOLDS_NUL: i32 = -19;
 
 /// The values of a Bind can't be counted.

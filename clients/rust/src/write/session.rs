@@ -28,15 +28,9 @@ impl Messages {
     /// `user`.
     ///
     /// Refused with [`TextHoldsNul`](Refusal::TextHoldsNul) where a name or a value holds a NUL,
-    /// since the server would read the rest of it as another setting.
+    /// since the server would read the rest of it as another setting, and where a name is empty,
+    /// since the settings would end there.
     pub fn startup(&mut self, settings: &[(&str, &str)]) -> Result<&mut Self, Refusal> {
-        let holds_nul = |text: &str| text.as_bytes().contains(&0);
-        if settings
-            .iter()
-            .any(|&(name, value)| holds_nul(name) || holds_nul(value))
-        {
-            return Err(Refusal::TextHoldsNul);
-        }
         let settings: Vec<_> = settings.iter().copied().map(setting_of).collect();
         self.put(|out| {
             // SAFETY: both are slices, valid for their lengths, as are those that `settings`

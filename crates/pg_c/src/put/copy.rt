@@ -46,7 +46,7 @@ pub extern "C" fn pgm_put_copy_done(alloc: Global, out: &mut [u8]) -> isize
     put(alloc, &CopyDone, Ok(()), out)
 }
 
-/// Fails a COPY, and says why.
+/// Fails a COPY, and says why, in UTF-8.
 #[unsafe(no_mangle)]
 pub extern "C" fn pgm_put_copy_fail(alloc: Global, reason: &[u8], out: &mut [u8]) -> isize
     ensures utf8 { is_utf8 reason.now ≡ true → MayPut (message.CopyFail reason.now) out.old out.new result }

@@ -13,8 +13,8 @@ mod session;
 ghost use Rattle.std.specs.Prelude.{◌≡◌, ◌<◌, ◌++◌, length, pos, true, false, Some, Ok, Err, IfOk, IfErr, OnOk};
 ghost use Rattle.std.specs.Str.{is_utf8};
 ghost use Rattle.pg_base.specs.declared.error.ProtocolFault.TheVariants.{NotUtf8};
-ghost use Rattle.pg_request.specs.Frame.{text};
-ghost use Rattle.pg_c.specs.Put.{IsGiven, IsStrictAnswer, PutsLaw, PutsText};
+ghost use Rattle.pg_request.specs.Frame.{text, IsStrictAnswer};
+ghost use Rattle.pg_c.specs.Put.{IsGiven, PutsLaw, PutsText};
 
 use crate::refusal::number_of;
 use pg_base::io::ProtocolEncode;

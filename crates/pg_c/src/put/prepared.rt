@@ -30,8 +30,9 @@ pub struct PgmValue<'a> {
     pub is_null: bool,
 }
 
-/// Prepares a statement, by its number; 0 is the unnamed one. `types` are those of the parameters
-/// from the first on; the server infers those that are 0 or missing.
+/// Prepares a statement: the number N names it `sqlx_s_N` on the wire, and 0 is the unnamed one. The
+/// query is in UTF-8. `types` are those of the parameters from the first on; the server infers those
+/// that are 0 or missing.
 #[unsafe(no_mangle)]
 pub extern "C" fn pgm_put_parse(
     alloc: Global,
@@ -60,8 +61,9 @@ pub extern "C" fn pgm_put_parse(
     }
 }
 
-/// Makes a portal of a prepared statement and the values of its parameters; 0 is the unnamed one of
-/// each. Formats: 0 is text, anything else binary; none where all are text, one for all, or one each.
+/// Makes a portal of a prepared statement and the values of its parameters. The number N names the
+/// portal `sqlx_p_N` on the wire, and the statement `sqlx_s_N`; 0 is the unnamed one of each. Formats:
+/// 0 is text, anything else binary; none where all are text, one for all, or one each.
 #[unsafe(no_mangle)]
 pub extern "C" fn pgm_put_bind(
     alloc: Global,
@@ -84,7 +86,7 @@ pub extern "C" fn pgm_put_bind(
 }
 
 /// A batch: Parse of the unnamed statement, Bind of the unnamed portal, Describe of it, Execute, and
-/// Sync. Formats are as in `pgm_put_bind`.
+/// Sync. The query is in UTF-8. Formats are as in `pgm_put_bind`.
 #[unsafe(no_mangle)]
 pub extern "C" fn pgm_put_batch(
     alloc: Global,

@@ -13,7 +13,7 @@ use pg_base::io::{PortalId, StatementId};
 use pg_request::message::{Close, Describe, Execute, Flush, Query, Sync};
 use std::alloc::Global;
 
-/// Runs the statements of a text.
+/// Runs the statements of a text, in UTF-8.
 #[unsafe(no_mangle)]
 pub extern "C" fn pgm_put_query(alloc: Global, query: &[u8], out: &mut [u8]) -> isize
     ensures utf8 { is_utf8 query.now ≡ true → PutsMessage (message.Query query.now) out.old out.new result }
@@ -28,7 +28,7 @@ pub extern "C" fn pgm_put_query(alloc: Global, query: &[u8], out: &mut [u8]) -> 
     }
 }
 
-/// Describes a prepared statement, by its number; 0 is the unnamed one.
+/// Describes the prepared statement `sqlx_s_N`, by its number N; 0 is the unnamed one.
 #[unsafe(no_mangle)]
 pub extern "C" fn pgm_put_describe_statement(alloc: Global, statement: u32, out: &mut [u8]) -> isize
     ensures { PutsMessage (message.Describe (Statement statement)) out.old out.new result }
@@ -37,7 +37,7 @@ pub extern "C" fn pgm_put_describe_statement(alloc: Global, statement: u32, out:
     put(alloc, &describe, Ok(()), out)
 }
 
-/// Describes a portal, by its number; 0 is the unnamed one.
+/// Describes the portal `sqlx_p_N`, by its number N; 0 is the unnamed one.
 #[unsafe(no_mangle)]
 pub extern "C" fn pgm_put_describe_portal(alloc: Global, portal: u32, out: &mut [u8]) -> isize
     ensures { PutsMessage (message.Describe (Portal portal)) out.old out.new result }
@@ -46,7 +46,7 @@ pub extern "C" fn pgm_put_describe_portal(alloc: Global, portal: u32, out: &mut 
     put(alloc, &describe, Ok(()), out)
 }
 
-/// Closes a prepared statement, by its number; 0 is the unnamed one.
+/// Closes the prepared statement `sqlx_s_N`, by its number N; 0 is the unnamed one.
 #[unsafe(no_mangle)]
 pub extern "C" fn pgm_put_close_statement(alloc: Global, statement: u32, out: &mut [u8]) -> isize
     ensures { PutsMessage (message.Close (Statement statement)) out.old out.new result }
@@ -55,7 +55,7 @@ pub extern "C" fn pgm_put_close_statement(alloc: Global, statement: u32, out: &m
     put(alloc, &close, Ok(()), out)
 }
 
-/// Closes a portal, by its number; 0 is the unnamed one.
+/// Closes the portal `sqlx_p_N`, by its number N; 0 is the unnamed one.
 #[unsafe(no_mangle)]
 pub extern "C" fn pgm_put_close_portal(alloc: Global, portal: u32, out: &mut [u8]) -> isize
     ensures { PutsMessage (message.Close (Portal portal)) out.old out.new result }
@@ -64,8 +64,8 @@ pub extern "C" fn pgm_put_close_portal(alloc: Global, portal: u32, out: &mut [u8
     put(alloc, &close, Ok(()), out)
 }
 
-/// Runs a portal, by its number; 0 is the unnamed one. `limit` is the most rows to send back, 0 for
-/// all of them.
+/// Runs the portal `sqlx_p_N`, by its number N; 0 is the unnamed one. `limit` is the most rows to send
+/// back, 0 for all of them.
 #[unsafe(no_mangle)]
 pub extern "C" fn pgm_put_execute(alloc: Global, portal: u32, limit: u32, out: &mut [u8]) -> isize
     ensures { PutsMessage (message.Execute (record { portal = portal; limit = limit })) out.old out.new result }

@@ -1,25 +1,27 @@
 //! How a session begins and ends.
 
-ghost use Rattle.std.specs.Prelude.{◌≡◌, ◌⊎◌, [], true, false, None, Err, OnErr, IfOk, IfErr, IsOkUnless, map};
+ghost use Rattle.std.specs.Prelude.{◌≡◌, ◌⊎◌, [], true, false, Some, None, Err, IfOk, IfErr, OnOk, IsErrOf, length, map};
 ghost use Rattle.std.specs.List.{list_all};
 ghost use Rattle.std.specs.Str.{is_utf8};
-ghost use Rattle.pg_base.specs.declared.error.ProtocolFault.TheVariants.{NotUtf8};
+ghost use Rattle.pg_base.specs.declared.error.Error.TheVariants.{Protocol, OutOfMemory};
+ghost use Rattle.pg_base.specs.declared.error.ProtocolFault.TheVariants.{NotUtf8, TextHoldsNul};
+ghost use Rattle.pg_request.specs.Frame.{first_fault, IsStrictAnswerOf};
 ghost use Rattle.pg_request.specs.Message as message;
 ghost use Rattle.pg_request.specs.SslRequest.{ssl_request_text};
-ghost use Rattle.pg_base.specs.declared.error.Error.TheVariants.{Protocol, OutOfMemory};
-ghost use Rattle.pg_request.specs.Startup.{settings_of};
+ghost use Rattle.pg_request.specs.Startup.{settings_of, startup_fields, startup_body, startup_text, StartupCanRoundTrip};
 ghost use Rattle.pg_c.specs.Put.{PutsMessage, PutsText, IsPut, IsRefused};
-ghost use Rattle.pg_c.specs.Session.{PutsStartup, is_text, name_and_value};
+ghost use Rattle.pg_c.specs.Session.{PutsSettings, PutsStartup, is_text, name_and_value};
 
-use crate::put::{put, put_untagged, text_of};
+use crate::put::{give, put, put_untagged, text_of};
 use crate::refusal::number_of;
 use pg_base::Error;
+use pg_base::io::ProtocolEncode;
 use pg_request::message::{
     Password, SaslInitialResponse, SaslResponse, SslRequest, Startup, Terminate,
 };
 use std::alloc::Global;
 
-/// The name of a setting and its value.
+/// The name of a setting and its value, in UTF-8.
 #[repr(C)]
 #[derive(Clone, Copy)]
 pub struct PgmSetting<'a> {
@@ -27,7 +29,9 @@ pub struct PgmSetting<'a> {
     pub value: &'a [u8],
 }
 
-/// Opens a session with these settings, of which `user` is required by the server.
+/// Opens a session with these settings, of which `user` is required by the server. A name or a value
+/// that holds a NUL, or an empty name, is refused as a text that holds a NUL: the server would read
+/// other settings.
 #[unsafe(no_mangle)]
 pub extern "C" fn pgm_put_startup(
     alloc: Global,
@@ -44,10 +48,31 @@ pub extern "C" fn pgm_put_startup(
                 database: None,
                 params: params.as_slice(),
             };
-            put_untagged(alloc, &startup, out)
+            put_startup(alloc, &startup, out)
         }
         Err(error) => number_of(error) as isize,
     }
+}
+
+fn put_startup(alloc: Global, startup: &Startup<'_>, out: &mut [u8]) -> isize
+    ensures { PutsSettings (startup_fields startup.now) out.old out.new result ⊎ IsPut [] (Err OutOfMemory) out.old out.new result }
+{
+    let mut buf = Vec::new(alloc);
+    match add_startup(startup, &mut buf) {
+        Ok(()) => give(buf.as_slice(), out),
+        Err(error) => number_of(error) as isize,
+    }
+}
+
+// Adds the message to an empty buffer. A refusal is for its length, then for the round trip.
+fn add_startup(startup: &Startup<'_>, buf: &mut Vec<u8>) -> Result<(), Error>
+    requires { buf.old.items ≡ [] }
+    ensures answer { IsErrOf result OutOfMemory ⊎ IsStrictAnswerOf (first_fault None (length (startup_body (startup_fields startup.now)))) (StartupCanRoundTrip (startup_fields startup.now)) (Some TextHoldsNul) result }
+    ensures text { OnOk result (buf.new.items ≡ startup_text (startup_fields startup.now)) }
+{
+    startup.encode(buf)?;
+    startup.check_round_trip()?;
+    Ok(())
 }
 
 // The settings as texts.
@@ -73,7 +98,7 @@ pub extern "C" fn pgm_put_ssl_request(alloc: Global, out: &mut [u8]) -> isize
     put_untagged(alloc, &SslRequest, out)
 }
 
-/// Answers a request for a password with the password.
+/// Answers a request for a password with the password, in UTF-8.
 #[unsafe(no_mangle)]
 pub extern "C" fn pgm_put_password(alloc: Global, password: &[u8], out: &mut [u8]) -> isize
     ensures utf8 { is_utf8 password.now ≡ true → PutsMessage (message.CleartextPassword password.now) out.old out.new result }
@@ -98,7 +123,7 @@ pub extern "C" fn pgm_put_md5_password(alloc: Global, digest: &[u8; 16], out: &m
     put(alloc, &password, Ok(()), out)
 }
 
-/// Chooses SCRAM-SHA-256, or SCRAM-SHA-256-PLUS where `plus`, and begins it.
+/// Chooses SCRAM-SHA-256, or SCRAM-SHA-256-PLUS where `plus`, and begins it with `response`, in UTF-8.
 #[unsafe(no_mangle)]
 pub extern "C" fn pgm_put_sasl_initial(
     alloc: Global,
@@ -118,7 +143,7 @@ pub extern "C" fn pgm_put_sasl_initial(
     }
 }
 
-/// Answers a challenge of the SASL exchange.
+/// Answers a challenge of the SASL exchange, in UTF-8.
 #[unsafe(no_mangle)]
 pub extern "C" fn pgm_put_sasl_response(alloc: Global, response: &[u8], out: &mut [u8]) -> isize
     ensures utf8 { is_utf8 response.now ≡ true → PutsMessage (message.SaslResponse response.now) out.old out.new result }

@@ -1,6 +1,4 @@
 use Rattle.std.proofs.Common.{length}
-use Rattle.pg_response.specs.Response.Fields.{Field}
-use Rattle.pg_c.specs.Fields.{field_in}
 use Rattle.pg_c.proofs.FieldLemmas.{GivesFields}
 use Rattle.pg_c.proofs.read.fields.pgm_read_fields.Given as goal
 
