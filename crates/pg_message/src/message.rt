@@ -5,15 +5,15 @@ pub use pg_base::{BackendMessageFormat, FrontendMessageFormat};
 pub use pg_frames::{Frame, FrameReader, StreamEnd, next_frame, read_pieces};
 pub use pg_receive::message::{
     Authentication, AuthenticationMd5Password, AuthenticationSasl, AuthenticationSaslContinue,
-    AuthenticationSaslFinal, BackendKeyData, BackendMessage, Cells, Columns, CommandComplete,
-    CopyInResponse, CopyOutResponse, CopyResponseData, DataRow, Field, FieldRef, Fields, Notice,
-    Notification, NotificationRef, ParameterDescription, ParameterStatus, ParameterStatusRef,
-    ReadyForQuery, ReceivedMessage, Row, RowDescription, RowIndex, SaslMechanisms,
-    TransactionStatus, rows_affected,
+    AuthenticationSaslFinal, BackendKeyData, BackendMessage, Cells, ColumnReader, Columns,
+    CommandComplete, CopyInResponse, CopyOutResponse, CopyResponseData, DataRow, Field, FieldRef,
+    Fields, Notice, Notification, NotificationRef, ParameterDescription, ParameterStatus,
+    ParameterStatusRef, ReadyForQuery, ReceivedMessage, Row, RowDescription, RowIndex, RowReader,
+    SaslMechanisms, TransactionStatus, cell_at, column_at, rows_affected,
 };
 pub use pg_send::message::{
     Bind, BindValues, Close, CopyFail, Describe, EncodeMessage, Execute, Flush, FrontendMessage,
     Parse, Password, Query, SaslInitialResponse, SaslResponse, SslRequest, Startup, Sync,
     TaggedMessage, Terminate, encode_all, encode_frame, encode_strict,
 };
-pub use pg_server_message::message::ServerMessage;
+pub use pg_server_message::message::{ServerMessage, ServerMessageRef, Visitor};

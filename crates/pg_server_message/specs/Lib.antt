@@ -1,1 +1,2 @@
 pub mod ServerMessage
+pub mod ServerMessageRef

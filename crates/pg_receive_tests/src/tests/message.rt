@@ -16,3 +16,4 @@ mod row_description;
 mod row_index;
 mod row_reader;
 mod server_message;
+mod server_message_ref;

@@ -1,10 +1,11 @@
 //! Any message from the server, as a value of its kind's type.
 
-ghost use Rattle.std.specs.Prelude.{◌≡◌, Ok};
+ghost use Rattle.std.specs.Prelude.{◌≡◌, Ok, IsOkAnd};
 ghost use Rattle.pg_base.specs.declared.format.BackendMessageFormat.TheVariants as formats;
-ghost use Rattle.pg_server_message.specs.ServerMessage.{DecodesCase, DecodesBy};
+ghost use Rattle.pg_server_message.specs.ServerMessage.{DecodesCase, VisitsCase, DecodesBy};
 ghost use Rattle.pg_server_message.specs.declared.message.server_message.ServerMessage.TheVariants as messages;
 
+use crate::message::visitor::{Keep, Visitor};
 use bytes::Bytes;
 use pg_base::{BackendMessageFormat, Error};
 use pg_receive::error::PgDatabaseError;
@@ -92,49 +93,129 @@ impl ServerMessage {
         ensures ready_for_query { message.format ≡ formats.ReadyForQuery → DecodesCase ⟦<ReadyForQuery as BackendMessage>⟧ messages.ReadyForQuery message result }
         ensures row_description { message.format ≡ formats.RowDescription → DecodesCase ⟦<RowDescription as BackendMessage>⟧ messages.RowDescription message result }
     {
+        ServerMessage::visit(alloc, message, Keep)
+    }
+
+    /// Reads a message by its kind, as [`ServerMessage::decode`] does, and hands it to a visitor.
+    ///
+    /// It can be faster: where the visitor's `visit` is `#[inline(always)]`, the compiler knows the
+    /// case in each branch, and resolves the visitor's `match` at compile time.
+    #[inline(always)]
+    pub fn visit<V: Visitor>(
+        alloc: Global,
+        message: ReceivedMessage,
+        visitor: V,
+    ) -> Result<V::Output, Error>
+        ensures authentication { message.format ≡ formats.Authentication → VisitsCase ⟦<Authentication as BackendMessage>⟧ messages.Authentication (V.Visitor.gives visitor) message result }
+        ensures backend_key_data { message.format ≡ formats.BackendKeyData → VisitsCase ⟦<BackendKeyData as BackendMessage>⟧ messages.BackendKeyData (V.Visitor.gives visitor) message result }
+        ensures bind_complete { message.format ≡ formats.BindComplete → IsOkAnd result (V.Visitor.gives visitor messages.BindComplete) }
+        ensures close_complete { message.format ≡ formats.CloseComplete → IsOkAnd result (V.Visitor.gives visitor messages.CloseComplete) }
+        ensures command_complete { message.format ≡ formats.CommandComplete → VisitsCase ⟦<CommandComplete as BackendMessage>⟧ messages.CommandComplete (V.Visitor.gives visitor) message result }
+        ensures copy_data { message.format ≡ formats.CopyData → VisitsCase ⟦<CopyData<Bytes> as BackendMessage>⟧ messages.CopyData (V.Visitor.gives visitor) message result }
+        ensures copy_done { message.format ≡ formats.CopyDone → VisitsCase ⟦<CopyDone as BackendMessage>⟧ messages.CopyDone (V.Visitor.gives visitor) message result }
+        ensures copy_in_response { message.format ≡ formats.CopyInResponse → VisitsCase ⟦<CopyInResponse as BackendMessage>⟧ messages.CopyInResponse (V.Visitor.gives visitor) message result }
+        ensures copy_out_response { message.format ≡ formats.CopyOutResponse → VisitsCase ⟦<CopyOutResponse as BackendMessage>⟧ messages.CopyOutResponse (V.Visitor.gives visitor) message result }
+        ensures data_row { message.format ≡ formats.DataRow → VisitsCase ⟦<DataRow as BackendMessage>⟧ messages.DataRow (V.Visitor.gives visitor) message result }
+        ensures empty_query_response { message.format ≡ formats.EmptyQueryResponse → IsOkAnd result (V.Visitor.gives visitor messages.EmptyQueryResponse) }
+        ensures error_response { message.format ≡ formats.ErrorResponse → VisitsCase ⟦<PgDatabaseError as BackendMessage>⟧ messages.ErrorResponse (V.Visitor.gives visitor) message result }
+        ensures no_data { message.format ≡ formats.NoData → IsOkAnd result (V.Visitor.gives visitor messages.NoData) }
+        ensures notice_response { message.format ≡ formats.NoticeResponse → VisitsCase ⟦<Notice as BackendMessage>⟧ messages.NoticeResponse (V.Visitor.gives visitor) message result }
+        ensures notification_response { message.format ≡ formats.NotificationResponse → VisitsCase ⟦<Notification as BackendMessage>⟧ messages.NotificationResponse (V.Visitor.gives visitor) message result }
+        ensures parameter_description { message.format ≡ formats.ParameterDescription → VisitsCase ⟦<ParameterDescription as BackendMessage>⟧ messages.ParameterDescription (V.Visitor.gives visitor) message result }
+        ensures parameter_status { message.format ≡ formats.ParameterStatus → VisitsCase ⟦<ParameterStatus as BackendMessage>⟧ messages.ParameterStatus (V.Visitor.gives visitor) message result }
+        ensures parse_complete { message.format ≡ formats.ParseComplete → IsOkAnd result (V.Visitor.gives visitor messages.ParseComplete) }
+        ensures portal_suspended { message.format ≡ formats.PortalSuspended → IsOkAnd result (V.Visitor.gives visitor messages.PortalSuspended) }
+        ensures ready_for_query { message.format ≡ formats.ReadyForQuery → VisitsCase ⟦<ReadyForQuery as BackendMessage>⟧ messages.ReadyForQuery (V.Visitor.gives visitor) message result }
+        ensures row_description { message.format ≡ formats.RowDescription → VisitsCase ⟦<RowDescription as BackendMessage>⟧ messages.RowDescription (V.Visitor.gives visitor) message result }
+    {
         use BackendMessageFormat as Format;
         match message.format {
-            Format::Authentication => in_case(alloc, message, ServerMessage::Authentication),
-            Format::BackendKeyData => in_case(alloc, message, ServerMessage::BackendKeyData),
-            Format::BindComplete => Ok(ServerMessage::BindComplete),
-            Format::CloseComplete => Ok(ServerMessage::CloseComplete),
-            Format::CommandComplete => in_case(alloc, message, ServerMessage::CommandComplete),
-            Format::CopyData => in_case(alloc, message, ServerMessage::CopyData),
-            Format::CopyDone => in_case(alloc, message, ServerMessage::CopyDone),
-            Format::CopyInResponse => in_case(alloc, message, ServerMessage::CopyInResponse),
-            Format::CopyOutResponse => in_case(alloc, message, ServerMessage::CopyOutResponse),
-            Format::DataRow => in_case(alloc, message, ServerMessage::DataRow),
-            Format::EmptyQueryResponse => Ok(ServerMessage::EmptyQueryResponse),
-            Format::ErrorResponse => in_case(alloc, message, ServerMessage::ErrorResponse),
-            Format::NoData => Ok(ServerMessage::NoData),
-            Format::NoticeResponse => in_case(alloc, message, ServerMessage::NoticeResponse),
+            Format::Authentication => in_case(
+                alloc,
+                message,
+                ServerMessage::Authentication,
+                visitor,
+            ),
+            Format::BackendKeyData => in_case(
+                alloc,
+                message,
+                ServerMessage::BackendKeyData,
+                visitor,
+            ),
+            Format::BindComplete => Ok(visitor.visit(ServerMessage::BindComplete)),
+            Format::CloseComplete => Ok(visitor.visit(ServerMessage::CloseComplete)),
+            Format::CommandComplete => in_case(
+                alloc,
+                message,
+                ServerMessage::CommandComplete,
+                visitor,
+            ),
+            Format::CopyData => in_case(alloc, message, ServerMessage::CopyData, visitor),
+            Format::CopyDone => in_case(alloc, message, ServerMessage::CopyDone, visitor),
+            Format::CopyInResponse => in_case(
+                alloc,
+                message,
+                ServerMessage::CopyInResponse,
+                visitor,
+            ),
+            Format::CopyOutResponse => in_case(
+                alloc,
+                message,
+                ServerMessage::CopyOutResponse,
+                visitor,
+            ),
+            Format::DataRow => in_case(alloc, message, ServerMessage::DataRow, visitor),
+            Format::EmptyQueryResponse => Ok(visitor.visit(ServerMessage::EmptyQueryResponse)),
+            Format::ErrorResponse => in_case(alloc, message, ServerMessage::ErrorResponse, visitor),
+            Format::NoData => Ok(visitor.visit(ServerMessage::NoData)),
+            Format::NoticeResponse => in_case(
+                alloc,
+                message,
+                ServerMessage::NoticeResponse,
+                visitor,
+            ),
             Format::NotificationResponse => in_case(
                 alloc,
                 message,
                 ServerMessage::NotificationResponse,
+                visitor,
             ),
             Format::ParameterDescription => in_case(
                 alloc,
                 message,
                 ServerMessage::ParameterDescription,
+                visitor,
             ),
-            Format::ParameterStatus => in_case(alloc, message, ServerMessage::ParameterStatus),
-            Format::ParseComplete => Ok(ServerMessage::ParseComplete),
-            Format::PortalSuspended => Ok(ServerMessage::PortalSuspended),
-            Format::ReadyForQuery => in_case(alloc, message, ServerMessage::ReadyForQuery),
-            Format::RowDescription => in_case(alloc, message, ServerMessage::RowDescription),
+            Format::ParameterStatus => in_case(
+                alloc,
+                message,
+                ServerMessage::ParameterStatus,
+                visitor,
+            ),
+            Format::ParseComplete => Ok(visitor.visit(ServerMessage::ParseComplete)),
+            Format::PortalSuspended => Ok(visitor.visit(ServerMessage::PortalSuspended)),
+            Format::ReadyForQuery => in_case(alloc, message, ServerMessage::ReadyForQuery, visitor),
+            Format::RowDescription => in_case(
+                alloc,
+                message,
+                ServerMessage::RowDescription,
+                visitor,
+            ),
         }
     }
 }
 
-// The message as a `T`, in the case of its kind.
-fn in_case<T: BackendMessage, F: FnOnce(T) -> ServerMessage>(
+// The message as a `T`, in the case of its kind, given to a visitor.
+#[inline(always)]
+fn in_case<T: BackendMessage, F: FnOnce(T) -> ServerMessage, V: Visitor>(
     alloc: Global,
     message: ReceivedMessage,
     case: F,
-) -> Result<ServerMessage, Error>
+    visitor: V,
+) -> Result<V::Output, Error>
     requires { F.IsAlwaysCallable case }
-    ensures { DecodesBy T.BackendMessage (F.post case) message result }
+    ensures { DecodesBy T.BackendMessage (λ value given. (decoded : ServerMessage) × F.post case value decoded × V.Visitor.gives visitor decoded given) message result }
 {
-    message.decode(alloc).map(case)
+    let value = message.decode(alloc)?;
+    Ok(visitor.visit(case(value)))
 }

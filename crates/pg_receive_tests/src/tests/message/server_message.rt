@@ -1,16 +1,12 @@
 //! A message of any kind.
 
-ghost use Rattle.std.specs.Prelude.{◌<◌, length};
-
 use bytes::Bytes;
 use pg_base::{BackendMessageFormat, Error, ProtocolFault};
 use pg_receive::message::ReceivedMessage;
-use pg_server_message::message::ServerMessage;
+use pg_server_message::message::{ServerMessage, Visitor};
 use std::test::Fail;
 
-fn read(rt: &HostRuntime, tag: u8, body: &'static [u8]) -> Result<ServerMessage, Error>
-    requires { length body.now < 100 }
-{
+fn read(rt: &HostRuntime, tag: u8, body: &'static [u8]) -> Result<ServerMessage, Error> {
     let format = BackendMessageFormat::try_from_u8(tag)?;
     let contents = Bytes::from_static(body);
     ServerMessage::decode(rt.alloc(), ReceivedMessage { format, contents })
@@ -43,9 +39,9 @@ fn tag_of(message: &ServerMessage) -> u8 {
     }
 }
 
-#[test]
-fn each_kind_is_its_case(rt: HostRuntime) -> Result<(), Fail> {
-    let table: [(u8, &'static [u8]); 21] = [
+/// A tag and a body of each kind.
+pub fn bodies() -> [(u8, &'static [u8]); 21] {
+    [
         (b'R', b"\0\0\0\0"),
         (b'K', b"\0\0\0\x01\0\0\0\x02"),
         (b'2', b""),
@@ -67,9 +63,12 @@ fn each_kind_is_its_case(rt: HostRuntime) -> Result<(), Fail> {
         (b's', b""),
         (b'Z', b"I"),
         (b'T', b"\0\0"),
-    ];
-    for (tag, body) in table {
-        assert!(rt; body.len() < 100);
+    ]
+}
+
+#[test]
+fn each_kind_is_its_case(rt: HostRuntime) -> Result<(), Fail> {
+    for (tag, body) in bodies() {
         assert_eq!(rt; tag_of(&read(&rt, tag, body)?), tag);
     }
     Ok(())
@@ -83,14 +82,69 @@ fn a_kind_without_a_type_has_any_body(rt: HostRuntime) -> Result<(), Fail> {
     Ok(())
 }
 
+// What Q is refused with as a status.
+fn fault_of_q() -> Error {
+    Error::Protocol {
+        reading: Some(BackendMessageFormat::ReadyForQuery),
+        fault: ProtocolFault::UnknownStatus(b'Q'),
+    }
+}
+
 #[test]
 fn a_fault_names_its_kind(rt: HostRuntime) {
     let Err(error) = read(&rt, b'Z', b"Q") else {
         panic!(rt; "Q is no status");
     };
-    let expected = Error::Protocol {
-        reading: Some(BackendMessageFormat::ReadyForQuery),
-        fault: ProtocolFault::UnknownStatus(b'Q'),
+    assert_eq!(rt; error, fault_of_q());
+}
+
+// Says that it was called, and gives the tag of the kind.
+#[derive(Drop)]
+struct TagOf<'a> {
+    called: &'a mut bool,
+}
+
+impl<'a> Visitor for TagOf<'a> {
+    type Output = u8;
+
+    ghost gives = { λ _ _ _. Unit {0} };
+
+    fn visit(self, message: ServerMessage) -> u8 {
+        *self.called = true;
+        tag_of(&message)
+    }
+}
+
+#[test]
+fn a_visitor_takes_each_kind(rt: HostRuntime) -> Result<(), Fail> {
+    for (tag, body) in bodies() {
+        let message = ReceivedMessage {
+            format: BackendMessageFormat::try_from_u8(tag)?,
+            contents: Bytes::from_static(body),
+        };
+        let mut called = false;
+        let visitor = TagOf {
+            called: &mut called,
+        };
+        assert_eq!(rt; ServerMessage::visit(rt.alloc(), message, visitor)?, tag);
+        assert!(rt; called);
+    }
+    Ok(())
+}
+
+#[test]
+fn a_visitor_is_not_called_on_a_fault(rt: HostRuntime) {
+    let message = ReceivedMessage {
+        format: BackendMessageFormat::ReadyForQuery,
+        contents: Bytes::from_static(b"Q"),
     };
-    assert_eq!(rt; error, expected);
+    let mut called = false;
+    let visitor = TagOf {
+        called: &mut called,
+    };
+    let Err(error) = ServerMessage::visit(rt.alloc(), message, visitor) else {
+        panic!(rt; "Q is no status");
+    };
+    assert_eq!(rt; error, fault_of_q());
+    assert!(rt; !called);
 }
