@@ -1,13 +1,12 @@
 //! Decodes a stream of frames repeatedly and calls each accessor.
 //!
 //! Each call returns the sum of everything read in all passes, or 0 where the stream is truncated, a
-//! message is refused or is none of the six kinds of `add`, or memory runs out.
+//! message is refused or is of another kind than the six of `AddTo`, or memory runs out.
 
 use crate::sum::Sum;
 use pg_message::error::{PgDatabaseError, PgErrorPosition};
 use pg_message::message::{
-    BackendMessageFormat, CommandComplete, DataRow, FrameReader, ParameterStatus, ReadyForQuery,
-    ReceivedMessage, RowDescription,
+    DataRow, FrameReader, ReceivedMessage, RowDescription, ServerMessage, Visitor,
 };
 use std::alloc::Global;
 
@@ -38,14 +37,11 @@ fn prepared(alloc: Global, stream: &[u8], times: usize, full: bool) -> Option<u6
         for message in messages.iter() {
             let ReceivedMessage { format, contents } = message;
             let contents = contents.clone().ok()?;
-            add(
-                alloc,
-                ReceivedMessage {
-                    format: *format,
-                    contents,
-                },
-                &mut sum,
-            )?;
+            let message = ReceivedMessage {
+                format: *format,
+                contents,
+            };
+            add(alloc, message, &mut sum)?;
         }
     }
     reader.is_empty().then_some(sum.value)
@@ -71,33 +67,57 @@ fn add_messages(alloc: Global, reader: &mut FrameReader, sum: &mut Sum) -> Optio
     Some(())
 }
 
-// Adds the tag and everything that the message's accessors return. Each kind is decoded as its type, as
-// the original's benchmark does: a `ServerMessage` takes longer, since it has room for any of them.
 fn add(alloc: Global, message: ReceivedMessage, sum: &mut Sum) -> Option<()> {
-    match message.format {
-        BackendMessageFormat::DataRow => add_row(alloc, message, sum),
-        BackendMessageFormat::RowDescription => add_columns(alloc, message, sum),
-        BackendMessageFormat::CommandComplete => add_complete(alloc, message, sum),
-        BackendMessageFormat::ReadyForQuery => add_ready(alloc, message, sum),
-        BackendMessageFormat::ErrorResponse => add_error(alloc, message, sum),
-        BackendMessageFormat::ParameterStatus => add_status(alloc, message, sum),
-        _ => None,
+    ServerMessage::visit(alloc, message, AddTo { sum }).ok()?
+}
+
+// Adds the tag of a message and everything that its accessors return.
+#[derive(Drop)]
+struct AddTo<'a> {
+    sum: &'a mut Sum,
+}
+
+impl<'a> Visitor for AddTo<'a> {
+    type Output = Option<()>;
+
+    ghost gives = { λ _ _ _. Unit {0} };
+
+    #[inline(always)]
+    fn visit(self, message: ServerMessage) -> Option<()> {
+        match &message {
+            ServerMessage::DataRow(row) => add_row(row, self.sum),
+            ServerMessage::RowDescription(description) => add_columns(description, self.sum),
+            ServerMessage::CommandComplete(complete) => {
+                self.sum.mix(u64::from(b'C'));
+                self.sum.mix(complete.rows_affected());
+            }
+            ServerMessage::ReadyForQuery(ready) => {
+                self.sum.mix(u64::from(b'Z'));
+                self.sum.mix(ready.transaction_status as u64);
+            }
+            ServerMessage::ErrorResponse(error) => add_error(error, self.sum),
+            ServerMessage::ParameterStatus(status) => {
+                self.sum.mix(u64::from(b'S'));
+                self.sum.touch(status.name.as_bytes());
+                self.sum.touch(status.value.as_bytes());
+            }
+            _ => return None,
+        }
+        Some(())
     }
 }
 
-fn add_row(alloc: Global, message: ReceivedMessage, sum: &mut Sum) -> Option<()> {
+#[inline(always)]
+fn add_row(row: &DataRow, sum: &mut Sum) {
     sum.mix(u64::from(b'D'));
-    let row: DataRow = message.decode(alloc).ok()?;
     sum.mix(row.len() as u64);
     for index in 0..row.len() {
         sum.touch_option(row.get(index));
     }
-    Some(())
 }
 
-fn add_columns(alloc: Global, message: ReceivedMessage, sum: &mut Sum) -> Option<()> {
+fn add_columns(description: &RowDescription, sum: &mut Sum) {
     sum.mix(u64::from(b'T'));
-    let description: RowDescription = message.decode(alloc).ok()?;
     for field in description.fields.iter() {
         sum.touch(field.name.as_bytes());
         sum.mix(field.relation_id.map_or(0, |oid| u64::from(oid.0)));
@@ -109,34 +129,10 @@ fn add_columns(alloc: Global, message: ReceivedMessage, sum: &mut Sum) -> Option
         sum.mix(u64::from(field.format.cast_unsigned()));
     }
     sum.mix(description.fields.len() as u64);
-    Some(())
 }
 
-fn add_complete(alloc: Global, message: ReceivedMessage, sum: &mut Sum) -> Option<()> {
-    sum.mix(u64::from(b'C'));
-    let complete: CommandComplete = message.decode(alloc).ok()?;
-    sum.mix(complete.rows_affected());
-    Some(())
-}
-
-fn add_ready(alloc: Global, message: ReceivedMessage, sum: &mut Sum) -> Option<()> {
-    sum.mix(u64::from(b'Z'));
-    let ready: ReadyForQuery = message.decode(alloc).ok()?;
-    sum.mix(ready.transaction_status as u64);
-    Some(())
-}
-
-fn add_status(alloc: Global, message: ReceivedMessage, sum: &mut Sum) -> Option<()> {
-    sum.mix(u64::from(b'S'));
-    let status: ParameterStatus = message.decode(alloc).ok()?;
-    sum.touch(status.name.as_bytes());
-    sum.touch(status.value.as_bytes());
-    Some(())
-}
-
-fn add_error(alloc: Global, message: ReceivedMessage, sum: &mut Sum) -> Option<()> {
+fn add_error(error: &PgDatabaseError, sum: &mut Sum) {
     sum.mix(u64::from(b'E'));
-    let error: PgDatabaseError = message.decode(alloc).ok()?;
     sum.mix(error.severity() as u64);
     sum.touch(error.code().as_bytes());
     sum.touch(error.message().as_bytes());
@@ -155,7 +151,6 @@ fn add_error(alloc: Global, message: ReceivedMessage, sum: &mut Sum) -> Option<(
         None => sum.nothing(),
     }
     sum.text(error.routine());
-    Some(())
 }
 
 fn add_position(position: Option<PgErrorPosition<'_>>, sum: &mut Sum) {
