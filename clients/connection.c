@@ -52,7 +52,7 @@ void connection_write(struct connection *connection)
     ssize_t count = write(connection->socket, output->bytes + output->start, output->end - output->start);
     if (count >= 0) {
         output->start += (size_t)count;
-    } else if (errno != EAGAIN && errno != EWOULDBLOCK && errno != EINTR) {
+    } else if (!is_temporary(errno)) {
         connection->is_gone = true;
         output->start = output->end;
     }
@@ -83,7 +83,7 @@ enum status connection_read(struct connection *connection)
         return complain(STATUS_BROKEN, "the server closed the connection");
     if (count > 0)
         input->end += (size_t)count;
-    else if (errno != EAGAIN && errno != EWOULDBLOCK && errno != EINTR)
+    else if (!is_temporary(errno))
         return complain(STATUS_BROKEN, "the connection broke: %s", strerror(errno));
     return STATUS_OK;
 }

@@ -1,6 +1,8 @@
 #define _DEFAULT_SOURCE
 
 #include "load.h"
+#include "block.h"
+#include "input.h"
 #include "progress.h"
 #include "wait.h"
 
@@ -8,10 +10,8 @@
 #include <inttypes.h>
 #include <stdio.h>
 #include <string.h>
-#include <sys/uio.h>
-#include <unistd.h>
 
-enum { HEAD = 5, BLOCK = 65536 };
+#define SHORTER "it became shorter"
 
 /* How far it is. */
 enum phase {
@@ -23,31 +23,21 @@ enum phase {
 
 struct load {
     struct connection *connection;
-    int file;
+    struct input input;
     const char *file_name;
     enum phase phase;
     enum status status; /* of what stopped it */
     bool is_stored;     /* the server says so */
     bool is_ready;      /* the server is, for the next query */
     uint64_t rows;
-    uint64_t sent; /* bytes of data */
     struct progress progress;
-    /* The message that is being sent: its head, its data, and how much of both is sent. */
-    size_t block_at;
-    size_t block_len;
-    uint8_t head[HEAD];
-    uint8_t data[BLOCK];
+    struct block block;
 };
-
-static bool has_block(const struct load *load)
-{
-    return load->block_at < load->block_len;
-}
 
 static bool has_output(const struct load *load)
 {
     const struct buffer *output = &load->connection->output;
-    return has_block(load) || output->start < output->end;
+    return block_is_left(&load->block) || output->start < output->end;
 }
 
 /* Ends the data by a CopyFail, with words that the server reports. */
@@ -59,60 +49,67 @@ static void give_up(struct load *load, enum status status, const char *reason)
         pgm_put_copy_fail((const uint8_t *)reason, strlen(reason), SPARE(load->connection)));
 }
 
-static void begin_block(struct load *load, size_t len)
+/* Ends the data where no more of the file can be had. */
+static void stop_reading(struct load *load, const char *reason)
 {
-    int32_t refusal = pgm_put_copy_head(len, load->head);
-    if (refusal < 0) {
-        give_up(load, complain(STATUS_LOCAL, "a block of %zu bytes is refused", len), "a block is refused");
+    progress_end(&load->progress);
+    complain(STATUS_LOCAL, "%s can't be read: %s", load->file_name, reason);
+    give_up(load, STATUS_LOCAL, "the client can't read its file");
+}
+
+static void end_data(struct load *load)
+{
+    /* What is on its way is shared with the file. */
+    if (input_is_cut(&load->input)) {
+        stop_reading(load, SHORTER);
         return;
     }
-    load->block_at = 0;
-    load->block_len = HEAD + len;
+    load->phase = ENDED;
+    PUT(load->connection, pgm_put_copy_done(SPARE(load->connection)));
 }
 
-/* Reads the next block of the file. */
+/* Takes the next block of the file. */
 static void read_block(struct load *load)
 {
-    ssize_t count = read(load->file, load->data, BLOCK);
-    if (count > 0) {
-        begin_block(load, (size_t)count);
-    } else if (count == 0) {
-        load->phase = ENDED;
-        PUT(load->connection, pgm_put_copy_done(SPARE(load->connection)));
-    } else if (errno != EAGAIN && errno != EWOULDBLOCK && errno != EINTR) {
-        complain(STATUS_LOCAL, "%s can't be read: %s", load->file_name, strerror(errno));
-        give_up(load, STATUS_LOCAL, "the client can't read its file");
+    ssize_t count = block_begin(&load->block, &load->input);
+    if (count == 0)
+        end_data(load);
+    else if (count < 0 && !is_temporary(errno))
+        stop_reading(load, strerror(errno));
+}
+
+/* Sends what the socket takes of the bytes of the block. */
+static void send_bytes(struct load *load)
+{
+    if (block_send(&load->block, load->connection->socket) < 0 && !is_temporary(errno)) {
+        /* The next read says why. */
+        load->connection->is_gone = true;
+        block_drop(&load->block);
     }
 }
 
-/* Sends what the socket takes of the block. */
-static void send_block(struct load *load)
+/* Goes on with what the block has in the file. */
+static void send_left(struct load *load)
 {
-    size_t head = load->block_at < HEAD ? load->block_at : HEAD;
-    size_t data = load->block_at - head;
-    struct iovec parts[] = {
-        {.iov_base = load->head + head, .iov_len = HEAD - head},
-        {.iov_base = load->data + data, .iov_len = load->block_len - HEAD - data},
-    };
-    ssize_t count = writev(load->connection->socket, parts, 2);
-    if (count >= 0) {
-        size_t of_head = (size_t)count < parts[0].iov_len ? (size_t)count : parts[0].iov_len;
-        load->block_at += (size_t)count;
-        load->sent += (size_t)count - of_head;
-        progress_show(&load->progress, load->sent);
-    } else if (errno != EAGAIN && errno != EWOULDBLOCK && errno != EINTR) {
-        /* The next read says why. */
-        load->connection->is_gone = true;
-        load->block_at = load->block_len;
-    }
+    ssize_t count = block_send_left(&load->block, &load->input, load->connection->socket);
+    if (count > 0 || (count < 0 && is_temporary(errno)))
+        return;
+    if (load->phase == SENDING)
+        stop_reading(load, count == 0 ? SHORTER : strerror(errno));
+    block_fill(&load->block);
 }
 
 static void send_some(struct load *load)
 {
-    if (has_block(load))
-        send_block(load);
-    if (!has_block(load) && has_output(load))
+    struct block *block = &load->block;
+    if (block_has_bytes(block))
+        send_bytes(load);
+    if (block->left > 0 && !block_has_bytes(block))
+        send_left(load);
+    if (!block_is_left(block) && has_output(load))
         connection_write(load->connection);
+    if (load->phase == SENDING)
+        progress_show(&load->progress, block->sent);
 }
 
 static enum status take_error(struct load *load, const struct message *message)
@@ -198,7 +195,7 @@ static enum status step(struct load *load)
     bool is_hungry = load->phase == SENDING && !has_output(load) && !load->connection->is_gone;
     struct pollfd ready[] = {
         {.fd = load->connection->socket, .events = POLLIN},
-        {.fd = is_hungry ? load->file : -1, .events = POLLIN},
+        {.fd = is_hungry ? load->input.file : -1, .events = POLLIN},
     };
     if (has_output(load))
         ready[0].events |= POLLOUT;
@@ -223,10 +220,10 @@ static void explain_break(const struct load *load)
         complain(STATUS_BROKEN, "the server had confirmed %" PRIu64 " rows before", load->rows);
     else if (load->phase == ENDED)
         complain(STATUS_BROKEN, "all %" PRIu64 " bytes of data were sent, and the server confirmed nothing: the"
-                 " rows may be stored or not", load->sent);
+                 " rows may be stored or not", load->block.sent);
     else
         complain(STATUS_BROKEN, "%" PRIu64 " bytes of data were sent, and the server confirmed nothing: no row"
-                 " is stored, since a COPY is one statement", load->sent);
+                 " is stored, since a COPY is one statement", load->block.sent);
 }
 
 static enum status interrupt(struct load *load, enum status status)
@@ -271,11 +268,12 @@ static enum status print_count(const struct load *load)
 enum status load_file(struct connection *connection, const struct buffer *query, int file,
                       const char *file_name)
 {
-    struct load load = {.connection = connection, .file = file, .file_name = file_name, .phase = ASKED};
+    struct load load = {.connection = connection, .file_name = file_name, .phase = ASKED};
+    input_begin(&load.input, file);
     progress_begin(&load.progress);
     PUT(connection, pgm_put_query(query->bytes + query->start, query->end - query->start, SPARE(connection)));
     enum status status = run(&load);
-    if (load.is_ready && !has_block(&load))
+    if (load.is_ready && !block_is_left(&load.block))
         connection_terminate(connection);
     return status == STATUS_OK ? print_count(&load) : status;
 }

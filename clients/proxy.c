@@ -39,11 +39,6 @@ static bool is_pending(const struct flow *flow)
     return flow->start < flow->end;
 }
 
-static bool is_temporary(int failure)
-{
-    return failure == EAGAIN || failure == EWOULDBLOCK || failure == EINTR;
-}
-
 static void move_to_front(struct flow *flow)
 {
     memmove(flow->bytes, flow->bytes + flow->start, flow->end - flow->start);

@@ -90,3 +90,8 @@ enum status wait_for(struct pollfd *descriptors, nfds_t count, int milliseconds)
             return complain(STATUS_LOCAL, "poll: %s", strerror(errno));
     }
 }
+
+bool is_temporary(int failure)
+{
+    return failure == EAGAIN || failure == EWOULDBLOCK || failure == EINTR;
+}

@@ -5,6 +5,7 @@
 #include "status.h"
 
 #include <poll.h>
+#include <stdbool.h>
 
 /* From now on SIGINT and SIGTERM are noted, and `wait_for` answers the status for them. The second one
  * ends the program at once. */
@@ -18,5 +19,8 @@ void prepare_process(void);
 /* Waits until one of the descriptors is ready, or so many milliseconds have passed; below 0 is for
  * ever. Answers STATUS_OK, or the status for a signal. */
 enum status wait_for(struct pollfd *descriptors, nfds_t count, int milliseconds);
+
+/* Whether a call with this errno is to be made again, when the descriptor is ready. */
+bool is_temporary(int failure);
 
 #endif

@@ -29,7 +29,7 @@ test_many_rows() {
     "$bin/psql" -X -q -c "\\copy by_psql from '$work/rows'"
     local wanted kind
     wanted=$(sum_of by_psql)
-    for kind in out out/sanitized; do
+    for kind in out out/plain out/sanitized; do
         make_table by_copy
         programs=$kind try load by_copy "$work/rows"
         same "a million rows of a file, $kind" "$status $output" "0 COPY $rows"
@@ -86,6 +86,42 @@ test_files() {
     same 'another encoding' "$status $(sql 'SELECT name FROM by_copy WHERE id = 5')" '0 ä'
 }
 
+# Loads what a file has after its first line, as standard input, and prints what is left of it then.
+load_rest() {
+    read -r
+    load "$@"
+    cat
+}
+
+# Standard input may stand anywhere in a file, and goes on where the data ended.
+test_parts_of_files() {
+    local kind
+    for kind in "$programs" out/plain; do
+        make_table by_copy
+        programs=$kind try load_rest by_copy < "$work/rows"
+        same "a file from its second line on, $kind" "$status $output" "0 COPY $((rows - 1))"
+        same "it has the other lines, $kind" "$(sql 'SELECT count(*), min(id), max(id) FROM by_copy')" \
+            "$((rows - 1))|2|$rows"
+    done
+}
+
+# Regular files that say no length, or a wrong one.
+test_files_of_the_system() {
+    local file kind
+    sql 'CREATE TABLE lines (line text)'
+    for file in /proc/sys/kernel/ostype /sys/devices/system/cpu/online; do
+        if ! [ -r "$file" ]; then
+            echo "left out: $file, which is not there"
+            continue
+        fi
+        for kind in "$programs" out/plain; do
+            sql 'TRUNCATE lines'
+            programs=$kind try load lines "$file"
+            same "$file, $kind" "$status $output $(sql 'TABLE lines')" "0 COPY 1 $(cat "$file")"
+        done
+    done
+}
+
 # A trigger that says a kilobyte for each row: both sides write at once.
 test_notices() {
     sql "CREATE TABLE noisy (a int);
@@ -103,7 +139,7 @@ test_progress() {
         return
     fi
     make_table by_copy
-    try script -q -e -c "$programs/pg_copy by_copy <(cat $work/rows)" /dev/null < /dev/null
+    SHELL=/bin/sh try script -q -e -c "cat $work/rows | $programs/pg_copy by_copy" /dev/null < /dev/null
     case $status$output in
     0*' bytes sent'*"COPY $rows"*) ok 'progress at a terminal' ;;
     *) bad 'progress at a terminal' "$status $output" ;;
@@ -115,6 +151,8 @@ test_copy() {
     test_many_rows
     test_names
     test_files
+    test_parts_of_files
+    test_files_of_the_system
     test_notices
     test_progress
 }

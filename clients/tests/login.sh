@@ -42,7 +42,7 @@ test_without_crypto() {
 # Types a password at a terminal, after the prompt is there.
 type_password() {
     (sleep 1; printf '%s\n' "$1"; sleep 1) |
-        script -q -e -c "$programs/pg_listen -h 127.0.0.1 -U by_scram -d postgres -n 0 channel" /dev/null
+        SHELL=/bin/sh script -q -e -c "$programs/pg_listen -h 127.0.0.1 -U by_scram -d postgres -n 0 channel" /dev/null
 }
 
 test_terminal() {
