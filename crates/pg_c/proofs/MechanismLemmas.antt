@@ -1,11 +1,11 @@
 -- The mechanisms that a server offers are given one by one.
-use Rattle.std.proofs.Common.{◌≡◌, ℕ, ◌+◌, ◌<◌, ◌≤◌, List, [], ◌∷◌, ◌++◌, length, set, refl, sym, ap, ◌∙◌, arith, append_assoc, length-append}
+use Rattle.std.proofs.Common.{◌≡◌, ℕ, ◌+◌, ◌<◌, ◌≤◌, Some, List, [], ◌∷◌, ◌++◌, length, set, sym, ap, ◌∙◌, arith, append_assoc, length-append}
 use Rattle.pg_receive.specs.Authentication.Mechanisms.{BeginsWithName, mechanisms_in}
 use Rattle.pg_receive.proofs.AuthenticationMechanismsLemmas.{mechanisms_at}
 use Rattle.pg_c.specs.Place.{part}
 use Rattle.pg_c.specs.declared.place.PgmSpan.{PgmSpan}
 use Rattle.pg_c.proofs.ListLemmas.{GivesAll, one_more, no_more}
-use Rattle.pg_c.proofs.PlaceLemmas.{part_is}
+use Rattle.pg_c.proofs.PlaceLemmas.{bytes_are}
 
 abbrev pub GivesNames : List ℕ → List ℕ → List ℕ → ℕ → ℕ → List PgmSpan → List PgmSpan → Type 0
 GivesNames body start rest at count old new = GivesAll mechanisms_in (part body) body start rest at count old new
@@ -20,8 +20,8 @@ module _ (body start rest : List ℕ) (at count : ℕ) (old new : List PgmSpan) 
   rest_is : rest ≡ spelled ++ after
   rest_is = q.text.parts ∙ sym (append_assoc name (0 ∷ []) after)
 
-  place_is : part body place ≡ name
-  place_is = part_is body p.before name (0 ∷ after) at (length name) (p.parts ∙ ap (λ (l : List ℕ). p.before ++ l) q.text.parts) p.up_to refl
+  place_is : part body place ≡ Some name
+  place_is = bytes_are body p.before name (0 ∷ after) at (p.parts ∙ ap (λ (l : List ℕ). p.before ++ l) q.text.parts) p.up_to
 
   wide : length spelled ≡ length name + 1
   wide = length-append name (0 ∷ [])
@@ -30,7 +30,7 @@ module _ (body start rest : List ℕ) (at count : ℕ) (old new : List PgmSpan) 
   first = mechanisms_at rest name after q
 
   pub one_more_name : count < length new → GivesNames body start after (at + (length name + 1)) (count + 1) old (set new count place)
-  one_more_name lt = rw (← wide) (one_more mechanisms_in (part body) body start rest at count old new p place spelled after rest_is (rw place_is first) (omega (arith, wide)) lt)
+  one_more_name lt = rw (← wide) (one_more mechanisms_in (part body) body start rest at count old new p place name spelled after rest_is place_is first (omega (arith, wide)) lt)
 
   pub no_more_name : length new ≤ count → GivesNames body start after (at + (length name + 1)) (count + 1) old new
   no_more_name le = rw (← wide) (no_more mechanisms_in (part body) body start rest at count old new p name spelled after rest_is first (omega (arith, wide)) le)

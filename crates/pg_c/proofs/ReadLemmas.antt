@@ -1,5 +1,5 @@
 -- Items of a body are given one by one as places, as far as there is room for them.
-use Rattle.std.proofs.Common.{◌≡◌, ℕ, zero, suc, ◌+◌, ◌<◌, ◌≤◌, pos, List, [], ◌∷◌, ◌++◌, length, map, take, drop, set, refl, sym, ap, ◌∙◌, arith, length-append}
+use Rattle.std.proofs.Common.{◌≡◌, ℕ, zero, suc, ◌+◌, ◌<◌, ◌≤◌, pos, Option, Some, List, [], ◌∷◌, ◌++◌, length, map, take, drop, set, refl, sym, ap, ◌∙◌, arith, length-append}
 use Rattle.std.proofs.lemmas.List.{length-set, drop-drop, drop-set-lt}
 use Rattle.pg_base.specs.Reading.{Number}
 use Rattle.pg_receive.specs.CountedItems.{SpellItems, IsEncodedAt}
@@ -10,26 +10,26 @@ take-nil : {X : Type 0} (n : ℕ) → take {A = X} n [] ≡ []
 take-nil zero = refl
 take-nil (suc n) = refl
 
-given_push : {X P : Type 0} (item_at : P → X) (places : List P) (items : List X) (place : P) → map item_at (take (length items) places) ≡ take (length places) items
-    → length items < length places → map item_at (take (suc (length items)) (set places (length items) place)) ≡ take (length places) (items ++ item_at place ∷ [])
-given_push {X = X} item_at [] items place h lt = absurd (omega (arith, lt))
-given_push {X = X} item_at (p ∷ places) [] place h lt = ap (λ (l : List X). item_at place ∷ l) (sym (take-nil (length places)))
-given_push {X = X} item_at (p ∷ places) (x ∷ items) place h lt =
-    let first : item_at p ≡ x = cc h in
-    let others : map item_at (take (length items) places) ≡ take (length places) items = cc h in
-    rw first (ap (λ (l : List X). x ∷ l) (given_push item_at places items place others (omega (arith, lt))))
+given_push : {X P : Type 0} (item_at : P → Option X) (places : List P) (items : List X) (place : P) (item : X) → map item_at (take (length items) places) ≡ map Some (take (length places) items)
+    → item_at place ≡ Some item → length items < length places → map item_at (take (suc (length items)) (set places (length items) place)) ≡ map Some (take (length places) (items ++ item ∷ []))
+given_push {X = X} item_at [] items place item h is lt = absurd (omega (arith, lt))
+given_push {X = X} item_at (p ∷ places) [] place item h is lt = rw is (ap (λ (l : List X). Some item ∷ map Some l) (sym (take-nil (length places))))
+given_push {X = X} item_at (p ∷ places) (x ∷ items) place item h is lt =
+    let first : item_at p ≡ Some x = cc h in
+    let others : map item_at (take (length items) places) ≡ map Some (take (length places) items) = cc h in
+    rw first (ap (λ (l : List (Option X)). Some x ∷ l) (given_push item_at places items place item others is (omega (arith, lt))))
 
-given_full : {X P : Type 0} (item_at : P → X) (places : List P) (items : List X) (item : X) → map item_at (take (length items) places) ≡ take (length places) items
-    → length places ≤ length items → map item_at (take (suc (length items)) places) ≡ take (length places) (items ++ item ∷ [])
+given_full : {X P : Type 0} (item_at : P → Option X) (places : List P) (items : List X) (item : X) → map item_at (take (length items) places) ≡ map Some (take (length places) items)
+    → length places ≤ length items → map item_at (take (suc (length items)) places) ≡ map Some (take (length places) (items ++ item ∷ []))
 given_full {X = X} item_at [] items item h le = refl
 given_full {X = X} item_at (p ∷ places) [] item h le = absurd (omega (arith, le))
 given_full {X = X} item_at (p ∷ places) (x ∷ items) item h le =
-    let first : item_at p ≡ x = cc h in
-    let others : map item_at (take (length items) places) ≡ take (length places) items = cc h in
-    rw first (ap (λ (l : List X). x ∷ l) (given_full item_at places items item others (omega (arith, le))))
+    let first : item_at p ≡ Some x = cc h in
+    let others : map item_at (take (length items) places) ≡ map Some (take (length places) items) = cc h in
+    rw first (ap (λ (l : List (Option X)). Some x ∷ l) (given_full item_at places items item others (omega (arith, le))))
 
-pub none_given : {X P : Type 0} (item_at : P → X) (places : List P) → AreGiven item_at [] places places
-none_given item_at places = record { room = refl; given = sym (take-nil (length places)); rest = refl }
+pub none_given : {X P : Type 0} (item_at : P → Option X) (places : List P) → AreGiven item_at [] places places
+none_given {X = X} item_at places = record { room = refl; given = ap (λ (l : List X). map Some l) (sym (take-nil (length places))); rest = refl }
 
 one_less : {P : Type 0} (index : ℕ) (old new : List P) → drop index new ≡ drop index old → drop (suc index) new ≡ drop (suc index) old
 one_less index old new h =
@@ -37,19 +37,19 @@ one_less index old new h =
     rw (← next) (sym (drop-drop 1 index new) ∙ ap (drop 1) h ∙ drop-drop 1 index old)
 
 -- one more place
-pub one_more_given : {X P : Type 0} (item_at : P → X) (items : List X) (old new : List P) (place : P) → AreGiven item_at items old new
-    → length items < length new → AreGiven item_at (items ++ item_at place ∷ []) old (set new (length items) place)
-one_more_given item_at items old new place p lt =
+pub one_more_given : {X P : Type 0} (item_at : P → Option X) (items : List X) (old new : List P) (place : P) (item : X) → AreGiven item_at items old new
+    → item_at place ≡ Some item → length items < length new → AreGiven item_at (items ++ item ∷ []) old (set new (length items) place)
+one_more_given item_at items old new place item p is lt =
     let len = length-set new (length items) place in
-    let more : length (items ++ item_at place ∷ []) ≡ suc (length items) = omega (arith, length-append items (item_at place ∷ [])) in
+    let more : length (items ++ item ∷ []) ≡ suc (length items) = omega (arith, length-append items (item ∷ [])) in
     record {
       room = len ∙ p.room;
-      given = rw (more, len) (given_push item_at new items place p.given lt);
+      given = rw (more, len) (given_push item_at new items place item p.given is lt);
       rest = rw more (drop-set-lt (suc (length items)) new (length items) place (omega arith) ∙ one_less (length items) old new p.rest);
     }
 
 -- no room for one more
-pub no_more_given : {X P : Type 0} (item_at : P → X) (items : List X) (old new : List P) (item : X) → AreGiven item_at items old new
+pub no_more_given : {X P : Type 0} (item_at : P → Option X) (items : List X) (old new : List P) (item : X) → AreGiven item_at items old new
     → length new ≤ length items → AreGiven item_at (items ++ item ∷ []) old new
 no_more_given item_at items old new item p le =
     let more : length (items ++ item ∷ []) ≡ suc (length items) = omega (arith, length-append items (item ∷ [])) in
@@ -60,25 +60,25 @@ no_more_given item_at items old new item p le =
     }
 
 -- so many items are read, up to an offset, and given
-pub record GivesItems {X P : Type 0} (Spells : List ℕ → X → Type 0) (item_at : P → X) (body : List ℕ) (first at index : ℕ) (old new : List P) : Type 0 where
+pub record GivesItems {X P : Type 0} (Spells : List ℕ → X → Type 0) (item_at : P → Option X) (body : List ℕ) (first at index : ℕ) (old new : List P) : Type 0 where
   pub items : List X
   pub counted : length items ≡ index
   pub encoded : IsEncodedAt (SpellItems Spells) body first items at
   pub given : AreGiven item_at items old new
 
-pub gives_none : {X P : Type 0} (Spells : List ℕ → X → Type 0) (item_at : P → X) (body : List ℕ) (first : ℕ) (places : List P) → GivesItems Spells item_at body first first 0 places places
+pub gives_none : {X P : Type 0} (Spells : List ℕ → X → Type 0) (item_at : P → Option X) (body : List ℕ) (first : ℕ) (places : List P) → GivesItems Spells item_at body first first 0 places places
 gives_none Spells item_at body first places = record { items = []; counted = refl; encoded = none_are_at Spells body first; given = none_given item_at places }
 
-pub gives_more : {X P : Type 0} (Spells : List ℕ → X → Type 0) (item_at : P → X) (body : List ℕ) (first at end index : ℕ) (old new : List P) (place : P)
-    → GivesItems Spells item_at body first at index old new → IsEncodedAt Spells body at (item_at place) end → index < length new → GivesItems Spells item_at body first end (index + 1) old (set new index place)
-gives_more Spells item_at body first at end index old new place p q lt = record {
-  items = p.items ++ item_at place ∷ [];
-  counted = omega (arith, length-append p.items (item_at place ∷ []), p.counted);
-  encoded = one_more_is_at Spells body first at end p.items (item_at place) p.encoded q;
-  given = rw (← p.counted) (one_more_given item_at p.items old new place p.given (omega (arith, lt, p.counted)));
+pub gives_more : {X P : Type 0} (Spells : List ℕ → X → Type 0) (item_at : P → Option X) (body : List ℕ) (first at end index : ℕ) (old new : List P) (place : P) (item : X)
+    → GivesItems Spells item_at body first at index old new → item_at place ≡ Some item → IsEncodedAt Spells body at item end → index < length new → GivesItems Spells item_at body first end (index + 1) old (set new index place)
+gives_more Spells item_at body first at end index old new place item p is q lt = record {
+  items = p.items ++ item ∷ [];
+  counted = omega (arith, length-append p.items (item ∷ []), p.counted);
+  encoded = one_more_is_at Spells body first at end p.items item p.encoded q;
+  given = rw (← p.counted) (one_more_given item_at p.items old new place item p.given is (omega (arith, lt, p.counted)));
 }
 
-pub gives_full : {X P : Type 0} (Spells : List ℕ → X → Type 0) (item_at : P → X) (body : List ℕ) (first at end index : ℕ) (old new : List P) (item : X)
+pub gives_full : {X P : Type 0} (Spells : List ℕ → X → Type 0) (item_at : P → Option X) (body : List ℕ) (first at end index : ℕ) (old new : List P) (item : X)
     → GivesItems Spells item_at body first at index old new → IsEncodedAt Spells body at item end → length new ≤ index → GivesItems Spells item_at body first end (index + 1) old new
 gives_full Spells item_at body first at end index old new item p q le = record {
   items = p.items ++ item ∷ [];
@@ -87,7 +87,7 @@ gives_full Spells item_at body first at end index old new item p q le = record {
   given = no_more_given item_at p.items old new item p.given (omega (arith, le, p.counted));
 }
 
-pub reads_items : {X P : Type 0} (Spells : List ℕ → X → Type 0) (item_at : P → X) (body : List ℕ) (n at index : ℕ) (old new : List P)
+pub reads_items : {X P : Type 0} (Spells : List ℕ → X → Type 0) (item_at : P → Option X) (body : List ℕ) (n at index : ℕ) (old new : List P)
     → Number 2 body n (drop 2 body) → n ≤ 65535 → index ≡ n → GivesItems Spells item_at body 2 at index old new → ReadsItems Spells item_at body old new (pos n)
 reads_items Spells item_at body n at index old new counted small all p = record {
   items = p.items;

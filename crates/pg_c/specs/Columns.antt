@@ -1,12 +1,13 @@
--- What the place of a column says of the body.
-use Rattle.std.specs.Prelude.{ℕ, List}
+-- What the place of a column says of the body: nothing where its name isn't in it.
+use Rattle.std.specs.Prelude.{ℕ, List, Option, option_map}
 use Rattle.pg_receive.specs.RowDescription.{Column, table, attribute}
 use Rattle.pg_c.specs.Place.{part}
 use Rattle.pg_c.specs.declared.read.columns.PgmColumn.{PgmColumn}
 
-abbrev pub column_in : List ℕ → PgmColumn → Column
-column_in body column = record {
-  name = part body column.name;
+-- the column of a name
+abbrev pub column_named : PgmColumn → List ℕ → Column
+column_named column name = record {
+  name = name;
   relation_id = table column.table;
   relation_attribute_no = attribute column.attribute;
   data_type_id = column.type_id;
@@ -14,3 +15,6 @@ column_in body column = record {
   type_modifier = column.type_modifier;
   format = column.format;
 }
+
+abbrev pub column_in : List ℕ → PgmColumn → Option Column
+column_in body column = option_map (column_named column) (part body column.name)

@@ -1,5 +1,5 @@
 -- How the data of a COPY is spelled, as a C program reads it.
-use Rattle.std.specs.Prelude.{◌≡◌, ℕ, ℤ, pos, List, length}
+use Rattle.std.specs.Prelude.{◌≡◌, ℕ, ℤ, pos, List, Some, length}
 use Rattle.pg_receive.specs.Copy.{CopyFormats, MeansFormats}
 use Rattle.pg_c.specs.Read.{AreGiven}
 use Rattle.pg_c.specs.declared.read.copy.PgmCopyResponse.{PgmCopyResponse}
@@ -11,4 +11,4 @@ pub record ReadsFormats (body : List ℕ) (response : PgmCopyResponse) (old new 
   pub format : response.format ≡ formats.format
   pub columns : response.columns ≡ formats.num_columns
   pub count : result ≡ pos (length formats.format_codes)
-  pub given : AreGiven (λ (code : ℤ). code) formats.format_codes old new
+  pub given : AreGiven (λ (code : ℤ). Some code) formats.format_codes old new

@@ -1,13 +1,13 @@
--- What the place of a field says of the body.
-use Rattle.std.specs.Prelude.{◌≡◌, ℕ, ℤ, pos, List}
+-- What the place of a field says of the body: nothing where its value isn't in it.
+use Rattle.std.specs.Prelude.{◌≡◌, ℕ, ℤ, pos, List, Option, option_map}
 use Rattle.pg_response.specs.Response.Fields.{Field}
 use Rattle.pg_response.specs.Response.Severity.{severity_number}
 use Rattle.pg_response.specs.Response.{NoticeValue, MeansNotice}
 use Rattle.pg_c.specs.Place.{part}
 use Rattle.pg_c.specs.declared.read.fields.PgmField.{PgmField}
 
-abbrev pub field_in : List ℕ → PgmField → Field
-field_in body field = (field.letter, part body field.value)
+abbrev pub field_in : List ℕ → PgmField → Option Field
+field_in body field = option_map (λ value. (field.letter, value)) (part body field.value)
 
 -- the number of the severity of the error or notice that the body is
 pub record IsSeverityOf (body : List ℕ) (result : ℤ) : Type 0 where

@@ -1,7 +1,17 @@
--- How many bytes a message at the front of a stream needs.
-use Rattle.std.specs.Prelude.{◌≡◌, ◌+◌, ◌<◌, ◌≤◌, ◌⊎◌, ℕ, pos, List, length}
+-- The message at the front of a stream, or how many bytes it needs.
+use Rattle.std.specs.Prelude.{◌≡◌, ◌+◌, ◌<◌, ◌≤◌, ◌⊎◌, ℕ, pos, List, Some, drop, length}
+use Rattle.pg_base.specs.Cutting.{Begins}
 use Rattle.pg_base.specs.Format.{IsBackendTag}
 use Rattle.pg_frames.specs.Stream.{Announces}
+use Rattle.pg_c.specs.Place.{part}
+use Rattle.pg_c.specs.declared.read.frame.PgmFrame.{PgmFrame}
+
+-- the message is whole: its tag, the place of its body, and its length with both
+pub record IsWhole (stream : List ℕ) (frame : PgmFrame) : Type 0 where
+  pub body : List ℕ
+  pub begins : Begins stream frame.tag body (drop frame.length stream)
+  pub place : part stream frame.body ≡ Some body
+  pub all : frame.length ≡ 5 + length body
 
 -- tag and length need five bytes
 pub record NeedsHeader (bytes : List ℕ) (needed : ℕ) : Type 0 where

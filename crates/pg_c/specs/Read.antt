@@ -1,5 +1,5 @@
 -- What a call that reads items into an array of places answers.
-use Rattle.std.specs.Prelude.{◌≡◌, ◌<◌, ◌≤◌, ◌⊎◌, ℕ, ℤ, pos, List, map, take, drop, length}
+use Rattle.std.specs.Prelude.{◌≡◌, ◌<◌, ◌≤◌, ◌⊎◌, ℕ, ℤ, pos, List, Option, Some, map, take, drop, length}
 use Rattle.pg_base.specs.declared.error.ProtocolFault.{ProtocolFault}
 use Rattle.pg_base.specs.declared.error.ProtocolFault.TheVariants.{BodyTooLong}
 use Rattle.pg_response.specs.Received.{max_body}
@@ -10,13 +10,13 @@ abbrev pub IsBodyFault : (List ℕ → ProtocolFault → Type 0) → List ℕ �
 IsBodyFault IsFault body fault = ((max_body < length body) × (fault ≡ BodyTooLong (length body))) ⊎ ((length body ≤ max_body) × IsFault body fault)
 
 -- the places give each item for which there is room, in order, and those after them are as they were
-pub record AreGiven {X P : Type 0} (item_at : P → X) (items : List X) (old new : List P) : Type 0 where
+pub record AreGiven {X P : Type 0} (item_at : P → Option X) (items : List X) (old new : List P) : Type 0 where
   pub room : length new ≡ length old
-  pub given : map item_at (take (length items) new) ≡ take (length new) items
+  pub given : map item_at (take (length items) new) ≡ map Some (take (length new) items)
   pub rest : drop (length items) new ≡ drop (length items) old
 
 -- the body is counted items, as many as the result, and they are given
-pub record ReadsItems {X P : Type 0} (Spells : List ℕ → X → Type 0) (item_at : P → X) (body : List ℕ) (old new : List P) (result : ℤ) : Type 0 where
+pub record ReadsItems {X P : Type 0} (Spells : List ℕ → X → Type 0) (item_at : P → Option X) (body : List ℕ) (old new : List P) (result : ℤ) : Type 0 where
   pub items : List X
   pub means : CountedItems Spells body items
   pub count : result ≡ pos (length items)

@@ -59,8 +59,7 @@ abbrev pub IsErrorOf : (ProtocolFault → Type 0) → Type 0 → Error → Type 
 IsErrorOf IsFault AsksForMemory (Protocol reading fault) = (reading ≡ None) × IsFault fault
 IsErrorOf IsFault AsksForMemory OutOfMemory = AsksForMemory
 
--- a call that reads refuses for a fault that the bytes have, and changes nothing else; memory ran out
--- only where it was asked for
+-- a call that reads refuses for a fault that the bytes have; memory ran out only where it was asked for
 pub record Refuses (IsFault : ProtocolFault → Type 0) (AsksForMemory : Type 0) (fault : PgmFault) (result : ℤ) : Type 0 where
   pub error : Error
   pub is : IsErrorOf IsFault AsksForMemory error

@@ -1,11 +1,13 @@
--- What the place of a cell says of the body.
-use Rattle.std.specs.Prelude.{ℕ, ◌+◌, ℤ, pos, negsuc, List, Option, Some, None, slice_range}
+-- What the place of a cell says of the body: nothing where it is of no cell.
+use Rattle.std.specs.Prelude.{ℕ, zero, suc, ℤ, pos, negsuc, List, Option, Some, None, option_map}
+use Rattle.pg_c.specs.Place.{bytes_in}
 use Rattle.pg_c.specs.declared.read.row.PgmCell.{PgmCell}
 
--- so many bytes from an offset on, or NULL
-abbrev pub value_in : List ℕ → ℕ → ℤ → Option (List ℕ)
-value_in body at (pos len) = Some (slice_range body at (at + len))
-value_in body at (negsuc n) = None
+-- so many bytes from an offset on, or NULL by a length of -1
+abbrev pub value_in : List ℕ → ℕ → ℤ → Option (Option (List ℕ))
+value_in body at (pos len) = option_map (λ value. Some value) (bytes_in body at len)
+value_in body at (negsuc zero) = Some None
+value_in body at (negsuc (suc n)) = None
 
-abbrev pub cell_in : List ℕ → PgmCell → Option (List ℕ)
+abbrev pub cell_in : List ℕ → PgmCell → Option (Option (List ℕ))
 cell_in body cell = value_in body cell.at cell.len

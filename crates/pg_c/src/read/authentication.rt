@@ -55,6 +55,7 @@ pub extern "C" fn pgm_read_authentication(
     ensures result { result ≤ℤ pos 0 }
     ensures value { result ≡ pos 0 → ReadsAuthentication body.now authentication.new }
     ensures fault { result <ℤ pos 0 → Refuses (IsBodyFault IsAuthenticationFault body.now) ⊤ fault.new result }
+    ensures kept { result <ℤ pos 0 → authentication.new ≡ authentication.old }
 {
     match authentication_of(alloc, body) {
         Ok(asked) => {
@@ -130,6 +131,7 @@ pub extern "C" fn pgm_read_challenge(
     ensures result { result ≤ℤ pos 0 }
     ensures value { result ≡ pos 0 → ReadsChallenge body.now challenge.new salt.old salt.new nonce.old nonce.new }
     ensures fault { result <ℤ pos 0 → Refuses (IsAskedFault body.now) ⊤ fault.new result }
+    ensures kept { result <ℤ pos 0 → (challenge.new ≡ challenge.old) × (salt.new ≡ salt.old) × (nonce.new ≡ nonce.old) }
 {
     match challenge_of(alloc, body) {
         Ok(read) => {
@@ -175,6 +177,7 @@ pub extern "C" fn pgm_read_verifier(
 ) -> isize
     ensures value { pos 0 ≤ℤ result → ReadsVerifier body.now verifier.old verifier.new result }
     ensures fault { result <ℤ pos 0 → Refuses (IsAskedFault body.now) ⊤ fault.new result }
+    ensures kept { result <ℤ pos 0 → verifier.new ≡ verifier.old }
 {
     match verifier_of(alloc, body) {
         Ok(end) => give(end.verifier.as_slice(), verifier),

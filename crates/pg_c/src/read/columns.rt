@@ -1,6 +1,6 @@
 //! The columns of a result, and the types of a statement's parameters.
 
-ghost use Rattle.std.specs.Prelude.{◌≡◌, ◌≤◌, ◌<ℤ◌, ◌≤ℤ◌, ℕ, List, pos, length, IfOk, IfErr};
+ghost use Rattle.std.specs.Prelude.{◌≡◌, ◌≤◌, ◌<ℤ◌, ◌≤ℤ◌, ℕ, List, pos, length, Some, IfOk, IfErr};
 ghost use Rattle.std.specs.Option.{option_map_or};
 ghost use Rattle.pg_receive.specs.CountedItems.{IsEncodedAt};
 ghost use Rattle.pg_receive.specs.ParameterDescription.{SpellsType, IsTypesFault};
@@ -79,7 +79,7 @@ fn columns_of(body: &[u8], columns: &mut [PgmColumn]) -> Result<usize, ProtocolF
 
 // The place of the column that begins at an offset.
 fn place_of(at: usize, column: &FieldRef<'_>) -> PgmColumn
-    ensures { (body : List ℕ) (end : ℕ) → IsEncodedAt SpellsColumn body at (column_of_ref column.now) end → column_in body result ≡ column_of_ref column.now }
+    ensures { (body : List ℕ) (end : ℕ) → IsEncodedAt SpellsColumn body at (column_of_ref column.now) end → column_in body result ≡ Some (column_of_ref column.now) }
 {
     PgmColumn {
         name: PgmSpan {
@@ -113,7 +113,7 @@ pub extern "C" fn pgm_read_parameter_types(
     types: &mut [u32],
     fault: &mut PgmFault,
 ) -> isize
-    ensures types { pos 0 ≤ℤ result → ReadsItems SpellsType (λ number. number) body.now types.old types.new result }
+    ensures types { pos 0 ≤ℤ result → ReadsItems SpellsType (λ number. Some number) body.now types.old types.new result }
     ensures fault { result <ℤ pos 0 → Refuses (IsBodyFault IsTypesFault body.now) ⊥ fault.new result }
 {
     match types_of(body, types) {
@@ -124,7 +124,7 @@ pub extern "C" fn pgm_read_parameter_types(
 
 fn types_of(body: &[u8], types: &mut [u32]) -> Result<usize, ProtocolFault>
     ensures small { IfOk result (λ count. count ≤ 65535) }
-    ensures types { IfOk result (λ count. ReadsItems SpellsType (λ number. number) body.now types.old types.new (pos count)) }
+    ensures types { IfOk result (λ count. ReadsItems SpellsType (λ number. Some number) body.now types.old types.new (pos count)) }
     ensures fault { IfErr result (IsBodyFault IsTypesFault body.now) }
 {
     check_body(body)?;

@@ -40,6 +40,7 @@ pub extern "C" fn pgm_read_copy_response(
 ) -> isize
     ensures formats { pos 0 ≤ℤ result → ReadsFormats body.now response.new codes.old codes.new result }
     ensures fault { result <ℤ pos 0 → Refuses (IsBodyFault IsFormatsFault body.now) ⊥ fault.new result }
+    ensures kept { result <ℤ pos 0 → response.new ≡ response.old }
 {
     match codes_of(body, response, codes) {
         Ok(count) => count as isize,
@@ -55,6 +56,7 @@ fn codes_of(
     ensures small { IfOk result (λ count. count ≤ 65535) }
     ensures formats { IfOk result (λ count. ReadsFormats body.now response.new codes.old codes.new (pos count)) }
     ensures fault { IfErr result (IsBodyFault IsFormatsFault body.now) }
+    ensures kept { IfErr result (λ _. response.new ≡ response.old) }
 {
     check_body(body)?;
     let format = i8_at(body, 0)?;

@@ -1,11 +1,10 @@
 //! The message at the front of a stream.
 
-ghost use Rattle.std.specs.Prelude.{◌≡◌, ◌≤◌, ◌<◌, ◌<ℤ◌, ◌≤ℤ◌, pos, drop, length};
+ghost use Rattle.std.specs.Prelude.{◌≡◌, ◌≤◌, ◌<◌, ◌<ℤ◌, ◌≤ℤ◌, pos, length};
 ghost use Rattle.pg_base.specs.Cutting.{Begins};
 ghost use Rattle.pg_base.specs.Format.{backend_tag};
 ghost use Rattle.pg_frames.specs.Stream.{WantsMore, IsStreamFault};
-ghost use Rattle.pg_c.specs.Frame.{Needs};
-ghost use Rattle.pg_c.specs.Place.{part};
+ghost use Rattle.pg_c.specs.Frame.{IsWhole, Needs};
 ghost use Rattle.pg_c.specs.Refusal.{Refuses};
 
 use crate::place::PgmSpan;
@@ -37,9 +36,10 @@ pub extern "C" fn pgm_next_frame(
     fault: &mut PgmFault,
 ) -> i32
     ensures result { result ≤ℤ pos 1 }
-    ensures whole { result ≡ pos 1 → Begins stream.now frame.new.tag (part stream.now frame.new.body) (drop frame.new.length stream.now) }
+    ensures whole { result ≡ pos 1 → IsWhole stream.now frame.new }
     ensures part { result ≡ pos 0 → Needs stream.now frame.new.length }
     ensures fault { result <ℤ pos 0 → Refuses (IsStreamFault stream.now) ⊥ fault.new result }
+    ensures kept { result <ℤ pos 0 → frame.new ≡ frame.old }
 {
     match next_frame(stream) {
         Ok(Some(whole)) => {
@@ -57,7 +57,7 @@ pub extern "C" fn pgm_next_frame(
 // Where the message at the front is.
 fn place_of(stream: &[u8], frame: &Frame<'_>) -> PgmFrame
     requires { Begins stream.now (backend_tag frame.now.format) frame.now.body.now frame.now.rest.now }
-    ensures { Begins stream.now result.tag (part stream.now result.body) (drop result.length stream.now) }
+    ensures { IsWhole stream.now result }
 {
     PgmFrame {
         tag: stream[0],

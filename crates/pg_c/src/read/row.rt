@@ -1,6 +1,6 @@
 //! The cells of a row.
 
-ghost use Rattle.std.specs.Prelude.{◌≡◌, ◌+◌, ◌≤◌, ◌<ℤ◌, ◌≤ℤ◌, ℕ, List, pos, length, option_copied, IfOk, IfErr};
+ghost use Rattle.std.specs.Prelude.{◌≡◌, ◌+◌, ◌≤◌, ◌<ℤ◌, ◌≤ℤ◌, ℕ, List, pos, length, option_copied, Some, IfOk, IfErr};
 ghost use Rattle.pg_receive.specs.CountedItems.{IsEncodedAt};
 ghost use Rattle.pg_receive.specs.DataRow.{SpellsCell, IsRowFault};
 ghost use Rattle.pg_c.specs.Read.{ReadsItems, IsBodyFault};
@@ -69,7 +69,7 @@ fn cells_of(body: &[u8], cells: &mut [PgmCell]) -> Result<usize, ProtocolFault>
 fn place_of(at: usize, cell: Option<&[u8]>, end: usize) -> PgmCell
     requires wide { at + 4 ≤ end }
     requires short { end ≤ MAX_BODY }
-    ensures { (body : List ℕ) → IsEncodedAt SpellsCell body at (option_copied cell.entry) end → cell_in body result ≡ option_copied cell.entry }
+    ensures { (body : List ℕ) → end ≤ length body → IsEncodedAt SpellsCell body at (option_copied cell.entry) end → cell_in body result ≡ Some (option_copied cell.entry) }
 {
     let start = at + CELL_LENGTH;
     PgmCell {

@@ -3,12 +3,11 @@
 ghost use Rattle.std.specs.Prelude.{◌≡◌, ◌<ℤ◌, ◌≤ℤ◌, pos};
 ghost use Rattle.pg_receive.specs.BackendKeyData.{MeansKey, IsKeyFault};
 ghost use Rattle.pg_receive.specs.CommandComplete.{row_count};
-ghost use Rattle.pg_receive.specs.Notification.{MeansNotification, IsNotificationFault};
-ghost use Rattle.pg_receive.specs.ParameterStatus.{MeansSetting, IsSettingFault};
+ghost use Rattle.pg_receive.specs.Notification.{IsNotificationFault};
+ghost use Rattle.pg_receive.specs.ParameterStatus.{IsSettingFault};
 ghost use Rattle.pg_receive.specs.ReadyForQuery.{IsStatusFault};
-ghost use Rattle.pg_c.specs.Place.{part};
 ghost use Rattle.pg_c.specs.Refusal.{Refuses};
-ghost use Rattle.pg_c.specs.Status.{IsStatusLetter};
+ghost use Rattle.pg_c.specs.Status.{ReadsNotification, ReadsSetting, IsStatusLetter};
 
 use crate::place::PgmSpan;
 use crate::refusal::{PgmFault, report};
@@ -51,8 +50,9 @@ pub extern "C" fn pgm_read_notification(
     fault: &mut PgmFault,
 ) -> i32
     ensures result { result ≤ℤ pos 0 }
-    ensures value { result ≡ pos 0 → MeansNotification body.now (record { process_id = notification.new.process_id; channel = part body.now notification.new.channel; payload = part body.now notification.new.payload }) }
+    ensures value { result ≡ pos 0 → ReadsNotification body.now notification.new }
     ensures fault { result <ℤ pos 0 → Refuses (IsNotificationFault body.now) ⊥ fault.new result }
+    ensures kept { result <ℤ pos 0 → notification.new ≡ notification.old }
 {
     match NotificationRef::read(body) {
         Ok(read) => {
@@ -83,8 +83,9 @@ pub extern "C" fn pgm_read_parameter_status(
     fault: &mut PgmFault,
 ) -> i32
     ensures result { result ≤ℤ pos 0 }
-    ensures value { result ≡ pos 0 → MeansSetting body.now (record { name = part body.now status.new.name; value = part body.now status.new.value }) }
+    ensures value { result ≡ pos 0 → ReadsSetting body.now status.new }
     ensures fault { result <ℤ pos 0 → Refuses (IsSettingFault body.now) ⊥ fault.new result }
+    ensures kept { result <ℤ pos 0 → status.new ≡ status.old }
 {
     match ParameterStatusRef::read(body) {
         Ok(read) => {
@@ -115,6 +116,7 @@ pub extern "C" fn pgm_read_key_data(
     ensures result { result ≤ℤ pos 0 }
     ensures value { result ≡ pos 0 → MeansKey body.now (record { process_id = key.new.process_id; secret_key = key.new.secret_key }) }
     ensures fault { result <ℤ pos 0 → Refuses (IsKeyFault body.now) ⊥ fault.new result }
+    ensures kept { result <ℤ pos 0 → key.new ≡ key.old }
 {
     match BackendKeyData::read(body) {
         Ok(read) => {

@@ -19,7 +19,7 @@ loop-index-preserved c =
       within = ends_within SpellsColumn body read.at end column read.invariant.within encoded;
       gives = elim c.if-index-columns.branch [
         | then-index-columns w ↦ rw w.columns-is
-            (gives_more SpellsColumn (column_in body) body 2 read.at end read.index c.args.columns.now read.columns w.place_of.result gives (rw (w.place_of.ensures body end encoded) encoded) w.if-index-columns.true)
+            (gives_more SpellsColumn (column_in body) body 2 read.at end read.index c.args.columns.now read.columns w.place_of.result column gives (w.place_of.ensures body end encoded) encoded w.if-index-columns.true)
         | else-index-columns w ↦ rw w.columns-is
             (gives_full SpellsColumn (column_in body) body 2 read.at end read.index c.args.columns.now read.columns column gives encoded (omega (arith, w.if-index-columns.false)))
       ];

@@ -1,4 +1,4 @@
-use Rattle.std.proofs.Common.{◌≡◌, ℕ, ◌+◌, ◌*◌, List, drop, arith}
+use Rattle.std.proofs.Common.{◌≡◌, ℕ, ◌+◌, ◌*◌, Some, List, drop, refl, arith}
 use Rattle.pg_base.specs.Reading.{Number}
 use Rattle.pg_receive.specs.CountedItems.{IsEncodedAt}
 use Rattle.pg_receive.specs.ParameterDescription.{SpellsType}
@@ -18,6 +18,6 @@ loop-index-preserved c =
     let encoded = type_is_at body at id c.in_ok-number.ensures.found in
     let next : 2 + 4 * (read.index + 1) ≡ at + 4 = omega arith in
     rw next (elim c.if-index-types.branch [
-      | then-index-types w ↦ rw w.types-is (gives_more SpellsType (λ (n : ℕ). n) body 2 at (at + 4) read.index c.args.types.now read.types id read.invariant encoded w.if-index-types.true)
-      | else-index-types w ↦ rw w.types-is (gives_full SpellsType (λ (n : ℕ). n) body 2 at (at + 4) read.index c.args.types.now read.types id read.invariant encoded (omega (arith, w.if-index-types.false)))
+      | then-index-types w ↦ rw w.types-is (gives_more SpellsType (λ (n : ℕ). Some n) body 2 at (at + 4) read.index c.args.types.now read.types id id read.invariant refl encoded w.if-index-types.true)
+      | else-index-types w ↦ rw w.types-is (gives_full SpellsType (λ (n : ℕ). Some n) body 2 at (at + 4) read.index c.args.types.now read.types id read.invariant encoded (omega (arith, w.if-index-types.false)))
     ])

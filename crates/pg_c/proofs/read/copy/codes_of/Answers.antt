@@ -1,4 +1,4 @@
-use Rattle.std.proofs.Common.{◌≡◌, ℕ, ◌+◌, ◌*◌, ℤ, List, drop, arith, rules, ap, sym, ◌∙◌, pos}
+use Rattle.std.proofs.Common.{◌≡◌, ℕ, ◌+◌, ◌*◌, ℤ, Some, List, drop, refl, arith, rules, ap, sym, ◌∙◌, pos}
 use Rattle.std.specs.Int.{w8, w16}
 use Rattle.std.proofs.lemmas.Int.{to_z-of_z}
 use mir.Val.{SFits, to_z, of_z}
@@ -23,8 +23,8 @@ loop-index-preserved c =
     let encoded = code_is_at body at code c.in_ok-code.ensures.found in
     let next : 3 + 2 * (read.index + 1) ≡ at + 2 = omega arith in
     rw next (elim c.if-index-codes.branch [
-      | then-index-codes w ↦ rw (w.codes-is, same) (gives_more SpellsCode (λ (z : ℤ). z) body 3 at (at + 2) read.index c.args.codes.now read.codes code read.invariant encoded w.if-index-codes.true)
-      | else-index-codes w ↦ rw w.codes-is (gives_full SpellsCode (λ (z : ℤ). z) body 3 at (at + 2) read.index c.args.codes.now read.codes code read.invariant encoded (omega (arith, w.if-index-codes.false)))
+      | then-index-codes w ↦ rw (w.codes-is, same) (gives_more SpellsCode (λ (z : ℤ). Some z) body 3 at (at + 2) read.index c.args.codes.now read.codes code code read.invariant refl encoded w.if-index-codes.true)
+      | else-index-codes w ↦ rw w.codes-is (gives_full SpellsCode (λ (z : ℤ). Some z) body 3 at (at + 2) read.index c.args.codes.now read.codes code read.invariant encoded (omega (arith, w.if-index-codes.false)))
     ])
 
 pub returns-clause-formats : goal.returns-clause-formats

@@ -9,4 +9,5 @@ returns c =
     let stream = c.args.stream.now in
     let frame = c.args.frame.now in
     let first : slice_index_or stream 0 0 ≡ backend_tag frame.format = rw c.requires.parts refl in
-    rw first (message_at stream (backend_tag frame.format) frame.body.now frame.rest.now c.requires)
+    let found = message_at stream (backend_tag frame.format) frame.body.now frame.rest.now c.requires in
+    record { body = frame.body.now; begins = rw (first, found.1) c.requires; place = found.0; all = refl }

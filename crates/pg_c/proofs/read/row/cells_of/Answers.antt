@@ -14,11 +14,12 @@ loop-index-preserved c =
     let cell = option_copied c.in_ok-cell.cell in
     let encoded = c.in_ok-cell.ensures.cell in
     let gives = row.invariant.gives in
+    let within = ends_within SpellsCell body row.at end cell row.invariant.within encoded in
     record {
-      within = ends_within SpellsCell body row.at end cell row.invariant.within encoded;
+      within = within;
       gives = elim c.if-index-cells.branch [
         | then-index-cells w ↦ rw w.cells-is
-            (gives_more SpellsCell (cell_in body) body 2 row.at end row.index c.args.cells.now row.cells w.place_of.result gives (rw (w.place_of.ensures body encoded) encoded) w.if-index-cells.true)
+            (gives_more SpellsCell (cell_in body) body 2 row.at end row.index c.args.cells.now row.cells w.place_of.result cell gives (w.place_of.ensures body within encoded) encoded w.if-index-cells.true)
         | else-index-cells w ↦ rw w.cells-is
             (gives_full SpellsCell (cell_in body) body 2 row.at end row.index c.args.cells.now row.cells cell gives encoded (omega (arith, w.if-index-cells.false)))
       ];

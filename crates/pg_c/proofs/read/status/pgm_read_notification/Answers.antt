@@ -1,7 +1,8 @@
+use Rattle.std.proofs.Common.{refl}
 use Rattle.pg_c.proofs.PlaceLemmas.{notified_at}
 use Rattle.pg_c.proofs.read.status.pgm_read_notification.Goals as goal
 
 pub returns-in-Ok-clause-value : goal.returns-in-Ok-clause-value
 returns-in-Ok-clause-value c = λ _.
     let at = notified_at c.args.body.now _ c.in-Ok.ensures.value in
-    rw (at.0, at.1) c.in-Ok.ensures.value
+    record { notified = _; means = c.in-Ok.ensures.value; process_id = refl; channel = at.0; payload = at.1 }
