@@ -1,7 +1,8 @@
-//! Single cells, columns, fields and names of mechanisms, as who reads bodies in place takes them.
+//! Single cells, columns, fields, names of mechanisms and numbers, as who reads bodies in place takes them.
 
 use pg_base::io::Oid;
 use pg_receive::message::{cell_at, column_at, split_field, split_name};
+use pg_response::message::{leading_u32, leading_u64, leading_usize};
 use std::test::Fail;
 
 #[test]
@@ -34,4 +35,18 @@ fn fields_and_names_at_the_front(rt: HostRuntime) {
     let name = split_name(b"SCRAM-SHA-256\0\0");
     assert_eq!(rt; name, Some(("SCRAM-SHA-256", b"\0".as_slice())));
     assert_eq!(rt; split_name(b"\0"), None);
+}
+
+#[test]
+fn numbers_at_the_front(rt: HostRuntime) {
+    assert_eq!(rt; leading_u32(b"4294967295"), Some(4294967295));
+    assert_eq!(rt; leading_u32(b"4294967296"), None);
+    assert_eq!(rt;
+        leading_u64(b"18446744073709551615 rows"),
+        Some(18446744073709551615)
+    );
+    assert_eq!(rt; leading_u64(b"18446744073709551616"), None);
+    assert_eq!(rt; leading_usize(b"+12x"), Some(12));
+    assert_eq!(rt; leading_usize(b"-1"), None);
+    assert_eq!(rt; leading_usize(b"x12"), None);
 }
