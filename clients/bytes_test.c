@@ -1,5 +1,6 @@
 /* Tests the message layer over bytes that are written down here by the documentation of PostgreSQL, "Message
- * Formats": each call once as it should go, and once as it refuses. No server is needed. */
+ * Formats": each call once as it should go, and once as it refuses, where it does other than for memory. No
+ * server is needed. */
 #include "bytes_test.h"
 
 #include <stdio.h>

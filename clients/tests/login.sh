@@ -39,9 +39,9 @@ test_without_crypto() {
     expect 'without libcrypto: SCRAM is refused' 3 'built without libcrypto'
 }
 
-# Types a password at a terminal, after the prompt is there.
+# Types a password at a terminal, after the prompt is there. To be called by `try`.
 type_password() {
-    (sleep 1; printf '%s\n' "$1"; sleep 1) |
+    (await grep -q 'assword' "$work/output"; sleep 0.5; printf '%s\n' "$1"; sleep 1) |
         SHELL=/bin/sh script -q -e -c "$programs/pg_listen -h 127.0.0.1 -U by_scram -d postgres -n 0 channel" /dev/null
 }
 
