@@ -27,13 +27,6 @@ abbrev pub checked_len : Option ProtocolFault → ℕ → Result ℕ Error
 checked_len None len = Ok len
 checked_len (Some fault) len = Err (Protocol None fault)
 
--- new is old and a beginning of the text
-pub record AddsBeginning (old new text : List ℕ) : Type 0 where
-  pub written : List ℕ
-  pub left : List ℕ
-  pub splits : text ≡ written ++ left
-  pub adds : new ≡ old ++ written
-
 -- all that is said of a message: its kind and the format whose tag opens it; its body; the first limit
 -- on counts that it breaks; the room that is reserved for a body of so many bytes; that its numbers
 -- are in the ranges of their types; which bytes a reader takes apart into it; what it needs so that

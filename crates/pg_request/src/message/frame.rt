@@ -4,7 +4,7 @@ ghost use Rattle.std.specs.Prelude.{◌≡◌, ◌+◌, ◌≤◌, ◌<◌, ◌+
 ghost use Rattle.pg_base.specs.declared.error.Error.TheVariants.{OutOfMemory};
 ghost use Rattle.pg_base.specs.declared.error.ProtocolFault.{ProtocolFault};
 ghost use Rattle.pg_base.specs.Cutting.{IsCutInto};
-ghost use Rattle.pg_request.specs.Frame.{Law, tag, fault, hint, text, checked_len, room_or_fault, saturated, AddsBeginning, EncodesMessage};
+ghost use Rattle.pg_request.specs.Frame.{Law, tag, fault, hint, text, checked_len, room_or_fault, saturated, EncodesMessage};
 
 use crate::message::parts::put_u32;
 use pg_base::io::{MAX_BODY, ProtocolEncode};
@@ -86,12 +86,12 @@ pub trait FrontendMessage: Sized + Drop {
     }
 
     /// Adds the body of a message within the limits. The only refusal is `OutOfMemory`, where the
-    /// spare room doesn't hold the body, and it leaves the old bytes and a beginning of the body.
+    /// spare room doesn't hold the body, and it leaves the buffer's bytes as they were.
     final fn encode_body(&self, buf: &mut Vec<u8>) -> Result<(), Error>
         requires { fault (law self.now) ≡ None }
         ensures ok { OnOk result (buf.new.items ≡ buf.old.items ++ (law self.now).body) }
         ensures memory { IsOkUnless result OutOfMemory }
-        ensures beginning { OnErr result (AddsBeginning buf.old.items buf.new.items (law self.now).body) }
+        ensures err { OnErr result (buf.new.items ≡ buf.old.items) }
         ensures room { OnErr result (vec_capacity buf.old < vec_len buf.old + length (law self.now).body) }
         ensures capacity { vec_capacity buf.old ≤ vec_capacity buf.new }
         ensures range { OnOk result (law self.now).IsInRange }
@@ -102,8 +102,8 @@ pub trait FrontendMessage: Sized + Drop {
         Ok(())
     }
 
-    /// Adds tag, length and body of a message within the limits, in room that is there. `len` is the
-    /// length of the body in bytes.
+    /// Adds tag, length and body of a message within the limits, in room that is there. `len` is
+    /// the length of the body in bytes.
     final fn put_frame(&self, len: usize, buf: &mut Vec<u8>)
         requires limits { fault (law self.now) ≡ None }
         requires len { len ≡ length (law self.now).body }

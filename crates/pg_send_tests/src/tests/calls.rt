@@ -3,8 +3,7 @@
 
 use super::kinds::{Check, Expected, LETTERS_AND_BODIES, check_each_kind, frame_of, tagged_kinds};
 use super::refusing::{
-    Adds, added, assert_adds, assert_all_or_a_beginning, assert_all_or_nothing, refuse_nth,
-    unless_out_of_memory, was_refused,
+    Adds, added, assert_adds, assert_all_or_nothing, refuse_nth, unless_out_of_memory, was_refused,
 };
 use pg_base::Error;
 use pg_base::io::ProtocolEncode;
@@ -54,7 +53,7 @@ struct AddsItsBody<'a, R> {
 impl<R: Abort> Check for AddsItsBody<'_, R> {
     fn check<M: FrontendMessage>(&self, message: M, expected: Expected) -> Result<(), AllocError> {
         assert_adds(self.rt, self.alloc, &ByBody(&message), expected.body)?;
-        assert_all_or_a_beginning(self.rt, self.alloc, &ByBody(&message), expected.body)
+        assert_all_or_nothing(self.rt, self.alloc, &ByBody(&message), expected.body)
     }
 }
 

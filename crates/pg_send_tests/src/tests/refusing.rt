@@ -25,8 +25,8 @@ pub fn refuse_from(alloc: Global, nth: usize) {
     let _ = Vec::<u8>::with_capacity(alloc, REFUSE_FROM.saturating_add(nth));
 }
 
-/// Whether a request was refused since [`refuse_nth`] or [`refuse_from`], which this ends. Calls ask for no memory
-/// where the first request was to be refused and none was.
+/// Whether a request was refused since [`refuse_nth`] or [`refuse_from`], which this ends. Calls
+/// ask for no memory where the first request was to be refused and none was.
 pub fn was_refused(alloc: Global) -> bool {
     Vec::<u8>::with_capacity(alloc, REFUSE_NTH).is_ok()
 }
@@ -68,29 +68,16 @@ pub fn assert_all_or_nothing<C: Adds>(
     call: &C,
     text: &[u8],
 ) -> Result<(), AllocError> {
-    refuse_in_turn(rt, alloc, call, b"", text, b"")?;
-    refuse_in_turn(rt, alloc, call, b"\xaa", text, b"")
+    refuse_in_turn(rt, alloc, call, b"", text)?;
+    refuse_in_turn(rt, alloc, call, b"\xaa", text)
 }
 
-/// As [`assert_all_or_nothing`], but a call without memory may add a beginning of the text.
-pub fn assert_all_or_a_beginning<C: Adds>(
-    rt: &impl Abort,
-    alloc: Global,
-    call: &C,
-    text: &[u8],
-) -> Result<(), AllocError> {
-    refuse_in_turn(rt, alloc, call, b"", text, text)?;
-    refuse_in_turn(rt, alloc, call, b"\xaa", text, text)
-}
-
-// Where a request is refused, the call adds no more than a beginning of `allowed`.
 fn refuse_in_turn<C: Adds>(
     rt: &impl Abort,
     alloc: Global,
     call: &C,
     old: &[u8],
     text: &[u8],
-    allowed: &[u8],
 ) -> Result<(), AllocError> {
     for nth in 1..MANY {
         let mut buf = Vec::from_slice(alloc, old)?;
@@ -103,7 +90,7 @@ fn refuse_in_turn<C: Adds>(
             return Ok(());
         }
         assert_eq!(rt; answer, Err(Error::OutOfMemory));
-        assert!(rt; allowed.starts_with(added(rt, &buf, old)));
+        assert_eq!(rt; buf.as_slice(), old);
     }
     panic!(rt; "requests without end")
 }
