@@ -39,7 +39,7 @@ enum {
     PGM_WRONG_FORMAT = -6,
     /* A received body is longer than a length field can say. */
     PGM_BODY_TOO_LONG = -7,
-    /* No message from the server has this tag. */
+    /* No message from the server that is known here has this tag. */
     PGM_UNKNOWN_MESSAGE_TYPE = -8,
     /* A method of authentication that isn't known here. */
     PGM_UNKNOWN_AUTHENTICATION = -9,

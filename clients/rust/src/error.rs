@@ -22,7 +22,7 @@ pub enum Refusal {
     WrongFormat,
     /// The received body is longer than a length field can say.
     BodyTooLong,
-    /// No message from a server has this tag.
+    /// No message from a server that is known here has this tag.
     UnknownMessageType,
     /// The server asks for a method of authentication that is not supported.
     UnknownAuthentication,

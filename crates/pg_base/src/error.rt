@@ -18,8 +18,8 @@ pub enum ProtocolFault {
     TooManyResultFormats(usize),
     /// More parameter types than a message can count: how many there are.
     TooManyParamTypes(usize),
-    /// The length of the message, which counts itself and the body, doesn't fit its field. It
-    /// saturates at the greatest `usize`.
+    /// The length of the message, which counts itself and the body, doesn't fit its field; or that
+    /// of a value of a Bind with the four bytes before it. It saturates at the greatest `usize`.
     MessageTooLong(usize),
     /// A message was read as one of another kind.
     WrongFormat {
@@ -30,7 +30,7 @@ pub enum ProtocolFault {
     },
     /// A received body is longer than a length field can say: its length.
     BodyTooLong(usize),
-    /// No message from the server has this tag.
+    /// No message from the server that this layer knows has this tag.
     UnknownMessageType(u8),
     /// A method of authentication that this layer doesn't speak.
     UnknownAuthentication(u32),
@@ -61,7 +61,7 @@ pub enum ProtocolFault {
     Base64,
     /// The length of a received frame doesn't even count itself: below 4.
     BadLength(i32),
-    /// A text that the protocol ends with a NUL holds one.
+    /// A text that the protocol ends with a NUL holds one, or the name of a setting is empty.
     TextHoldsNul,
     /// The parameters of a Bind are not as many values as it says.
     BadParams,
@@ -145,7 +145,7 @@ pub enum ErrorKind {
 pub enum Error {
     /// The message is refused.
     Protocol {
-        /// The kind of message whose body was being read, where one was.
+        /// The kind of message that was decoded, where the call knew it.
         reading: Option<BackendMessageFormat>,
         /// What is wrong.
         fault: ProtocolFault,

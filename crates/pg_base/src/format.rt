@@ -27,8 +27,9 @@ pub enum FrontendMessageFormat {
     PasswordPolymorphic = b'p' as isize,
 }
 
-/// The kinds of message that a server sends, by name. As a number it is the place in this list, 0
-/// to 20, and kinds are ordered by it. Documentation: "Message Formats", the messages marked (B).
+/// The kinds of message from a server that this layer knows, by name. As a number it is the place
+/// in this list, 0 to 20, and kinds are ordered by it. Documentation: "Message Formats", the
+/// messages marked (B).
 #[derive(Clone, Copy, Debug, PartialEq, Eq, PartialOrd, Ord)]
 pub enum BackendMessageFormat {
     Authentication,

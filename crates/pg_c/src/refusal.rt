@@ -27,7 +27,7 @@ pub const WRONG_FORMAT: i32 = -6;
 /// A received body is longer than a length field can say.
 pub const BODY_TOO_LONG: i32 = -7;
 
-/// No message from the server has this tag.
+/// No message from the server that is known here has this tag.
 pub const UNKNOWN_MESSAGE_TYPE: i32 = -8;
 
 /// A method of authentication that isn't known here.
@@ -66,9 +66,9 @@ pub const TEXT_HOLDS_NUL: i32 = -19;
 /// The values of a Bind can't be counted.
 pub const BAD_PARAMS: i32 = -20;
 
-/// What is wrong with bytes that were read. `number` is what the call returned. `at` is an offset in
-/// them, where the fault has one, else 0. `words` are `words_len` bytes of ASCII, none where there was
-/// no memory for them.
+/// What is wrong with bytes that were read. `number` is what the call returned. `at` is an offset
+/// in them, where the fault has one, else 0. `words` are `words_len` bytes of ASCII, none where
+/// there was no memory for them.
 #[repr(C)]
 pub struct PgmFault {
     pub number: i32,

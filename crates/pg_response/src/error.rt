@@ -47,8 +47,8 @@ pub enum PgErrorPosition<'a> {
 
 /// An error that the server reports. Documentation: "Message Formats", ErrorResponse (B).
 ///
-/// Its body is that of a [`Notice`]. An accessor answers the first field of its letter, or `None` if
-/// that is missing or isn't UTF-8. Documentation: "Error and Notice Message Fields".
+/// Its body is that of a [`Notice`]. An accessor of a text answers the first field of its letter,
+/// or `None` if that is missing or isn't UTF-8. Documentation: "Error and Notice Message Fields".
 #[derive(Drop)]
 pub struct PgDatabaseError(Notice);
 
@@ -160,7 +160,7 @@ impl PgDatabaseError {
         self.0.get(letters::FILE)
     }
 
-    /// The line in that file.
+    /// The line in that file: the number at the front of the field, where one is that fits.
     pub fn line(&self) -> Option<usize>
         ensures { result ≡ first_number line_letter self.now.fields }
     {

@@ -23,7 +23,7 @@ pub const MAX_LENGTH: usize = i32::MAX as usize;
 /// The greatest length of a body, in bytes: the length field counts its own four bytes too.
 pub const MAX_BODY: usize = MAX_LENGTH - 4;
 
-/// The number of a type in the server's catalog.
+/// The number of a type or of a table in the server's catalog.
 #[derive(Clone, Copy, Debug, Default, PartialEq, Eq)]
 pub struct Oid(pub u32);
 

@@ -21,7 +21,7 @@ pub struct BackendKeyData {
 }
 
 impl BackendKeyData {
-    /// Reads the body of a message.
+    /// Reads the body of a message. Refused with `Short` where it has fewer than eight bytes.
     pub fn read(body: &[u8]) -> Result<BackendKeyData, ProtocolFault>
         ensures value { IfOk result (MeansKey body.now) }
         ensures fault { IfErr result (IsKeyFault body.now) }

@@ -28,8 +28,8 @@ impl Model for CommandComplete {
 }
 
 impl CommandComplete {
-    /// How many rows the command had to do with: the number after the last space of its tag, and 0
-    /// where there is none.
+    /// How many rows the command had to do with: the number after the last space of its body, and 0
+    /// where there is none, or one above 18446744073709551615.
     pub fn rows_affected(&self) -> u64
         ensures { result ≡ row_count self.now }
     {
@@ -65,7 +65,7 @@ impl BackendMessage for CommandComplete {
     ghost never_both = { λ body v fault p q. q };
 }
 
-/// How many rows the command with this tag, the body of its message, had to do with: what
+/// How many rows the command had to do with whose message has this body: what
 /// [`CommandComplete::rows_affected`] gives.
 pub fn rows_affected(tag: &[u8]) -> u64
     ensures { result ≡ row_count tag.now }

@@ -36,7 +36,8 @@ pub struct ReadyForQuery {
 }
 
 impl ReadyForQuery {
-    /// Reads the body of a message: its first byte is the letter of the status.
+    /// Reads the body of a message: its first byte is the letter of the status. Refused with
+    /// `Short` where there is none, and with `UnknownStatus` where it is no such letter.
     pub fn read(body: &[u8]) -> Result<ReadyForQuery, ProtocolFault>
         ensures value { IfOk result (λ ready. MeansStatus body.now ready.transaction_status) }
         ensures fault { IfErr result (IsStatusFault body.now) }

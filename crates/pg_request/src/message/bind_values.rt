@@ -79,8 +79,9 @@ impl BindValues {
         self.count == MAX_VALUES
     }
 
-    /// Adds a value in the format that the Bind says. Refused with `MessageTooLong` where it is
-    /// longer than the greatest body, and with `OutOfMemory`; the values then stay as they were.
+    /// Adds a value in the format that the Bind says, unless [`BindValues::is_full`]. Refused with
+    /// `MessageTooLong`, of the value and the four bytes before it, where it is longer than the
+    /// greatest body, and with `OutOfMemory`; the values then stay as they were.
     pub fn push(&mut self, value: &[u8]) -> Result<(), Error>
         requires { self.old.count < 65535 }
         ensures ok { OnOk result (self.new ≡ with_value self.old value.now) }
@@ -97,7 +98,8 @@ impl BindValues {
         Ok(())
     }
 
-    /// Adds a NULL. Refused with `OutOfMemory` alone; the values then stay as they were.
+    /// Adds a NULL, unless [`BindValues::is_full`]. Refused with `OutOfMemory` alone; the values
+    /// then stay as they were.
     pub fn push_null(&mut self) -> Result<(), Error>
         requires { self.old.count < 65535 }
         ensures ok { OnOk result (self.new ≡ with_null self.old) }

@@ -12,7 +12,8 @@ use pg_base::{FrontendMessageFormat, ProtocolFault};
 pub struct Execute {
     /// The portal to run.
     pub portal: PortalId,
-    /// The most rows to send back, 0 for all of them.
+    /// The most rows to send back, 0 for all of them. A server reads a signed number, and takes
+    /// more than 2147483647 for all of them too.
     pub limit: u32,
 }
 

@@ -15,7 +15,8 @@ const MD5_PREFIX: &str = "md5";
 #[derive(Debug, Drop)]
 pub enum Password<'a> {
     Cleartext(&'a str),
-    /// The MD5 digest of the password with the user's name and the salt.
+    /// The MD5 digest of two texts: the hexadecimal digits of the MD5 digest of the password and
+    /// the user's name, and the salt.
     Md5 { digest: [u8; 16] },
 }
 

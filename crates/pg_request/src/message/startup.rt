@@ -20,20 +20,21 @@ const EMPTY_LENGTH: usize = 9;
 /// Opens a session. It has no tag. Documentation: "Message Formats", StartupMessage (F).
 #[derive(Drop)]
 pub struct Startup<'a> {
-    /// The user to connect as.
+    /// The user to connect as, whom a server requires, here or among `params`.
     pub username: Option<&'a str>,
     /// The server takes that of the user's name where there is none.
     pub database: Option<&'a str>,
     /// Names and values of further settings. A NUL in one, or an empty name, is sent as it is;
-    /// [`Startup::check_round_trip`] refuses it.
+    /// [`Startup::check_round_trip`] refuses it. A server that doesn't know a name that begins with
+    /// `_pq_.` answers with a message that this layer doesn't know.
     pub params: &'a [(&'a str, &'a str)],
 }
 
 impl Startup<'_> {
     ghost use Rattle.pg_request.specs.Startup.{startup_fields};
 
-    /// Whether a server would get the settings back: refused with `TextHoldsNul` where a text holds a
-    /// NUL, which ends it for the server, or a name is empty, which ends the settings.
+    /// Whether a server would get the settings back: refused with `TextHoldsNul` where a text holds
+    /// a NUL, which ends it for the server, or a name is empty, which ends the settings.
     pub fn check_round_trip(&self) -> Result<(), ProtocolFault>
         ensures ok { OnOk result (StartupCanRoundTrip (startup_fields self.now)) }
         ensures fault { IfErr result (λ fault. (fault ≡ TextHoldsNul) × ¬ (StartupCanRoundTrip (startup_fields self.now))) }

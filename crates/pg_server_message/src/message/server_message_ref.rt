@@ -26,7 +26,8 @@ pub enum ServerMessageRef<'a> {
     BindComplete,
     /// A statement or a portal is closed.
     CloseComplete,
-    /// A command has ended: its tag, for [`rows_affected`](pg_receive::message::rows_affected).
+    /// A command has ended: the body, a tag and its NUL, for
+    /// [`rows_affected`](pg_receive::message::rows_affected).
     CommandComplete(&'a [u8]),
     /// A part of the data of a COPY.
     CopyData(&'a [u8]),
@@ -63,8 +64,8 @@ pub enum ServerMessageRef<'a> {
 }
 
 impl<'a> ServerMessageRef<'a> {
-    /// Reads a body by the kind of its message, as the borrowed form of that kind does: its value and
-    /// its faults. It is `BodyTooLong` where the body has more than [`MAX_BODY`] bytes.
+    /// Reads a body by the kind of its message, as the borrowed form of that kind does: its value
+    /// and its faults. It is `BodyTooLong` where the body has more than [`MAX_BODY`] bytes.
     pub fn read(
         format: BackendMessageFormat,
         body: &'a [u8],

@@ -24,14 +24,14 @@ const NONCE: u8 = b'r';
 
 const SALT: u8 = b's';
 
-/// The challenge of the server in a SASL exchange: items between commas, each a letter, `=` and a
-/// value, of which the last of a letter counts. Documentation: "Message Formats",
-/// AuthenticationSASLContinue (B), and "SCRAM-SHA-256 Authentication".
+/// The challenge of the server in a SASL exchange: items between commas, each a letter, a byte that
+/// isn't looked at, for `=`, and a value, of which the last of a letter counts. Documentation:
+/// "Message Formats", AuthenticationSASLContinue (B), and "SCRAM-SHA-256 Authentication".
 #[derive(Drop)]
 pub struct AuthenticationSaslContinue {
     /// Empty where none is given.
     pub salt: Vec<u8>,
-    /// 4096 where no number is given.
+    /// 4096 where no number is given, or one that is below 0 or above 4294967295.
     pub iterations: u32,
     /// Empty where none is given.
     pub nonce: String,

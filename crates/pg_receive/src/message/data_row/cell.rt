@@ -8,8 +8,9 @@ use crate::message::data_row::CELL_LENGTH;
 use pg_base::ProtocolFault;
 use pg_base::io::{MAX_BODY, bytes_at, i32_at};
 
-/// The value of the cell that begins at an offset of the body of a DataRow, nothing for NULL, and the
-/// offset after the cell.
+/// The value of the cell that begins at an offset of the body of a DataRow, nothing for NULL, which
+/// any length below 0 says, and the offset after the cell. The body has at most [`MAX_BODY`] bytes,
+/// and the offset is at most its length. Refused with `Short` where the body ends before the cell.
 pub fn cell_at(body: &[u8], at: usize) -> Result<(Option<&[u8]>, usize), ProtocolFault>
     requires within { at ≤ length body.now }
     requires short { length body.now ≤ MAX_BODY }

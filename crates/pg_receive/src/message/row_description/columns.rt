@@ -74,8 +74,8 @@ impl<'a> Model for Columns<'a> {
 }
 
 impl<'a> Columns<'a> {
-    /// Reads the body of a RowDescription, of at most [`MAX_BODY`] bytes, to its last column. What it
-    /// has and its faults are those of [`RowDescription`](crate::message::RowDescription).
+    /// Reads the body of a RowDescription, of at most [`MAX_BODY`] bytes, to its last column. What
+    /// it has and its faults are those of [`RowDescription`](crate::message::RowDescription).
     pub fn read(body: &'a [u8]) -> Result<Columns<'a>, ProtocolFault>
         requires { length body.now ≤ MAX_BODY }
         ensures value { IfOk result (MeansColumns body.now) }
@@ -102,8 +102,8 @@ impl<'a> Columns<'a> {
         self.left
     }
 
-    /// The column at an index, counted from those that are left, where there is one. It goes over the
-    /// columns in front of it.
+    /// The column at an index, counted from those that are left, where there is one. It goes over
+    /// the columns in front of it.
     pub fn get(&self, index: usize) -> Option<FieldRef<'a>>
         ensures { option_map column_of_ref result ≡ slice_get self.now index }
     {
@@ -139,6 +139,8 @@ impl<'a> Iterator for Columns<'a> {
 }
 
 /// The column that begins at an offset of the body of a RowDescription, and the offset after it.
+/// The body has at most [`MAX_BODY`] bytes, and the offset is at most its length. Refused with
+/// `MissingNul` or `NotUtf8` for its name, and with `Short` where its numbers aren't whole.
 pub fn column_at(body: &[u8], at: usize) -> Result<(FieldRef<'_>, usize), ProtocolFault>
     requires within { at ≤ length body.now }
     requires short { length body.now ≤ MAX_BODY }

@@ -55,7 +55,8 @@ impl Model for Notice {
 
 impl Notice {
     /// How grave it is: the last severity that was read; without one the last severity in the
-    /// server's language that is a known word; else `Log`.
+    /// server's language, where that is a known word; else `Log`. A severity after a message and a
+    /// code isn't read.
     pub fn severity(&self) -> PgSeverity
         ensures { result ≡ self.now.severity }
     {

@@ -5,8 +5,8 @@ ghost use Rattle.pg_response.specs.Response.Severity.{is_error, severity_answer,
 
 use pg_base::{Error, ProtocolFault};
 
-/// How grave an error or a notice is. As a number it is the place in this list, 0 to 7, where the
-/// gravest comes first. Documentation: "Error and Notice Message Fields", V.
+/// How grave an error or a notice is. As a number it is the place in this list, 0 to 7: first those
+/// of errors, from the gravest on. Documentation: "Error and Notice Message Fields", V.
 #[derive(Clone, Copy, Debug, PartialEq, Eq)]
 pub enum PgSeverity {
     Panic,
