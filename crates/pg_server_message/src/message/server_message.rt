@@ -1,9 +1,7 @@
 //! Any message from the server, as a value of its kind's type.
 
-ghost use Rattle.std.specs.Prelude.{◌≡◌, Ok, IsOkAnd};
-ghost use Rattle.pg_base.specs.declared.format.BackendMessageFormat.TheVariants as formats;
-ghost use Rattle.pg_server_message.specs.ServerMessage.{DecodesCase, VisitsCase, DecodesBy};
-ghost use Rattle.pg_server_message.specs.declared.message.server_message.ServerMessage.TheVariants as messages;
+ghost use Rattle.std.specs.Prelude.{◌≡◌};
+ghost use Rattle.pg_server_message.specs.ServerMessage.{Decodes, DecodesBy};
 
 use crate::message::visitor::{Keep, Visitor};
 use bytes::Bytes;
@@ -71,27 +69,7 @@ impl ServerMessage {
     /// It is what [`ReceivedMessage::decode`] gives for the type of that kind: its value, its faults
     /// and `OutOfMemory`. A message of a kind without a type is its case, whatever its body.
     pub fn decode(alloc: Global, message: ReceivedMessage) -> Result<ServerMessage, Error>
-        ensures authentication { message.format ≡ formats.Authentication → DecodesCase ⟦<Authentication as BackendMessage>⟧ messages.Authentication message result }
-        ensures backend_key_data { message.format ≡ formats.BackendKeyData → DecodesCase ⟦<BackendKeyData as BackendMessage>⟧ messages.BackendKeyData message result }
-        ensures bind_complete { message.format ≡ formats.BindComplete → result ≡ Ok messages.BindComplete }
-        ensures close_complete { message.format ≡ formats.CloseComplete → result ≡ Ok messages.CloseComplete }
-        ensures command_complete { message.format ≡ formats.CommandComplete → DecodesCase ⟦<CommandComplete as BackendMessage>⟧ messages.CommandComplete message result }
-        ensures copy_data { message.format ≡ formats.CopyData → DecodesCase ⟦<CopyData<Bytes> as BackendMessage>⟧ messages.CopyData message result }
-        ensures copy_done { message.format ≡ formats.CopyDone → DecodesCase ⟦<CopyDone as BackendMessage>⟧ messages.CopyDone message result }
-        ensures copy_in_response { message.format ≡ formats.CopyInResponse → DecodesCase ⟦<CopyInResponse as BackendMessage>⟧ messages.CopyInResponse message result }
-        ensures copy_out_response { message.format ≡ formats.CopyOutResponse → DecodesCase ⟦<CopyOutResponse as BackendMessage>⟧ messages.CopyOutResponse message result }
-        ensures data_row { message.format ≡ formats.DataRow → DecodesCase ⟦<DataRow as BackendMessage>⟧ messages.DataRow message result }
-        ensures empty_query_response { message.format ≡ formats.EmptyQueryResponse → result ≡ Ok messages.EmptyQueryResponse }
-        ensures error_response { message.format ≡ formats.ErrorResponse → DecodesCase ⟦<PgDatabaseError as BackendMessage>⟧ messages.ErrorResponse message result }
-        ensures no_data { message.format ≡ formats.NoData → result ≡ Ok messages.NoData }
-        ensures notice_response { message.format ≡ formats.NoticeResponse → DecodesCase ⟦<Notice as BackendMessage>⟧ messages.NoticeResponse message result }
-        ensures notification_response { message.format ≡ formats.NotificationResponse → DecodesCase ⟦<Notification as BackendMessage>⟧ messages.NotificationResponse message result }
-        ensures parameter_description { message.format ≡ formats.ParameterDescription → DecodesCase ⟦<ParameterDescription as BackendMessage>⟧ messages.ParameterDescription message result }
-        ensures parameter_status { message.format ≡ formats.ParameterStatus → DecodesCase ⟦<ParameterStatus as BackendMessage>⟧ messages.ParameterStatus message result }
-        ensures parse_complete { message.format ≡ formats.ParseComplete → result ≡ Ok messages.ParseComplete }
-        ensures portal_suspended { message.format ≡ formats.PortalSuspended → result ≡ Ok messages.PortalSuspended }
-        ensures ready_for_query { message.format ≡ formats.ReadyForQuery → DecodesCase ⟦<ReadyForQuery as BackendMessage>⟧ messages.ReadyForQuery message result }
-        ensures row_description { message.format ≡ formats.RowDescription → DecodesCase ⟦<RowDescription as BackendMessage>⟧ messages.RowDescription message result }
+        ensures { Decodes message.format (λ decoded given. given ≡ decoded) message result }
     {
         ServerMessage::visit(alloc, message, Keep)
     }
@@ -106,27 +84,7 @@ impl ServerMessage {
         message: ReceivedMessage,
         visitor: V,
     ) -> Result<V::Output, Error>
-        ensures authentication { message.format ≡ formats.Authentication → VisitsCase ⟦<Authentication as BackendMessage>⟧ messages.Authentication (V.Visitor.gives visitor) message result }
-        ensures backend_key_data { message.format ≡ formats.BackendKeyData → VisitsCase ⟦<BackendKeyData as BackendMessage>⟧ messages.BackendKeyData (V.Visitor.gives visitor) message result }
-        ensures bind_complete { message.format ≡ formats.BindComplete → IsOkAnd result (V.Visitor.gives visitor messages.BindComplete) }
-        ensures close_complete { message.format ≡ formats.CloseComplete → IsOkAnd result (V.Visitor.gives visitor messages.CloseComplete) }
-        ensures command_complete { message.format ≡ formats.CommandComplete → VisitsCase ⟦<CommandComplete as BackendMessage>⟧ messages.CommandComplete (V.Visitor.gives visitor) message result }
-        ensures copy_data { message.format ≡ formats.CopyData → VisitsCase ⟦<CopyData<Bytes> as BackendMessage>⟧ messages.CopyData (V.Visitor.gives visitor) message result }
-        ensures copy_done { message.format ≡ formats.CopyDone → VisitsCase ⟦<CopyDone as BackendMessage>⟧ messages.CopyDone (V.Visitor.gives visitor) message result }
-        ensures copy_in_response { message.format ≡ formats.CopyInResponse → VisitsCase ⟦<CopyInResponse as BackendMessage>⟧ messages.CopyInResponse (V.Visitor.gives visitor) message result }
-        ensures copy_out_response { message.format ≡ formats.CopyOutResponse → VisitsCase ⟦<CopyOutResponse as BackendMessage>⟧ messages.CopyOutResponse (V.Visitor.gives visitor) message result }
-        ensures data_row { message.format ≡ formats.DataRow → VisitsCase ⟦<DataRow as BackendMessage>⟧ messages.DataRow (V.Visitor.gives visitor) message result }
-        ensures empty_query_response { message.format ≡ formats.EmptyQueryResponse → IsOkAnd result (V.Visitor.gives visitor messages.EmptyQueryResponse) }
-        ensures error_response { message.format ≡ formats.ErrorResponse → VisitsCase ⟦<PgDatabaseError as BackendMessage>⟧ messages.ErrorResponse (V.Visitor.gives visitor) message result }
-        ensures no_data { message.format ≡ formats.NoData → IsOkAnd result (V.Visitor.gives visitor messages.NoData) }
-        ensures notice_response { message.format ≡ formats.NoticeResponse → VisitsCase ⟦<Notice as BackendMessage>⟧ messages.NoticeResponse (V.Visitor.gives visitor) message result }
-        ensures notification_response { message.format ≡ formats.NotificationResponse → VisitsCase ⟦<Notification as BackendMessage>⟧ messages.NotificationResponse (V.Visitor.gives visitor) message result }
-        ensures parameter_description { message.format ≡ formats.ParameterDescription → VisitsCase ⟦<ParameterDescription as BackendMessage>⟧ messages.ParameterDescription (V.Visitor.gives visitor) message result }
-        ensures parameter_status { message.format ≡ formats.ParameterStatus → VisitsCase ⟦<ParameterStatus as BackendMessage>⟧ messages.ParameterStatus (V.Visitor.gives visitor) message result }
-        ensures parse_complete { message.format ≡ formats.ParseComplete → IsOkAnd result (V.Visitor.gives visitor messages.ParseComplete) }
-        ensures portal_suspended { message.format ≡ formats.PortalSuspended → IsOkAnd result (V.Visitor.gives visitor messages.PortalSuspended) }
-        ensures ready_for_query { message.format ≡ formats.ReadyForQuery → VisitsCase ⟦<ReadyForQuery as BackendMessage>⟧ messages.ReadyForQuery (V.Visitor.gives visitor) message result }
-        ensures row_description { message.format ≡ formats.RowDescription → VisitsCase ⟦<RowDescription as BackendMessage>⟧ messages.RowDescription (V.Visitor.gives visitor) message result }
+        ensures { Decodes message.format (V.Visitor.gives visitor) message result }
     {
         use BackendMessageFormat as Format;
         match message.format {
