@@ -2,3 +2,19 @@
 
 mod pieces;
 mod reader;
+
+use pg_base::BackendMessageFormat;
+use pg_response::message::ReceivedMessage;
+use std::process::Abort;
+
+// A message's kind and its body.
+type Shown<'a> = (BackendMessageFormat, &'a [u8]);
+
+// What was found is what must be, one by one.
+fn assert_shown(rt: &impl Abort, found: &[ReceivedMessage], due: &[Shown<'_>]) {
+    assert_eq!(rt; found.len(), due.len());
+    for (message, (format, body)) in found.iter().zip(due) {
+        assert_eq!(rt; message.format, *format);
+        assert_eq!(rt; message.contents.as_slice(), *body);
+    }
+}

@@ -1,9 +1,9 @@
 //! Streams cut at each place, and in pieces of each length.
 
-use pg_base::{BackendMessageFormat, Error, ProtocolFault};
-use pg_frames::{StreamEnd, next_frame, read_pieces};
-use pg_response::message::ReceivedMessage;
-use std::alloc::{AllocError, Global};
+use super::{Shown, assert_shown};
+use pg_base::{BackendMessageFormat, ProtocolFault};
+use pg_frames::{StreamEnd, read_pieces};
+use std::alloc::Global;
 use std::process::Abort;
 use std::test::Fail;
 
@@ -12,8 +12,6 @@ const MESSAGES: &[u8] = b"Z\0\0\0\x05IC\0\0\0\x0ABEGIN\x001\0\0";
 
 /// A message, and then a tag that no server sends.
 const UNKNOWN: &[u8] = b"Z\0\0\0\x05Iv\0\0\0\x03";
-
-type Shown<'a> = (BackendMessageFormat, &'a [u8]);
 
 const READY: Shown<'static> = (BackendMessageFormat::ReadyForQuery, b"I");
 
@@ -28,11 +26,7 @@ fn expect(
     end: StreamEnd,
 ) -> Result<(), Fail> {
     let (found, found_end) = read_pieces(alloc, pieces)?;
-    assert_eq!(rt; found.len(), messages.len(), "in {pieces:?}");
-    for (message, (format, body)) in found.iter().zip(messages) {
-        assert_eq!(rt; message.format, *format, "in {pieces:?}");
-        assert_eq!(rt; message.contents.as_slice(), *body, "in {pieces:?}");
-    }
+    assert_shown(rt, found.as_slice(), messages);
     assert_eq!(rt; found_end, end, "in {pieces:?}");
     Ok(())
 }

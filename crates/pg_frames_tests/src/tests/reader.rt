@@ -3,7 +3,9 @@
 
 mod memory;
 
-use pg_base::{BackendMessageFormat, Error, ProtocolFault};
+use super::{Shown, assert_shown};
+use pg_base::BackendMessageFormat::{CopyData, CopyDone, ReadyForQuery};
+use pg_base::{Error, ProtocolFault};
 use pg_frames::FrameReader;
 use pg_response::message::ReceivedMessage;
 use std::alloc::AllocError;
@@ -45,21 +47,37 @@ fn next(
     }
 }
 
+// Feeds a piece, and compares the messages that are then whole with what must come.
+fn expect(
+    rt: &impl Abort,
+    reader: &mut FrameReader,
+    piece: &[u8],
+    due: &[Shown<'_>],
+    found: &mut Vec<ReceivedMessage>,
+) -> Result<(), Fail> {
+    let before = found.len();
+    feed(rt, reader, piece)?;
+    for _ in 0..=due.len() {
+        match next(rt, reader)? {
+            Some(message) => found.push(message)?,
+            None => break,
+        }
+    }
+    assert_shown(rt, found.as_slice().get(before..).unwrap_or_default(), due);
+    Ok(())
+}
+
 #[test]
 fn a_message_comes_with_its_last_byte(rt: HostRuntime) -> Result<(), Fail> {
     let mut reader = FrameReader::new(rt.alloc());
+    let mut found = Vec::new(rt.alloc());
     assert!(rt; reader.is_empty());
     for byte in [b'Z', 0, 0, 0, 5] {
-        feed(&rt, &mut reader, &[byte])?;
-        assert!(rt; next(&rt, &mut reader)?.is_none());
+        expect(&rt, &mut reader, &[byte], &[], &mut found)?;
     }
     assert_eq!(rt; reader.len(), 5);
-    feed(&rt, &mut reader, b"I")?;
-    let message = next(&rt, &mut reader)?.ok_or("a whole message")?;
-    assert_eq!(rt; message.format, BackendMessageFormat::ReadyForQuery);
-    assert_eq!(rt; message.contents.as_slice(), b"I".as_slice());
+    expect(&rt, &mut reader, b"I", &[(ReadyForQuery, b"I")], &mut found)?;
     assert!(rt; reader.is_empty());
-    assert!(rt; next(&rt, &mut reader)?.is_none());
     Ok(())
 }
 
@@ -87,16 +105,27 @@ fn a_fault_comes_again(rt: HostRuntime) -> Result<(), Fail> {
 #[test]
 fn bodies_stay_when_more_is_fed(rt: HostRuntime) -> Result<(), Fail> {
     let mut reader = FrameReader::new(rt.alloc());
-    feed(&rt, &mut reader, b"d\0\0\0\x06abc\0\0\0\x04d\0\0")?;
-    let first = next(&rt, &mut reader)?.ok_or("a whole message")?;
-    let second = next(&rt, &mut reader)?.ok_or("a message without a body")?;
-    assert!(rt; next(&rt, &mut reader)?.is_none());
-    feed(&rt, &mut reader, b"\0\x07xyz")?;
-    let third = next(&rt, &mut reader)?.ok_or("a message in two pieces")?;
+    let mut found = Vec::new(rt.alloc());
+    let first = [(CopyData, b"ab".as_slice()), (CopyDone, b"")];
+    expect(
+        &rt,
+        &mut reader,
+        b"d\0\0\0\x06abc\0\0\0\x04d\0\0",
+        &first,
+        &mut found,
+    )?;
+    expect(
+        &rt,
+        &mut reader,
+        b"\0\x07xyz",
+        &[(CopyData, b"xyz")],
+        &mut found,
+    )?;
     assert!(rt; reader.is_empty());
-    assert_eq!(rt; first.contents.as_slice(), b"ab".as_slice());
-    assert_eq!(rt; second.format, BackendMessageFormat::CopyDone);
-    assert!(rt; second.contents.is_empty());
-    assert_eq!(rt; third.contents.as_slice(), b"xyz".as_slice());
+    assert_shown(
+        &rt,
+        found.as_slice(),
+        &[first[0], first[1], (CopyData, b"xyz")],
+    );
     Ok(())
 }
