@@ -136,11 +136,19 @@ fn encode_msg_adds_the_frame(rt: HostRuntime) -> Result<(), AllocError> {
 #[test]
 fn a_tagged_message_adds_the_frame(rt: HostRuntime) -> Result<(), AllocError> {
     let fail = CopyFail::new(String::from_str(rt.alloc(), "no")?);
-    let messages = tagged_kinds(&fail);
+    assert_each_adds(&rt, rt.alloc(), &tagged_kinds(&fail))
+}
+
+// Each message adds its frame.
+fn assert_each_adds(
+    rt: &impl Abort,
+    alloc: Global,
+    messages: &[TaggedMessage<'_>],
+) -> Result<(), AllocError> {
     for (message, (tag, body)) in messages.iter().zip(LETTERS_AND_BODIES) {
-        let frame = frame_of(rt.alloc(), tag, body)?;
-        assert_adds(&rt, rt.alloc(), message, frame.as_slice())?;
-        assert_all_or_nothing(&rt, rt.alloc(), message, frame.as_slice())?;
+        let frame = frame_of(alloc, *tag, body)?;
+        assert_adds(rt, alloc, message, frame.as_slice())?;
+        assert_all_or_nothing(rt, alloc, message, frame.as_slice())?;
     }
     Ok(())
 }

@@ -98,7 +98,7 @@ pub fn tagged_kinds(fail: &CopyFail) -> [TaggedMessage<'_>; 16] {
 }
 
 /// The letters and bodies of that list.
-pub const LETTERS_AND_BODIES: [(u8, &[u8]); 16] = [
+pub const LETTERS_AND_BODIES: &[(u8, &[u8])] = &[
     (b'B', BIND),
     (b'C', b"Ssqlx_s_7\0"),
     (b'd', b"abc"),

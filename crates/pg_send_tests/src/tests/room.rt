@@ -16,29 +16,48 @@ struct AcceptedInItsRoom<'a, R> {
 
 impl<R: Abort> Check for AcceptedInItsRoom<'_, R> {
     fn check<M: FrontendMessage>(&self, message: M, expected: Expected) -> Result<(), AllocError> {
-        let rt = self.rt;
         let room = expected.hint.saturating_add(5);
-        let mut enough = Vec::with_capacity(self.alloc, room)?;
-        refuse_nth(self.alloc, 1);
-        let accepted = encode_frame(&message, &mut enough);
-        assert!(rt; !was_refused(self.alloc));
-        assert_eq!(rt; accepted, Ok(()));
-        assert_eq!(rt; enough.capacity(), room);
-
-        // After a byte that was there, a byte is missing.
-        let mut tight = Vec::with_capacity(self.alloc, room)?;
-        tight.push(0xaa)?;
-        refuse_nth(self.alloc, 1);
-        let answer = encode_frame(&message, &mut tight);
-        if was_refused(self.alloc) {
-            assert_eq!(rt; answer, Err(Error::OutOfMemory));
-            assert_eq!(rt; tight.as_slice(), b"\xaa".as_slice());
-            return Ok(());
-        }
-        assert_eq!(rt; unless_out_of_memory(answer)?, Ok(()));
-        assert_eq!(rt; added(rt, &tight, b"\xaa"), enough.as_slice());
-        Ok(())
+        let frame = in_its_room(self.rt, self.alloc, &message, room)?;
+        after_a_byte(self.rt, self.alloc, &message, room, frame.as_slice())
     }
+}
+
+// The frame, added where there is just the room for it.
+fn in_its_room<M: FrontendMessage>(
+    rt: &impl Abort,
+    alloc: Global,
+    message: &M,
+    room: usize,
+) -> Result<Vec<u8>, AllocError> {
+    let mut buf = Vec::with_capacity(alloc, room)?;
+    refuse_nth(alloc, 1);
+    let answer = encode_frame(message, &mut buf);
+    assert!(rt; !was_refused(alloc));
+    assert_eq!(rt; answer, Ok(()));
+    assert_eq!(rt; buf.capacity(), room);
+    Ok(buf)
+}
+
+// After a byte that was there, a byte is missing.
+fn after_a_byte<M: FrontendMessage>(
+    rt: &impl Abort,
+    alloc: Global,
+    message: &M,
+    room: usize,
+    frame: &[u8],
+) -> Result<(), AllocError> {
+    let mut buf = Vec::with_capacity(alloc, room)?;
+    buf.push(0xaa)?;
+    refuse_nth(alloc, 1);
+    let answer = encode_frame(message, &mut buf);
+    if was_refused(alloc) {
+        assert_eq!(rt; answer, Err(Error::OutOfMemory));
+        assert_eq!(rt; buf.as_slice(), b"\xaa".as_slice());
+        return Ok(());
+    }
+    assert_eq!(rt; unless_out_of_memory(answer)?, Ok(()));
+    assert_eq!(rt; added(rt, &buf, b"\xaa"), frame);
+    Ok(())
 }
 
 #[test]

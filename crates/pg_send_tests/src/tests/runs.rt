@@ -61,10 +61,18 @@ fn a_run_of_none(rt: HostRuntime) -> Result<(), AllocError> {
 #[test]
 fn a_run_of_one_of_each_kind(rt: HostRuntime) -> Result<(), AllocError> {
     let fail = CopyFail::new(String::from_str(rt.alloc(), "no")?);
-    let messages = tagged_kinds(&fail);
+    assert_each_run(&rt, rt.alloc(), &tagged_kinds(&fail))
+}
+
+// Each message is a run of its own.
+fn assert_each_run(
+    rt: &impl Abort,
+    alloc: Global,
+    messages: &[TaggedMessage<'_>],
+) -> Result<(), AllocError> {
     for (message, (tag, body)) in messages.chunks(1).zip(LETTERS_AND_BODIES) {
-        let frame = frame_of(rt.alloc(), tag, body)?;
-        assert_run(&rt, rt.alloc(), message, frame.as_slice())?;
+        let frame = frame_of(alloc, *tag, body)?;
+        assert_run(rt, alloc, message, frame.as_slice())?;
     }
     Ok(())
 }

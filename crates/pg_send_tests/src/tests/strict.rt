@@ -18,29 +18,41 @@ fn assert_strict(
     for nth in 1..MANY {
         let mut buf = Vec::from_slice(alloc, b"\xaa")?;
         refuse_nth(alloc, nth);
-        let run = encode_strict(alloc, messages, &mut buf);
+        let run = answer_of(rt, alloc, messages, &mut buf);
         let refused = was_refused(alloc);
         let added = buf.as_slice().strip_prefix(b"\xaa".as_slice());
-        let Ok(answers) = run else {
-            assert!(rt; refused);
-            assert_eq!(rt; added, Some(b"".as_slice()));
-            continue;
-        };
-        let [answer] = answers.as_slice() else {
-            panic!(rt; "one answer a message");
-        };
-        if *answer == Err(Error::OutOfMemory) {
-            assert!(rt; refused && expected.is_ok());
-            assert_eq!(rt; added, Some(b"".as_slice()));
-        } else {
-            assert_eq!(rt; answer.err(), expected.err().map(Error::from));
-            assert_eq!(rt; added, Some(expected.unwrap_or(b"")));
+        match run {
+            Err(_) => {
+                assert!(rt; refused);
+                assert_eq!(rt; added, Some(b"".as_slice()));
+            }
+            Ok(Err(Error::OutOfMemory)) => {
+                assert!(rt; refused && expected.is_ok());
+                assert_eq!(rt; added, Some(b"".as_slice()));
+            }
+            Ok(answer) => {
+                assert_eq!(rt; answer.err(), expected.err().map(Error::from));
+                assert_eq!(rt; added, Some(expected.unwrap_or(b"")));
+            }
         }
         if !refused {
             return Ok(());
         }
     }
     panic!(rt; "requests without end")
+}
+
+// What a run of one message answers to it.
+fn answer_of(
+    rt: &impl Abort,
+    alloc: Global,
+    messages: &[TaggedMessage<'_>],
+    buf: &mut Vec<u8>,
+) -> Result<Result<(), Error>, Error> {
+    match encode_strict(alloc, messages, buf)?.as_slice() {
+        [answer] => Ok(*answer),
+        _ => panic!(rt; "one answer a message"),
+    }
 }
 
 fn assert_refused(

@@ -48,23 +48,48 @@ struct FramesInTheirRoom<'a, R> {
 
 impl<R: Abort> Check for FramesInTheirRoom<'_, R> {
     fn check<M: FrontendMessage>(&self, message: M, expected: Expected) -> Result<(), AllocError> {
-        let rt = self.rt;
-        let len = match message.checked_body_len() {
-            Ok(len) => len,
-            Err(_) => panic!(rt; "a message within the limits"),
-        };
-        let mut frame = Vec::with_capacity(self.alloc, len.saturating_add(5))?;
-        let mut body = Vec::with_capacity(self.alloc, len)?;
-        refuse_nth(self.alloc, 1);
-        message.put_frame(len, &mut frame);
-        let answer = message.encode_body(&mut body);
-        assert!(rt; !was_refused(self.alloc));
-        assert_eq!(rt; answer, Ok(()));
-        assert_eq!(rt; body.as_slice(), expected.body);
-        assert_eq!(rt; frame.as_slice().first(), Some(&expected.tag));
-        assert_eq!(rt; frame.as_slice().get(5..), Some(expected.body));
+        let frame = put_in_its_room(self.rt, self.alloc, &message)?;
+        assert_frame(self.rt, frame.as_slice(), expected.tag, expected.body);
+        let body = body_in_its_room(self.rt, self.alloc, &message, expected.body.len())?;
+        assert_eq!(self.rt; body.as_slice(), expected.body);
         Ok(())
     }
+}
+
+fn assert_frame(rt: &impl Abort, frame: &[u8], tag: u8, body: &[u8]) {
+    assert_eq!(rt; frame.first(), Some(&tag));
+    assert_eq!(rt; frame.get(5..), Some(body));
+}
+
+fn put_in_its_room<M: FrontendMessage>(
+    rt: &impl Abort,
+    alloc: Global,
+    message: &M,
+) -> Result<Vec<u8>, AllocError> {
+    let len = match message.checked_body_len() {
+        Ok(len) => len,
+        Err(_) => panic!(rt; "a message within the limits"),
+    };
+    let mut frame = Vec::with_capacity(alloc, len.saturating_add(5))?;
+    refuse_nth(alloc, 1);
+    message.put_frame(len, &mut frame);
+    assert!(rt; !was_refused(alloc));
+    Ok(frame)
+}
+
+fn body_in_its_room<M: FrontendMessage>(
+    rt: &impl Abort,
+    alloc: Global,
+    message: &M,
+    len: usize,
+) -> Result<Vec<u8>, AllocError> {
+    let mut body = Vec::with_capacity(alloc, len)?;
+    assert!(rt; message.checked_body_len().is_ok());
+    refuse_nth(alloc, 1);
+    let answer = message.encode_body(&mut body);
+    assert!(rt; !was_refused(alloc));
+    assert_eq!(rt; answer, Ok(()));
+    Ok(body)
 }
 
 #[test]
@@ -97,11 +122,18 @@ fn frame_in_its_room(
 #[test]
 fn tagged_frames_in_their_room(rt: HostRuntime) -> Result<(), AllocError> {
     let fail = CopyFail::new(String::from_str(rt.alloc(), "no")?);
-    let messages = tagged_kinds(&fail);
+    assert_each_in_its_room(&rt, rt.alloc(), &tagged_kinds(&fail))
+}
+
+// Each message is put as its frame.
+fn assert_each_in_its_room(
+    rt: &impl Abort,
+    alloc: Global,
+    messages: &[TaggedMessage<'_>],
+) -> Result<(), AllocError> {
     for (message, (tag, body)) in messages.iter().zip(LETTERS_AND_BODIES) {
-        let frame = frame_in_its_room(&rt, rt.alloc(), message)?;
-        assert_eq!(rt; frame.as_slice().first(), Some(&tag));
-        assert_eq!(rt; frame.as_slice().get(5..), Some(body));
+        let frame = frame_in_its_room(rt, alloc, message)?;
+        assert_frame(rt, frame.as_slice(), *tag, body);
     }
     Ok(())
 }
