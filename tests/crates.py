@@ -1,0 +1,106 @@
+"""The crates of the repository, what they are made of, and how one is checked with some of its texts changed."""
+
+import functools
+import os
+import pathlib
+import shutil
+import subprocess
+import tempfile
+
+TOP = pathlib.Path(__file__).resolve().parent.parent
+
+# The folders that a check reads.
+PARTS = ("src", "specs", "proofs")
+
+
+class Crate:
+    """A line of crates.txt: a crate, its kind, and the libraries that it names."""
+
+    def __init__(self, name, is_static, names):
+        self.name, self.is_static, self.names = name, is_static, names
+        self.folder = TOP / "crates" / name
+        self.root = "src/main.rt" if (self.folder / "src/main.rt").exists() else "src/lib.rt"
+
+    def libraries(self):
+        """The crates of the repository that it stands on, the lowest first."""
+        found = []
+        for name in self.names:
+            if name in known():
+                found += [*known()[name].libraries(), known()[name]]
+        return list(dict.fromkeys(found))
+
+    @functools.lru_cache(maxsize=None)
+    def lines(self, path):
+        """The lines of one of its files, by its path in the crate."""
+        return (self.folder / path).read_text().split("\n")
+
+    def built(self):
+        """The library that a run of `rt ci`, of `rt lib` or of `build` left."""
+        return self.folder / "out/rlib" / f"{self.name}.rlib"
+
+    def is_older(self, made):
+        """Whether a file that was made of the crate is missing, or some source is not older than it."""
+        if not made.exists():
+            return True
+        # The time of a change is the system's own: a copy of an old file, or one moved here, is new by it.
+        parts = [crate.folder / part for crate in [*self.libraries(), self] for part in PARTS]
+        sources = [path for part in parts if part.exists() for path in [part, *part.rglob("*")]]
+        return max(path.stat().st_ctime for path in [TOP / "crates.txt", *sources]) >= made.stat().st_mtime
+
+    def check(self, texts, flags, kept):
+        """The lines of a check of a copy with these texts in place of its own, over what `kept` holds."""
+        with tempfile.TemporaryDirectory(prefix="check-") as copy:
+            for part in PARTS:
+                if (self.folder / part).exists():
+                    shutil.copytree(self.folder / part, f"{copy}/{part}")
+            for path, text in texts.items():
+                pathlib.Path(copy, path).write_text(text)
+            run = subprocess.run([*self.command("check"), "--incremental", kept, "--jobs", "1", *flags], cwd=copy,
+                                 stdin=subprocess.DEVNULL, stdout=subprocess.PIPE, stderr=subprocess.STDOUT,
+                                 text=True, errors="replace")
+        return run.stdout.splitlines()
+
+    def command(self, verb):
+        """The words of a compiler's call over the libraries that are built."""
+        words = [kit() / "bin/rattle", verb, "--crate-name", self.name, self.root]
+        words += ["--antt-project", kit() / "rattle/logic/antt-project.json", "--logic-built", kit() / "logic_built"]
+        words += ["-L", f"dependency={kit()}/rlibs", *(["--crate-type", "staticlib"] if self.is_static else [])]
+        for name in ["std", *self.names]:
+            words += ["--extern", f"{name}={known()[name].built() if name in known() else kit() / 'rlibs' / (name + '.rlib')}"]
+        for crate in self.libraries():
+            words += ["-L", f"dependency={crate.built().parent}"]
+        return words
+
+
+@functools.lru_cache(maxsize=None)
+def known():
+    """The crates of crates.txt by their names."""
+    found = {}
+    for line in (TOP / "crates.txt").read_text().splitlines():
+        if line and not line.startswith("#"):
+            name, *kind = line.partition(":")[0].split()
+            found[name] = Crate(name, "staticlib" in kind, line.partition(":")[2].split())
+    return found
+
+
+@functools.lru_cache(maxsize=None)
+def kit():
+    """The folder of the toolchain."""
+    said = subprocess.run(["rt", "doc"], capture_output=True, text=True, check=True).stdout
+    return pathlib.Path(said.strip()).parent
+
+
+def build(crates):
+    """Builds what these crates stand on where it is missing or not newer than its sources."""
+    for crate in dict.fromkeys(below for crate in crates for below in crate.libraries()):
+        if crate.is_older(crate.built() / "format"):
+            run = subprocess.run(["rt", "lib"], cwd=crate.folder, stdin=subprocess.DEVNULL, capture_output=True, text=True)
+            if run.returncode:
+                raise SystemExit(f"{run.stdout[-3000:]}{crate.name}: is not proved")
+            (crate.built() / "format").touch()
+
+
+def processors():
+    """How many checks can run at a time: one a processor, and no more than memory holds."""
+    free = os.sysconf("SC_AVPHYS_PAGES") * os.sysconf("SC_PAGE_SIZE")
+    return max(1, min(len(os.sched_getaffinity(0)), free // 3_000_000_000))

@@ -1,0 +1,107 @@
+"""The functions of a source in the layout of `rt fmt`, and the names by which a check reports them."""
+
+import re
+
+# The head of an item that has others in it, or of a function. In this layout an item ends at the first line that
+# closes at its own indentation.
+BLOCK = re.compile(r"^( *)(?:pub(?:\([a-z]+\))? )?(impl|trait|mod)\b(.*)$")
+FUNCTION = re.compile(r'^( *)(?:pub(?:\([a-z]+\))? |const |final |unsafe |extern "C" )*fn (\w+)')
+LIFETIME = re.compile(r"'[a-z_]+\b,? ?")
+
+
+class Function:
+    """A function with a body: its name in reports, and its lines from 0, those of its body apart."""
+
+    def __init__(self, name, first, body, last):
+        self.name, self.first, self.body, self.last = name, first, body, last
+
+    def holds(self, number, old, new):
+        """Whether a line that changes so is in the body, or adds to the line that opens it."""
+        return self.body < number <= self.last or number == self.body and new.startswith(old)
+
+
+def functions(crate, path, text):
+    """The functions of a source, given its path in the crate, in the order of their lines."""
+    lines = text.split("\n")
+    at = module(crate, path)
+    found, blocks, number = [], [], 0
+    while number < len(lines):
+        while blocks and number > blocks[-1][1]:
+            blocks.pop()
+        block, function = BLOCK.match(lines[number]), FUNCTION.match(lines[number])
+        if block and (head := head_of(lines, number)):
+            blocks.append((block_name(block[2], head), end_of(lines, number, block[1])))
+        elif function:
+            body = body_of(lines, number, function[1])
+            if body is not None:
+                last = number if lines[body].rstrip().endswith("}") else end_of(lines, body, function[1])
+                inner = [name for name, _ in blocks if name]
+                found.append(Function("::".join([*at, *inner, function[2]]), number, body, last))
+                number = last
+        number += 1
+    return found
+
+
+def module(crate, path):
+    """The path of a source's module, from its crate's name on."""
+    parts = path.removeprefix("src/").removesuffix(".rt").split("/")
+    if parts[-1] in ("mod", "lib", "main"):
+        parts.pop()
+    return [crate, *parts]
+
+
+def head_of(lines, number):
+    """The head of a block that begins on a line, up to its bracket; None where it opens none."""
+    head = []
+    for line in lines[number:]:
+        head.append(line.strip())
+        if line.endswith("{"):
+            return " ".join(head)[:-1]
+        if line.endswith(("}", ";")):
+            return None
+    return None
+
+
+def end_of(lines, number, indent):
+    """The line that closes what a line opens."""
+    while number < len(lines) and not re.match(rf"^{indent}}}", lines[number]):
+        number += 1
+    return number
+
+
+def body_of(lines, number, indent):
+    """The line on which a function's body opens, or None where it has none."""
+    for at in range(number, len(lines)):
+        line = lines[at]
+        if line == indent + "{" or re.search(r"\{( .*\})?$|\{\}$", line) and not re.match(r" *(requires|ensures)\b", line):
+            return at
+        if line.endswith(";"):
+            return None
+    return None
+
+
+def block_name(kind, head):
+    """What a block adds to the names of its functions."""
+    head = re.sub(r"\bwhere\b.*", "", head.split(kind, 1)[1]).strip()
+    parameters, head = parameters_of(head)
+    trait, of, item = head.partition(" for ")
+    if kind != "impl" or not of:
+        return re.match(r"\w+", head)[0]
+    return joined(item, parameters) + joined(trait, parameters)
+
+
+def parameters_of(head):
+    """The names of the types that a head is for any of, and the rest of it."""
+    level = 0
+    for at, sign in enumerate(head if head.startswith("<") else ""):
+        level += (sign == "<") - (sign == ">" and head[at - 1] != "-")
+        if not level:
+            return re.findall(r"(?:<|, )(\w+)(?=[:,>])", head[: at + 1]), head[at + 1:].strip()
+    return [], head
+
+
+def joined(words, parameters):
+    """A type or a trait as one word, as reports have it."""
+    signs = {"&": "Ref", "[": "Slice"}
+    parts = re.findall(r"&|\[|\w+(?!::)\b", LIFETIME.sub("", words))
+    return "".join(signs.get(it) or it[0].upper() + it[1:] for it in parts if it not in parameters)

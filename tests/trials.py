@@ -1,0 +1,137 @@
+"""Tries wrong bodies, many in a check, and judges each by the function that it changes."""
+
+import tempfile
+import time
+from concurrent.futures import ThreadPoolExecutor
+
+import crates
+import report
+import wrong_bodies
+
+REFUSED, ACCEPTED, OF_SHAPE = "refused", "accepted", "refused for shape alone"
+UNREADABLE, NOT_APPLIED, UNDECIDED = "does not read", "does not apply", "no verdict"
+
+# How often an edit that waits for another's function is put beside others.
+TURNS = 2
+
+# The wrong bodies of a crate, and those by which the trials are tested, in a folder a verdict.
+FOLDERS = ("edits", "must-fail")
+SELF_TEST = crates.TOP / "tests" / "self_test"
+
+
+class Trial:
+    """The edits of one crate, tried in turn over what its earlier checks proved."""
+
+    def __init__(self, crate, edits):
+        self.crate, self.edits, self.checks, self.kept = crate, edits, 0, None
+        self.passed, self.failed = 0, 0
+
+    def show(self, edit, verdict, why):
+        """Counts a verdict, and prints it."""
+        label = edit.file.relative_to(crates.TOP)
+        if verdict == due(edit):
+            self.passed += 1
+            print(f"{verdict}: {label}", flush=True)
+        else:
+            self.failed += 1
+            print(f"FAILED {label}: {verdict}: {why}", flush=True)
+
+    def run(self):
+        """Shows a verdict for each edit."""
+        left = []
+        for edit in self.edits:
+            if edit.why_not:
+                self.show(edit, NOT_APPLIED, edit.why_not)
+            else:
+                left.append(edit)
+        with tempfile.TemporaryDirectory(prefix="edits-") as self.kept:
+            while left:
+                batch = batch_of(left)
+                again = self.together(batch) if len(batch) > 1 else self.alone(batch[0])
+                left = [edit for edit in left if edit not in batch] + again
+
+    def check(self, edits):
+        """The report of a check of the functions that these edits change."""
+        self.checks += 1
+        functions = sorted({owner.partition("::")[2] for edit in edits for owner in edit.owners})
+        only = [word for function in functions for word in ("--only", function)]
+        return report.Report(self.crate.check(wrong_bodies.texts(self.crate, edits), only, self.kept))
+
+    def together(self, batch):
+        """Judges a batch by one check; returns what is to be tried again."""
+        said = self.check(batch)
+        if not said.is_judged:
+            return self.divided(batch, said)
+        again = []
+        for edit in batch:
+            verdict, why = verdict_of(edit, said)
+            if verdict == report.OPEN_GOAL:
+                self.show(edit, REFUSED, why)
+                continue
+            edit.turns = edit.turns + 1 if verdict == report.WAITS else TURNS
+            edit.avoids |= {name for owner in edit.owners for name in said.waits_for(owner)}
+            again.append(edit)
+        return again
+
+    def divided(self, batch, said):
+        """What is to be tried again of a batch whose text can't be read: alone what stands on the named lines."""
+        named = {(path, number - 1) for path, number, _ in said.unread()}
+        bad = [edit for edit in batch if any((path, number) in named for path in edit.changes for number in edit.changes[path])]
+        for edit in bad or batch:
+            edit.turns = TURNS
+        return batch
+
+    def alone(self, edit):
+        """Judges an edit by a check of its own."""
+        said = self.check([edit])
+        if not said.is_judged:
+            lines = [f"{path}:{number}: {words}" for path, number, words in said.unread()] or said.lines[-1:]
+            self.show(edit, UNREADABLE, "; ".join(lines[:1]))
+            return []
+        verdict, why = verdict_of(edit, said)
+        named = {report.OPEN_GOAL: REFUSED, report.PROVED: ACCEPTED, report.OF_SHAPE: OF_SHAPE}
+        self.show(edit, named.get(verdict, UNDECIDED), why)
+        return []
+
+
+def verdict_of(edit, said):
+    """The verdict on an edit: that of the first of its functions that has an open goal, else of the least decided."""
+    order = [report.OPEN_GOAL, report.UNKNOWN, report.OF_SHAPE, report.WAITS, report.PROVED]
+    return min((said.verdict(owner) for owner in sorted(edit.owners)), key=lambda it: order.index(it[0]))
+
+
+def batch_of(edits):
+    """As many as can stand in one check, from the front; one alone where none can stand beside another."""
+    batch = []
+    for edit in edits:
+        if edit.turns < TURNS and not edit.is_apart and not any(map(edit.touches, batch)):
+            batch.append(edit)
+    return batch or edits[:1]
+
+
+def of(crate):
+    """The wrong bodies of a crate."""
+    return [wrong_bodies.Edit(crate, file) for folder in FOLDERS for file in sorted((crate.folder / folder).glob("*.edit"))]
+
+
+def of_self_test(crate):
+    """The edits of a crate by which the trials are tested."""
+    return [wrong_bodies.Edit(crate, file) for file in sorted(SELF_TEST.glob(f"*/{crate.name}_*.edit"))]
+
+
+def due(edit):
+    """The verdict that an edit must have."""
+    return edit.file.parent.name.replace("_", " ") if SELF_TEST in edit.file.parents else REFUSED
+
+
+def run(trials):
+    """Runs trials beside each other, the longest first; returns whether each edit had the verdict that is due."""
+    begun = time.monotonic()
+    trials = sorted((trial for trial in trials if trial.edits), key=lambda trial: -len(trial.edits))
+    crates.build([trial.crate for trial in trials])
+    with ThreadPoolExecutor(crates.processors()) as pool:
+        list(pool.map(Trial.run, trials))
+    passed, failed, checks = (sum(getattr(trial, it) for trial in trials) for it in ("passed", "failed", "checks"))
+    print(f"{passed + failed} edits in {checks} checks and {time.monotonic() - begun:.0f} seconds")
+    print(f"{passed} passed, {failed} failed")
+    return not failed

@@ -1,0 +1,88 @@
+"""Edits that make a body wrong, and the functions that each of them changes."""
+
+import re
+
+import sources
+
+# A constant that only its own file, or its own item, sees.
+CONSTANT = re.compile(r" *const (\w+)\s*:")
+
+
+class Edit:
+    """A file of lines `file: PATH`, `old: TEXT` and `new: TEXT`; other lines say what is wrong.
+
+    Each TEXT stands once in its file, on one line. A line `refused by: FUNCTION` names, by the end of its path, the
+    function whose contract refuses an edit that stands in none, as that of a number of an enum.
+    """
+
+    def __init__(self, crate, file):
+        self.crate, self.file, self.name = crate, file, file.stem
+        self.why_not, self.changes, self.owners, self.avoids, self.turns = None, {}, set(), set(), 0
+        try:
+            self.read(file.read_text())
+            # What changes more than bodies could also refuse what stands beside it.
+            self.is_apart = bool(self.refusing)
+            self.owners = self.refusing or self.changed_functions()
+        except (OSError, ValueError) as why:
+            self.why_not = str(why)
+
+    def read(self, text):
+        """Reads the changed lines, by path and number."""
+        self.refusing, path, old = set(), None, None
+        for line in text.splitlines():
+            word, _, rest = line.partition(":")
+            rest = rest.removeprefix(" ")
+            if word == "file":
+                path = rest
+            elif word == "old":
+                old = rest
+            elif word == "new":
+                self.change(path, old, rest)
+            elif word == "refused by":
+                self.refusing.add("::".join([self.crate.name, rest]))
+        if not self.changes:
+            raise ValueError("it changes nothing")
+
+    def change(self, path, old, new):
+        """Puts a text in the place of another that stands once in the file as it was edited so far."""
+        if not path or not old:
+            raise ValueError("a line new: comes before file: and old:")
+        lines = self.crate.lines(path)
+        changed = self.changes.setdefault(path, {})
+        found = [number for number, line in enumerate(lines) for _ in re.finditer(re.escape(old), changed.get(number, line))]
+        if len(found) != 1:
+            raise ValueError(f"a text stands {len(found)} times in {path} and not once: {old}")
+        changed[found[0]] = changed.get(found[0], lines[found[0]]).replace(old, new)
+
+    def changed_functions(self):
+        """The functions whose bodies have the changed lines; of a private constant those that name it."""
+        found = set()
+        for path, changed in self.changes.items():
+            lines = self.crate.lines(path)
+            functions = sources.functions(self.crate.name, path, "\n".join(lines))
+            for number, line in changed.items():
+                here = [it.name for it in functions if it.holds(number, lines[number], line)]
+                constant = CONSTANT.match(lines[number])
+                if not here and constant:
+                    name = re.compile(rf"\b{constant[1]}\b")
+                    here = [it.name for it in functions if any(map(name.search, lines[it.body : it.last + 1]))]
+                if not here:
+                    raise ValueError(f"line {number + 1} of {path} is in no function, and no line says refused by:")
+                found.update(here)
+        return found
+
+    def touches(self, other):
+        """Whether the two can't stand in one check."""
+        return bool((self.owners | self.avoids) & other.owners or self.owners & other.avoids
+                    or any(self.changes[path].keys() & other.changes.get(path, {}) for path in self.changes))
+
+
+def texts(crate, edits):
+    """The texts of the files with these edits, by path."""
+    found = {}
+    for edit in edits:
+        for path, changed in edit.changes.items():
+            lines = found.setdefault(path, list(crate.lines(path)))
+            for number, line in changed.items():
+                lines[number] = line
+    return {path: "\n".join(lines) for path, lines in found.items()}
