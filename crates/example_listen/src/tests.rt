@@ -39,9 +39,9 @@ fn next_name(session: &mut Session) -> Result<&'static str, SessionError> {
 #[test]
 fn opening(rt: HostRuntime) -> Result<(), Fail> {
     let mut session = open(rt.alloc(), "clear")?;
-    assert_eq!(rt;
-        session.take_output().as_slice(),
-        b"\0\0\0\x26\0\x03\0\0user\0clear\0database\0postgres\0\0".as_slice()
+    assert!(rt;
+        session.take_output().as_slice()
+            == b"\0\0\0\x26\0\x03\0\0user\0clear\0database\0postgres\0\0".as_slice()
     );
     Ok(())
 }
@@ -49,12 +49,9 @@ fn opening(rt: HostRuntime) -> Result<(), Fail> {
 #[test]
 fn password_in_clear(rt: HostRuntime) -> Result<(), Fail> {
     let mut session = answered(rt.alloc(), b"R\0\0\0\x08\0\0\0\x03")?;
-    assert_eq!(rt; next_name(&mut session)?, "password");
+    assert!(rt; next_name(&mut session)? == "password");
     session.send(&Password::Cleartext("secret"))?;
-    assert_eq!(rt;
-        session.take_output().as_slice(),
-        b"p\0\0\0\x0bsecret\0".as_slice()
-    );
+    assert!(rt; session.take_output().as_slice() == b"p\0\0\0\x0bsecret\0".as_slice());
     Ok(())
 }
 
@@ -65,12 +62,12 @@ fn password_by_md5(rt: HostRuntime) -> Result<(), Fail> {
         panic!(rt; "no salt");
     };
     let salt = request.salt;
-    assert_eq!(rt; salt, *b"\xfa\xd0Y\xf2");
+    assert!(rt; salt == *b"\xfa\xd0Y\xf2");
     let digest = *b"\xa4\xb3:\x8c8\xd4\xbc;A;}uY\x17?e";
     session.send(&Password::Md5 { digest })?;
-    assert_eq!(rt;
-        session.take_output().as_slice(),
-        b"p\0\0\0\x28md5a4b33a8c38d4bc3b413b7d7559173f65\0".as_slice()
+    assert!(rt;
+        session.take_output().as_slice()
+            == b"p\0\0\0\x28md5a4b33a8c38d4bc3b413b7d7559173f65\0".as_slice()
     );
     Ok(())
 }
@@ -82,14 +79,14 @@ fn sasl_begins(rt: HostRuntime) -> Result<(), Fail> {
     let Some(Event::Sasl(offer)) = session.next_event()? else {
         panic!(rt; "no mechanisms");
     };
-    assert_eq!(rt; offer.mechanisms().next(), Some("SCRAM-SHA-256"));
+    assert!(rt; offer.mechanisms().next() == Some("SCRAM-SHA-256"));
     session.send(&SaslInitialResponse {
         response: "n,,n=,r=rOprNGfwEbeRWgbNEkqO",
         plus: false,
     })?;
-    assert_eq!(rt;
-        session.take_output().as_slice(),
-        b"p\0\0\0\x32SCRAM-SHA-256\0\0\0\0\x1cn,,n=,r=rOprNGfwEbeRWgbNEkqO".as_slice()
+    assert!(rt;
+        session.take_output().as_slice()
+            == b"p\0\0\0\x32SCRAM-SHA-256\0\0\0\0\x1cn,,n=,r=rOprNGfwEbeRWgbNEkqO".as_slice()
     );
     Ok(())
 }
@@ -102,19 +99,12 @@ fn sasl_goes_on(rt: HostRuntime) -> Result<(), Fail> {
     let Some(Event::SaslChallenge(challenge)) = session.next_event()? else {
         panic!(rt; "no challenge");
     };
-    assert_eq!(rt;
-        challenge.nonce.as_str(),
-        "rOprNGfwEbeRWgbNEkqO6tKMq2O7eukkeKUW8215VzkD"
-    );
-    assert_eq!(rt;
-        challenge.salt.as_slice(),
-        b"\xa6\xd5#\x828A^\xb6\xf9\"mt|o\x19b".as_slice()
-    );
-    assert_eq!(rt; challenge.iterations, 4096);
+    assert!(rt; challenge.nonce.as_str() == "rOprNGfwEbeRWgbNEkqO6tKMq2O7eukkeKUW8215VzkD");
+    assert!(rt; challenge.salt.as_slice() == b"\xa6\xd5#\x828A^\xb6\xf9\"mt|o\x19b".as_slice());
+    assert!(rt; challenge.iterations == 4096);
     session.send(&SaslResponse("c=biws,r=rOprNGfwEbeRWgbNEkqO"))?;
-    assert_eq!(rt;
-        session.take_output().as_slice(),
-        b"p\0\0\0\x21c=biws,r=rOprNGfwEbeRWgbNEkqO".as_slice()
+    assert!(rt;
+        session.take_output().as_slice() == b"p\0\0\0\x21c=biws,r=rOprNGfwEbeRWgbNEkqO".as_slice()
     );
     Ok(())
 }
@@ -126,9 +116,9 @@ fn sasl_ends(rt: HostRuntime) -> Result<(), Fail> {
     let Some(Event::SaslVerifier(last)) = session.next_event()? else {
         panic!(rt; "no verifier");
     };
-    assert_eq!(rt;
-        last.verifier.as_slice(),
-        b"\xa7\x0c\x93\x9b\x9f\xca\xb9*\xbf\xea\xa7\xe3E\xbcR\xde\xe3\xf9i\xe3va\xeb\xc2N\xd4\x93Q>!& ".as_slice()
+    assert!(rt;
+        last.verifier.as_slice()
+            == b"\xa7\x0c\x93\x9b\x9f\xca\xb9*\xbf\xea\xa7\xe3E\xbcR\xde\xe3\xf9i\xe3va\xeb\xc2N\xd4\x93Q>!& ".as_slice()
     );
     Ok(())
 }
@@ -136,15 +126,12 @@ fn sasl_ends(rt: HostRuntime) -> Result<(), Fail> {
 #[test]
 fn listening(rt: HostRuntime) -> Result<(), Fail> {
     let mut session = answered(rt.alloc(), ACCEPTED)?;
-    assert_eq!(rt; next_name(&mut session)?, "ready");
+    assert!(rt; next_name(&mut session)? == "ready");
     session.send(&Query("LISTEN jobs"))?;
-    assert_eq!(rt;
-        session.take_output().as_slice(),
-        b"Q\0\0\0\x10LISTEN jobs\0".as_slice()
-    );
+    assert!(rt; session.take_output().as_slice() == b"Q\0\0\0\x10LISTEN jobs\0".as_slice());
     session.feed(b"C\0\0\0\x0bLISTEN\0Z\0\0\0\x05I")?;
     for name in ["done", "ready", "none"] {
-        assert_eq!(rt; next_name(&mut session)?, name);
+        assert!(rt; next_name(&mut session)? == name);
     }
     Ok(())
 }
@@ -152,13 +139,13 @@ fn listening(rt: HostRuntime) -> Result<(), Fail> {
 #[test]
 fn notification(rt: HostRuntime) -> Result<(), Fail> {
     let mut session = answered(rt.alloc(), ACCEPTED)?;
-    assert_eq!(rt; next_name(&mut session)?, "ready");
+    assert!(rt; next_name(&mut session)? == "ready");
     session.feed(b"A\0\0\0\x17\0\0\x02Ujobs\0forty-two\0")?;
     let Some(Event::Notification(notification)) = session.next_event()? else {
         panic!(rt; "no notification");
     };
-    assert_eq!(rt; notification.channel(), b"jobs".as_slice());
-    assert_eq!(rt; notification.payload(), b"forty-two".as_slice());
+    assert!(rt; notification.channel() == b"jobs".as_slice());
+    assert!(rt; notification.payload() == b"forty-two".as_slice());
     Ok(())
 }
 
@@ -183,7 +170,7 @@ fn words_of_refusals(rt: HostRuntime) -> Result<(), Fail> {
         if text.as_str() == "out of memory" {
             return Err(error.into());
         }
-        assert_eq!(rt; text.as_str(), words);
+        assert!(rt; text.as_str() == words);
     }
     Ok(())
 }
@@ -191,15 +178,15 @@ fn words_of_refusals(rt: HostRuntime) -> Result<(), Fail> {
 #[test]
 fn a_session_goes_on_after_a_server_error(rt: HostRuntime) -> Result<(), Fail> {
     let mut session = answered(rt.alloc(), ACCEPTED)?;
-    assert_eq!(rt; next_name(&mut session)?, "ready");
+    assert!(rt; next_name(&mut session)? == "ready");
     session.feed(
         b"E\0\0\0\x59SERROR\0VERROR\0C42601\0Msyntax error at or near \"7\"\0P8\0Fscan.l\0L1188\0Rscanner_yyerror\0\0Z\0\0\0\x05I",
     )?;
     match session.next_event() {
-        Err(SessionError::Server(error)) => assert_eq!(rt; error.code(), "42601"),
+        Err(SessionError::Server(error)) => assert!(rt; error.code() == "42601"),
         Err(error) => return Err(error.into()),
         Ok(_event) => panic!(rt; "no error"),
     }
-    assert_eq!(rt; next_name(&mut session)?, "ready");
+    assert!(rt; next_name(&mut session)? == "ready");
     Ok(())
 }

@@ -31,10 +31,10 @@ fn recorded(alloc: Global, stream: &[u8], most: usize) -> Result<Recorder, Error
 fn a_line_for_each_message(rt: HostRuntime) -> Result<(), Fail> {
     for most in [1, 7, ANSWERS.len()] {
         let recorder = recorded(rt.alloc(), ANSWERS, most)?;
-        assert_eq!(rt; recorder.rest(), 0);
-        assert_eq!(rt; recorder.lines().len(), LINES.len());
+        assert!(rt; recorder.rest() == 0);
+        assert!(rt; recorder.lines().len() == LINES.len());
         for (line, words) in recorder.lines().iter().zip(LINES) {
-            assert_eq!(rt; line.as_str(), words);
+            assert!(rt; line.as_str() == words);
         }
     }
     Ok(())
@@ -43,8 +43,8 @@ fn a_line_for_each_message(rt: HostRuntime) -> Result<(), Fail> {
 #[test]
 fn a_message_that_is_not_whole(rt: HostRuntime) -> Result<(), Fail> {
     let recorder = recorded(rt.alloc(), b"Z\0\0\0\x05IZ\0\0", 8)?;
-    assert_eq!(rt; recorder.lines().len(), 1);
-    assert_eq!(rt; recorder.rest(), 3);
+    assert!(rt; recorder.lines().len() == 1);
+    assert!(rt; recorder.rest() == 3);
     Ok(())
 }
 
@@ -57,8 +57,8 @@ fn a_fault_comes_again(rt: HostRuntime) -> Result<(), AllocError> {
         if refused == Err(Error::OutOfMemory) {
             return Err(AllocError);
         }
-        assert_eq!(rt; refused, fault);
-        assert_eq!(rt; recorder.lines().len(), 1);
+        assert!(rt; refused == fault);
+        assert!(rt; recorder.lines().len() == 1);
     }
     Ok(())
 }

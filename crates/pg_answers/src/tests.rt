@@ -55,7 +55,7 @@ fn bad_lines_are_reported_by_their_number(rt: HostRuntime) -> Result<(), AllocEr
         let outcome = run(rt.alloc(), &mut rest, &mut output);
         assert!(rt; output.is_empty());
         let bad = Err(Fault::BadLine(2));
-        assert_eq!(rt; unless_out_of_memory(outcome)?, bad, "{input:?}");
+        assert!(rt; unless_out_of_memory(outcome)? == bad, "{input:?}");
     }
     Ok(())
 }
@@ -72,11 +72,11 @@ fn a_fault_is_a_line_on_the_error_stream(rt: HostRuntime) -> Result<(), AllocErr
     );
     assert!(rt; output.is_empty());
     if status == 3 {
-        assert_eq!(rt; errors.as_slice(), b"out of memory\n".as_slice());
+        assert!(rt; errors.as_slice() == b"out of memory\n".as_slice());
         return Err(AllocError);
     }
-    assert_eq!(rt; status, 1);
-    assert_eq!(rt; errors.as_slice(), b"line 1: bad command\n".as_slice());
+    assert!(rt; status == 1);
+    assert!(rt; errors.as_slice() == b"line 1: bad command\n".as_slice());
     Ok(())
 }
 
@@ -85,8 +85,8 @@ fn a_last_line_without_its_line_feed_counts(rt: HostRuntime) -> Result<(), Alloc
     let lines = b"ParseComplete untyped\nReadyForQuery ok transaction_status=73\n";
     let mut output = Vec::with_capacity(rt.alloc(), lines.len())?;
     let outcome = run(rt.alloc(), &mut b"31 -\n5A 49".as_slice(), &mut output);
-    assert_eq!(rt; unless_out_of_memory(outcome)?, Ok(()));
-    assert_eq!(rt; output.as_slice(), lines.as_slice());
+    assert!(rt; unless_out_of_memory(outcome)? == Ok(()));
+    assert!(rt; output.as_slice() == lines.as_slice());
     Ok(())
 }
 
@@ -95,7 +95,7 @@ fn a_failed_read_is_reported_and_nothing_is_written(rt: HostRuntime) -> Result<(
     let mut output = Vec::new(rt.alloc());
     let outcome = run(rt.alloc(), &mut FailingReader, &mut output);
     assert!(rt; output.is_empty());
-    assert_eq!(rt; unless_out_of_memory(outcome)?, Err(Fault::Input));
+    assert!(rt; unless_out_of_memory(outcome)? == Err(Fault::Input));
     Ok(())
 }
 
@@ -109,7 +109,7 @@ fn a_failed_write_leaves_a_beginning_of_the_output(rt: HostRuntime) -> Result<()
         };
         let outcome = run(rt.alloc(), &mut b"63 -\n".as_slice(), &mut writer);
         assert!(rt; whole.starts_with(writer.taken.as_slice()));
-        assert_eq!(rt; unless_out_of_memory(outcome)?, Err(Fault::Output));
+        assert!(rt; unless_out_of_memory(outcome)? == Err(Fault::Output));
     }
     Ok(())
 }
@@ -131,11 +131,11 @@ fn out_of_memory_writes_nothing(rt: HostRuntime) -> Result<(), AllocError> {
         let was_refused = Vec::<u8>::with_capacity(rt.alloc(), REFUSE_NTH).is_ok();
         if !was_refused {
             let lines = b"DataRow ok len=1 cells=[61]\nReadyForQuery ok transaction_status=73\n";
-            assert_eq!(rt; unless_out_of_memory(outcome)?, Ok(()));
-            assert_eq!(rt; output.as_slice(), lines.as_slice());
+            assert!(rt; unless_out_of_memory(outcome)? == Ok(()));
+            assert!(rt; output.as_slice() == lines.as_slice());
             return Ok(());
         }
-        assert_eq!(rt; outcome, Err(Fault::OutOfMemory));
+        assert!(rt; outcome == Err(Fault::OutOfMemory));
         assert!(rt; output.is_empty());
     }
     panic!(rt; "requests without end")

@@ -12,9 +12,9 @@ type Shown<'a> = (BackendMessageFormat, &'a [u8]);
 
 // What was found is what must be, one by one.
 fn assert_shown(rt: &impl Abort, found: &[ReceivedMessage], due: &[Shown<'_>]) {
-    assert_eq!(rt; found.len(), due.len());
+    assert!(rt; found.len() == due.len());
     for (message, (format, body)) in found.iter().zip(due) {
-        assert_eq!(rt; message.format, *format);
-        assert_eq!(rt; message.contents.as_slice(), *body);
+        assert!(rt; message.format == *format);
+        assert!(rt; message.contents.as_slice() == *body);
     }
 }

@@ -6,8 +6,6 @@ mod digits;
 mod fault;
 mod lines;
 mod tagged;
-#[cfg(test)]
-mod tests;
 mod text;
 
 pub use digits::{Hex, hex_array, hex_bytes};

@@ -1,6 +1,5 @@
 //! What received bodies answer, through the public calls alone.
 
-mod error;
 mod fronts;
 mod kinds;
 mod laws;

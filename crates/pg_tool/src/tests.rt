@@ -1,6 +1,7 @@
 //! The program over memory: what it prints, and its statuses.
 
 mod failures;
+mod lines;
 mod stream;
 mod strict;
 
@@ -59,7 +60,7 @@ fn expect(
 ) -> Result<(), AllocError> {
     let outcome = started(rt.alloc(), args, input)?;
     if outcome.errors.as_slice() == OUT_OF_MEMORY {
-        assert_eq!(rt; outcome.status, 3);
+        assert!(rt; outcome.status == 3);
         assert!(rt; outcome.output.is_empty());
         return Err(AllocError);
     }
@@ -69,26 +70,24 @@ fn expect(
         .windows(OUT_OF_MEMORY.len())
         .any(|part| part == OUT_OF_MEMORY)
     {
-        assert_eq!(rt; outcome.status, 0);
+        assert!(rt; outcome.status == 0);
         return Err(AllocError);
     }
-    assert_eq!(rt;
-        outcome.output.as_slice(),
-        output.as_bytes(),
+    assert!(rt;
+        outcome.output.as_slice() == output.as_bytes(),
         "output of {input:?}"
     );
-    assert_eq!(rt;
-        outcome.errors.as_slice(),
-        errors.as_bytes(),
+    assert!(rt;
+        outcome.errors.as_slice() == errors.as_bytes(),
         "errors of {input:?}"
     );
-    assert_eq!(rt; outcome.status, status, "status of {input:?}");
+    assert!(rt; outcome.status == status, "status of {input:?}");
     Ok(())
 }
 
-// The result of a run, unless memory ran out.
-fn unless_memory(outcome: Result<(), Fault>) -> Result<Result<(), Fault>, AllocError> {
-    match outcome {
+// The answer of a call, unless memory ran out.
+fn unless_memory<T: Drop>(answer: Result<T, Fault>) -> Result<Result<T, Fault>, AllocError> {
+    match answer {
         Err(Fault::OutOfMemory) => Err(AllocError),
         other => Ok(other),
     }
@@ -289,6 +288,6 @@ fn bytes_that_are_no_text_are_a_bad_line(rt: HostRuntime) -> Result<(), Fail> {
         &mut output,
     );
     assert!(rt; output.is_empty());
-    assert_eq!(rt; unless_memory(result)?, Err(Fault::BadLine(2)));
+    assert!(rt; unless_memory(result)? == Err(Fault::BadLine(2)));
     Ok(())
 }

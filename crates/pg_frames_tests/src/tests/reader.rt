@@ -18,8 +18,8 @@ use std::test::Fail;
 fn feed(rt: &impl Abort, reader: &mut FrameReader, bytes: &[u8]) -> Result<(), AllocError> {
     let before = reader.len();
     if reader.feed(bytes).is_err() {
-        assert_eq!(rt; reader.len(), before);
-        assert_eq!(rt; reader.feed(bytes), Ok(()), "memory is there again");
+        assert!(rt; reader.len() == before);
+        assert!(rt; reader.feed(bytes) == Ok(()), "memory is there again");
     }
     Ok(())
 }
@@ -31,7 +31,7 @@ fn next(
     let before = reader.len();
     match reader.next_message() {
         Err(Error::OutOfMemory) => {
-            assert_eq!(rt; reader.len(), before);
+            assert!(rt; reader.len() == before);
             match reader.next_message() {
                 Err(Error::OutOfMemory) => panic!(rt; "memory is there again"),
                 Err(Error::Protocol { .. }) => panic!(rt; "a fault after a whole message"),
@@ -39,8 +39,8 @@ fn next(
             }
         }
         Err(Error::Protocol { reading, fault }) => {
-            assert_eq!(rt; reading, None);
-            assert_eq!(rt; reader.len(), before);
+            assert!(rt; reading == None);
+            assert!(rt; reader.len() == before);
             Err(fault)
         }
         Ok(message) => Ok(message),
@@ -75,7 +75,7 @@ fn a_message_comes_with_its_last_byte(rt: HostRuntime) -> Result<(), Fail> {
     for byte in [b'Z', 0, 0, 0, 5] {
         expect(&rt, &mut reader, &[byte], &[], &mut found)?;
     }
-    assert_eq!(rt; reader.len(), 5);
+    assert!(rt; reader.len() == 5);
     expect(&rt, &mut reader, b"I", &[(ReadyForQuery, b"I")], &mut found)?;
     assert!(rt; reader.is_empty());
     Ok(())
@@ -94,10 +94,10 @@ fn a_fault_comes_again(rt: HostRuntime) -> Result<(), Fail> {
         feed(&rt, &mut reader, &bytes[..4])?;
         assert!(rt; next(&rt, &mut reader)?.is_none());
         feed(&rt, &mut reader, &bytes[4..])?;
-        assert_eq!(rt; next(&rt, &mut reader).err(), Some(fault));
+        assert!(rt; next(&rt, &mut reader).err() == Some(fault));
         feed(&rt, &mut reader, b"1\0\0\0\x04")?;
-        assert_eq!(rt; next(&rt, &mut reader).err(), Some(fault));
-        assert_eq!(rt; reader.len(), 10);
+        assert!(rt; next(&rt, &mut reader).err() == Some(fault));
+        assert!(rt; reader.len() == 10);
     }
     Ok(())
 }

@@ -53,16 +53,16 @@ fn assert_fronts<T: BackendMessage + Drop>(
 {
     let mut next = 0;
     for (first, last, front) in rows.iter() {
-        assert_eq!(rt; *first, next);
+        assert!(rt; *first == next);
         assert!(rt; *last <= body.len());
         for len in *first..*last + 1 {
             let answer = T::decode_body(alloc, Bytes::from_static(&body[..len]));
             let fault = fault_in(answer)?;
-            assert_eq!(rt; fault, fault_of(*front, len), "at {len} of {body:?}");
+            assert!(rt; fault == fault_of(*front, len), "at {len} of {body:?}");
         }
         next = *last + 1;
     }
-    assert_eq!(rt; next, body.len() + 1);
+    assert!(rt; next == body.len() + 1);
     Ok(())
 }
 
@@ -77,16 +77,16 @@ fn assert_data_fronts<T: ProtocolDecode + Drop>(
 {
     let mut next = 0;
     for (first, last, front) in rows.iter() {
-        assert_eq!(rt; *first, next);
+        assert!(rt; *first == next);
         assert!(rt; *last <= data.len());
         for len in *first..*last + 1 {
             let answer = T::decode(alloc, Bytes::from_static(&data[..len]));
             let fault = fault_in(answer)?;
-            assert_eq!(rt; fault, fault_of(*front, len), "at {len} of {data:?}");
+            assert!(rt; fault == fault_of(*front, len), "at {len} of {data:?}");
         }
         next = *last + 1;
     }
-    assert_eq!(rt; next, data.len() + 1);
+    assert!(rt; next == data.len() + 1);
     Ok(())
 }
 
@@ -561,28 +561,5 @@ fn errors(rt: HostRuntime) -> Result<(), Fail> {
     assert_fronts::<PgDatabaseError>(&rt, alloc, b"Mm\0Lx\0\0", &[(0, 7, Fine)])?;
     assert_fronts::<PgDatabaseError>(&rt, alloc, b"C53300\0\0", &[(0, 8, Fine)])?;
     assert_fronts::<PgDatabaseError>(&rt, alloc, b"C23P01\0\0", &[(0, 8, Fine)])?;
-    Ok(())
-}
-
-// The message and the code of each front of a notice.
-#[test]
-fn messages_and_codes(rt: HostRuntime) -> Result<(), Fail> {
-    let body: &'static [u8] = b"Mfoo\0Mbar\0C1\0VERROR\0\0";
-    assert!(rt; body.len() < 100);
-    let table = [
-        (0, 4, "", ""),
-        (5, 9, "foo", ""),
-        (10, 12, "bar", ""),
-        (13, 21, "bar", "1"),
-    ];
-    for (first, last, message, code) in table {
-        assert!(rt; last <= body.len());
-        for len in first..last + 1 {
-            let notice = Notice::decode_body(rt.alloc(), Bytes::from_static(&body[..len]))?;
-            assert_eq!(rt; notice.message(), message, "at {len}");
-            assert_eq!(rt; notice.code(), code, "at {len}");
-            assert_eq!(rt; notice.severity(), PgSeverity::Log, "at {len}");
-        }
-    }
     Ok(())
 }

@@ -33,7 +33,7 @@ fn assert_fault<T: BackendMessage + Drop>(
     switch(alloc);
     let answer = T::decode_body(alloc, Bytes::from_static(body));
     switch(alloc);
-    assert_eq!(rt; answer.err(), Some(Error::from(fault)), "at {body:?}");
+    assert!(rt; answer.err() == Some(Error::from(fault)), "at {body:?}");
 }
 
 #[test]
@@ -69,7 +69,7 @@ fn assert_read<T: Drop>(
     } else {
         None
     };
-    assert_eq!(rt; answer.err(), want, "at {name}");
+    assert!(rt; answer.err() == want, "at {name}");
 }
 
 fn assert_body<T: BackendMessage + Drop>(
@@ -146,12 +146,16 @@ fn clone_of_a_notification(rt: HostRuntime) -> Result<(), Fail> {
     let refused = first.clone().err();
     switch(alloc);
     if let Some(error) = refused {
-        assert_eq!(rt; error, Error::OutOfMemory);
+        assert!(rt; error == Error::OutOfMemory);
     }
     let other = first.clone()?;
     drop(first);
-    assert_eq!(rt; other.process_id(), 7);
-    assert_eq!(rt; other.channel(), b"news".as_slice());
-    assert_eq!(rt; other.payload(), b" of today".as_slice());
+    assert_notification(&rt, &other);
     Ok(())
+}
+
+fn assert_notification(rt: &impl Abort, notification: &Notification) {
+    assert!(rt; notification.process_id() == 7);
+    assert!(rt; notification.channel() == b"news".as_slice());
+    assert!(rt; notification.payload() == b" of today".as_slice());
 }

@@ -3,7 +3,7 @@
 
 use super::kinds::{Check, Expected, LETTERS_AND_BODIES, check_each_kind, frame_of, tagged_kinds};
 use super::refusing::{
-    Adds, added, assert_adds, assert_all_or_nothing, refuse_nth, unless_out_of_memory, was_refused,
+    Adds, assert_adds, assert_all_or_nothing, refuse_nth, unless_out_of_memory, was_refused,
 };
 use pg_base::Error;
 use pg_base::io::ProtocolEncode;
@@ -109,12 +109,12 @@ impl<R: Abort> Check for AddsItsFrameOnce<'_, R> {
         refuse_nth(self.alloc, self.nth);
         let answer = message.encode_msg(&mut buf);
         if was_refused(self.alloc) {
-            assert_eq!(rt; answer, Err(Error::OutOfMemory));
-            assert_eq!(rt; buf.as_slice(), self.old);
+            assert!(rt; answer == Err(Error::OutOfMemory));
+            assert!(rt; buf.as_slice() == self.old);
             return Ok(());
         }
-        assert_eq!(rt; unless_out_of_memory(answer)?, Ok(()));
-        assert_eq!(rt; added(rt, &buf, self.old), frame.as_slice());
+        assert!(rt; unless_out_of_memory(answer)? == Ok(()));
+        assert!(rt; buf.as_slice().strip_prefix(self.old) == Some(frame.as_slice()));
         Ok(())
     }
 }

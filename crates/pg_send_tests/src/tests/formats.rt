@@ -13,8 +13,8 @@ struct FormatIsTheLetter<'a, R> {
 impl<R: Abort> Check for FormatIsTheLetter<'_, R> {
     fn check<M: FrontendMessage>(&self, message: M, expected: Expected) -> Result<(), AllocError> {
         let rt = self.rt;
-        assert_eq!(rt; M::FORMAT as u8, expected.tag);
-        assert_eq!(rt; message.tag(), expected.tag);
+        assert!(rt; M::FORMAT as u8 == expected.tag);
+        assert!(rt; message.tag() == expected.tag);
         Ok(())
     }
 }

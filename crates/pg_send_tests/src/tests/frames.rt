@@ -18,9 +18,9 @@ fn assert_frames(
         return Err(AllocError);
     };
     for answer in answers {
-        assert_eq!(rt; unless_out_of_memory(answer)?, Ok(()));
+        assert!(rt; unless_out_of_memory(answer)? == Ok(()));
     }
-    assert_eq!(rt; buf.as_slice(), frames);
+    assert!(rt; buf.as_slice() == frames);
     Ok(())
 }
 
@@ -32,8 +32,8 @@ fn assert_msg<M: FrontendMessage>(
 ) -> Result<(), AllocError> {
     let mut buf = Vec::new(alloc);
     let answer = message.encode_msg(&mut buf);
-    assert_eq!(rt; unless_out_of_memory(answer)?, Ok(()));
-    assert_eq!(rt; buf.as_slice(), frame);
+    assert!(rt; unless_out_of_memory(answer)? == Ok(()));
+    assert!(rt; buf.as_slice() == frame);
     Ok(())
 }
 

@@ -20,9 +20,9 @@ fn assert_refused<E: ProtocolEncode>(
     refuse_nth(alloc, 1);
     let answer = message.encode(&mut buf);
     assert!(rt; !was_refused(alloc));
-    assert_eq!(rt; answer, Err(Error::from(fault)));
-    assert_eq!(rt; buf.as_slice(), b"\xaa".as_slice());
-    assert_eq!(rt; buf.capacity(), capacity);
+    assert!(rt; answer == Err(Error::from(fault)));
+    assert!(rt; buf.as_slice() == b"\xaa".as_slice());
+    assert!(rt; buf.capacity() == capacity);
     Ok(())
 }
 
@@ -43,8 +43,8 @@ fn the_most_formats_of_a_bind(rt: HostRuntime) -> Result<(), AllocError> {
     let mut buf = Vec::from_slice(rt.alloc(), b"\xaa")?;
     let bind = bind_of(most.as_slice(), b"", most.as_slice());
     let answer = encode_frame(&bind, &mut buf);
-    assert_eq!(rt; unless_out_of_memory(answer)?, Ok(()));
-    assert_eq!(rt; buf.len(), 1 + 1 + 262152);
+    assert!(rt; unless_out_of_memory(answer)? == Ok(()));
+    assert!(rt; buf.len() == 1 + 1 + 262152);
     assert!(rt; buf.as_slice().starts_with(b"\xaaB\x00\x04\x00\x08\x00\x00"));
     Ok(())
 }
@@ -59,11 +59,11 @@ fn types_of_a_parse(rt: HostRuntime) -> Result<(), AllocError> {
     };
     let fault = ProtocolFault::TooManyParamTypes(65536);
     let refused = Error::from(fault);
-    assert_eq!(rt; parse.count_fault(), Some(fault));
-    assert_eq!(rt; parse.checked_body_len(), Err(refused));
-    assert_eq!(rt; parse.frame_room(), Err(refused));
+    assert!(rt; parse.count_fault() == Some(fault));
+    assert!(rt; parse.checked_body_len() == Err(refused));
+    assert!(rt; parse.frame_room() == Err(refused));
     // Parts that break a limit are counted too.
-    assert_eq!(rt; parse.body_size_hint(), 1 + 9 + 2 + 262144);
+    assert!(rt; parse.body_size_hint() == 1 + 9 + 2 + 262144);
     assert_refused(&rt, rt.alloc(), &EncodeMessage(parse), fault)
 }
 

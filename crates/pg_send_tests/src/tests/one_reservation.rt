@@ -1,7 +1,7 @@
 //! A run asks once for its answers and once for what its accepted messages add. Where the second
 //! request is refused, each message asks for its own, and no answer changes.
 
-use super::refusing::{MANY, added, refuse_from, refuse_nth, unless_out_of_memory, was_refused};
+use super::refusing::{MANY, refuse_from, refuse_nth, unless_out_of_memory, was_refused};
 use pg_base::io::{Oid, StatementId};
 use pg_base::{Error, ProtocolFault};
 use pg_send::message::{Parse, Query, Sync, TaggedMessage, encode_all};
@@ -52,7 +52,7 @@ fn assert_same_answers(
     let Ok(answers) = run else {
         return Err(AllocError);
     };
-    assert_answers(rt, answers.as_slice(), buf.as_slice())
+    assert_answers(rt, answers.as_slice(), Some(buf.as_slice()))
 }
 
 fn refuse_in_turn(
@@ -71,18 +71,18 @@ fn refuse_in_turn(
         let was_refused = was_refused(alloc);
         let Ok(answers) = run else {
             assert!(rt; was_refused);
-            assert_eq!(rt; buf.as_slice(), old);
-            assert_eq!(rt; buf.capacity(), capacity);
+            assert!(rt; buf.as_slice() == old);
+            assert!(rt; buf.capacity() == capacity);
             continue;
         };
-        assert_answers(rt, answers.as_slice(), added(rt, &buf, old))?;
+        assert_answers(rt, answers.as_slice(), buf.as_slice().strip_prefix(old))?;
         if !was_refused {
-            assert_eq!(rt; buf.capacity(), old.len().saturating_add(SUM));
+            assert!(rt; buf.capacity() == old.len().saturating_add(SUM));
             return Ok(());
         }
         // The first request is for the answers, and there is no third.
-        assert_eq!(rt; nth, 2);
-        assert_eq!(rt; spare, 0);
+        assert!(rt; nth == 2);
+        assert!(rt; spare == 0);
     }
     panic!(rt; "requests without end")
 }
@@ -91,20 +91,20 @@ fn refuse_in_turn(
 fn assert_answers(
     rt: &impl Abort,
     answers: &[Result<(), Error>],
-    added: &[u8],
+    added: Option<&[u8]>,
 ) -> Result<(), AllocError> {
-    assert_eq!(rt; answers.len(), 3);
+    assert!(rt; answers.len() == 3);
     let fault = ProtocolFault::TooManyParamTypes(65536);
-    assert_eq!(rt; answers[1], Err(fault.into()));
+    assert!(rt; answers[1] == Err(fault.into()));
     let frames = match (answers[0].is_ok(), answers[2].is_ok()) {
         (true, true) => QUERY_AND_SYNC,
         (true, false) => QUERY,
         (false, true) => SYNC,
         (false, false) => b"",
     };
-    assert_eq!(rt; added, frames);
-    assert_eq!(rt; unless_out_of_memory(answers[0])?, Ok(()));
-    assert_eq!(rt; unless_out_of_memory(answers[2])?, Ok(()));
+    assert!(rt; added == Some(frames));
+    assert!(rt; unless_out_of_memory(answers[0])? == Ok(()));
+    assert!(rt; unless_out_of_memory(answers[2])? == Ok(()));
     Ok(())
 }
 

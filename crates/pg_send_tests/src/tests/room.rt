@@ -2,7 +2,7 @@
 //! what a byte less does.
 
 use super::kinds::{Check, Expected, check_each_kind};
-use super::refusing::{added, refuse_nth, unless_out_of_memory, was_refused};
+use super::refusing::{refuse_nth, unless_out_of_memory, was_refused};
 use pg_base::Error;
 use pg_send::message::{FrontendMessage, encode_frame};
 use std::alloc::{AllocError, Global};
@@ -33,8 +33,8 @@ fn in_its_room<M: FrontendMessage>(
     refuse_nth(alloc, 1);
     let answer = encode_frame(message, &mut buf);
     assert!(rt; !was_refused(alloc));
-    assert_eq!(rt; answer, Ok(()));
-    assert_eq!(rt; buf.capacity(), room);
+    assert!(rt; answer == Ok(()));
+    assert!(rt; buf.capacity() == room);
     Ok(buf)
 }
 
@@ -51,12 +51,12 @@ fn after_a_byte<M: FrontendMessage>(
     refuse_nth(alloc, 1);
     let answer = encode_frame(message, &mut buf);
     if was_refused(alloc) {
-        assert_eq!(rt; answer, Err(Error::OutOfMemory));
-        assert_eq!(rt; buf.as_slice(), b"\xaa".as_slice());
+        assert!(rt; answer == Err(Error::OutOfMemory));
+        assert!(rt; buf.as_slice() == b"\xaa".as_slice());
         return Ok(());
     }
-    assert_eq!(rt; unless_out_of_memory(answer)?, Ok(()));
-    assert_eq!(rt; added(rt, &buf, b"\xaa"), frame);
+    assert!(rt; unless_out_of_memory(answer)? == Ok(()));
+    assert!(rt; buf.as_slice().strip_prefix(b"\xaa".as_slice()) == Some(frame));
     Ok(())
 }
 

@@ -2,7 +2,7 @@
 //! request for memory refused in turn. A message is accepted where one request alone is refused.
 
 use super::kinds::{LETTERS_AND_BODIES, frame_of, tagged_kinds};
-use super::refusing::{MANY, added, refuse_nth, unless_out_of_memory, was_refused};
+use super::refusing::{MANY, refuse_nth, unless_out_of_memory, was_refused};
 use pg_base::Error;
 use pg_send::message::{CopyFail, Query, TaggedMessage, encode_all};
 use std::alloc::{AllocError, Global};
@@ -33,12 +33,12 @@ fn refuse_in_turn(
         let was_refused = was_refused(alloc);
         let Ok(answers) = run else {
             assert!(rt; was_refused);
-            assert_eq!(rt; buf.as_slice(), old);
+            assert!(rt; buf.as_slice() == old);
             continue;
         };
-        assert_eq!(rt; answers.len(), messages.len());
+        assert!(rt; answers.len() == messages.len());
         assert_all_accepted(rt, answers.as_slice())?;
-        assert_eq!(rt; added(rt, &buf, old), frames);
+        assert!(rt; buf.as_slice().strip_prefix(old) == Some(frames));
         if !was_refused {
             return Ok(());
         }
@@ -48,7 +48,7 @@ fn refuse_in_turn(
 
 fn assert_all_accepted(rt: &impl Abort, answers: &[Result<(), Error>]) -> Result<(), AllocError> {
     for answer in answers {
-        assert_eq!(rt; unless_out_of_memory(*answer)?, Ok(()));
+        assert!(rt; unless_out_of_memory(*answer)? == Ok(()));
     }
     Ok(())
 }
@@ -89,6 +89,6 @@ fn a_run_of_a_thousand(rt: HostRuntime) -> Result<(), AllocError> {
     for _ in 0..1000 {
         frames.extend_from_slice(b"Q\x00\x00\x00\x0dSELECT 1\x00")?;
     }
-    assert_eq!(rt; messages.len(), 1000);
+    assert!(rt; messages.len() == 1000);
     assert_run(&rt, rt.alloc(), messages.as_slice(), frames.as_slice())
 }

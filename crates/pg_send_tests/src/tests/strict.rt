@@ -24,15 +24,15 @@ fn assert_strict(
         match run {
             Err(_) => {
                 assert!(rt; refused);
-                assert_eq!(rt; added, Some(b"".as_slice()));
+                assert!(rt; added == Some(b"".as_slice()));
             }
             Ok(Err(Error::OutOfMemory)) => {
                 assert!(rt; refused && expected.is_ok());
-                assert_eq!(rt; added, Some(b"".as_slice()));
+                assert!(rt; added == Some(b"".as_slice()));
             }
             Ok(answer) => {
-                assert_eq!(rt; answer.err(), expected.err().map(Error::from));
-                assert_eq!(rt; added, Some(expected.unwrap_or(b"")));
+                assert!(rt; answer.err() == expected.err().map(Error::from));
+                assert!(rt; added == Some(expected.unwrap_or(b"")));
             }
         }
         if !refused {

@@ -22,11 +22,11 @@ impl<R: Abort> Check for LengthsNeedNoMemory<'_, R> {
         let hint = message.body_size_hint();
         let room = message.frame_room();
         assert!(rt; !was_refused(self.alloc));
-        assert_eq!(rt; len, expected.body.len());
-        assert_eq!(rt; checked, Ok(expected.body.len()));
-        assert_eq!(rt; count_fault, None);
-        assert_eq!(rt; hint, expected.hint);
-        assert_eq!(rt; room, Ok(expected.hint.saturating_add(5)));
+        assert!(rt; len == expected.body.len());
+        assert!(rt; checked == Ok(expected.body.len()));
+        assert!(rt; count_fault == None);
+        assert!(rt; hint == expected.hint);
+        assert!(rt; room == Ok(expected.hint.saturating_add(5)));
         Ok(())
     }
 }
@@ -57,8 +57,8 @@ impl<R: Abort> Check for FramesInTheirRoom<'_, R> {
 }
 
 fn assert_frame(rt: &impl Abort, frame: &[u8], tag: u8, body: &[u8]) {
-    assert_eq!(rt; frame.first(), Some(&tag));
-    assert_eq!(rt; frame.get(5..), Some(body));
+    assert!(rt; frame.first() == Some(&tag));
+    assert!(rt; frame.get(5..) == Some(body));
 }
 
 fn put_in_its_room<M: FrontendMessage>(
@@ -88,7 +88,7 @@ fn body_in_its_room<M: FrontendMessage>(
     refuse_nth(alloc, 1);
     let answer = message.encode_body(&mut body);
     assert!(rt; !was_refused(alloc));
-    assert_eq!(rt; answer, Ok(()));
+    assert!(rt; answer == Ok(()));
     Ok(body)
 }
 
@@ -144,7 +144,7 @@ fn a_failure_of_a_copy_takes_its_text(rt: HostRuntime) -> Result<(), AllocError>
     refuse_nth(rt.alloc(), 1);
     let fail = CopyFail::new(why);
     assert!(rt; !was_refused(rt.alloc()));
-    assert_eq!(rt; fail.message.as_str(), "no");
+    assert!(rt; fail.message.as_str() == "no");
     Ok(())
 }
 
@@ -157,12 +157,11 @@ fn hints_of_cleartext_passwords(rt: HostRuntime) {
         ("1234567890123456", 32),
     ];
     for (text, hint) in texts {
-        assert_eq!(rt;
-            Password::Cleartext(text).body_size_hint(),
-            hint,
+        assert!(rt;
+            Password::Cleartext(text).body_size_hint() == hint,
             "at {text}"
         );
     }
     let digest = [0; 16];
-    assert_eq!(rt; Password::Md5 { digest }.body_size_hint(), 36);
+    assert!(rt; Password::Md5 { digest }.body_size_hint() == 36);
 }

@@ -69,7 +69,7 @@ fn a_failed_read_is_reported_and_nothing_is_written(rt: HostRuntime) -> Result<(
             let mut output = Vec::new(rt.alloc());
             let result = run(rt.alloc(), mode, &mut reader, &mut output);
             assert!(rt; output.is_empty());
-            assert_eq!(rt; unless_memory(result)?, Err(Fault::Input));
+            assert!(rt; unless_memory(result)? == Err(Fault::Input));
         }
     }
     Ok(())
@@ -91,8 +91,8 @@ fn a_failed_write_leaves_a_beginning_of_the_output(rt: HostRuntime) -> Result<()
         if writer.taken.contains(&b'r') {
             return Err(AllocError.into());
         }
-        assert_eq!(rt; result, Err(Fault::Output));
-        assert_eq!(rt; writer.taken.as_slice(), &whole[..room]);
+        assert!(rt; result == Err(Fault::Output));
+        assert!(rt; writer.taken.as_slice() == &whole[..room]);
     }
     Ok(())
 }
@@ -104,11 +104,11 @@ fn expect_reported(
     reported: &[u8],
     errors: &[u8],
 ) -> Result<(), AllocError> {
-    assert_eq!(rt; status, 3);
+    assert!(rt; status == 3);
     if reported == OUT_OF_MEMORY {
         return Err(AllocError);
     }
-    assert_eq!(rt; reported, errors);
+    assert!(rt; reported == errors);
     Ok(())
 }
 
@@ -171,7 +171,7 @@ fn a_fault_that_cannot_be_reported_keeps_its_status(rt: HostRuntime) -> Result<(
         if status == 3 {
             return Err(AllocError.into());
         }
-        assert_eq!(rt; status, expected);
+        assert!(rt; status == expected);
     }
     Ok(())
 }

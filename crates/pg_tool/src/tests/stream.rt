@@ -46,13 +46,16 @@ fn a_line_for_each_message(rt: HostRuntime) -> Result<(), Fail> {
             &mut errors,
         );
         if errors.as_slice() == OUT_OF_MEMORY {
-            assert_eq!(rt; status, 3);
+            assert!(rt; status == 3);
             assert!(rt; lines.as_bytes().starts_with(output.as_slice()));
             return Err(AllocError.into());
         }
-        assert_eq!(rt; output.as_slice(), lines.as_bytes(), "lines of {stream:?}");
+        assert!(rt;
+            output.as_slice() == lines.as_bytes(),
+            "lines of {stream:?}"
+        );
         assert!(rt; errors.is_empty());
-        assert_eq!(rt; status, 0);
+        assert!(rt; status == 0);
     }
     Ok(())
 }
@@ -119,8 +122,8 @@ fn a_line_is_seen_before_the_next_read(rt: HostRuntime) -> Result<(), Fail> {
         seen: &seen,
     };
     let result = run(rt.alloc(), Mode::Stream, &mut reader, &mut writer);
-    assert_eq!(rt; unless_memory(result)?, Ok(()));
-    assert_eq!(rt; seen.get(), BOTH.len() + "rest 3\n".len());
+    assert!(rt; unless_memory(result)? == Ok(()));
+    assert!(rt; seen.get() == BOTH.len() + "rest 3\n".len());
     Ok(())
 }
 
@@ -133,13 +136,16 @@ fn lines_stand_after_a_failed_read(rt: HostRuntime) -> Result<(), Fail> {
         };
         let mut output = Vec::with_capacity(rt.alloc(), ROOM)?;
         let result = run(rt.alloc(), Mode::Stream, &mut reader, &mut output);
-        assert_eq!(rt; unless_memory(result)?, Err(Fault::Input));
+        assert!(rt; unless_memory(result)? == Err(Fault::Input));
         let lines = match calls {
             0..=5 => "",
             6..=16 => READY,
             _ => BOTH,
         };
-        assert_eq!(rt; output.as_slice(), lines.as_bytes(), "after {calls} bytes");
+        assert!(rt;
+            output.as_slice() == lines.as_bytes(),
+            "after {calls} bytes"
+        );
     }
     Ok(())
 }
@@ -150,8 +156,8 @@ fn a_failed_write_leaves_a_beginning_of_the_lines(rt: HostRuntime) -> Result<(),
         let mut writer = FailingWriter::new(rt.alloc(), room)?;
         let mut input = MESSAGES;
         let result = run(rt.alloc(), Mode::Stream, &mut input, &mut writer);
-        assert_eq!(rt; unless_memory(result)?, Err(Fault::Output));
-        assert_eq!(rt; writer.taken.as_slice(), &BOTH.as_bytes()[..room]);
+        assert!(rt; unless_memory(result)? == Err(Fault::Output));
+        assert!(rt; writer.taken.as_slice() == &BOTH.as_bytes()[..room]);
     }
     Ok(())
 }
@@ -174,7 +180,7 @@ fn a_message_longer_than_a_piece(rt: HostRuntime) -> Result<(), Fail> {
         &mut stream.as_slice(),
         &mut output,
     );
-    assert_eq!(rt; unless_memory(result)?, Ok(()));
-    assert_eq!(rt; output.as_slice(), lines.as_bytes());
+    assert!(rt; unless_memory(result)? == Ok(()));
+    assert!(rt; output.as_slice() == lines.as_bytes());
     Ok(())
 }

@@ -19,8 +19,8 @@ fn names_have_their_lengths(rt: HostRuntime) {
         let statement = StatementId::from_number(number).name_len();
         let portal = PortalId::from_number(number).name_len();
         assert!(rt; !was_refused(rt.alloc()));
-        assert_eq!(rt; statement, length);
-        assert_eq!(rt; portal, length);
+        assert!(rt; statement == length);
+        assert!(rt; portal == length);
     }
 }
 
@@ -38,28 +38,28 @@ fn ids_follow_each_other(rt: HostRuntime) {
         let statement = StatementId::from_number(number).next();
         let portal = PortalId::from_number(number).next();
         assert!(rt; !was_refused(rt.alloc()));
-        assert_eq!(rt; statement.number(), next);
-        assert_eq!(rt; portal.number(), next);
+        assert!(rt; statement.number() == next);
+        assert!(rt; portal.number() == next);
     }
 }
 
 #[test]
 fn unnamed_and_first_ids(rt: HostRuntime) {
-    assert_eq!(rt; StatementId::UNNAMED.number(), 0);
-    assert_eq!(rt; StatementId::NAMED_START.number(), 1);
-    assert_eq!(rt; StatementId::from_number(1), StatementId::NAMED_START);
-    assert_eq!(rt; StatementId::UNNAMED.next(), StatementId::UNNAMED);
-    assert_eq!(rt; PortalId::UNNAMED.number(), 0);
-    assert_eq!(rt; PortalId::NAMED_START.number(), 1);
-    assert_eq!(rt; PortalId::from_number(1), PortalId::NAMED_START);
-    assert_eq!(rt; PortalId::UNNAMED.next(), PortalId::UNNAMED);
+    assert!(rt; StatementId::UNNAMED.number() == 0);
+    assert!(rt; StatementId::NAMED_START.number() == 1);
+    assert!(rt; StatementId::from_number(1) == StatementId::NAMED_START);
+    assert!(rt; StatementId::UNNAMED.next() == StatementId::UNNAMED);
+    assert!(rt; PortalId::UNNAMED.number() == 0);
+    assert!(rt; PortalId::NAMED_START.number() == 1);
+    assert!(rt; PortalId::from_number(1) == PortalId::NAMED_START);
+    assert!(rt; PortalId::UNNAMED.next() == PortalId::UNNAMED);
 }
 
 #[test]
 fn numbers_of_types_formats_and_lengths(rt: HostRuntime) {
-    assert_eq!(rt; Oid::default(), Oid(0));
-    assert_eq!(rt; PgValueFormat::Text as u16, 0);
-    assert_eq!(rt; PgValueFormat::Binary as u16, 1);
-    assert_eq!(rt; MAX_LENGTH, 2147483647);
-    assert_eq!(rt; MAX_BODY, 2147483643);
+    assert!(rt; Oid::default() == Oid(0));
+    assert!(rt; PgValueFormat::Text as u16 == 0);
+    assert!(rt; PgValueFormat::Binary as u16 == 1);
+    assert!(rt; MAX_LENGTH == 2147483647);
+    assert!(rt; MAX_BODY == 2147483643);
 }

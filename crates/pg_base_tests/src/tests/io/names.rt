@@ -115,13 +115,13 @@ fn a_name_in_its_room_needs_no_memory(rt: HostRuntime) -> Result<(), AllocError>
         portal.push_name_reserved(&mut portals);
         let answer = portal.put_name_with_nul(&mut last);
         assert!(rt; !was_refused(rt.alloc()));
-        assert_eq!(rt; answer, Ok(()));
+        assert!(rt; answer == Ok(()));
         let names = (statements.as_slice(), portals.as_slice(), last.as_slice());
         let statement = format!(in rt.alloc(); "sqlx_s_{digits}\0")?;
         let portal = format!(in rt.alloc(); "sqlx_p_{digits}\0")?;
-        assert_eq!(rt; names.0, statement.as_bytes());
-        assert_eq!(rt; names.1, portal.as_bytes());
-        assert_eq!(rt; names.2, portal.as_bytes());
+        assert!(rt; names.0 == statement.as_bytes());
+        assert!(rt; names.1 == portal.as_bytes());
+        assert!(rt; names.2 == portal.as_bytes());
     }
     Ok(())
 }

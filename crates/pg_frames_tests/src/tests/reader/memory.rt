@@ -61,7 +61,7 @@ fn a_million_messages_need_the_room_of_a_piece(rt: HostRuntime) -> Result<(), Fa
         }
     }
     assert!(rt; held.is_some());
-    assert_eq!(rt; count, 1_000_025);
+    assert!(rt; count == 1_000_025);
     assert!(rt; greatest_size(&rt)? < before.saturating_add(MIB));
     Ok(())
 }
@@ -77,7 +77,7 @@ fn an_announced_length_asks_for_no_memory(rt: HostRuntime) -> Result<(), Fail> {
         assert!(rt; reader.next_message()?.is_none());
         reader.feed(&piece)?;
     }
-    assert_eq!(rt; reader.len(), 5 + MIB);
+    assert!(rt; reader.len() == 5 + MIB);
     assert!(rt; greatest_size(&rt)? < before.saturating_add(5 * MIB));
     Ok(())
 }
@@ -93,7 +93,7 @@ fn a_large_block_is_given_back(rt: HostRuntime) -> Result<(), Fail> {
     }
     assert!(rt; before.saturating_add(16 * MIB) < size(&rt)?);
     let message = reader.next_message()?.ok_or("a whole message")?;
-    assert_eq!(rt; message.contents.len(), 16 * MIB);
+    assert!(rt; message.contents.len() == 16 * MIB);
     drop(message);
     assert!(rt; reader.is_empty());
     // the next message needs no large block

@@ -9,58 +9,85 @@ use pg_base::{Error, ProtocolFault};
 use pg_receive::message::{
     Authentication, AuthenticationSaslContinue, AuthenticationSaslFinal, BackendMessage,
 };
-use std::alloc::AllocError;
+use std::alloc::{AllocError, Global};
+use std::process::Abort;
 use std::test::Fail;
 
-fn request_of(rt: &HostRuntime, body: &'static [u8]) -> Result<Authentication, Error>
+fn request_of(alloc: Global, body: &'static [u8]) -> Result<Authentication, Error>
     requires { length body.now < 100 }
 {
-    Authentication::decode_body(rt.alloc(), Bytes::from_static(body))
+    Authentication::decode_body(alloc, Bytes::from_static(body))
 }
 
 #[test]
 fn requests(rt: HostRuntime) -> Result<(), Fail> {
-    assert!(rt; matches!(request_of(&rt, b"\0\0\0\0\xFF")?, Authentication::Ok));
+    assert!(rt; matches!(request_of(rt.alloc(), b"\0\0\0\0\xFF")?, Authentication::Ok));
     assert!(rt;
         matches!(
-            request_of(&rt, b"\0\0\0\x03")?,
+            request_of(rt.alloc(), b"\0\0\0\x03")?,
             Authentication::CleartextPassword
         )
     );
-    let Authentication::Md5Password(password) = request_of(&rt, b"\0\0\0\x05\x01\x02\x03\x04\xFF")?
+    Ok(())
+}
+
+#[test]
+fn a_request_for_an_md5_password(rt: HostRuntime) -> Result<(), Fail> {
+    let Authentication::Md5Password(password) = request_of(
+        rt.alloc(),
+        b"\0\0\0\x05\x01\x02\x03\x04\xFF",
+    )?
     else {
         panic!(rt; "no MD5 password is wanted");
     };
-    assert_eq!(rt; password.salt, [1, 2, 3, 4]);
-    let Authentication::SaslContinue(challenge) = request_of(&rt, b"\0\0\0\x0Br=a,s=QUJD,i=0")?
+    assert!(rt; password.salt == [1, 2, 3, 4]);
+    Ok(())
+}
+
+#[test]
+fn requests_of_a_sasl_exchange(rt: HostRuntime) -> Result<(), Fail> {
+    let Authentication::SaslContinue(challenge) = request_of(
+        rt.alloc(),
+        b"\0\0\0\x0Br=a,s=QUJD,i=0",
+    )?
     else {
         panic!(rt; "no challenge");
     };
-    assert_eq!(rt; challenge.nonce.as_str(), "a");
-    assert_eq!(rt; challenge.salt.as_slice(), b"ABC".as_slice());
-    assert_eq!(rt; challenge.iterations, 0);
-    assert_eq!(rt; challenge.message.as_str(), "r=a,s=QUJD,i=0");
-    let Authentication::SaslFinal(last) = request_of(&rt, b"\0\0\0\x0Cv=QUI=")? else {
+    assert_challenge(&rt, &challenge, "a", b"ABC", 0);
+    assert!(rt; challenge.message.as_str() == "r=a,s=QUJD,i=0");
+    Ok(())
+}
+
+#[test]
+fn the_end_of_a_sasl_exchange(rt: HostRuntime) -> Result<(), Fail> {
+    let Authentication::SaslFinal(last) = request_of(rt.alloc(), b"\0\0\0\x0Cv=QUI=")? else {
         panic!(rt; "no server-final-message");
     };
-    assert_eq!(rt; last.verifier.as_slice(), b"AB".as_slice());
+    assert!(rt; last.verifier.as_slice() == b"AB".as_slice());
     Ok(())
 }
 
 #[test]
 fn mechanisms(rt: HostRuntime) -> Result<(), Fail> {
-    let Authentication::Sasl(sasl) = request_of(&rt, b"\0\0\0\x0ASCRAM-SHA-256\0\xFF\0PLAIN\0\0")?
-    else {
+    let body = b"\0\0\0\x0ASCRAM-SHA-256\0\xFF\0PLAIN\0\0";
+    assert_mechanisms(&rt, rt.alloc(), body, [Some("SCRAM-SHA-256"), None, None])?;
+    assert_mechanisms(&rt, rt.alloc(), b"\0\0\0\x0A", [None, None, None])
+}
+
+// What the iterator over mechanisms gives first.
+fn assert_mechanisms(
+    rt: &impl Abort,
+    alloc: Global,
+    body: &'static [u8],
+    due: [Option<&str>; 3],
+) -> Result<(), Fail>
+    requires { length body.now < 100 }
+{
+    let Authentication::Sasl(sasl) = request_of(alloc, body)? else {
         panic!(rt; "no SASL exchange");
     };
     let mut names = sasl.mechanisms();
-    assert_eq!(rt; names.next(), Some("SCRAM-SHA-256"));
-    assert_eq!(rt; names.next(), None);
-    assert_eq!(rt; names.next(), None);
-    let Authentication::Sasl(sasl) = request_of(&rt, b"\0\0\0\x0A")? else {
-        panic!(rt; "no SASL exchange");
-    };
-    assert_eq!(rt; sasl.mechanisms().next(), None);
+    assert!(rt; [names.next(), names.next(), names.next()] == due);
     Ok(())
 }
 
@@ -74,8 +101,8 @@ fn refused_requests(rt: HostRuntime) {
     ];
     for (body, fault) in table {
         assert!(rt; body.len() < 100);
-        let refused = request_of(&rt, body);
-        assert_eq!(rt; refused.err(), Some(fault.into()), "at {body:?}");
+        let refused = request_of(rt.alloc(), body);
+        assert!(rt; refused.err() == Some(fault.into()), "at {body:?}");
     }
 }
 
@@ -92,12 +119,23 @@ fn challenges(rt: HostRuntime) -> Result<(), Fail> {
     for (data, nonce, salt, iterations) in table {
         assert!(rt; data.len() < 100);
         let challenge = AuthenticationSaslContinue::decode(rt.alloc(), Bytes::from_static(data))?;
-        assert_eq!(rt; challenge.nonce.as_str(), nonce, "at {data:?}");
-        assert_eq!(rt; challenge.salt.as_slice(), salt, "at {data:?}");
-        assert_eq!(rt; challenge.iterations, iterations, "at {data:?}");
-        assert_eq!(rt; challenge.message.as_bytes(), data, "at {data:?}");
+        assert_challenge(&rt, &challenge, nonce, salt, iterations);
+        assert!(rt; challenge.message.as_bytes() == data);
     }
     Ok(())
+}
+
+fn assert_challenge(
+    rt: &impl Abort,
+    challenge: &AuthenticationSaslContinue,
+    nonce: &str,
+    salt: &[u8],
+    iterations: u32,
+) {
+    let message = challenge.message.as_str();
+    assert!(rt; challenge.nonce.as_str() == nonce, "at {message}");
+    assert!(rt; challenge.salt.as_slice() == salt, "at {message}");
+    assert!(rt; challenge.iterations == iterations, "at {message}");
 }
 
 #[test]
@@ -115,9 +153,8 @@ fn refused_challenges(rt: HostRuntime) -> Result<(), AllocError> {
             rt.alloc(),
             Bytes::from_static(data),
         ).err();
-        assert_eq!(rt;
-            unless_out_of_memory(refused)?,
-            Some(fault.into()),
+        assert!(rt;
+            unless_out_of_memory(refused)? == Some(fault.into()),
             "at {data:?}"
         );
     }
@@ -134,7 +171,7 @@ fn server_final_messages(rt: HostRuntime) -> Result<(), Fail> {
     for (data, verifier) in table {
         assert!(rt; data.len() < 100);
         let last = AuthenticationSaslFinal::decode(rt.alloc(), Bytes::from_static(data))?;
-        assert_eq!(rt; last.verifier.as_slice(), verifier, "at {data:?}");
+        assert!(rt; last.verifier.as_slice() == verifier, "at {data:?}");
     }
     let table: [(&'static [u8], ProtocolFault); 2] = [
         (b"v", ProtocolFault::ShortSaslItem),
@@ -143,9 +180,8 @@ fn server_final_messages(rt: HostRuntime) -> Result<(), Fail> {
     for (data, fault) in table {
         assert!(rt; data.len() < 100);
         let refused = AuthenticationSaslFinal::decode(rt.alloc(), Bytes::from_static(data)).err();
-        assert_eq!(rt;
-            unless_out_of_memory(refused)?,
-            Some(fault.into()),
+        assert!(rt;
+            unless_out_of_memory(refused)? == Some(fault.into()),
             "at {data:?}"
         );
     }

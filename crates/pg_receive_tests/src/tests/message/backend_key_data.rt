@@ -9,8 +9,8 @@ use std::test::Fail;
 fn process_and_secret(rt: HostRuntime) -> Result<(), Fail> {
     let body = Bytes::from_static(&[0x00, 0x00, 0x27, 0xC6, 0x89, 0x52, 0xC5, 0x2B]);
     let key = BackendKeyData::decode_body(rt.alloc(), body)?;
-    assert_eq!(rt; key.process_id, 10182);
-    assert_eq!(rt; key.secret_key, 2303903019);
+    assert!(rt; key.process_id == 10182);
+    assert!(rt; key.secret_key == 2303903019);
     Ok(())
 }
 
@@ -22,8 +22,5 @@ fn half_a_secret(rt: HostRuntime) {
         needed: 4,
         got: 2,
     };
-    assert_eq!(rt;
-        BackendKeyData::decode_body(rt.alloc(), body),
-        Err(Error::from(fault))
-    );
+    assert!(rt; BackendKeyData::decode_body(rt.alloc(), body) == Err(Error::from(fault)));
 }

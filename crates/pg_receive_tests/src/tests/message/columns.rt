@@ -13,9 +13,9 @@ const TWO: &[u8] =
 fn names_in_order(rt: HostRuntime) -> Result<(), Fail> {
     assert!(rt; TWO.len() < 100);
     let columns = Columns::read(TWO)?;
-    assert_eq!(rt; columns.len(), 2);
+    assert!(rt; columns.len() == 2);
     for (column, name) in columns.zip(["id", ""]) {
-        assert_eq!(rt; column.name, name);
+        assert!(rt; column.name == name);
     }
     Ok(())
 }
@@ -24,12 +24,12 @@ fn names_in_order(rt: HostRuntime) -> Result<(), Fail> {
 fn numbers_of_a_column(rt: HostRuntime) -> Result<(), Fail> {
     assert!(rt; TWO.len() < 100);
     let id = Columns::read(TWO)?.next().ok_or("a column")?;
-    assert_eq!(rt; id.relation_id, Some(Oid(16390)));
-    assert_eq!(rt; id.relation_attribute_no, Some(1));
-    assert_eq!(rt; id.data_type_id, Oid(23));
-    assert_eq!(rt; id.data_type_size, 4);
-    assert_eq!(rt; id.type_modifier, -1);
-    assert_eq!(rt; id.format, 1);
+    assert!(rt; id.relation_id == Some(Oid(16390)));
+    assert!(rt; id.relation_attribute_no == Some(1));
+    assert!(rt; id.data_type_id == Oid(23));
+    assert!(rt; id.data_type_size == 4);
+    assert!(rt; id.type_modifier == -1);
+    assert!(rt; id.format == 1);
     Ok(())
 }
 
@@ -37,11 +37,11 @@ fn numbers_of_a_column(rt: HostRuntime) -> Result<(), Fail> {
 fn columns_by_index(rt: HostRuntime) -> Result<(), Fail> {
     assert!(rt; TWO.len() < 100);
     let mut columns = Columns::read(TWO)?;
-    assert_eq!(rt; columns.get(0).ok_or("the first")?.name, "id");
-    assert_eq!(rt; columns.get(1).ok_or("the second")?.name, "");
+    assert!(rt; columns.get(0).ok_or("the first")?.name == "id");
+    assert!(rt; columns.get(1).ok_or("the second")?.name == "");
     assert!(rt; columns.get(2).is_none());
     columns.next().ok_or("a column")?;
-    assert_eq!(rt; columns.get(0).ok_or("the one left")?.name, "");
+    assert!(rt; columns.get(0).ok_or("the one left")?.name == "");
     assert!(rt; columns.get(1).is_none());
     Ok(())
 }
@@ -50,12 +50,12 @@ fn columns_by_index(rt: HostRuntime) -> Result<(), Fail> {
 fn columns_one_by_one(rt: HostRuntime) -> Result<(), Fail> {
     assert!(rt; TWO.len() < 100);
     let mut columns = ColumnReader::new(TWO)?;
-    assert_eq!(rt; columns.len(), 2);
+    assert!(rt; columns.len() == 2);
     let id = columns.next_column()?.ok_or("the first")?;
-    assert_eq!(rt; id.name, "id");
-    assert_eq!(rt; id.type_modifier, -1);
-    assert_eq!(rt; columns.len(), 1);
-    assert_eq!(rt; columns.next_column()?.ok_or("the second")?.name, "");
+    assert!(rt; id.name == "id");
+    assert!(rt; id.type_modifier == -1);
+    assert!(rt; columns.len() == 1);
+    assert!(rt; columns.next_column()?.ok_or("the second")?.name == "");
     assert!(rt; columns.next_column()?.is_none());
     Ok(())
 }
@@ -66,11 +66,11 @@ fn columns_until_one_is_broken(rt: HostRuntime) -> Result<(), Fail> {
         b"\0\x02a\0\0\0\0\0\0\0\0\0\0\x17\0\x04\xFF\xFF\xFF\xFF\0\0bbbbbbbbbbbbbbbbbbbb".as_slice();
     assert!(rt; body.len() < 100);
     let mut columns = ColumnReader::new(body)?;
-    assert_eq!(rt; columns.next_column()?.ok_or("the first")?.name, "a");
+    assert!(rt; columns.next_column()?.ok_or("the first")?.name == "a");
     let fault = ProtocolFault::MissingNul { at: 22 };
-    assert_eq!(rt; columns.next_column().err(), Some(fault));
-    assert_eq!(rt; columns.next_column().err(), Some(fault));
-    assert_eq!(rt; columns.len(), 1);
+    assert!(rt; columns.next_column().err() == Some(fault));
+    assert!(rt; columns.next_column().err() == Some(fault));
+    assert!(rt; columns.len() == 1);
     assert!(rt; ColumnReader::new(&body[..21]).is_err());
     Ok(())
 }
@@ -89,6 +89,6 @@ fn broken_columns(rt: HostRuntime) {
     ];
     for (body, fault) in table {
         assert!(rt; body.len() < 100);
-        assert_eq!(rt; Columns::read(body).err(), Some(fault), "at {body:?}");
+        assert!(rt; Columns::read(body).err() == Some(fault), "at {body:?}");
     }
 }

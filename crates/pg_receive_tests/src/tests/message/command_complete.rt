@@ -18,7 +18,7 @@ fn rows_of_tags(rt: HostRuntime) -> Result<(), Fail> {
     for (tag, rows) in table {
         assert!(rt; tag.len() < 100);
         let done = CommandComplete::decode_body(rt.alloc(), Bytes::from_static(tag))?;
-        assert_eq!(rt; done.rows_affected(), rows, "at {tag:?}");
+        assert!(rt; done.rows_affected() == rows, "at {tag:?}");
     }
     Ok(())
 }

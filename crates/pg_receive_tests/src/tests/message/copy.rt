@@ -11,7 +11,7 @@ fn data_and_end(rt: HostRuntime) -> Result<(), Fail> {
         rt.alloc(),
         Bytes::from_static(b"a\tb\n"),
     )?;
-    assert_eq!(rt; part.0.as_slice(), b"a\tb\n".as_slice());
+    assert!(rt; part.0.as_slice() == b"a\tb\n".as_slice());
     let _done = CopyDone::decode_body(rt.alloc(), Bytes::from_static(b"X"))?;
     Ok(())
 }
@@ -20,12 +20,12 @@ fn data_and_end(rt: HostRuntime) -> Result<(), Fail> {
 fn formats(rt: HostRuntime) -> Result<(), Fail> {
     let body = Bytes::from_static(&[1, 0, 2, 0, 0, 0, 1]);
     let CopyOutResponse(out) = CopyOutResponse::decode_body(rt.alloc(), body)?;
-    assert_eq!(rt; out.format, 1);
-    assert_eq!(rt; out.num_columns, 2);
-    assert_eq!(rt; out.format_codes.as_slice(), [0, 1].as_slice());
+    assert!(rt; out.format == 1);
+    assert!(rt; out.num_columns == 2);
+    assert!(rt; out.format_codes.as_slice() == [0, 1].as_slice());
     let body = Bytes::from_static(&[0, 0xFF, 0xFF]);
     let CopyInResponse(input) = CopyInResponse::decode_body(rt.alloc(), body)?;
-    assert_eq!(rt; input.num_columns, -1);
+    assert!(rt; input.num_columns == -1);
     assert!(rt; input.format_codes.is_empty());
     Ok(())
 }
@@ -42,5 +42,5 @@ fn too_few_codes(rt: HostRuntime) {
     let Err(error) = CopyInResponse::decode_body(rt.alloc(), body) else {
         panic!(rt; "formats are read");
     };
-    assert_eq!(rt; error, Error::from(fault));
+    assert!(rt; error == Error::from(fault));
 }

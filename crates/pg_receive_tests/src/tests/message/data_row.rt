@@ -26,9 +26,9 @@ fn assert_cells(
     requires { length body.now < 100 }
 {
     let row = DataRow::decode_body(alloc, Bytes::from_static(body))?;
-    assert_eq!(rt; row.len(), cells.len());
+    assert!(rt; row.len() == cells.len());
     for (index, cell) in cells.iter().enumerate() {
-        assert_eq!(rt; row.get(index), *cell, "at {index}");
+        assert!(rt; row.get(index) == *cell, "at {index}");
     }
     Ok(())
 }
@@ -84,9 +84,8 @@ fn broken_rows(rt: HostRuntime) -> Result<(), AllocError> {
         assert!(rt; body.len() < 200);
         let fault = ProtocolFault::Short { at, needed, got };
         let error = DataRow::decode_body(rt.alloc(), Bytes::from_static(body)).err();
-        assert_eq!(rt;
-            unless_out_of_memory(error)?,
-            Some(Error::from(fault)),
+        assert!(rt;
+            unless_out_of_memory(error)? == Some(Error::from(fault)),
             "at {body:?}"
         );
     }
@@ -106,6 +105,6 @@ fn too_few_cells(rt: HostRuntime) {
         let Err(error) = DataRow::decode_body(rt.alloc(), Bytes::from_static(body)) else {
             panic!(rt; "a row is read");
         };
-        assert_eq!(rt; error, Error::from(fault), "at {body:?}");
+        assert!(rt; error == Error::from(fault), "at {body:?}");
     }
 }

@@ -12,18 +12,18 @@ fn channel_and_payload(rt: HostRuntime) -> Result<(), Fail> {
     let notification = Notification::decode_body(rt.alloc(), Bytes::from_static(BODY))?;
     let other = notification.clone()?;
     drop(notification);
-    assert_eq!(rt; other.process_id(), 0x34201002);
-    assert_eq!(rt; other.channel(), b"TEST-CHANNEL".as_slice());
-    assert_eq!(rt; other.payload(), b"THIS IS A TEST".as_slice());
+    assert!(rt; other.process_id() == 0x34201002);
+    assert!(rt; other.channel() == b"TEST-CHANNEL".as_slice());
+    assert!(rt; other.payload() == b"THIS IS A TEST".as_slice());
     Ok(())
 }
 
 #[test]
 fn a_borrowed_notification(rt: HostRuntime) -> Result<(), Fail> {
     let notification = NotificationRef::read(BODY)?;
-    assert_eq!(rt; notification.process_id, 0x34201002);
-    assert_eq!(rt; notification.channel, b"TEST-CHANNEL".as_slice());
-    assert_eq!(rt; notification.payload, b"THIS IS A TEST".as_slice());
+    assert!(rt; notification.process_id == 0x34201002);
+    assert!(rt; notification.channel == b"TEST-CHANNEL".as_slice());
+    assert!(rt; notification.payload == b"THIS IS A TEST".as_slice());
     Ok(())
 }
 
@@ -31,8 +31,8 @@ fn a_borrowed_notification(rt: HostRuntime) -> Result<(), Fail> {
 fn channel_of_any_bytes(rt: HostRuntime) -> Result<(), Fail> {
     let body = Bytes::from_static(&[0x00, 0x00, 0x00, 0x01, 0xFF, 0x00, 0x00]);
     let notification = Notification::decode_body(rt.alloc(), body)?;
-    assert_eq!(rt; notification.process_id(), 1);
-    assert_eq!(rt; notification.channel(), [0xFF].as_slice());
+    assert!(rt; notification.process_id() == 1);
+    assert!(rt; notification.channel() == [0xFF].as_slice());
     assert!(rt; notification.payload().is_empty());
     Ok(())
 }
@@ -58,6 +58,9 @@ fn broken_bodies(rt: HostRuntime) {
     for (body, fault) in table {
         assert!(rt; body.len() < 200);
         let notification = Notification::decode_body(rt.alloc(), Bytes::from_static(body));
-        assert_eq!(rt; notification.err(), Some(Error::from(fault)), "at {body:?}");
+        assert!(rt;
+            notification.err() == Some(Error::from(fault)),
+            "at {body:?}"
+        );
     }
 }

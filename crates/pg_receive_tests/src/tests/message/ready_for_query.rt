@@ -14,8 +14,8 @@ fn letters_of_statuses(rt: HostRuntime) -> Result<(), Fail> {
     for (body, status, letter) in table {
         assert!(rt; body.len() < 200);
         let ready = ReadyForQuery::decode_body(rt.alloc(), Bytes::from_static(body))?;
-        assert_eq!(rt; ready.transaction_status, status, "at {body:?}");
-        assert_eq!(rt; ready.transaction_status as u8, letter, "at {body:?}");
+        assert!(rt; ready.transaction_status == status, "at {body:?}");
+        assert!(rt; ready.transaction_status as u8 == letter, "at {body:?}");
     }
     Ok(())
 }

@@ -18,25 +18,21 @@ fn words_of_refusals(rt: HostRuntime) -> Result<(), Fail> {
         panic!(rt; "a status is read as a row");
     };
     let words = format!(in rt.alloc(); "{error}")?;
-    assert_eq!(rt;
-        words.as_str(),
-        "Postgres protocol error: expected DataRow, got ReadyForQuery"
-    );
+    assert!(rt; words.as_str() == "Postgres protocol error: expected DataRow, got ReadyForQuery");
     let Err(error) = status(b"I").decode::<BackendKeyData>(rt.alloc()) else {
         panic!(rt; "a status is read as a key");
     };
     let words = format!(in rt.alloc(); "{error}")?;
-    assert_eq!(rt;
-        words.as_str(),
-        "Postgres protocol error: expected BackendKeyData, got ReadyForQuery"
+    assert!(rt;
+        words.as_str() == "Postgres protocol error: expected BackendKeyData, got ReadyForQuery"
     );
     let Err(error) = status(b"Q").decode::<ReadyForQuery>(rt.alloc()) else {
         panic!(rt; "Q is no status");
     };
     let words = format!(in rt.alloc(); "{error}")?;
-    assert_eq!(rt;
-        words.as_str(),
-        "Postgres protocol error (reading ReadyForQuery): unknown transaction status: 81"
+    assert!(rt;
+        words.as_str()
+            == "Postgres protocol error (reading ReadyForQuery): unknown transaction status: 81"
     );
     Ok(())
 }
@@ -44,6 +40,6 @@ fn words_of_refusals(rt: HostRuntime) -> Result<(), Fail> {
 #[test]
 fn message_of_its_kind(rt: HostRuntime) -> Result<(), Fail> {
     let ready = status(b"I").decode::<ReadyForQuery>(rt.alloc())?;
-    assert_eq!(rt; ready.transaction_status as u8, b'I');
+    assert!(rt; ready.transaction_status as u8 == b'I');
     Ok(())
 }

@@ -14,12 +14,12 @@ const TWO_CELLS: &[u8] = b"\0\x02\0\0\0\x02ab\xFF\xFF\xFF\xFF";
 const ONE_CELL: &[u8] = b"\0\x01\0\0\0\0";
 
 fn assert_row(rt: &impl Abort, row: &Row<'_>, cells: &[Option<&[u8]>]) {
-    assert_eq!(rt; row.len(), cells.len());
+    assert!(rt; row.len() == cells.len());
     for (index, cell) in cells.iter().enumerate() {
-        assert_eq!(rt; row.get(index), *cell, "at {index}");
+        assert!(rt; row.get(index) == *cell, "at {index}");
     }
     for (cell, wanted) in row.cells().zip(cells.iter()) {
-        assert_eq!(rt; cell, *wanted);
+        assert!(rt; cell == *wanted);
     }
 }
 
@@ -43,7 +43,7 @@ fn a_row_after_a_fault(rt: HostRuntime) -> Result<(), Fail> {
     };
     let mut index = RowIndex::new(rt.alloc());
     let error = index.read(&[0, 2, 0, 0, 0, 0]).err();
-    assert_eq!(rt; unless_out_of_memory(error)?, Some(Error::from(fault)));
+    assert!(rt; unless_out_of_memory(error)? == Some(Error::from(fault)));
     assert_row(&rt, &index.read(ONE_CELL)?, &[Some(b"")]);
     Ok(())
 }

@@ -5,7 +5,7 @@ ghost use Rattle.std.specs.Prelude.{◌<◌, length};
 use bytes::Bytes;
 use pg_base::io::ProtocolDecode;
 use pg_base::{Error, ProtocolFault};
-use pg_receive::message::{BackendMessage, Notice, PgSeverity};
+use pg_response::message::{BackendMessage, Notice, PgSeverity};
 use std::alloc::Global;
 use std::process::Abort;
 use std::test::Fail;
@@ -20,8 +20,8 @@ fn assert_notice(
     requires { length body.now < 200 }
 {
     let notice = Notice::decode(alloc, Bytes::from_static(body))?;
-    assert_eq!(rt; notice.severity(), severity, "at {body:?}");
-    assert_eq!(rt; [notice.message(), notice.code()], texts, "at {body:?}");
+    assert!(rt; notice.severity() == severity, "at {body:?}");
+    assert!(rt; [notice.message(), notice.code()] == texts, "at {body:?}");
     Ok(())
 }
 
@@ -60,28 +60,34 @@ fn notice_of(alloc: Global, body: &'static [u8]) -> Result<Notice, Error>
 fn texts_of_a_letter(rt: HostRuntime) -> Result<(), Fail> {
     let notice = notice_of(rt.alloc(), b"Mfoo\0Mbar\0C1\0VERROR\0\0")?;
     let texts = [notice.get(b'M'), notice.get(b'V'), notice.get(b'D')];
-    assert_eq!(rt; texts, [Some("foo"), Some("ERROR"), None]);
+    assert!(rt; texts == [Some("foo"), Some("ERROR"), None]);
     Ok(())
 }
 
 #[test]
 fn message_after_a_first_field(rt: HostRuntime) -> Result<(), Fail> {
     let notice = notice_of(rt.alloc(), b"Mfoo\0M\0C1\0Mbar\0\0")?;
-    assert_eq!(rt; notice.message(), "bar");
-    assert_eq!(rt; notice.get(b'M'), Some("foo"));
+    assert!(rt; notice.message() == "bar");
+    assert!(rt; notice.get(b'M') == Some("foo"));
     Ok(())
 }
 
 #[test]
 fn bytes_that_are_no_text(rt: HostRuntime) -> Result<(), Fail> {
     let notice = notice_of(rt.alloc(), b"X\xFF\0Xa\0\0")?;
-    assert_eq!(rt; notice.get_raw(b'X'), Some(b"\xFF".as_slice()));
-    assert_eq!(rt; notice.get(b'X'), None);
+    assert!(rt; notice.get_raw(b'X') == Some(b"\xFF".as_slice()));
+    assert!(rt; notice.get(b'X') == None);
+    Ok(())
+}
+
+#[test]
+fn fields_in_their_order(rt: HostRuntime) -> Result<(), Fail> {
+    let notice = notice_of(rt.alloc(), b"X\xFF\0Xa\0\0")?;
     let mut fields = notice.fields();
-    assert_eq!(rt; fields.next(), Some((b'X', b"\xFF".as_slice())));
-    assert_eq!(rt; fields.next(), Some((b'X', b"a".as_slice())));
-    assert_eq!(rt; fields.next(), None);
-    assert_eq!(rt; fields.next(), None);
+    let (first, second) = (fields.next(), fields.next());
+    assert!(rt; first == Some((b'X', b"\xFF".as_slice())));
+    assert!(rt; second == Some((b'X', b"a".as_slice())));
+    assert!(rt; [fields.next(), fields.next()] == [None, None]);
     Ok(())
 }
 
@@ -98,18 +104,18 @@ fn fields_after_the_sixteenth(rt: HostRuntime) -> Result<(), Fail> {
         notice.get(b'q'),
         notice.get(b'r'),
     ];
-    assert_eq!(rt; texts, [Some("0"), Some("15"), Some("16"), None]);
-    assert_eq!(rt; notice.get_raw(b'r'), Some(b"\xFF".as_slice()));
-    assert_eq!(rt; notice.get_raw(b's'), None);
-    assert_eq!(rt; notice.get_raw(0), None);
+    assert!(rt; texts == [Some("0"), Some("15"), Some("16"), None]);
+    assert!(rt; notice.get_raw(b'r') == Some(b"\xFF".as_slice()));
+    assert!(rt; notice.get_raw(b's') == None);
+    assert!(rt; notice.get_raw(0) == None);
     Ok(())
 }
 
 #[test]
 fn a_letter_nul_ends_the_fields(rt: HostRuntime) -> Result<(), Fail> {
     let notice = notice_of(rt.alloc(), b"Da\0\0Hb\0\0")?;
-    assert_eq!(rt; [notice.get(b'D'), notice.get(b'H')], [Some("a"), None]);
-    assert_eq!(rt; notice.get_raw(0), None);
+    assert!(rt; [notice.get(b'D'), notice.get(b'H')] == [Some("a"), None]);
+    assert!(rt; notice.get_raw(0) == None);
     Ok(())
 }
 
@@ -122,7 +128,7 @@ fn what_is_refused(rt: HostRuntime) {
     for (body, fault) in table {
         assert!(rt; body.len() < 200);
         let refused = Notice::decode(rt.alloc(), Bytes::from_static(body));
-        assert_eq!(rt; refused.err(), Some(fault.into()), "at {body:?}");
+        assert!(rt; refused.err() == Some(fault.into()), "at {body:?}");
     }
 }
 
@@ -133,10 +139,40 @@ fn words_of_severities(rt: HostRuntime) -> Result<(), Fail> {
     ];
     for (number, word) in words.iter().enumerate() {
         let severity = PgSeverity::try_from(*word)?;
-        assert_eq!(rt; severity as usize, number, "at {word}");
-        assert_eq!(rt; severity.is_error(), number < 3, "at {word}");
+        assert!(rt; severity as usize == number, "at {word}");
+        assert!(rt; severity.is_error() == (number < 3), "at {word}");
     }
+    Ok(())
+}
+
+#[test]
+fn a_word_in_lower_case_is_no_severity(rt: HostRuntime) {
     let refused = PgSeverity::try_from("error");
-    assert_eq!(rt; refused, Err(ProtocolFault::UnknownSeverity.into()));
+    assert!(rt; refused == Err(ProtocolFault::UnknownSeverity.into()));
+}
+
+// The message and the code of each front of a notice.
+#[test]
+fn messages_and_codes(rt: HostRuntime) -> Result<(), Fail> {
+    let body: &'static [u8] = b"Mfoo\0Mbar\0C1\0VERROR\0\0";
+    assert!(rt; body.len() < 100);
+    let table = [
+        (0, 4, "", ""),
+        (5, 9, "foo", ""),
+        (10, 12, "bar", ""),
+        (13, 21, "bar", "1"),
+    ];
+    for (first, last, message, code) in table {
+        assert!(rt; last <= body.len());
+        for len in first..last + 1 {
+            assert_notice(
+                &rt,
+                rt.alloc(),
+                &body[..len],
+                PgSeverity::Log,
+                [message, code],
+            )?;
+        }
+    }
     Ok(())
 }

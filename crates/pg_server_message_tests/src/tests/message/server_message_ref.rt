@@ -35,7 +35,7 @@ fn tag_of(message: &ServerMessageRef<'_>) -> u8 {
 fn each_kind_is_its_case(rt: HostRuntime) -> Result<(), Fail> {
     for (tag, body) in bodies() {
         let format = BackendMessageFormat::try_from_u8(tag)?;
-        assert_eq!(rt; tag_of(&ServerMessageRef::read(format, body)?), tag);
+        assert!(rt; tag_of(&ServerMessageRef::read(format, body)?) == tag);
     }
     Ok(())
 }
@@ -47,9 +47,9 @@ fn a_row_gives_its_cells(rt: HostRuntime) -> Result<(), Fail> {
     let ServerMessageRef::DataRow(mut row) = message else {
         panic!(rt; "no row");
     };
-    assert_eq!(rt; row.next_cell()?, Some(Some(b"1".as_slice())));
-    assert_eq!(rt; row.next_cell()?, Some(None));
-    assert_eq!(rt; row.next_cell()?, None);
+    assert!(rt; row.next_cell()? == Some(Some(b"1".as_slice())));
+    assert!(rt; row.next_cell()? == Some(None));
+    assert!(rt; row.next_cell()? == None);
     Ok(())
 }
 
@@ -60,7 +60,7 @@ fn a_body_that_no_form_reads_is_given_whole(rt: HostRuntime) -> Result<(), Fail>
     let ServerMessageRef::Authentication(given) = message else {
         panic!(rt; "no request for a password");
     };
-    assert_eq!(rt; given, body);
+    assert!(rt; given == body);
     Ok(())
 }
 
@@ -68,7 +68,7 @@ fn a_body_that_no_form_reads_is_given_whole(rt: HostRuntime) -> Result<(), Fail>
 fn a_kind_whose_bodies_are_empty_has_any(rt: HostRuntime) -> Result<(), Fail> {
     for tag in [b'1', b'2', b'3', b'I', b'c', b'n', b's'] {
         let format = BackendMessageFormat::try_from_u8(tag)?;
-        assert_eq!(rt; tag_of(&ServerMessageRef::read(format, b"more")?), tag);
+        assert!(rt; tag_of(&ServerMessageRef::read(format, b"more")?) == tag);
     }
     Ok(())
 }
@@ -79,7 +79,7 @@ fn a_fault_is_that_of_the_form(rt: HostRuntime) {
     let Err(fault) = status else {
         panic!(rt; "Q is no status");
     };
-    assert_eq!(rt; fault, ProtocolFault::UnknownStatus(b'Q'));
+    assert!(rt; fault == ProtocolFault::UnknownStatus(b'Q'));
     let row = ServerMessageRef::read(BackendMessageFormat::DataRow, b"\0\x01\0\0");
     let Err(fault) = row else {
         panic!(rt; "a row without its cell is read");
@@ -89,5 +89,5 @@ fn a_fault_is_that_of_the_form(rt: HostRuntime) {
         needed: 4,
         got: 2,
     };
-    assert_eq!(rt; fault, expected);
+    assert!(rt; fault == expected);
 }

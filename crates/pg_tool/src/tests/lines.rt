@@ -1,18 +1,11 @@
 //! What lines are, what each spells, and the words and statuses of faults.
 
-use crate::{
+use crate::tests::unless_memory;
+use pg_lines::{
     Fault, Hex, Lines, TaggedBodies, TaggedBody, hex_array, hex_bytes, read_all, tagged_body,
     write_text,
 };
 use std::alloc::AllocError;
-
-// The answer of a call, unless memory ran out.
-fn unless_memory<T: Drop>(answer: Result<T, Fault>) -> Result<Result<T, Fault>, AllocError> {
-    match answer {
-        Err(Fault::OutOfMemory) => Err(AllocError),
-        other => Ok(other),
-    }
-}
 
 #[test]
 fn lines_end_at_line_feeds(rt: HostRuntime) {
@@ -27,9 +20,9 @@ fn lines_end_at_line_feeds(rt: HostRuntime) {
     for (input, expected) in cases {
         let mut lines = Lines::new(input);
         for line in expected {
-            assert_eq!(rt; lines.next(), line, "lines of {input:?}");
+            assert!(rt; lines.next() == line, "lines of {input:?}");
         }
-        assert_eq!(rt; lines.next(), None);
+        assert!(rt; lines.next() == None);
     }
 }
 
@@ -38,7 +31,7 @@ fn digits_of_bytes(rt: HostRuntime) -> Result<(), AllocError> {
     let cases = [(b"".as_slice(), "-"), (b"\0", "00"), (b"\x5a\xff", "5aff")];
     for (bytes, digits) in cases {
         let shown = format!(in rt.alloc(); "{}", Hex(bytes))?;
-        assert_eq!(rt; shown.as_str(), digits);
+        assert!(rt; shown.as_str() == digits);
     }
     Ok(())
 }
@@ -60,16 +53,16 @@ fn bytes_of_digits(rt: HostRuntime) -> Result<(), AllocError> {
         assert!(rt; bytes.is_ok());
         let bytes = bytes.ok().flatten();
         let bytes = bytes.as_ref().map(|bytes| bytes.as_slice());
-        assert_eq!(rt; bytes, expected, "bytes of {word:?}");
+        assert!(rt; bytes == expected, "bytes of {word:?}");
     }
     Ok(())
 }
 
 #[test]
 fn arrays_of_digits(rt: HostRuntime) {
-    assert_eq!(rt; hex_array("5aFF"), Some([0x5a, 0xff]));
+    assert!(rt; hex_array("5aFF") == Some([0x5a, 0xff]));
     for word in ["", "-", "5a", "5a5", "5a5g", "5aff0"] {
-        assert_eq!(rt; hex_array::<2>(word), None, "{word:?}");
+        assert!(rt; hex_array::<2>(word) == None, "{word:?}");
     }
 }
 
@@ -85,8 +78,8 @@ fn a_line_of_a_tag_and_a_body(rt: HostRuntime) -> Result<(), AllocError> {
         else {
             panic!(rt; "no tag and body in {line:?}");
         };
-        assert_eq!(rt; tag, b'Z');
-        assert_eq!(rt; body.as_slice(), expected);
+        assert!(rt; tag == b'Z');
+        assert!(rt; body.as_slice() == expected);
     }
     Ok(())
 }
@@ -126,7 +119,7 @@ fn a_bad_line_has_its_number(rt: HostRuntime) -> Result<(), AllocError> {
             panic!(rt; "a line is missing");
         };
         let found = unless_memory(body)?.map(|body| body.tag);
-        assert_eq!(rt; found, tag);
+        assert!(rt; found == tag);
     }
     assert!(rt; bodies.next().is_none());
     Ok(())
@@ -136,10 +129,10 @@ fn a_bad_line_has_its_number(rt: HostRuntime) -> Result<(), AllocError> {
 fn what_is_read_and_written(rt: HostRuntime) -> Result<(), AllocError> {
     let input = unless_memory(read_all(rt.alloc(), &mut b"5a 49".as_slice()))?;
     let input = input.as_ref().map(|input| input.as_slice());
-    assert_eq!(rt; input, Ok(b"5a 49".as_slice()));
+    assert!(rt; input == Ok(b"5a 49".as_slice()));
     let mut output = Vec::with_capacity(rt.alloc(), 64)?;
-    assert_eq!(rt; write_text(&mut output, "ok\n"), Ok(()));
-    assert_eq!(rt; output.as_slice(), b"ok\n".as_slice());
+    assert!(rt; write_text(&mut output, "ok\n") == Ok(()));
+    assert!(rt; output.as_slice() == b"ok\n".as_slice());
     Ok(())
 }
 
@@ -152,11 +145,11 @@ fn statuses_and_words_of_faults(rt: HostRuntime) -> Result<(), AllocError> {
         (Fault::OutOfMemory, 3, "out of memory"),
     ];
     for (fault, status, words) in cases {
-        assert_eq!(rt; fault.status(), status);
-        assert_eq!(rt; fault.to_string(rt.alloc())?.as_str(), words);
+        assert!(rt; fault.status() == status);
+        assert!(rt; fault.to_string(rt.alloc())?.as_str() == words);
         let mut errors = Vec::with_capacity(rt.alloc(), 64)?;
-        assert_eq!(rt; fault.report(&mut errors), status);
-        assert_eq!(rt; errors.strip_suffix(b"\n"), Some(words.as_bytes()));
+        assert!(rt; fault.report(&mut errors) == status);
+        assert!(rt; errors.strip_suffix(b"\n") == Some(words.as_bytes()));
     }
     Ok(())
 }

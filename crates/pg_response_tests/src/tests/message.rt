@@ -1,0 +1,3 @@
+//! Each message by itself.
+
+mod response;

@@ -1,0 +1,3 @@
+//! Messages of each kind, through the public calls alone.
+
+mod message;
