@@ -3,9 +3,12 @@
 import functools
 import os
 import pathlib
+import re
 import shutil
 import subprocess
+import sys
 import tempfile
+from concurrent.futures import FIRST_COMPLETED, ThreadPoolExecutor, wait
 
 TOP = pathlib.Path(__file__).resolve().parent.parent
 
@@ -90,17 +93,58 @@ def kit():
     return pathlib.Path(said.strip()).parent
 
 
-def build(crates):
-    """Builds what these crates stand on where it is missing or not newer than its sources."""
-    for crate in dict.fromkeys(below for crate in crates for below in crate.libraries()):
-        if crate.is_older(crate.built() / "format"):
-            run = subprocess.run(["rt", "lib"], cwd=crate.folder, stdin=subprocess.DEVNULL, capture_output=True, text=True)
-            if run.returncode:
-                raise SystemExit(f"{run.stdout[-3000:]}{crate.name}: is not proved")
-            (crate.built() / "format").touch()
+def build(crates, report=lambda crate, done, total: None):
+    """Builds what these crates stand on where one is missing or not newer than its sources, beside each other."""
+    wanted = [below for below in known().values() if any(below in crate.libraries() for crate in crates)]
+    if not any(crate.is_older(crate.built() / "format") for crate in wanted):
+        return
+    # A second rt would wait for the first: rt's own module builds several.
+    sys.path.append(str(kit() / "bin"))
+    import rtlib
+    made = {crate.name: crate for crate in rtlib.crates_below(str(TOP))}
+    rtlib.guarded()
+    held = rtlib.lock(made.values())
+    left, running = list(wanted), {}
+    with ThreadPoolExecutor(processors()) as pool:
+        while left or running:
+            waiting = {*left, *(crate for crate, _ in running.values())}
+            ready = sorted((crate for crate in left if waiting.isdisjoint(crate.libraries())), key=lambda it: -chain(it))
+            for at, crate in enumerate(ready):
+                # Crates of long chains share the idle processors; one of a short chain waits for one that is left.
+                idle = processors() - sum(jobs for _, jobs in running.values())
+                if idle:
+                    jobs = max(1, min(4, idle // sum(2 * chain(it) > chain(crate) for it in ready[at:])))
+                    running[pool.submit(build_one, made[crate.name], jobs)] = crate, jobs
+                    left.remove(crate)
+            for ended in wait(running, return_when=FIRST_COMPLETED).done:
+                crate, _ = running.pop(ended)
+                if said := ended.result():
+                    raise SystemExit(f"{said[-3000:]}{crate.name}: is not proved")
+                (crate.built() / "format").touch()
+                report(crate, len(wanted) - len(left) - len(running), len(wanted))
+    for it in held:
+        os.close(it)
 
 
+def build_one(made, jobs):
+    """What a build that failed printed."""
+    with tempfile.TemporaryFile("a+", errors="replace") as made.out:
+        if not made.build_rlib(["--jobs", str(jobs)], anew=False):
+            return ""
+        made.out.seek(0)
+        return made.out.read()
+
+
+@functools.lru_cache(maxsize=None)
+def chain(crate):
+    """How many lines the crate has, and the longest chain of crates that stand on it."""
+    files = [path for part in PARTS for path in (crate.folder / part).rglob("*") if path.is_file()]
+    lines = sum(path.read_bytes().count(b"\n") for path in files)
+    return lines + max((chain(it) for it in known().values() if crate.name in it.names), default=0)
+
+
+@functools.lru_cache(maxsize=None)
 def processors():
     """How many checks can run at a time: one a processor, and no more than memory holds."""
-    free = os.sysconf("SC_AVPHYS_PAGES") * os.sysconf("SC_PAGE_SIZE")
-    return max(1, min(len(os.sched_getaffinity(0)), free // 3_000_000_000))
+    kilobytes = re.search(r"MemAvailable: *(\d+)", pathlib.Path("/proc/meminfo").read_text())[1]
+    return max(1, min(len(os.sched_getaffinity(0)), int(kilobytes) // 3_000_000))
