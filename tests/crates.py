@@ -145,6 +145,7 @@ def chain(crate):
 
 @functools.lru_cache(maxsize=None)
 def processors():
-    """How many checks can run at a time: one a processor, and no more than memory holds."""
+    """How many checks can run at a time: RT_JOBS, or one a processor, and no more than memory holds."""
+    wanted = int(os.environ.get("RT_JOBS") or len(os.sched_getaffinity(0)))
     kilobytes = re.search(r"MemAvailable: *(\d+)", pathlib.Path("/proc/meminfo").read_text())[1]
-    return max(1, min(len(os.sched_getaffinity(0)), int(kilobytes) // 3_000_000))
+    return max(1, min(wanted, int(kilobytes) // 3_000_000))
