@@ -1,0 +1,198 @@
+-- The laws of the messages of a server: a body means one value, or has one fault.
+use Rattle.std.specs.Prelude.{◌≡◌, ◌≢◌, ℕ, zero, suc, ◌*◌, ◌==◌, Bool, true, false, ℤ, pos, negsuc, List, [], ◌∷◌, length, Option, Some, None, ◌⊎◌, IsUtf8, if◌then◌else◌}
+use Rattle.std.proofs.Common.{refl, sym, ap, ◌∙◌, arith, inl, inr}
+use Rattle.std.proofs.lemmas.Bool.{cases_eq, eqb-true}
+use Rattle.pg_base.specs.declared.error.ProtocolFault.TheVariants.{UnknownStatus, UnknownMessageType, UnknownAuthentication, NotUtf8}
+use Rattle.pg_format.specs.Format.{Format, Lawful, Canonical, Total}
+use Rattle.pg_format.specs.Format.Parts.{until_nul, be_u8, be_u16, be_u32, be_i16, be_i32, bytes_of, remaining, success, fail}
+use Rattle.pg_format.specs.Format.Sequences.{◌⨾◌, mapped}
+use Rattle.pg_format.specs.Format.Tests.{only}
+use Rattle.pg_format.specs.Format.Nullable.{cell, value}
+use Rattle.pg_format.specs.Notices.{Field, notice_fault}
+use Rattle.pg_format.specs.Sasl.{first_message_fault, final_message_fault}
+use Rattle.pg_format.specs.Messages.{Authentication, ok, cleartext_password, md5_password, sasl, sasl_continue, sasl_final, salt_of, mechanisms_of, continued, finished, mechanism_names, asked_by, with_method, authentication, backend_key_data, Bind, format_codes, bind, no_body, empty, Target, statement, portal, target_of, target_letter, targeted, command_complete, copy_data, columns_of, column_codes, copy_response, data_row, field, notice, execute, notification, parameter_description, parameter_status, parse, text, Status, idle, transaction, error, status_of, status_letter, ready_for_query, table, table_number, attribute, attribute_number, column, row_description, sasl_initial_response, sasl_response, ssl_request, startup}
+use Rattle.pg_format.proofs.FormatLaws.Parts.{lawful_until_nul, canonical_until_nul, total_until_nul, lawful_unsigned, canonical_unsigned, total_unsigned, lawful_signed, total_signed, lawful_bytes_of, total_bytes_of, lawful_remaining, canonical_remaining, total_remaining, lawful_one_of, canonical_one_of, total_one_of, lawful_success, canonical_success, total_success, lawful_fail, total_fail}
+use Rattle.pg_format.proofs.FormatLaws.Sequences.{◌l⨾◌, ◌c⨾◌, ◌t⨾◌, lawful_dep_pair, total_dep_pair, lawful_record_of, canonical_record_of, total_record_of, lawful_mapped, total_mapped, lawful_case_of, total_case_of, lawful_choose, total_choose}
+use Rattle.pg_format.proofs.FormatLaws.Tests.{lawful_utf8, total_utf8, utf8_or_not, lawful_checked, total_checked, lawful_only, lawful_with_room, total_with_room, Takes}
+use Rattle.pg_format.proofs.FormatLaws.Ends.{lawful_exactly, canonical_exactly, total_exactly, lawful_loosely, total_loosely}
+use Rattle.pg_format.proofs.FormatLaws.Lists.{lawful_times, total_times, times_take, lawful_counted, canonical_counted, total_counted, lawful_counted_least, canonical_counted_least, total_counted_least, lawful_many, decided_only, total_many}
+use Rattle.pg_format.proofs.FormatLaws.Nullable.{lawful_cell, total_cell, lawful_value, canonical_value, total_value}
+use Rattle.pg_format.proofs.FormatLaws.Takes.{takes_until_nul, takes_unsigned, takes_signed, takes_pair, takes_record_of, takes_mapped, takes_verify, takes_only, takes_with_room, takes_cell}
+
+u32 : Lawful be_u32
+u32 = lawful_unsigned 4 tt
+
+i16 : Lawful be_i16
+i16 = lawful_signed 2 tt
+
+-- ---- from a server
+
+-- at the byte 0 no name begins
+no_name : (name rest : List ℕ) → ¬ ((only (λ n. (n ≢ []) × IsUtf8 n) until_nul).Reads (0 ∷ []) name rest)
+no_name [] rest p = p.1.0 refl
+no_name (b ∷ bs) rest p = absurd (p.0.clean.0 (let e : b ≡ 0 = cc (p.0.parts) in e))
+
+is_name_or_not : (name : List ℕ) → ((name ≢ []) × IsUtf8 name) ⊎ ¬ ((name ≢ []) × IsUtf8 name)
+is_name_or_not [] = inr (λ p. p.0 refl)
+is_name_or_not (b ∷ bs) =
+    elim (utf8_or_not (b ∷ bs)) [
+      | inl is ↦ inl ((λ e. absurd (cc e)), is)
+      | inr not ↦ inr (λ p. not p.1)
+    ]
+
+lawful_names : Lawful mechanism_names
+lawful_names = lawful_many (0 ∷ []) (lawful_only (λ n. (n ≢ []) × IsUtf8 n) lawful_until_nul) no_name
+
+total_names : Total mechanism_names
+total_names = total_many (0 ∷ []) (takes_only 1 (λ n. (n ≢ []) × IsUtf8 n) takes_until_nul) (decided_only (λ n. (n ≢ []) × IsUtf8 n) is_name_or_not lawful_until_nul total_until_nul)
+
+lawful_asked_by : (method : ℕ) → Lawful (asked_by method)
+lawful_asked_by method =
+    lawful_choose (method == 0) (lawful_success ok)
+    (lawful_choose (method == 3) (lawful_success cleartext_password)
+    (lawful_choose (method == 5) (lawful_case_of md5_password salt_of (lawful_bytes_of 4))
+    (lawful_choose (method == 10) (lawful_case_of sasl mechanisms_of lawful_names)
+    (lawful_choose (method == 11) (lawful_case_of sasl_continue continued (lawful_checked first_message_fault lawful_remaining))
+    (lawful_choose (method == 12) (lawful_case_of sasl_final finished (lawful_checked final_message_fault lawful_remaining))
+    (lawful_fail (UnknownAuthentication method)))))))
+
+total_asked_by : (method : ℕ) → Total (asked_by method)
+total_asked_by method =
+    total_choose (method == 0) (total_success ok)
+    (total_choose (method == 3) (total_success cleartext_password)
+    (total_choose (method == 5) (total_case_of md5_password salt_of (total_bytes_of 4))
+    (total_choose (method == 10) (total_case_of sasl mechanisms_of total_names)
+    (total_choose (method == 11) (total_case_of sasl_continue continued (total_checked first_message_fault total_remaining))
+    (total_choose (method == 12) (total_case_of sasl_final finished (total_checked final_message_fault total_remaining))
+    (total_fail (UnknownAuthentication method)))))))
+
+pub lawful_authentication : Lawful authentication
+lawful_authentication = lawful_loosely (lawful_mapped (λ v. v.1) with_method (lawful_dep_pair asked_by u32 lawful_asked_by))
+
+pub total_authentication : Total authentication
+total_authentication = total_loosely (total_mapped (λ v. v.1) with_method (total_dep_pair asked_by (total_unsigned 4) total_asked_by))
+
+pub lawful_backend_key_data : Lawful backend_key_data
+lawful_backend_key_data = lawful_loosely (lawful_record_of _ (λ a b e i. record { process_id = (e i).0; secret_key = (e i).1 }) (u32 l⨾ u32))
+
+pub total_backend_key_data : Total backend_key_data
+total_backend_key_data = total_loosely (total_record_of _ (λ a. record { process_id = a.0; secret_key = a.1 }) (λ a. refl) (total_unsigned 4 t⨾ total_unsigned 4))
+
+pub lawful_no_body : Lawful no_body
+lawful_no_body = lawful_loosely (lawful_success tt)
+
+pub total_no_body : Total no_body
+total_no_body = total_loosely (total_success tt)
+
+lawful_column_codes : (count : ℤ) → Lawful (column_codes count)
+lawful_column_codes count = lawful_with_room (2 * columns_of count) (times_take 2 (takes_signed 2) (columns_of count)) (lawful_times i16 (columns_of count))
+
+pub lawful_copy_response : Lawful copy_response
+lawful_copy_response =
+    lawful_loosely (lawful_record_of _ (λ a b e i. record { format = (e i).0; num_columns = (e i).1.0; format_codes = (e i).1.1 }) (lawful_signed 1 tt l⨾ lawful_dep_pair column_codes i16 lawful_column_codes))
+
+pub total_copy_response : Total copy_response
+total_copy_response =
+    total_loosely (total_record_of _ (λ a. record { format = a.0; num_columns = a.1.0; format_codes = a.1.1 }) (λ a. refl) (total_signed 1 t⨾ total_dep_pair column_codes (total_signed 2) (λ count. total_with_room (2 * columns_of count) (total_times (total_signed 2) (columns_of count)))))
+
+pub lawful_data_row : Lawful data_row
+lawful_data_row = lawful_loosely (lawful_counted_least 4 takes_cell lawful_cell)
+
+pub total_data_row : Total data_row
+total_data_row = total_loosely (total_counted_least total_cell 4)
+
+-- at the byte 0 no field begins
+no_field : (f : Field) (rest : List ℕ) → ¬ (field.Reads (0 ∷ []) f rest)
+no_field f rest p = omega (arith, (takes_pair 1 1 (takes_unsigned 1) takes_until_nul).takes (0 ∷ []) rest f p.0)
+
+letter_or_none : (f : Field) → (f.0 ≢ 0) ⊎ ¬ (f.0 ≢ 0)
+letter_or_none f =
+    elim (cases_eq f.0 0) [
+      | inl e ↦ inr (λ not. not e)
+      | inr not ↦ inl not
+    ]
+
+pub lawful_notice : Lawful notice
+lawful_notice = lawful_checked notice_fault (lawful_many (0 ∷ []) (lawful_only (λ f. f.0 ≢ 0) (lawful_unsigned 1 tt l⨾ lawful_until_nul)) no_field)
+
+field_takes : Takes 1 (be_u8 ⨾ until_nul)
+field_takes = record { takes = λ bytes rest f p. omega (arith, (takes_pair 1 1 (takes_unsigned 1) takes_until_nul).takes bytes rest f p) }
+
+pub total_notice : Total notice
+total_notice =
+    total_checked notice_fault (total_many (0 ∷ []) (takes_only 1 (λ f. f.0 ≢ 0) field_takes) (decided_only (λ f. f.0 ≢ 0) letter_or_none (lawful_unsigned 1 tt l⨾ lawful_until_nul) (total_unsigned 1 t⨾ total_until_nul)))
+
+pub lawful_notification : Lawful notification
+lawful_notification =
+    lawful_loosely (lawful_record_of _ (λ a b e i. record { process_id = (e i).0; channel = (e i).1.0; payload = (e i).1.1 }) (u32 l⨾ lawful_until_nul l⨾ lawful_until_nul))
+
+pub total_notification : Total notification
+total_notification =
+    total_loosely (total_record_of _ (λ a. record { process_id = a.0; channel = a.1.0; payload = a.1.1 }) (λ a. refl) (total_unsigned 4 t⨾ total_until_nul t⨾ total_until_nul))
+
+pub lawful_parameter_description : Lawful parameter_description
+lawful_parameter_description = lawful_loosely (lawful_counted_least 4 (takes_unsigned 4) u32)
+
+pub total_parameter_description : Total parameter_description
+total_parameter_description = total_loosely (total_counted_least (total_unsigned 4) 4)
+
+pub lawful_parameter_status : Lawful parameter_status
+lawful_parameter_status = lawful_loosely (lawful_record_of _ (λ a b e i. record { name = (e i).0; value = (e i).1 }) (lawful_utf8 l⨾ lawful_utf8))
+
+pub total_parameter_status : Total parameter_status
+total_parameter_status = total_loosely (total_record_of _ (λ a. record { name = a.0; value = a.1 }) (λ a. refl) (total_utf8 t⨾ total_utf8))
+
+status_again : (s : Status) → status_of (status_letter s) ≡ Some s
+status_again idle = refl
+status_again transaction = refl
+status_again error = refl
+
+pub lawful_ready_for_query : Lawful ready_for_query
+lawful_ready_for_query = lawful_loosely (lawful_one_of status_of status_letter UnknownStatus status_again)
+
+pub total_ready_for_query : Total ready_for_query
+total_ready_for_query = total_loosely (total_one_of status_of status_letter UnknownStatus)
+
+numbers_take : Takes 18 (mapped table table_number be_u32 ⨾ mapped attribute attribute_number be_i16 ⨾ be_u32 ⨾ be_i16 ⨾ be_i32 ⨾ be_i16)
+numbers_take =
+    takes_pair 4 14 (takes_mapped 4 table table_number (takes_unsigned 4))
+    (takes_pair 2 12 (takes_mapped 2 attribute attribute_number (takes_signed 2))
+    (takes_pair 4 8 (takes_unsigned 4) (takes_pair 2 6 (takes_signed 2) (takes_pair 4 2 (takes_signed 4) (takes_signed 2)))))
+
+pub lawful_column : Lawful column
+lawful_column =
+    lawful_record_of _ (λ a b e i. record {
+      name = (e i).0;
+      relation_id = (e i).1.0;
+      relation_attribute_no = (e i).1.1.0;
+      data_type_id = (e i).1.1.1.0;
+      data_type_size = (e i).1.1.1.1.0;
+      type_modifier = (e i).1.1.1.1.1.0;
+      format = (e i).1.1.1.1.1.1;
+    })
+    (lawful_utf8
+    l⨾ lawful_with_room 18 numbers_take (lawful_mapped table table_number u32 l⨾ lawful_mapped attribute attribute_number i16 l⨾ u32 l⨾ i16 l⨾ lawful_signed 4 tt l⨾ i16))
+
+total_column : Total column
+total_column =
+    total_record_of _ (λ a. record {
+      name = a.0;
+      relation_id = a.1.0;
+      relation_attribute_no = a.1.1.0;
+      data_type_id = a.1.1.1.0;
+      data_type_size = a.1.1.1.1.0;
+      type_modifier = a.1.1.1.1.1.0;
+      format = a.1.1.1.1.1.1;
+    })
+    (λ a. refl)
+    (total_utf8
+    t⨾ total_with_room 18 (total_mapped table table_number (total_unsigned 4) t⨾ total_mapped attribute attribute_number (total_signed 2) t⨾ total_unsigned 4 t⨾ total_signed 2 t⨾ total_signed 4 t⨾ total_signed 2))
+
+column_takes : Takes 19 column
+column_takes = takes_record_of 19 _ (takes_pair 1 18 (takes_verify 1 IsUtf8 NotUtf8 takes_until_nul) (takes_with_room 18 18 numbers_take))
+
+pub lawful_row_description : Lawful row_description
+lawful_row_description = lawful_loosely (lawful_counted_least 19 column_takes lawful_column)
+
+pub total_row_description : Total row_description
+total_row_description = total_loosely (total_counted_least total_column 19)

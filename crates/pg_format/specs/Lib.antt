@@ -1,0 +1,5 @@
+pub mod Format
+pub mod Keyed
+pub mod Messages
+pub mod Notices
+pub mod Sasl

@@ -1,0 +1,318 @@
+-- Every message of both directions, in the order of the documentation's "Message Formats": (B) is sent by
+-- the server, (F) by the client. A format is of the body, which follows the tag and the length.
+use Rattle.std.specs.Prelude.{◌≡◌, ◌≢◌, ℕ, zero, ◌*◌, ◌==◌, ℤ, pos, negsuc, List, [], ◌∷◌, length, Option, Some, None, IsUtf8, if◌then◌else◌}
+use Rattle.pg_base.specs.declared.format.BackendMessageFormat.{BackendMessageFormat}
+use Rattle.pg_base.specs.declared.format.BackendMessageFormat.TheVariants as backend
+use Rattle.pg_base.specs.declared.format.FrontendMessageFormat.{FrontendMessageFormat}
+use Rattle.pg_base.specs.declared.format.FrontendMessageFormat.TheVariants as frontend
+use Rattle.pg_base.specs.declared.error.ProtocolFault.TheVariants.{UnknownStatus, UnknownMessageType, UnknownAuthentication}
+use Rattle.pg_format.specs.Format.{Format}
+use Rattle.pg_format.specs.Format.Parts.{until_nul, be_u8, be_u16, be_u32, be_i8, be_i16, be_i32, bytes_of, remaining, one_of, success, fail}
+use Rattle.pg_format.specs.Format.Sequences.{dep_pair, ◌⨾◌, record_of, mapped, case_of, choose}
+use Rattle.pg_format.specs.Format.Tests.{utf8, checked, only, with_room}
+use Rattle.pg_format.specs.Format.Ends.{exactly, loosely}
+use Rattle.pg_format.specs.Format.Lists.{times, counted, counted_least, many}
+use Rattle.pg_format.specs.Format.Nullable.{cell, value}
+use Rattle.pg_format.specs.Notices.{Field, notice_fault}
+use Rattle.pg_format.specs.Sasl.{first_message_fault, final_message_fault}
+
+-- AuthenticationOk (B) and the requests after it: the number of a method, and what it asks
+pub data Authentication : Type 0 where
+  ok : Authentication
+  cleartext_password : Authentication
+  md5_password : List ℕ → Authentication
+  sasl : List (List ℕ) → Authentication
+  sasl_continue : List ℕ → Authentication
+  sasl_final : List ℕ → Authentication
+
+abbrev pub method_number : Authentication → ℕ
+method_number ok = 0
+method_number cleartext_password = 3
+method_number (md5_password salt) = 5
+method_number (sasl mechanisms) = 10
+method_number (sasl_continue message) = 11
+method_number (sasl_final message) = 12
+
+abbrev pub salt_of : Authentication → Option (List ℕ)
+salt_of (md5_password salt) = Some salt
+salt_of other = None
+
+abbrev pub mechanisms_of : Authentication → Option (List (List ℕ))
+mechanisms_of (sasl names) = Some names
+mechanisms_of other = None
+
+abbrev pub continued : Authentication → Option (List ℕ)
+continued (sasl_continue message) = Some message
+continued other = None
+
+abbrev pub finished : Authentication → Option (List ℕ)
+finished (sasl_final message) = Some message
+finished other = None
+
+-- names up to the first that is empty or no text
+abbrev pub mechanism_names : Format (List (List ℕ))
+mechanism_names = many (0 ∷ []) (only (λ name. (name ≢ []) × IsUtf8 name) until_nul)
+
+abbrev pub asked_by : ℕ → Format Authentication
+asked_by method =
+    choose (method == 0) (success ok)
+    (choose (method == 3) (success cleartext_password)
+    (choose (method == 5) (case_of md5_password salt_of (bytes_of 4))
+    (choose (method == 10) (case_of sasl mechanisms_of mechanism_names)
+    (choose (method == 11) (case_of sasl_continue continued (checked first_message_fault remaining))
+    (choose (method == 12) (case_of sasl_final finished (checked final_message_fault remaining))
+    (fail (UnknownAuthentication method)))))))
+
+abbrev pub with_method : Authentication → ℕ × Authentication
+with_method request = (method_number request, request)
+
+abbrev pub authentication : Format Authentication
+authentication = loosely (mapped (λ v. v.1) with_method (dep_pair be_u32 asked_by))
+
+-- BackendKeyData (B)
+pub record BackendKey : Type 0 where
+  pub process_id : ℕ
+  pub secret_key : ℕ
+
+abbrev pub backend_key_data : Format BackendKey
+backend_key_data = loosely (record_of (λ k. (k.process_id, k.secret_key)) (be_u32 ⨾ be_u32))
+
+-- Bind (F): a format code for all values, for each, or none for text
+pub record Bind : Type 0 where
+  pub portal : List ℕ
+  pub statement : List ℕ
+  pub formats : List ℕ
+  pub values : List (Option (List ℕ))
+  pub result_formats : List ℕ
+
+abbrev pub format_codes : Format (List ℕ)
+format_codes = counted_least 2 be_u16
+
+abbrev pub bind : Format Bind
+bind = exactly (record_of (λ b. (b.portal, (b.statement, (b.formats, (b.values, b.result_formats))))) (until_nul ⨾ until_nul ⨾ format_codes ⨾ counted value ⨾ format_codes))
+
+-- BindComplete (B), CloseComplete (B), CopyDone (B), EmptyQueryResponse (B), NoData (B), ParseComplete (B)
+-- and PortalSuspended (B): a body is ignored
+abbrev pub no_body : Format (Unit {0})
+no_body = loosely (success tt)
+
+-- CopyDone (F), Flush (F), Sync (F) and Terminate (F)
+abbrev pub empty : Format (Unit {0})
+empty = exactly (success tt)
+
+-- Close (F) and Describe (F)
+pub data Target : Type 0 where
+  statement : Target
+  portal : Target
+
+abbrev pub target_of : ℕ → Option Target
+target_of letter = if letter == 83 then Some statement else (if letter == 80 then Some portal else None)
+
+abbrev pub target_letter : Target → ℕ
+target_letter statement = 83
+target_letter portal = 80
+
+pub record Targeted : Type 0 where
+  pub target : Target
+  pub name : List ℕ
+
+abbrev pub targeted : Format Targeted
+targeted = exactly (record_of (λ t. (t.target, t.name)) (one_of target_of target_letter UnknownMessageType ⨾ until_nul))
+
+-- CommandComplete (B): the tag of the command, here with the NUL that ends it
+abbrev pub command_complete : Format (List ℕ)
+command_complete = remaining
+
+-- CopyData (F & B)
+abbrev pub copy_data : Format (List ℕ)
+copy_data = remaining
+
+-- CopyInResponse (B) and CopyOutResponse (B): the format of the whole, and one for each column
+pub record CopyResponse : Type 0 where
+  pub format : ℤ
+  pub num_columns : ℤ
+  pub format_codes : List ℤ
+
+-- a count below 0 is of no column
+abbrev pub columns_of : ℤ → ℕ
+columns_of (pos n) = n
+columns_of (negsuc n) = 0
+
+abbrev pub column_codes : ℤ → Format (List ℤ)
+column_codes count = with_room (2 * columns_of count) (times (columns_of count) be_i16)
+
+abbrev pub copy_response : Format CopyResponse
+copy_response = loosely (record_of (λ c. (c.format, (c.num_columns, c.format_codes))) (be_i8 ⨾ dep_pair be_i16 column_codes))
+
+-- DataRow (B)
+abbrev pub data_row : Format (List (Option (List ℕ)))
+data_row = loosely (counted_least 4 cell)
+
+-- ErrorResponse (B) and NoticeResponse (B): fields up to one whose letter is 0
+abbrev pub field : Format Field
+field = only (λ f. f.0 ≢ 0) (be_u8 ⨾ until_nul)
+
+abbrev pub notice : Format (List Field)
+notice = checked notice_fault (many (0 ∷ []) field)
+
+-- Execute (F): a limit of 0 rows is none
+pub record Execute : Type 0 where
+  pub portal : List ℕ
+  pub limit : ℕ
+
+abbrev pub execute : Format Execute
+execute = exactly (record_of (λ e. (e.portal, e.limit)) (until_nul ⨾ be_u32))
+
+-- NotificationResponse (B)
+pub record Notification : Type 0 where
+  pub process_id : ℕ
+  pub channel : List ℕ
+  pub payload : List ℕ
+
+abbrev pub notification : Format Notification
+notification = loosely (record_of (λ n. (n.process_id, (n.channel, n.payload))) (be_u32 ⨾ until_nul ⨾ until_nul))
+
+-- ParameterDescription (B): the ids of types
+abbrev pub parameter_description : Format (List ℕ)
+parameter_description = loosely (counted_least 4 be_u32)
+
+-- ParameterStatus (B)
+pub record Setting : Type 0 where
+  pub name : List ℕ
+  pub value : List ℕ
+
+abbrev pub parameter_status : Format Setting
+parameter_status = loosely (record_of (λ s. (s.name, s.value)) (utf8 ⨾ utf8))
+
+-- Parse (F)
+pub record Parse : Type 0 where
+  pub statement : List ℕ
+  pub query : List ℕ
+  pub types : List ℕ
+
+abbrev pub parse : Format Parse
+parse = exactly (record_of (λ p. (p.statement, (p.query, p.types))) (until_nul ⨾ until_nul ⨾ counted_least 4 be_u32))
+
+-- CopyFail (F), PasswordMessage (F) and Query (F)
+abbrev pub text : Format (List ℕ)
+text = exactly until_nul
+
+-- ReadyForQuery (B)
+pub data Status : Type 0 where
+  idle : Status
+  transaction : Status
+  error : Status
+
+abbrev pub status_of : ℕ → Option Status
+status_of letter = if letter == 73 then Some idle else (if letter == 84 then Some transaction else (if letter == 69 then Some error else None))
+
+abbrev pub status_letter : Status → ℕ
+status_letter idle = 73
+status_letter transaction = 84
+status_letter error = 69
+
+abbrev pub ready_for_query : Format Status
+ready_for_query = loosely (one_of status_of status_letter UnknownStatus)
+
+-- RowDescription (B): 0 is the number of no table, and of no attribute of one
+pub record Column : Type 0 where
+  pub name : List ℕ
+  pub relation_id : Option ℕ
+  pub relation_attribute_no : Option ℤ
+  pub data_type_id : ℕ
+  pub data_type_size : ℤ
+  pub type_modifier : ℤ
+  pub format : ℤ
+
+abbrev pub table : ℕ → Option ℕ
+table n = if n == 0 then None else Some n
+
+abbrev pub table_number : Option ℕ → ℕ
+table_number None = 0
+table_number (Some n) = n
+
+abbrev pub attribute : ℤ → Option ℤ
+attribute (pos zero) = None
+attribute other = Some other
+
+abbrev pub attribute_number : Option ℤ → ℤ
+attribute_number None = pos 0
+attribute_number (Some z) = z
+
+abbrev pub column : Format Column
+column =
+    record_of
+    (λ c. (c.name, (c.relation_id, (c.relation_attribute_no, (c.data_type_id, (c.data_type_size, (c.type_modifier, c.format)))))))
+    (utf8 ⨾ with_room 18 (mapped table table_number be_u32 ⨾ mapped attribute attribute_number be_i16 ⨾ be_u32 ⨾ be_i16 ⨾ be_i32 ⨾ be_i16))
+
+abbrev pub row_description : Format (List Column)
+row_description = loosely (counted_least 19 column)
+
+-- SASLInitialResponse (F)
+pub record SaslInitial : Type 0 where
+  pub mechanism : List ℕ
+  pub response : Option (List ℕ)
+
+abbrev pub sasl_initial_response : Format SaslInitial
+sasl_initial_response = exactly (record_of (λ s. (s.mechanism, s.response)) (until_nul ⨾ value))
+
+-- SASLResponse (F)
+abbrev pub sasl_response : Format (List ℕ)
+sasl_response = remaining
+
+-- SSLRequest (F), which has no tag: the number that no version has
+abbrev pub ssl_request : Format ℕ
+ssl_request = exactly (only (λ n. n ≡ 80877103) be_u32)
+
+-- StartupMessage (F), which has no tag: version 3.0, and settings up to one without a name
+abbrev pub startup : Format (ℕ × List (List ℕ × List ℕ))
+startup = only (λ n. n ≡ 196608) be_u32 ⨾ many (0 ∷ []) (only (λ s. s.0 ≢ []) (until_nul ⨾ until_nul))
+
+-- ---- by the kind of message
+
+-- what a body of a kind means, and by which format
+pub record Meaning : Type 1 where
+  pub Value : Type 0
+  pub format : Format Value
+
+abbrev pub means : {A : Type 0} → Format A → Meaning
+means {A} g = record { Value = A; format = g }
+
+abbrev pub from_server : BackendMessageFormat → Meaning
+from_server backend.Authentication = means authentication
+from_server backend.BackendKeyData = means backend_key_data
+from_server backend.BindComplete = means no_body
+from_server backend.CloseComplete = means no_body
+from_server backend.CommandComplete = means command_complete
+from_server backend.CopyData = means copy_data
+from_server backend.CopyDone = means no_body
+from_server backend.CopyInResponse = means copy_response
+from_server backend.CopyOutResponse = means copy_response
+from_server backend.DataRow = means data_row
+from_server backend.EmptyQueryResponse = means no_body
+from_server backend.ErrorResponse = means notice
+from_server backend.NoData = means no_body
+from_server backend.NoticeResponse = means notice
+from_server backend.NotificationResponse = means notification
+from_server backend.ParameterDescription = means parameter_description
+from_server backend.ParameterStatus = means parameter_status
+from_server backend.ParseComplete = means no_body
+from_server backend.PortalSuspended = means no_body
+from_server backend.ReadyForQuery = means ready_for_query
+from_server backend.RowDescription = means row_description
+
+-- a message of the last kind is a password, or SASL's: its bytes are for the method that was asked for
+abbrev pub from_client : FrontendMessageFormat → Meaning
+from_client frontend.Bind = means bind
+from_client frontend.Close = means targeted
+from_client frontend.Describe = means targeted
+from_client frontend.Execute = means execute
+from_client frontend.Flush = means empty
+from_client frontend.Parse = means parse
+from_client frontend.Query = means text
+from_client frontend.Sync = means empty
+from_client frontend.Terminate = means empty
+from_client frontend.CopyDone = means empty
+from_client frontend.CopyData = means copy_data
+from_client frontend.CopyFail = means text
+from_client frontend.PasswordPolymorphic = means remaining

@@ -1,0 +1,25 @@
+//! What holds of the format of every message.
+
+ghost use Rattle.pg_base.specs.declared.format.BackendMessageFormat.{BackendMessageFormat};
+ghost use Rattle.pg_base.specs.declared.format.FrontendMessageFormat.{FrontendMessageFormat};
+ghost use Rattle.pg_format.specs.Format.{Lawful, Canonical, Total};
+ghost use Rattle.pg_format.specs.Messages.{from_server, from_client, startup};
+
+/// A body from a server means one value or has one fault, never both and never neither; and what is
+/// written of a value is read as it.
+pub fn messages_from_a_server()
+    ensures lawful { (kind : BackendMessageFormat) → Lawful (from_server kind).format }
+    ensures total { (kind : BackendMessageFormat) → Total (from_server kind).format }
+{}
+
+/// The same of a body from a client, in which each value has one spelling.
+pub fn messages_from_a_client()
+    ensures lawful { (kind : FrontendMessageFormat) → Lawful (from_client kind).format }
+    ensures canonical { (kind : FrontendMessageFormat) → Canonical (from_client kind).format }
+    ensures total { (kind : FrontendMessageFormat) → Total (from_client kind).format }
+{}
+
+/// A message that opens a session means one list of settings, and what is written of it is read.
+pub fn a_message_without_a_tag()
+    ensures { Lawful startup }
+{}
