@@ -4,8 +4,8 @@ use Rattle.std.specs.Prelude.{nat_le, slice_range}
 use Rattle.std.proofs.lemmas.Bool.{le-leb}
 use Rattle.std.proofs.lemmas.List.{take_at, drop_at}
 use Rattle.pg_base.specs.Reading.{Text}
-use Rattle.pg_receive.specs.Notification.{Notified, MeansNotification}
-use Rattle.pg_receive.specs.ParameterStatus.{Setting, MeansSetting}
+use Rattle.pg_format.specs.Format.{Means}
+use Rattle.pg_format.specs.Messages.{Notification, notification, Setting, parameter_status}
 use Rattle.pg_c.specs.Place.{bytes_in}
 
 -- bytes that are there
@@ -33,13 +33,13 @@ two_texts body front texts first after second rest at e wide p q =
     let before : length (front ++ (first ++ 0 ∷ [])) ≡ at + length first + 1 = omega (arith, length-append front (first ++ 0 ∷ []), length-append first (0 ∷ []), wide) in
     (bytes_are body front first (0 ∷ after) at until wide, bytes_are body (front ++ (first ++ 0 ∷ [])) second (0 ∷ rest) (at + length first + 1) whole before)
 
-pub notified_at : (body : List ℕ) (v : Notified) → MeansNotification body v
+pub notified_at : (body : List ℕ) (v : Notification) → Means notification body v
     → (bytes_in body 4 (length v.channel) ≡ Some v.channel) × (bytes_in body (4 + length v.channel + 1) (length v.payload) ≡ Some v.payload)
-notified_at body v p = two_texts body p.process_id.spelled p.texts v.channel p.after v.payload p.rest 4 p.process_id.parts p.process_id.wide p.channel p.payload
+notified_at body v p = two_texts body p.1.first.spelled p.1.mid v.channel p.1.second.mid v.payload p.0 4 p.1.first.parts p.1.first.wide p.1.second.first p.1.second.second
 
-pub setting_at : (body : List ℕ) (s : Setting) → MeansSetting body s
+pub setting_at : (body : List ℕ) (s : Setting) → Means parameter_status body s
     → (bytes_in body 0 (length s.name) ≡ Some s.name) × (bytes_in body (length s.name + 1) (length s.value) ≡ Some s.value)
 setting_at body s p =
     let zero : 0 + length s.name ≡ length s.name = omega arith in
-    let at = two_texts body [] body s.name p.after s.value p.rest 0 refl refl p.name.ends p.value.ends in
+    let at = two_texts body [] body s.name p.1.mid s.value p.0 0 refl refl p.1.first.0 p.1.second.0 in
     (at.0, rw zero at at.1)

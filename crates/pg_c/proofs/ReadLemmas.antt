@@ -1,10 +1,15 @@
 -- Items of a body are given one by one as places, as far as there is room for them.
-use Rattle.std.proofs.Common.{◌≡◌, ℕ, zero, suc, ◌+◌, ◌<◌, ◌≤◌, pos, Option, Some, List, [], ◌∷◌, ◌++◌, length, map, take, drop, set, refl, sym, ap, ◌∙◌, arith, length-append}
+use Rattle.std.proofs.Common.{◌≡◌, ℕ, zero, suc, ◌+◌, ◌*◌, ◌<◌, ◌≤◌, pos, Option, Some, List, [], ◌∷◌, ◌++◌, length, map, take, drop, set, refl, sym, ap, ◌∙◌, arith, inr, length-append}
 use Rattle.std.proofs.lemmas.List.{length-set, drop-drop, drop-set-lt}
-use Rattle.pg_base.specs.Reading.{Number}
-use Rattle.pg_receive.specs.CountedItems.{SpellItems, IsEncodedAt}
-use Rattle.pg_receive.proofs.CountedItemsLemmas.{none_are_at, one_more_is_at, counted_items}
-use Rattle.pg_c.specs.Read.{AreGiven, ReadsItems}
+use Rattle.pg_base.specs.declared.error.ProtocolFault.{ProtocolFault}
+use Rattle.pg_response.specs.Received.{max_body}
+use Rattle.pg_format.specs.Format.{Format, IsFaultOf}
+use Rattle.pg_format.specs.Format.Ends.{loosely}
+use Rattle.pg_format.specs.Format.Lists.{times, counted_least}
+use Rattle.pg_format.specs.Format.Parts.{be_u16}
+use Rattle.pg_format.specs.Format.Places.{IsReadAt, BreaksAt}
+use Rattle.pg_format.proofs.FormatLaws.Places.{none_at, one_more_at, counted_at, broken_at}
+use Rattle.pg_c.specs.Read.{IsBodyFault, AreGiven, ReadsItems}
 
 take-nil : {X : Type 0} (n : ℕ) → take {A = X} n [] ≡ []
 take-nil zero = refl
@@ -60,38 +65,42 @@ no_more_given item_at items old new item p le =
     }
 
 -- so many items are read, up to an offset, and given
-pub record GivesItems {X P : Type 0} (Spells : List ℕ → X → Type 0) (item_at : P → Option X) (body : List ℕ) (first at index : ℕ) (old new : List P) : Type 0 where
+pub record GivesItems {X P : Type 0} (g : Format X) (item_at : P → Option X) (body : List ℕ) (first at index : ℕ) (old new : List P) : Type 0 where
   pub items : List X
-  pub counted : length items ≡ index
-  pub encoded : IsEncodedAt (SpellItems Spells) body first items at
+  pub read : IsReadAt (times index g) body first items at
   pub given : AreGiven item_at items old new
 
-pub gives_none : {X P : Type 0} (Spells : List ℕ → X → Type 0) (item_at : P → Option X) (body : List ℕ) (first : ℕ) (places : List P) → GivesItems Spells item_at body first first 0 places places
-gives_none Spells item_at body first places = record { items = []; counted = refl; encoded = none_are_at Spells body first; given = none_given item_at places }
+pub gives_none : {X P : Type 0} (g : Format X) (item_at : P → Option X) (body : List ℕ) (first : ℕ) (places : List P) → first ≤ length body → GivesItems g item_at body first first 0 places places
+gives_none g item_at body first places within = record { items = []; read = none_at g body first within; given = none_given item_at places }
 
-pub gives_more : {X P : Type 0} (Spells : List ℕ → X → Type 0) (item_at : P → Option X) (body : List ℕ) (first at end index : ℕ) (old new : List P) (place : P) (item : X)
-    → GivesItems Spells item_at body first at index old new → item_at place ≡ Some item → IsEncodedAt Spells body at item end → index < length new → GivesItems Spells item_at body first end (index + 1) old (set new index place)
-gives_more Spells item_at body first at end index old new place item p is q lt = record {
+pub gives_more : {X P : Type 0} (g : Format X) (item_at : P → Option X) (body : List ℕ) (first at end index : ℕ) (old new : List P) (place : P) (item : X)
+    → GivesItems g item_at body first at index old new → item_at place ≡ Some item → IsReadAt g body at item end → index < length new → GivesItems g item_at body first end (index + 1) old (set new index place)
+gives_more g item_at body first at end index old new place item p is q lt = record {
   items = p.items ++ item ∷ [];
-  counted = omega (arith, length-append p.items (item ∷ []), p.counted);
-  encoded = one_more_is_at Spells body first at end p.items item p.encoded q;
-  given = rw (← p.counted) (one_more_given item_at p.items old new place item p.given is (omega (arith, lt, p.counted)));
+  read = one_more_at g body index first at end p.items item p.read q;
+  given = rw (← p.read.reads.0) (one_more_given item_at p.items old new place item p.given is (omega (arith, lt, p.read.reads.0)));
 }
 
-pub gives_full : {X P : Type 0} (Spells : List ℕ → X → Type 0) (item_at : P → Option X) (body : List ℕ) (first at end index : ℕ) (old new : List P) (item : X)
-    → GivesItems Spells item_at body first at index old new → IsEncodedAt Spells body at item end → length new ≤ index → GivesItems Spells item_at body first end (index + 1) old new
-gives_full Spells item_at body first at end index old new item p q le = record {
+pub gives_full : {X P : Type 0} (g : Format X) (item_at : P → Option X) (body : List ℕ) (first at end index : ℕ) (old new : List P) (item : X)
+    → GivesItems g item_at body first at index old new → IsReadAt g body at item end → length new ≤ index → GivesItems g item_at body first end (index + 1) old new
+gives_full g item_at body first at end index old new item p q le = record {
   items = p.items ++ item ∷ [];
-  counted = omega (arith, length-append p.items (item ∷ []), p.counted);
-  encoded = one_more_is_at Spells body first at end p.items item p.encoded q;
-  given = no_more_given item_at p.items old new item p.given (omega (arith, le, p.counted));
+  read = one_more_at g body index first at end p.items item p.read q;
+  given = no_more_given item_at p.items old new item p.given (omega (arith, le, p.read.reads.0));
 }
 
-pub reads_items : {X P : Type 0} (Spells : List ℕ → X → Type 0) (item_at : P → Option X) (body : List ℕ) (n at index : ℕ) (old new : List P)
-    → Number 2 body n (drop 2 body) → n ≤ 65535 → index ≡ n → GivesItems Spells item_at body 2 at index old new → ReadsItems Spells item_at body old new (pos n)
-reads_items Spells item_at body n at index old new counted small all p = record {
-  items = p.items;
-  means = counted_items Spells body n at p.items counted small (p.counted ∙ all) p.encoded;
-  count = ap pos (sym (p.counted ∙ all));
-  given = p.given;
-}
+pub reads_items : {X P : Type 0} (g : Format X) (least : ℕ) (item_at : P → Option X) (body : List ℕ) (n at index : ℕ) (old new : List P)
+    → be_u16.Reads body n (drop 2 body) → index ≡ n → GivesItems g item_at body 2 at index old new → ReadsItems (loosely (counted_least least g)) item_at body old new (pos n)
+reads_items g least item_at body n at index old new counted all p =
+    let read : IsReadAt (times n g) body 2 p.items at = rw all at p.read in
+    record {
+      items = p.items;
+      means = counted_at g least body n at p.items counted read;
+      count = ap pos (sym read.reads.0);
+      given = p.given;
+    }
+
+-- an item that can't be read
+pub item_breaks : {X P : Type 0} (g : Format X) (least : ℕ) (item_at : P → Option X) (body : List ℕ) (n at index : ℕ) (old new : List P) (fault : ProtocolFault) → length body ≤ max_body → be_u16.Reads body n (drop 2 body)
+    → 2 + least * n ≤ length body → index < n → GivesItems g item_at body 2 at index old new → BreaksAt g body at fault → IsBodyFault (IsFaultOf (loosely (counted_least least g))) body fault
+item_breaks g least item_at body n at index old new fault short counted holds fewer p breaks = inr (short, broken_at g least body n index at p.items fault counted holds p.read fewer breaks)

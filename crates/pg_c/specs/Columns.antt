@@ -1,6 +1,6 @@
 -- What the place of a column says of the body: nothing where its name isn't in it.
 use Rattle.std.specs.Prelude.{ℕ, List, Option, option_map}
-use Rattle.pg_receive.specs.RowDescription.{Column, table, attribute}
+use Rattle.pg_format.specs.Messages.{Column, table, attribute}
 use Rattle.pg_c.specs.Place.{part}
 use Rattle.pg_c.specs.declared.read.columns.PgmColumn.{PgmColumn}
 

@@ -1,13 +1,14 @@
 -- How the data of a COPY is spelled, as a C program reads it.
 use Rattle.std.specs.Prelude.{◌≡◌, ℕ, ℤ, pos, List, Some, length}
-use Rattle.pg_receive.specs.Copy.{CopyFormats, MeansFormats}
+use Rattle.pg_format.specs.Format.{Means}
+use Rattle.pg_format.specs.Messages.{CopyResponse, copy_response}
 use Rattle.pg_c.specs.Read.{AreGiven}
 use Rattle.pg_c.specs.declared.read.copy.PgmCopyResponse.{PgmCopyResponse}
 
 -- the body means these formats, as many as the result, and they are given
 pub record ReadsFormats (body : List ℕ) (response : PgmCopyResponse) (old new : List ℤ) (result : ℤ) : Type 0 where
-  pub formats : CopyFormats
-  pub means : MeansFormats body formats
+  pub formats : CopyResponse
+  pub means : Means copy_response body formats
   pub format : response.format ≡ formats.format
   pub columns : response.columns ≡ formats.num_columns
   pub count : result ≡ pos (length formats.format_codes)

@@ -3,7 +3,7 @@ use Rattle.std.specs.Prelude.{◌≡◌, ◌<◌, ◌≤◌, ◌⊎◌, ℕ, ℤ
 use Rattle.pg_base.specs.declared.error.ProtocolFault.{ProtocolFault}
 use Rattle.pg_base.specs.declared.error.ProtocolFault.TheVariants.{BodyTooLong}
 use Rattle.pg_response.specs.Received.{max_body}
-use Rattle.pg_receive.specs.CountedItems.{CountedItems}
+use Rattle.pg_format.specs.Format.{Format, Means}
 
 -- a body that is longer than any, or has a fault
 abbrev pub IsBodyFault : (List ℕ → ProtocolFault → Type 0) → List ℕ → ProtocolFault → Type 0
@@ -15,9 +15,9 @@ pub record AreGiven {X P : Type 0} (item_at : P → Option X) (items : List X) (
   pub given : map item_at (take (length items) new) ≡ map Some (take (length new) items)
   pub rest : drop (length items) new ≡ drop (length items) old
 
--- the body is counted items, as many as the result, and they are given
-pub record ReadsItems {X P : Type 0} (Spells : List ℕ → X → Type 0) (item_at : P → Option X) (body : List ℕ) (old new : List P) (result : ℤ) : Type 0 where
+-- the body means items, as many as the result, and they are given
+pub record ReadsItems {X P : Type 0} (format : Format (List X)) (item_at : P → Option X) (body : List ℕ) (old new : List P) (result : ℤ) : Type 0 where
   pub items : List X
-  pub means : CountedItems Spells body items
+  pub means : Means format body items
   pub count : result ≡ pos (length items)
   pub given : AreGiven item_at items old new

@@ -7,6 +7,8 @@ pub mod Lists
 pub mod Nullable
 pub mod Numbers
 pub mod Parts
+pub mod Places
 pub mod Sequences
 pub mod Takes
 pub mod Tests
+pub mod Whole

@@ -4,9 +4,10 @@ pub mod Ends
 pub mod Lists
 pub mod Nullable
 pub mod Parts
+pub mod Places
 pub mod Sequences
 pub mod Tests
-use Rattle.std.specs.Prelude.{◌≡◌, ℕ, ◌<◌, List, [], ◌∷◌, ◌++◌, ◌⊎◌}
+use Rattle.std.specs.Prelude.{◌≡◌, ℕ, ◌<◌, List, [], ◌∷◌, ◌++◌, length, ◌⊎◌, Result, Ok, Err}
 use Rattle.pg_base.specs.declared.error.ProtocolFault.{ProtocolFault}
 
 -- Reads: bytes begin with a value, and a rest follows it.
@@ -17,6 +18,18 @@ pub record Format (A : Type 0) : Type 1 where
   pub Breaks : ℕ → List ℕ → ProtocolFault → Type 0
   pub Writes : A → List ℕ
   pub Fits : A → List ℕ → Type 0
+
+-- what a whole body means, and what is wrong with one that means nothing
+abbrev pub Means : {A : Type 0} → Format A → List ℕ → A → Type 0
+Means g body a = g.Reads body a []
+
+abbrev pub IsFaultOf : {A : Type 0} → Format A → List ℕ → ProtocolFault → Type 0
+IsFaultOf g body fault = g.Breaks (length body) body fault
+
+-- what a reader of whole bodies returns: the value, or the fault
+abbrev pub ReadsAs : {A V : Type 0} → Format V → (A → V) → List ℕ → Result A ProtocolFault → Type 0
+ReadsAs g shown body (Ok value) = Means g body (shown value)
+ReadsAs g shown body (Err fault) = IsFaultOf g body fault
 
 -- one value and one rest; one fault; never both; and what is written is read
 pub record Lawful {A : Type 0} (g : Format A) : Type 0 where

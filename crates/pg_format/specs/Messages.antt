@@ -1,6 +1,6 @@
 -- Every message of both directions, in the order of the documentation's "Message Formats": (B) is sent by
 -- the server, (F) by the client. A format is of the body, which follows the tag and the length.
-use Rattle.std.specs.Prelude.{◌≡◌, ◌≢◌, ℕ, zero, ◌*◌, ◌==◌, ℤ, pos, negsuc, List, [], ◌∷◌, length, Option, Some, None, IsUtf8, if◌then◌else◌}
+use Rattle.std.specs.Prelude.{◌≡◌, ◌≢◌, ℕ, zero, ◌*◌, ◌==◌, ℤ, pos, negsuc, List, [], ◌∷◌, Option, Some, None, IsUtf8, if◌then◌else◌}
 use Rattle.pg_base.specs.declared.format.BackendMessageFormat.{BackendMessageFormat}
 use Rattle.pg_base.specs.declared.format.BackendMessageFormat.TheVariants as backend
 use Rattle.pg_base.specs.declared.format.FrontendMessageFormat.{FrontendMessageFormat}
@@ -239,11 +239,18 @@ abbrev pub attribute_number : Option ℤ → ℤ
 attribute_number None = pos 0
 attribute_number (Some z) = z
 
+-- the six numbers of a column, which follow its name
+abbrev pub Numbers : Type 0
+Numbers = Option ℕ × (Option ℤ × (ℕ × (ℤ × (ℤ × ℤ))))
+
+abbrev pub numbers_of : Column → Numbers
+numbers_of c = (c.relation_id, (c.relation_attribute_no, (c.data_type_id, (c.data_type_size, (c.type_modifier, c.format)))))
+
+abbrev pub numbers : Format Numbers
+numbers = mapped table table_number be_u32 ⨾ mapped attribute attribute_number be_i16 ⨾ be_u32 ⨾ be_i16 ⨾ be_i32 ⨾ be_i16
+
 abbrev pub column : Format Column
-column =
-    record_of
-    (λ c. (c.name, (c.relation_id, (c.relation_attribute_no, (c.data_type_id, (c.data_type_size, (c.type_modifier, c.format)))))))
-    (utf8 ⨾ with_room 18 (mapped table table_number be_u32 ⨾ mapped attribute attribute_number be_i16 ⨾ be_u32 ⨾ be_i16 ⨾ be_i32 ⨾ be_i16))
+column = record_of (λ c. (c.name, numbers_of c)) (utf8 ⨾ with_room 18 numbers)
 
 abbrev pub row_description : Format (List Column)
 row_description = loosely (counted_least 19 column)

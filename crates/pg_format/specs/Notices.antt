@@ -1,5 +1,5 @@
 -- What may be wrong with the fields of an error or a notice. Documentation: "Error and Notice Message Fields".
-use Rattle.std.specs.Prelude.{◌≡◌, ℕ, ◌==◌, Bool, true, false, ◌&&◌, List, [], ◌∷◌, map, find, codes, Option, Some, None, is_some, unwrap_or, if◌then◌else◌}
+use Rattle.std.specs.Prelude.{ℕ, ◌==◌, Bool, true, false, ◌&&◌, List, [], ◌∷◌, map, find, codes, Option, Some, None, is_some, unwrap_or, if◌then◌else◌}
 use Rattle.std.specs.Str.{is_utf8, bytes_eq}
 use Rattle.std.specs.Option.{option_or}
 use Rattle.pg_base.specs.declared.error.ProtocolFault.{ProtocolFault}

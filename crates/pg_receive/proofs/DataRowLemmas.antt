@@ -1,12 +1,24 @@
--- The cells of a row, from where they end.
-use Rattle.std.proofs.Common.{◌≡◌, ℕ, zero, suc, ◌+◌, ◌-◌, ◌<◌, ◌≤◌, pos, List, [], ◌∷◌, ◌++◌, Option, Some, None, length, get_or, take, drop, false, true, inl, inr, refl, sym, ap, ◌∙◌, arith, append_assoc, length-append, length-take, length-drop}
-use Rattle.std.specs.Prelude.{slice_get, slice_range, is_none}
+-- The cells of a row: where they end, and how they are read.
+use Rattle.std.proofs.Common.{◌≡◌, ℕ, zero, suc, ◌+◌, ◌-◌, ◌*◌, ◌<◌, ◌≤◌, ℤ, pos, negsuc, List, [], ◌∷◌, ◌++◌, Option, Some, None, length, get_or, take, drop, false, true, inl, inr, refl, sym, ap, ◌∙◌, arith, length-append, length-take, length-drop}
+use Rattle.std.specs.Prelude.{slice_get, slice_range, is_none, ◌<ℤ◌}
 use Rattle.std.proofs.lemmas.Bool.{cases_lt, both_ways, le-leb}
+use Rattle.std.proofs.lemmas.Int.{ints}
 use Rattle.std.proofs.lemmas.List.{take-append-drop, drop-drop, take_at, drop_at}
+use Rattle.pg_base.specs.declared.error.ProtocolFault.{ProtocolFault}
+use Rattle.pg_base.specs.Error.{IsShort}
 use Rattle.pg_base.specs.Reading.{Signed}
+use Rattle.pg_base.proofs.ReadingLemmas.{number_fits}
+use Rattle.pg_format.specs.Format.{Means}
+use Rattle.pg_format.specs.Format.Parts.{be_i32}
+use Rattle.pg_format.specs.Format.Lists.{AreRead}
+use Rattle.pg_format.specs.Format.Nullable.{cell_after, cell}
+use Rattle.pg_format.specs.Format.Places.{IsReadAt, BreaksAt}
+use Rattle.pg_format.specs.Messages.{data_row}
+use Rattle.pg_format.proofs.FormatLaws.Lists.{times_take}
+use Rattle.pg_format.proofs.FormatLaws.Places.{lacks_at, stands_at}
+use Rattle.pg_format.proofs.FormatLaws.Takes.{takes_signed, takes_cell}
 use Rattle.pg_receive.specs.DataRow.CellEnd.{null_bit, is_null, end_of, cell_to, cells_from, last_end, start_of, EndsRise}
-use Rattle.pg_receive.specs.DataRow.{SpellsCell}
-use Rattle.pg_receive.specs.CountedItems.{IsEncodedAt}
+use Rattle.pg_receive.specs.DataRow.{IsAfter}
 
 pub length-cells_from : (body : List ℕ) (start : ℕ) (ends : List ℕ) → length (cells_from body start ends) ≡ length ends
 length-cells_from body start [] = refl
@@ -62,33 +74,87 @@ cell_to-value body start entry value = rw (value_end entry value, value) refl
 pub cell_to-null : (body : List ℕ) (start entry : ℕ) → is_null entry ≡ true → cell_to body start entry ≡ None
 cell_to-null body start entry null = rw null refl
 
+-- ---- cells that are read
+
 -- a value follows its length
-pub value_is_at : (body value : List ℕ) (at n : ℕ) → Signed 4 (drop at body) (pos n) (drop (at + 4) body) → at + 4 + n ≤ length body → n ≤ 2147483647 → value ≡ take n (drop (at + 4) body)
-    → IsEncodedAt SpellsCell body at (Some value) (at + 4 + n)
-value_is_at body value at n length_is fits max is =
+pub value_is_at : (body value : List ℕ) (at n : ℕ) → Signed 4 (drop at body) (pos n) (drop (at + 4) body) → at + 4 + n ≤ length body → value ≡ take n (drop (at + 4) body)
+    → IsReadAt cell body at (Some value) (at + 4 + n)
+value_is_at body value at n length_is fits is =
     let after = drop (at + 4) body in
     let size : length value ≡ n = ap length is ∙ omega (arith, length-take n after, length-drop (at + 4) body) in
-    record {
-      spelled = length_is.spelled ++ value;
-      spells = record { field = length_is.spelled; wide = length_is.wide; counts = sym length_is.is ∙ ap pos (sym size); fits = omega arith; parts = refl };
-      ends = omega (arith, length-append length_is.spelled value, size, length_is.wide);
-      parts =
-          let split : after ≡ value ++ drop (at + 4 + n) body = sym (take-append-drop n after) ∙ ap (λ (l : List ℕ). l ++ drop n after) (sym is) ∙ ap (λ (l : List ℕ). value ++ l) (drop-drop n (at + 4) body) in
-          length_is.parts ∙ ap (λ (l : List ℕ). length_is.spelled ++ l) split ∙ sym (append_assoc length_is.spelled value (drop (at + 4 + n) body));
-    }
+    let split : after ≡ value ++ drop (at + 4 + n) body = sym (take-append-drop n after) ∙ ap (λ (l : List ℕ). l ++ drop n after) (sym is) ∙ ap (λ (l : List ℕ). value ++ l) (drop-drop n (at + 4) body) in
+    record { within = fits; reads = ((pos n, Some value), record { mid = after; first = length_is; second = (value, (size, split), refl) }, refl) }
+
+-- nothing follows a length below 0
+null_after : (z : ℤ) (rest : List ℕ) → z <ℤ pos 0 → (cell_after z).Reads rest None rest
+null_after (pos n) rest h = absurd (omega (arith, ints, h))
+null_after (negsuc n) rest h = (refl, refl)
+
+pub null_is_at : (body : List ℕ) (at : ℕ) (z : ℤ) → at ≤ length body → Signed 4 (drop at body) z (drop (at + 4) body) → z <ℤ pos 0 → IsReadAt cell body at None (at + 4)
+null_is_at body at z within length_is below =
+    let after = drop (at + 4) body in
+    let stands = stands_at be_i32 4 (takes_signed 4) body at z within length_is in
+    record { within = stands.within; reads = ((z, None), record { mid = after; first = length_is; second = null_after z after below }, refl) }
+
+-- a length, and fewer bytes after it
+pub value_is_short : (body : List ℕ) (at n : ℕ) (fault : ProtocolFault) → at + 4 ≤ length body → Signed 4 (drop at body) (pos n) (drop (at + 4) body) → IsShort body (at + 4) n fault → BreaksAt cell body at fault
+value_is_short body at n fault within length_is short =
+    inr (record { value = pos n; mid = drop (at + 4) body; reads = length_is; breaks = lacks_at body (at + 4) n fault within short })
+
+-- the bytes of a value after its length
+value_bytes : (z : ℤ) (found : Option (List ℕ)) (value after rest : List ℕ) → Some value ≡ found → (cell_after z).Reads after found rest → after ≡ value ++ rest
+value_bytes (pos n) found value after rest e p = let same : value ≡ p.0 = cc (e ∙ p.2) in p.1.1 ∙ ap (λ (l : List ℕ). l ++ rest) (sym same)
+value_bytes (negsuc n) found value after rest e p = absurd (let none : Some value ≡ None = e ∙ p.0 in cc)
 
 -- where a value is
-pub value_at : (body value : List ℕ) (at end : ℕ) → IsEncodedAt SpellsCell body at (Some value) end → (end ≡ at + 4 + length value) × (slice_range body (at + 4) end ≡ value)
+pub value_at : (body value : List ℕ) (at end : ℕ) → IsReadAt cell body at (Some value) end → (end ≡ at + 4 + length value) × (slice_range body (at + 4) end ≡ value)
 value_at body value at end p =
-    let field = p.spells.field in
-    let long : end ≡ at + 4 + length value = omega (arith, p.ends, ap length p.spells.parts, length-append field value, p.spells.wide) in
+    let read = p.reads.1 in
+    let field = read.first.spelled in
+    let rest = drop end body in
+    let bytes : read.mid ≡ value ++ rest = value_bytes p.reads.0.0 p.reads.0.1 value read.mid rest p.reads.2 read.second in
+    let parts : drop at body ≡ field ++ (value ++ rest) = read.first.parts ∙ ap (λ (l : List ℕ). field ++ l) bytes in
+    let long : end ≡ at + 4 + length value =
+    omega (arith, p.within, ap length parts, length-append field (value ++ rest), length-append value rest, read.first.wide, length-drop at body, length-drop end body) in
     let count : end - (at + 4) ≡ length value = omega (arith, long) in
-    let parts : drop at body ≡ field ++ (value ++ drop end body) =
-    p.parts ∙ ap (λ (l : List ℕ). l ++ drop end body) p.spells.parts ∙ append_assoc field value (drop end body) in
-    let after : drop (at + 4) body ≡ value ++ drop end body = sym (drop-drop 4 at body) ∙ ap (drop 4) parts ∙ drop_at field (value ++ drop end body) 4 p.spells.wide in
-    (long, rw (count, after) (take_at value (drop end body) (length value) refl))
+    let after : drop (at + 4) body ≡ value ++ rest = sym (drop-drop 4 at body) ∙ ap (drop 4) parts ∙ drop_at field (value ++ rest) 4 read.first.wide in
+    (long, rw (count, after) (take_at value rest (length value) refl))
 
 -- an entry that says where a cell ends, and whether it is NULL, gives the cell
-pub entry_gives : (body : List ℕ) (cell : Option (List ℕ)) (at end entry : ℕ) → IsEncodedAt SpellsCell body at cell end → end_of entry ≡ end → is_null entry ≡ is_none cell → cell_to body at entry ≡ cell
+pub entry_gives : (body : List ℕ) (found : Option (List ℕ)) (at end entry : ℕ) → IsReadAt cell body at found end → end_of entry ≡ end → is_null entry ≡ is_none found → cell_to body at entry ≡ found
 entry_gives body None at end entry p ends null = cell_to-null body at entry null
 entry_gives body (Some value) at end entry p ends null = cell_to-value body at entry null ∙ ap Some (rw ends ((value_at body value at end p).1))
+
+-- a cell takes the bytes of its length at least
+pub cell_is_wide : (body : List ℕ) (at end : ℕ) (found : Option (List ℕ)) → IsReadAt cell body at found end → at + 4 ≤ end
+cell_is_wide body at end found p = omega (arith, p.within, takes_cell.takes (drop at body) (drop end body) found p.reads, length-drop at body, length-drop end body)
+
+-- ---- rows
+
+pub cells_fit : (body : List ℕ) (cells : List (Option (List ℕ))) → Means data_row body cells → 2 + 4 * length cells ≤ length body
+cells_fit body cells p =
+    let v = p.1 in
+    omega (arith, number_fits 2 body v.0.0 v.1.mid v.1.first, (times_take 4 takes_cell v.0.0).takes v.1.mid p.0 v.0.1 v.1.second, v.1.second.0, ap length v.2)
+
+-- what is read before a cell, and the cell
+read_between : (front : List (Option (List ℕ))) (found : Option (List ℕ)) (back : List (Option (List ℕ))) (bytes rest : List ℕ) → AreRead cell bytes (front ++ found ∷ back) rest
+    → (left : List ℕ) × (more : List ℕ) × AreRead cell bytes front left × cell.Reads left found more
+read_between [] found back bytes rest p = (bytes, p.0, refl, p.1)
+read_between (first ∷ front) found back bytes rest p = let q = read_between front found back p.0 rest p.2 in (q.0, q.1, (p.0, p.1, q.2), q.3)
+
+pub value_is_after : (body : List ℕ) (front : List (Option (List ℕ))) (value : List ℕ) (back : List (Option (List ℕ))) → Means data_row body (front ++ Some value ∷ back) → IsAfter body front value
+value_is_after body front value back p =
+    let v = p.1 in
+    let after_count : drop 2 body ≡ v.1.mid = rw v.1.first.parts (drop_at v.1.first.spelled v.1.mid 2 v.1.first.wide) in
+    let all : AreRead cell (drop 2 body) (front ++ Some value ∷ back) p.0 = rw (after_count, v.2) v.1.second.1 in
+    let q = read_between front (Some value) back (drop 2 body) p.0 all in
+    let read = q.3.1 in
+    let bytes = value_bytes q.3.0.0 q.3.0.1 value read.mid q.1 q.3.2 read.second in
+    record {
+      left = q.0;
+      field = read.first.spelled;
+      after = q.1;
+      are_read = q.2;
+      wide = read.first.wide;
+      parts = read.first.parts ∙ ap (λ (l : List ℕ). read.first.spelled ++ l) bytes;
+    }

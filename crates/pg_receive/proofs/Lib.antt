@@ -2,8 +2,8 @@ pub mod AuthenticationMechanismsLemmas
 pub mod AuthenticationSaslItemsLemmas
 pub mod AuthenticationSaslLemmas
 pub mod CommandCompleteLemmas
+pub mod CopyLemmas
 pub mod CountedItemsLemmas
-pub mod CountedItemsReadingLemmas
 pub mod DataRowLemmas
 pub mod NotificationLemmas
 pub mod RowDescriptionColumnsLemmas

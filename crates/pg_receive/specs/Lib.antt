@@ -1,11 +1,8 @@
 pub mod Authentication
-pub mod BackendKeyData
 pub mod CommandComplete
 pub mod Copy
 pub mod CountedItems
 pub mod DataRow
-pub mod Notification
 pub mod ParameterDescription
-pub mod ParameterStatus
 pub mod ReadyForQuery
 pub mod RowDescription

@@ -1,24 +1,9 @@
--- ReadyForQuery: the status of the transaction, one byte. Documentation: "Message Formats",
--- ReadyForQuery (B).
-pub mod Laws
-use Rattle.std.specs.Prelude.{◌≡◌, ◌≢◌, ℕ, List, [], ◌∷◌}
-use Rattle.pg_base.specs.declared.error.ProtocolFault.{ProtocolFault}
-use Rattle.pg_base.specs.declared.error.ProtocolFault.TheVariants.{UnknownStatus}
+-- ReadyForQuery: the cases of the type, and the statuses that they stand for.
 use Rattle.pg_receive.specs.declared.message.ready_for_query.TransactionStatus.{TransactionStatus}
-use Rattle.pg_receive.specs.declared.message.ready_for_query.TransactionStatus.TheVariants as statuses
-use Rattle.pg_base.specs.Error.{IsShort}
+use Rattle.pg_receive.specs.declared.message.ready_for_query.TransactionStatus.TheVariants as cases
+use Rattle.pg_format.specs.Messages.{Status, idle, transaction, error}
 
--- the letter of a status
-abbrev pub status_letter : TransactionStatus → ℕ
-status_letter statuses.Idle = 73
-status_letter statuses.Transaction = 84
-status_letter statuses.Error = 69
-
--- the first byte is the letter; bytes after it are ignored
-abbrev pub MeansStatus : List ℕ → TransactionStatus → Type 0
-MeansStatus body status = (rest : List ℕ) × (body ≡ status_letter status ∷ rest)
-
--- there is no first byte, or it is no status's letter
-abbrev pub IsStatusFault : List ℕ → ProtocolFault → Type 0
-IsStatusFault [] fault = IsShort [] 0 1 fault
-IsStatusFault (byte ∷ rest) fault = ((status : TransactionStatus) → status_letter status ≢ byte) × (fault ≡ UnknownStatus byte)
+abbrev pub shown_status : TransactionStatus → Status
+shown_status cases.Idle = idle
+shown_status cases.Transaction = transaction
+shown_status cases.Error = error

@@ -6,32 +6,34 @@ ghost use Rattle.std.specs.Prelude.{◌≡◌, ℕ, ◌+◌, ◌*◌, ◌≤◌,
 ghost use Rattle.pg_receive.specs.Authentication.Mechanisms.{AreMechanisms, mechanisms_in};
 ghost use Rattle.pg_receive.specs.Authentication.SaslItems.{AreItems, items_in};
 ghost use Rattle.pg_receive.specs.CommandComplete.{IsRowsAffected, row_count};
-ghost use Rattle.pg_receive.specs.CountedItems.Reading.{Reading, Begins, AreRead, ReadsBody};
-ghost use Rattle.pg_receive.specs.DataRow.{SpellsCell, IsCellFault, MeansRow, IsAfter, least_cell};
-ghost use Rattle.pg_receive.specs.RowDescription.{Column, SpellsColumn, IsColumnFault, MeansColumns, least_column};
+ghost use Rattle.pg_format.specs.Format.{Means};
+ghost use Rattle.pg_format.specs.Format.Nullable.{cell};
+ghost use Rattle.pg_format.specs.Messages.{Column, column, data_row, row_description};
+ghost use Rattle.pg_receive.specs.CountedItems.{Reading, Begins, Steps, ReadsBody};
+ghost use Rattle.pg_receive.specs.DataRow.{IsAfter};
 
 pub use values::{
     clone_of_key, clone_of_ready, clone_of_status, letter_of_status,
     values_are_equal_where_they_are_the_same,
 };
 
-/// The cells of a row are in its body in order, each value after the spellings of the cells before
-/// it; so a body of n bytes has at most (n - 2) / 4 cells.
+/// The cells of a row are in its body in order, each value after the cells before it and its own
+/// length; so a body of n bytes has at most (n - 2) / 4 cells.
 pub fn cells_are_in_order()
-    ensures fit { (body : List ℕ) (cells : List (Option (List ℕ))) → MeansRow body cells → 2 + 4 * length cells ≤ length body }
-    ensures order { (body : List ℕ) (front : List (Option (List ℕ))) (value : List ℕ) (back : List (Option (List ℕ))) → MeansRow body (front ++ Some value ∷ back) → IsAfter body front value }
+    ensures fit { (body : List ℕ) (cells : List (Option (List ℕ))) → Means data_row body cells → 2 + 4 * length cells ≤ length body }
+    ensures order { (body : List ℕ) (front : List (Option (List ℕ))) (value : List ℕ) (back : List (Option (List ℕ))) → Means data_row body (front ++ Some value ∷ back) → IsAfter body front value }
 {}
 
 /// Cells that are read one by one are, at the end, all that the body means, or the body has the fault
 /// that comes after them; and so are columns.
 pub fn what_is_read_one_by_one_is_what_the_body_means()
-    ensures cells { (body : List ℕ) (old new : Reading) (cells : List (Option (List ℕ))) → Begins SpellsCell IsCellFault least_cell body old → AreRead SpellsCell IsCellFault old cells new → ReadsBody SpellsCell IsCellFault least_cell body cells new }
-    ensures columns { (body : List ℕ) (old new : Reading) (columns : List Column) → Begins SpellsColumn IsColumnFault least_column body old → AreRead SpellsColumn IsColumnFault old columns new → ReadsBody SpellsColumn IsColumnFault least_column body columns new }
+    ensures cells { (body : List ℕ) (old new : Reading) (cells : List (Option (List ℕ))) → Begins 4 body old → Steps cell old cells new → ReadsBody data_row cell body cells new }
+    ensures columns { (body : List ℕ) (old new : Reading) (columns : List Column) → Begins 19 body old → Steps column old columns new → ReadsBody row_description column body columns new }
 {}
 
 /// A body of n bytes describes at most (n - 2) / 19 columns.
 pub fn columns_fit_in_their_body()
-    ensures { (body : List ℕ) (columns : List Column) → MeansColumns body columns → 2 + 19 * length columns ≤ length body }
+    ensures { (body : List ℕ) (columns : List Column) → Means row_description body columns → 2 + 19 * length columns ≤ length body }
 {}
 
 /// The mechanisms of some bytes are the one list of which each name begins what the names before it

@@ -4,4 +4,3 @@ pub mod Error
 pub mod Last
 pub mod Received
 pub mod Response
-pub mod Text

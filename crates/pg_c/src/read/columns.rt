@@ -2,10 +2,10 @@
 
 ghost use Rattle.std.specs.Prelude.{◌≡◌, ◌≤◌, ◌<ℤ◌, ◌≤ℤ◌, ℕ, List, pos, length, Some, IfOk, IfErr};
 ghost use Rattle.std.specs.Option.{option_map_or};
-ghost use Rattle.pg_receive.specs.CountedItems.{IsEncodedAt};
-ghost use Rattle.pg_receive.specs.ParameterDescription.{SpellsType, IsTypesFault};
+ghost use Rattle.pg_format.specs.Format.{IsFaultOf};
+ghost use Rattle.pg_format.specs.Format.Places.{IsReadAt};
+ghost use Rattle.pg_format.specs.Messages.{column, row_description, parameter_description};
 ghost use Rattle.pg_receive.specs.RowDescription.Columns.{column_of_ref};
-ghost use Rattle.pg_receive.specs.RowDescription.{SpellsColumn, IsColumnsFault};
 ghost use Rattle.pg_c.specs.Columns.{column_in};
 ghost use Rattle.pg_c.specs.Read.{ReadsItems, IsBodyFault};
 ghost use Rattle.pg_c.specs.Refusal.{Refuses};
@@ -49,8 +49,8 @@ pub extern "C" fn pgm_read_columns(
     columns: &mut [PgmColumn],
     fault: &mut PgmFault,
 ) -> isize
-    ensures columns { pos 0 ≤ℤ result → ReadsItems SpellsColumn (column_in body.now) body.now columns.old columns.new result }
-    ensures fault { result <ℤ pos 0 → Refuses (IsBodyFault IsColumnsFault body.now) ⊥ fault.new result }
+    ensures columns { pos 0 ≤ℤ result → ReadsItems row_description (column_in body.now) body.now columns.old columns.new result }
+    ensures fault { result <ℤ pos 0 → Refuses (IsBodyFault (IsFaultOf row_description) body.now) ⊥ fault.new result }
 {
     match columns_of(body, columns) {
         Ok(count) => count as isize,
@@ -60,8 +60,8 @@ pub extern "C" fn pgm_read_columns(
 
 fn columns_of(body: &[u8], columns: &mut [PgmColumn]) -> Result<usize, ProtocolFault>
     ensures small { IfOk result (λ count. count ≤ 65535) }
-    ensures columns { IfOk result (λ count. ReadsItems SpellsColumn (column_in body.now) body.now columns.old columns.new (pos count)) }
-    ensures fault { IfErr result (IsBodyFault IsColumnsFault body.now) }
+    ensures columns { IfOk result (λ count. ReadsItems row_description (column_in body.now) body.now columns.old columns.new (pos count)) }
+    ensures fault { IfErr result (IsBodyFault (IsFaultOf row_description) body.now) }
 {
     check_body(body)?;
     let count = usize::from(u16_at(body, 0)?);
@@ -78,20 +78,20 @@ fn columns_of(body: &[u8], columns: &mut [PgmColumn]) -> Result<usize, ProtocolF
 }
 
 // The place of the column that begins at an offset.
-fn place_of(at: usize, column: &FieldRef<'_>) -> PgmColumn
-    ensures { (body : List ℕ) (end : ℕ) → IsEncodedAt SpellsColumn body at (column_of_ref column.now) end → column_in body result ≡ Some (column_of_ref column.now) }
+fn place_of(at: usize, field: &FieldRef<'_>) -> PgmColumn
+    ensures { (body : List ℕ) (end : ℕ) → IsReadAt column body at (column_of_ref field.now) end → column_in body result ≡ Some (column_of_ref field.now) }
 {
     PgmColumn {
         name: PgmSpan {
             at,
-            len: column.name.len(),
+            len: field.name.len(),
         },
-        table: table_of(column.relation_id),
-        attribute: column.relation_attribute_no.unwrap_or(0),
-        type_id: column.data_type_id.0,
-        type_size: column.data_type_size,
-        type_modifier: column.type_modifier,
-        format: column.format,
+        table: table_of(field.relation_id),
+        attribute: field.relation_attribute_no.unwrap_or(0),
+        type_id: field.data_type_id.0,
+        type_size: field.data_type_size,
+        type_modifier: field.type_modifier,
+        format: field.format,
     }
 }
 
@@ -113,8 +113,8 @@ pub extern "C" fn pgm_read_parameter_types(
     types: &mut [u32],
     fault: &mut PgmFault,
 ) -> isize
-    ensures types { pos 0 ≤ℤ result → ReadsItems SpellsType (λ number. Some number) body.now types.old types.new result }
-    ensures fault { result <ℤ pos 0 → Refuses (IsBodyFault IsTypesFault body.now) ⊥ fault.new result }
+    ensures types { pos 0 ≤ℤ result → ReadsItems parameter_description (λ number. Some number) body.now types.old types.new result }
+    ensures fault { result <ℤ pos 0 → Refuses (IsBodyFault (IsFaultOf parameter_description) body.now) ⊥ fault.new result }
 {
     match types_of(body, types) {
         Ok(count) => count as isize,
@@ -124,8 +124,8 @@ pub extern "C" fn pgm_read_parameter_types(
 
 fn types_of(body: &[u8], types: &mut [u32]) -> Result<usize, ProtocolFault>
     ensures small { IfOk result (λ count. count ≤ 65535) }
-    ensures types { IfOk result (λ count. ReadsItems SpellsType (λ number. Some number) body.now types.old types.new (pos count)) }
-    ensures fault { IfErr result (IsBodyFault IsTypesFault body.now) }
+    ensures types { IfOk result (λ count. ReadsItems parameter_description (λ number. Some number) body.now types.old types.new (pos count)) }
+    ensures fault { IfErr result (IsBodyFault (IsFaultOf parameter_description) body.now) }
 {
     check_body(body)?;
     let count = usize::from(u16_at(body, 0)?);

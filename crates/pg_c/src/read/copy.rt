@@ -1,7 +1,8 @@
 //! How the data of a COPY is spelled.
 
 ghost use Rattle.std.specs.Prelude.{◌≡◌, ◌≤◌, ◌<ℤ◌, ◌≤ℤ◌, pos, length, IfOk, IfErr};
-ghost use Rattle.pg_receive.specs.Copy.{codes_counted, IsFormatsFault};
+ghost use Rattle.pg_format.specs.Format.{IsFaultOf};
+ghost use Rattle.pg_format.specs.Messages.{columns_of, copy_response};
 ghost use Rattle.pg_c.specs.Copy.{ReadsFormats};
 ghost use Rattle.pg_c.specs.Read.{IsBodyFault};
 ghost use Rattle.pg_c.specs.Refusal.{Refuses};
@@ -39,7 +40,7 @@ pub extern "C" fn pgm_read_copy_response(
     fault: &mut PgmFault,
 ) -> isize
     ensures formats { pos 0 ≤ℤ result → ReadsFormats body.now response.new codes.old codes.new result }
-    ensures fault { result <ℤ pos 0 → Refuses (IsBodyFault IsFormatsFault body.now) ⊥ fault.new result }
+    ensures fault { result <ℤ pos 0 → Refuses (IsBodyFault (IsFaultOf copy_response) body.now) ⊥ fault.new result }
     ensures kept { result <ℤ pos 0 → response.new ≡ response.old }
 {
     match codes_of(body, response, codes) {
@@ -55,7 +56,7 @@ fn codes_of(
 ) -> Result<usize, ProtocolFault>
     ensures small { IfOk result (λ count. count ≤ 65535) }
     ensures formats { IfOk result (λ count. ReadsFormats body.now response.new codes.old codes.new (pos count)) }
-    ensures fault { IfErr result (IsBodyFault IsFormatsFault body.now) }
+    ensures fault { IfErr result (IsBodyFault (IsFaultOf copy_response) body.now) }
     ensures kept { IfErr result (λ _. response.new ≡ response.old) }
 {
     check_body(body)?;
@@ -75,7 +76,7 @@ fn codes_of(
 
 // How many codes follow a count of columns.
 fn code_count(columns: i16) -> usize
-    ensures { result ≡ codes_counted columns }
+    ensures { result ≡ columns_of columns }
 {
     usize::try_from(columns).unwrap_or(0)
 }

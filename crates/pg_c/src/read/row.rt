@@ -1,8 +1,10 @@
 //! The cells of a row.
 
-ghost use Rattle.std.specs.Prelude.{◌≡◌, ◌+◌, ◌≤◌, ◌<ℤ◌, ◌≤ℤ◌, ℕ, List, pos, length, option_copied, Some, IfOk, IfErr};
-ghost use Rattle.pg_receive.specs.CountedItems.{IsEncodedAt};
-ghost use Rattle.pg_receive.specs.DataRow.{SpellsCell, IsRowFault};
+ghost use Rattle.std.specs.Prelude.{◌≡◌, ◌+◌, ◌≤◌, ◌<ℤ◌, ◌≤ℤ◌, ℕ, List, pos, option_copied, Some, IfOk, IfErr};
+ghost use Rattle.pg_format.specs.Format.{IsFaultOf};
+ghost use Rattle.pg_format.specs.Format.Nullable.{cell};
+ghost use Rattle.pg_format.specs.Format.Places.{IsReadAt};
+ghost use Rattle.pg_format.specs.Messages.{data_row};
 ghost use Rattle.pg_c.specs.Read.{ReadsItems, IsBodyFault};
 ghost use Rattle.pg_c.specs.Row.{cell_in};
 ghost use Rattle.pg_c.specs.Refusal.{Refuses};
@@ -37,8 +39,8 @@ pub extern "C" fn pgm_read_row(
     cells: &mut [PgmCell],
     fault: &mut PgmFault,
 ) -> isize
-    ensures row { pos 0 ≤ℤ result → ReadsItems SpellsCell (cell_in body.now) body.now cells.old cells.new result }
-    ensures fault { result <ℤ pos 0 → Refuses (IsBodyFault IsRowFault body.now) ⊥ fault.new result }
+    ensures row { pos 0 ≤ℤ result → ReadsItems data_row (cell_in body.now) body.now cells.old cells.new result }
+    ensures fault { result <ℤ pos 0 → Refuses (IsBodyFault (IsFaultOf data_row) body.now) ⊥ fault.new result }
 {
     match cells_of(body, cells) {
         Ok(count) => count as isize,
@@ -48,8 +50,8 @@ pub extern "C" fn pgm_read_row(
 
 fn cells_of(body: &[u8], cells: &mut [PgmCell]) -> Result<usize, ProtocolFault>
     ensures small { IfOk result (λ count. count ≤ 65535) }
-    ensures row { IfOk result (λ count. ReadsItems SpellsCell (cell_in body.now) body.now cells.old cells.new (pos count)) }
-    ensures fault { IfErr result (IsBodyFault IsRowFault body.now) }
+    ensures row { IfOk result (λ count. ReadsItems data_row (cell_in body.now) body.now cells.old cells.new (pos count)) }
+    ensures fault { IfErr result (IsBodyFault (IsFaultOf data_row) body.now) }
 {
     check_body(body)?;
     let count = usize::from(u16_at(body, 0)?);
@@ -66,15 +68,15 @@ fn cells_of(body: &[u8], cells: &mut [PgmCell]) -> Result<usize, ProtocolFault>
 }
 
 // The place of the cell from one offset to another.
-fn place_of(at: usize, cell: Option<&[u8]>, end: usize) -> PgmCell
+fn place_of(at: usize, value: Option<&[u8]>, end: usize) -> PgmCell
     requires wide { at + 4 ≤ end }
     requires short { end ≤ MAX_BODY }
-    ensures { (body : List ℕ) → end ≤ length body → IsEncodedAt SpellsCell body at (option_copied cell.entry) end → cell_in body result ≡ Some (option_copied cell.entry) }
+    ensures { (body : List ℕ) → IsReadAt cell body at (option_copied value.entry) end → cell_in body result ≡ Some (option_copied value.entry) }
 {
     let start = at + CELL_LENGTH;
     PgmCell {
         at: start as u32,
-        len: if cell.is_none() {
+        len: if value.is_none() {
             -1
         } else {
             (end - start) as i32

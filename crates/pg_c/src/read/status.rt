@@ -1,11 +1,9 @@
 //! Notifications, settings, keys, and what a command and a session report of themselves.
 
 ghost use Rattle.std.specs.Prelude.{◌≡◌, ◌<ℤ◌, ◌≤ℤ◌, pos};
-ghost use Rattle.pg_receive.specs.BackendKeyData.{MeansKey, IsKeyFault};
+ghost use Rattle.pg_format.specs.Format.{Means, IsFaultOf};
+ghost use Rattle.pg_format.specs.Messages as page;
 ghost use Rattle.pg_receive.specs.CommandComplete.{row_count};
-ghost use Rattle.pg_receive.specs.Notification.{IsNotificationFault};
-ghost use Rattle.pg_receive.specs.ParameterStatus.{IsSettingFault};
-ghost use Rattle.pg_receive.specs.ReadyForQuery.{IsStatusFault};
 ghost use Rattle.pg_c.specs.Refusal.{Refuses};
 ghost use Rattle.pg_c.specs.Status.{ReadsNotification, ReadsSetting, IsStatusLetter};
 
@@ -51,7 +49,7 @@ pub extern "C" fn pgm_read_notification(
 ) -> i32
     ensures result { result ≤ℤ pos 0 }
     ensures value { result ≡ pos 0 → ReadsNotification body.now notification.new }
-    ensures fault { result <ℤ pos 0 → Refuses (IsNotificationFault body.now) ⊥ fault.new result }
+    ensures fault { result <ℤ pos 0 → Refuses (IsFaultOf page.notification body.now) ⊥ fault.new result }
     ensures kept { result <ℤ pos 0 → notification.new ≡ notification.old }
 {
     match NotificationRef::read(body) {
@@ -84,7 +82,7 @@ pub extern "C" fn pgm_read_parameter_status(
 ) -> i32
     ensures result { result ≤ℤ pos 0 }
     ensures value { result ≡ pos 0 → ReadsSetting body.now status.new }
-    ensures fault { result <ℤ pos 0 → Refuses (IsSettingFault body.now) ⊥ fault.new result }
+    ensures fault { result <ℤ pos 0 → Refuses (IsFaultOf page.parameter_status body.now) ⊥ fault.new result }
     ensures kept { result <ℤ pos 0 → status.new ≡ status.old }
 {
     match ParameterStatusRef::read(body) {
@@ -114,8 +112,8 @@ pub extern "C" fn pgm_read_key_data(
     fault: &mut PgmFault,
 ) -> i32
     ensures result { result ≤ℤ pos 0 }
-    ensures value { result ≡ pos 0 → MeansKey body.now (record { process_id = key.new.process_id; secret_key = key.new.secret_key }) }
-    ensures fault { result <ℤ pos 0 → Refuses (IsKeyFault body.now) ⊥ fault.new result }
+    ensures value { result ≡ pos 0 → Means page.backend_key_data body.now (record { process_id = key.new.process_id; secret_key = key.new.secret_key }) }
+    ensures fault { result <ℤ pos 0 → Refuses (IsFaultOf page.backend_key_data body.now) ⊥ fault.new result }
     ensures kept { result <ℤ pos 0 → key.new ≡ key.old }
 {
     match BackendKeyData::read(body) {
@@ -144,7 +142,7 @@ pub extern "C" fn pgm_read_rows_affected(body: &[u8]) -> u64
 #[unsafe(no_mangle)]
 pub extern "C" fn pgm_read_ready(alloc: Global, body: &[u8], fault: &mut PgmFault) -> i32
     ensures value { pos 0 ≤ℤ result → IsStatusLetter body.now result }
-    ensures fault { result <ℤ pos 0 → Refuses (IsStatusFault body.now) ⊥ fault.new result }
+    ensures fault { result <ℤ pos 0 → Refuses (IsFaultOf page.ready_for_query body.now) ⊥ fault.new result }
 {
     match ReadyForQuery::read(body) {
         Ok(ready) => ready.transaction_status as i32,

@@ -1,22 +1,21 @@
 -- The laws of the messages of a server: a body means one value, or has one fault.
-use Rattle.std.specs.Prelude.{◌≡◌, ◌≢◌, ℕ, zero, suc, ◌*◌, ◌==◌, Bool, true, false, ℤ, pos, negsuc, List, [], ◌∷◌, length, Option, Some, None, ◌⊎◌, IsUtf8, if◌then◌else◌}
-use Rattle.std.proofs.Common.{refl, sym, ap, ◌∙◌, arith, inl, inr}
-use Rattle.std.proofs.lemmas.Bool.{cases_eq, eqb-true}
-use Rattle.pg_base.specs.declared.error.ProtocolFault.TheVariants.{UnknownStatus, UnknownMessageType, UnknownAuthentication, NotUtf8}
-use Rattle.pg_format.specs.Format.{Format, Lawful, Canonical, Total}
-use Rattle.pg_format.specs.Format.Parts.{until_nul, be_u8, be_u16, be_u32, be_i16, be_i32, bytes_of, remaining, success, fail}
-use Rattle.pg_format.specs.Format.Sequences.{◌⨾◌, mapped}
+use Rattle.std.specs.Prelude.{◌≡◌, ◌≢◌, ℕ, ◌*◌, ◌==◌, ℤ, List, [], ◌∷◌, Some, ◌⊎◌, IsUtf8}
+use Rattle.std.proofs.Common.{refl, arith, inl, inr}
+use Rattle.std.proofs.lemmas.Bool.{cases_eq}
+use Rattle.pg_base.specs.declared.error.ProtocolFault.TheVariants.{UnknownStatus, UnknownAuthentication, NotUtf8}
+use Rattle.pg_format.specs.Format.{Lawful, Total}
+use Rattle.pg_format.specs.Format.Parts.{until_nul, be_u8, be_u32, be_i16}
+use Rattle.pg_format.specs.Format.Sequences.{◌⨾◌}
 use Rattle.pg_format.specs.Format.Tests.{only}
-use Rattle.pg_format.specs.Format.Nullable.{cell, value}
 use Rattle.pg_format.specs.Notices.{Field, notice_fault}
 use Rattle.pg_format.specs.Sasl.{first_message_fault, final_message_fault}
-use Rattle.pg_format.specs.Messages.{Authentication, ok, cleartext_password, md5_password, sasl, sasl_continue, sasl_final, salt_of, mechanisms_of, continued, finished, mechanism_names, asked_by, with_method, authentication, backend_key_data, Bind, format_codes, bind, no_body, empty, Target, statement, portal, target_of, target_letter, targeted, command_complete, copy_data, columns_of, column_codes, copy_response, data_row, field, notice, execute, notification, parameter_description, parameter_status, parse, text, Status, idle, transaction, error, status_of, status_letter, ready_for_query, table, table_number, attribute, attribute_number, column, row_description, sasl_initial_response, sasl_response, ssl_request, startup}
-use Rattle.pg_format.proofs.FormatLaws.Parts.{lawful_until_nul, canonical_until_nul, total_until_nul, lawful_unsigned, canonical_unsigned, total_unsigned, lawful_signed, total_signed, lawful_bytes_of, total_bytes_of, lawful_remaining, canonical_remaining, total_remaining, lawful_one_of, canonical_one_of, total_one_of, lawful_success, canonical_success, total_success, lawful_fail, total_fail}
-use Rattle.pg_format.proofs.FormatLaws.Sequences.{◌l⨾◌, ◌c⨾◌, ◌t⨾◌, lawful_dep_pair, total_dep_pair, lawful_record_of, canonical_record_of, total_record_of, lawful_mapped, total_mapped, lawful_case_of, total_case_of, lawful_choose, total_choose}
+use Rattle.pg_format.specs.Messages.{ok, cleartext_password, md5_password, sasl, sasl_continue, sasl_final, salt_of, mechanisms_of, continued, finished, mechanism_names, asked_by, with_method, authentication, backend_key_data, no_body, columns_of, column_codes, copy_response, data_row, field, notice, notification, parameter_description, parameter_status, Status, idle, transaction, error, status_of, status_letter, ready_for_query, table, table_number, attribute, attribute_number, numbers, column, row_description}
+use Rattle.pg_format.proofs.FormatLaws.Parts.{lawful_until_nul, total_until_nul, lawful_unsigned, total_unsigned, lawful_signed, total_signed, lawful_bytes_of, total_bytes_of, lawful_remaining, total_remaining, lawful_one_of, total_one_of, lawful_success, total_success, lawful_fail, total_fail}
+use Rattle.pg_format.proofs.FormatLaws.Sequences.{◌l⨾◌, ◌t⨾◌, lawful_dep_pair, total_dep_pair, lawful_record_of, total_record_of, lawful_mapped, total_mapped, lawful_case_of, total_case_of, lawful_choose, total_choose}
 use Rattle.pg_format.proofs.FormatLaws.Tests.{lawful_utf8, total_utf8, utf8_or_not, lawful_checked, total_checked, lawful_only, lawful_with_room, total_with_room, Takes}
-use Rattle.pg_format.proofs.FormatLaws.Ends.{lawful_exactly, canonical_exactly, total_exactly, lawful_loosely, total_loosely}
-use Rattle.pg_format.proofs.FormatLaws.Lists.{lawful_times, total_times, times_take, lawful_counted, canonical_counted, total_counted, lawful_counted_least, canonical_counted_least, total_counted_least, lawful_many, decided_only, total_many}
-use Rattle.pg_format.proofs.FormatLaws.Nullable.{lawful_cell, total_cell, lawful_value, canonical_value, total_value}
+use Rattle.pg_format.proofs.FormatLaws.Ends.{lawful_loosely, total_loosely}
+use Rattle.pg_format.proofs.FormatLaws.Lists.{lawful_times, total_times, times_take, lawful_counted_least, total_counted_least, lawful_many, decided_only, total_many}
+use Rattle.pg_format.proofs.FormatLaws.Nullable.{lawful_cell, total_cell}
 use Rattle.pg_format.proofs.FormatLaws.Takes.{takes_until_nul, takes_unsigned, takes_signed, takes_pair, takes_record_of, takes_mapped, takes_verify, takes_only, takes_with_room, takes_cell}
 
 u32 : Lawful be_u32
@@ -153,7 +152,7 @@ lawful_ready_for_query = lawful_loosely (lawful_one_of status_of status_letter U
 pub total_ready_for_query : Total ready_for_query
 total_ready_for_query = total_loosely (total_one_of status_of status_letter UnknownStatus)
 
-numbers_take : Takes 18 (mapped table table_number be_u32 ⨾ mapped attribute attribute_number be_i16 ⨾ be_u32 ⨾ be_i16 ⨾ be_i32 ⨾ be_i16)
+numbers_take : Takes 18 numbers
 numbers_take =
     takes_pair 4 14 (takes_mapped 4 table table_number (takes_unsigned 4))
     (takes_pair 2 12 (takes_mapped 2 attribute attribute_number (takes_signed 2))
@@ -188,7 +187,7 @@ total_column =
     (total_utf8
     t⨾ total_with_room 18 (total_mapped table table_number (total_unsigned 4) t⨾ total_mapped attribute attribute_number (total_signed 2) t⨾ total_unsigned 4 t⨾ total_signed 2 t⨾ total_signed 4 t⨾ total_signed 2))
 
-column_takes : Takes 19 column
+pub column_takes : Takes 19 column
 column_takes = takes_record_of 19 _ (takes_pair 1 18 (takes_verify 1 IsUtf8 NotUtf8 takes_until_nul) (takes_with_room 18 18 numbers_take))
 
 pub lawful_row_description : Lawful row_description

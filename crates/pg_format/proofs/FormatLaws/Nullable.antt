@@ -1,8 +1,7 @@
 -- The laws of values that may be NULL.
 use Rattle.std.specs.Prelude.{◌≡◌, ℕ, zero, suc, ℤ, pos, negsuc, List, Option, Some, None}
-use Rattle.std.proofs.Common.{refl, ap, ◌∙◌, arith}
+use Rattle.std.proofs.Common.{refl, ap, ◌∙◌}
 use Rattle.pg_base.specs.declared.error.ProtocolFault.TheVariants.{BadLength}
-use Rattle.pg_base.proofs.ReadingLemmas.{signed_fits}
 use Rattle.pg_format.specs.Format.{Format, Lawful, Canonical, Total}
 use Rattle.pg_format.specs.Format.Parts.{bytes_of}
 use Rattle.pg_format.specs.Format.Sequences.{case_of}

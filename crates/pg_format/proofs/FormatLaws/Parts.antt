@@ -1,16 +1,16 @@
 -- The laws of parts.
-use Rattle.std.specs.Prelude.{◌≡◌, ◌≢◌, ℕ, zero, suc, ◌+◌, ◌<◌, ◌^◌, ℤ, List, [], ◌∷◌, ◌++◌, length, Option, Some, None, ◌⊎◌}
+use Rattle.std.specs.Prelude.{◌≡◌, ◌≢◌, ℕ, zero, suc, ◌<◌, List, [], ◌∷◌, ◌++◌, length, Option, Some, None, ◌⊎◌}
 use Rattle.std.specs.Int.{bytes_high_first}
 use Rattle.std.proofs.Common.{refl, sym, ap, ◌∙◌, arith, inl, inr, append_assoc, length-append}
 use Rattle.std.proofs.lemmas.List.{append-nil}
 use Rattle.pg_base.specs.declared.error.ProtocolFault.{ProtocolFault}
 use Rattle.pg_base.specs.declared.error.ProtocolFault.TheVariants.{Short, MissingNul}
 use Rattle.pg_base.specs.Numbers.{num, int}
-use Rattle.pg_base.specs.Reading.{Number, Signed, Text, HoldsNo}
+use Rattle.pg_base.specs.Reading.{Text, HoldsNo}
 use Rattle.pg_base.proofs.CuttingLemmas.{parts_at}
 use Rattle.pg_base.proofs.ReadingLemmas.{one_number, one_signed, one_text, no_text, number_fits, signed_fits}
-use Rattle.pg_format.specs.Format.{Format, Lawful, Canonical, Total, IsRead, IsBroken, AreBytes}
-use Rattle.pg_format.specs.Format.Parts.{offset, Lacks, LacksNul, UnknownLetter, complement, until_nul, unsigned, signed, bytes_of, remaining, one_of, success, fail}
+use Rattle.pg_format.specs.Format.{Lawful, Canonical, Total, IsRead, IsBroken, AreBytes}
+use Rattle.pg_format.specs.Format.Parts.{offset, Lacks, UnknownLetter, complement, until_nul, unsigned, signed, bytes_of, remaining, one_of, success, fail}
 use Rattle.pg_format.proofs.FormatLaws.Numbers.{IsWidth, bytes_wide, num_of_bytes, bytes_of_num, complement_wide, int_of_complement, spelled}
 
 after : (front rest : List ℕ) → AreBytes (front ++ rest) → AreBytes rest

@@ -1,8 +1,8 @@
 -- The laws of formats after each other, and of values that are made of others.
-use Rattle.std.specs.Prelude.{◌≡◌, ℕ, List, [], ◌++◌, Option, Some, None, Bool, true, false, ◌⊎◌}
+use Rattle.std.specs.Prelude.{◌≡◌, ℕ, List, ◌++◌, Option, Some, None, Bool, true, false, ◌⊎◌}
 use Rattle.std.proofs.Common.{refl, sym, ap, ◌∙◌, inl, inr, append_assoc}
 use Rattle.pg_base.specs.declared.error.ProtocolFault.{ProtocolFault}
-use Rattle.pg_format.specs.Format.{Format, Lawful, Canonical, Total, IsRead, IsBroken, AreBytes}
+use Rattle.pg_format.specs.Format.{Format, Lawful, Canonical, Total, IsRead, IsBroken}
 use Rattle.pg_format.specs.Format.Sequences.{dep_pair, ◌⨾◌, record_of, mapped, written_where, FitsWhere, case_of, choose}
 use Rattle.pg_format.proofs.FormatLaws.Parts.{are_bytes_after}
 

@@ -1,5 +1,5 @@
 -- How many bytes values take at least.
-use Rattle.std.specs.Prelude.{◌≡◌, ℕ, ◌+◌, ◌≤◌, ℤ, pos, negsuc, List, [], ◌∷◌, ◌++◌, length, Option, Some, None}
+use Rattle.std.specs.Prelude.{ℕ, ◌+◌, ◌≤◌, ℤ, pos, negsuc, List, ◌∷◌, length, Option}
 use Rattle.std.proofs.Common.{ap, arith, length-append}
 use Rattle.pg_base.specs.declared.error.ProtocolFault.{ProtocolFault}
 use Rattle.pg_base.proofs.ReadingLemmas.{number_fits, signed_fits}

@@ -7,7 +7,6 @@ use Rattle.std.proofs.lemmas.Str.{IsUtf8-from_is_utf8, is_utf8-from_IsUtf8}
 use Rattle.pg_base.specs.declared.error.ProtocolFault.{ProtocolFault}
 use Rattle.pg_base.specs.declared.error.ProtocolFault.TheVariants.{NotUtf8}
 use Rattle.pg_format.specs.Format.{Format, Lawful, Canonical, Total, IsRead, IsBroken}
-use Rattle.pg_format.specs.Format.Parts.{until_nul}
 use Rattle.pg_format.specs.Format.Tests.{verify, utf8, checked, only, with_room}
 use Rattle.pg_format.proofs.FormatLaws.Parts.{lawful_until_nul, canonical_until_nul, total_until_nul, lacks}
 

@@ -4,8 +4,9 @@ use Rattle.pg_base.specs.declared.io.Oid.{Oid}
 use Rattle.pg_base.specs.Numbers.{num, int}
 use Rattle.pg_response.specs.Received.{max_body}
 use Rattle.pg_receive.specs.declared.message.row_description.columns.FieldRef.{FieldRef}
-use Rattle.pg_receive.specs.CountedItems.{SpellItems, IsEncodedAt}
-use Rattle.pg_receive.specs.RowDescription.{Column, table, attribute, numbers_length, SpellsColumn}
+use Rattle.pg_format.specs.Format.Lists.{times}
+use Rattle.pg_format.specs.Format.Places.{IsReadAt}
+use Rattle.pg_format.specs.Messages.{Column, table, attribute, column}
 
 abbrev pub column_of_ref : FieldRef → Column
 column_of_ref field = record {
@@ -41,7 +42,7 @@ first_column bytes = column_with (first_text bytes) (drop (length (first_text by
 
 -- how many bytes it has
 abbrev pub first_length : List ℕ → ℕ
-first_length bytes = length (first_text bytes) + 1 + numbers_length
+first_length bytes = length (first_text bytes) + 1 + 18
 
 -- so many columns of a body, from an offset on
 abbrev pub columns_from : List ℕ → ℕ → ℕ → List Column
@@ -58,4 +59,4 @@ pub record AreColumns (body : List ℕ) (at n : ℕ) : Type 0 where
   pub end : ℕ
   pub starts : at ≤ length body
   pub short : length body ≤ max_body
-  pub encoded : IsEncodedAt (SpellItems SpellsColumn) body at (columns_from body at n) end
+  pub read : IsReadAt (times n column) body at (columns_from body at n) end

@@ -1,14 +1,15 @@
 //! Which letters the cases of enums have, and when two values are equal.
 
 ghost use Rattle.std.specs.Prelude.{◌≡◌, Ok, Decides};
-ghost use Rattle.pg_receive.specs.ReadyForQuery.{status_letter};
+ghost use Rattle.pg_format.specs.Messages.{status_letter};
+ghost use Rattle.pg_receive.specs.ReadyForQuery.{shown_status};
 
 use crate::message::{BackendKeyData, ReadyForQuery, TransactionStatus};
 use std::alloc::AllocError;
 
 /// As a number a status is its letter: `I`, `T` or `E`.
 pub fn letter_of_status(status: TransactionStatus) -> u8
-    ensures { result ≡ status_letter status }
+    ensures { result ≡ status_letter (shown_status status) }
 {
     status as u8
 }

@@ -1,8 +1,8 @@
 //! What a cancel request has to name.
 
-ghost use Rattle.std.specs.Prelude.{IfOk, IfErr};
 ghost use Rattle.pg_base.specs.declared.format.BackendMessageFormat.TheVariants as formats;
-ghost use Rattle.pg_receive.specs.BackendKeyData.{MeansKey, IsKeyFault};
+ghost use Rattle.pg_format.specs.Format.{ReadsAs};
+ghost use Rattle.pg_format.specs.Messages.{backend_key_data};
 
 use crate::message::BackendMessage;
 use bytes::Bytes;
@@ -23,8 +23,7 @@ pub struct BackendKeyData {
 impl BackendKeyData {
     /// Reads the body of a message. Refused with `Short` where it has fewer than eight bytes.
     pub fn read(body: &[u8]) -> Result<BackendKeyData, ProtocolFault>
-        ensures value { IfOk result (MeansKey body.now) }
-        ensures fault { IfErr result (IsKeyFault body.now) }
+        ensures { ReadsAs backend_key_data (λ key. record { process_id = key.process_id; secret_key = key.secret_key }) body.now result }
     {
         let process_id = u32_at(body, 0)?;
         let secret_key = u32_at(body, 4)?;
@@ -36,20 +35,22 @@ impl BackendKeyData {
 }
 
 impl BackendMessage for BackendKeyData {
-    ghost use Rattle.pg_receive.specs.declared.message.backend_key_data.BackendKeyData.{BackendKeyData};
-    ghost use Rattle.pg_receive.specs.BackendKeyData.Laws.{one_key, key_or_fault};
+    ghost use Rattle.pg_format.specs.Format.{Means, IsFaultOf};
+    ghost use Rattle.pg_format.specs.Messages.{BackendKey, backend_key_data};
+    ghost use Rattle.pg_format.proofs.FormatLaws.Whole.{one_meaning, meaning_or_fault};
+    ghost use Rattle.pg_format.proofs.FormatLaws.FromServer.{lawful_backend_key_data};
 
     const FORMAT: BackendMessageFormat = BackendMessageFormat::BackendKeyData;
 
     ghost FORMAT = { formats.BackendKeyData };
 
-    ghost Shown = { BackendKeyData };
+    ghost Shown = { BackendKey };
 
-    ghost shown = { λ key. key };
+    ghost shown = { λ key. record { process_id = key.process_id; secret_key = key.secret_key } };
 
-    ghost Means = { MeansKey };
+    ghost Means = { Means backend_key_data };
 
-    ghost IsFault = { IsKeyFault };
+    ghost IsFault = { IsFaultOf backend_key_data };
 
     ghost NeedsNoMemory = { λ _. Unit {0} };
 
@@ -57,7 +58,7 @@ impl BackendMessage for BackendKeyData {
         Ok(BackendKeyData::read(buf.as_slice())?)
     }
 
-    ghost one_value = { one_key };
+    ghost one_value = { one_meaning lawful_backend_key_data };
 
-    ghost never_both = { key_or_fault };
+    ghost never_both = { meaning_or_fault lawful_backend_key_data };
 }

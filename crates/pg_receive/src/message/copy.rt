@@ -3,7 +3,9 @@
 ghost use Rattle.std.specs.Prelude.{◌≡◌, ℕ, ◌≤◌, List, length, None};
 ghost use Rattle.pg_base.specs.Decode.{Decodes};
 ghost use Rattle.pg_base.specs.declared.format.BackendMessageFormat.TheVariants as formats;
-ghost use Rattle.pg_receive.specs.Copy.{codes_counted, formats_shown, MeansFormats, IsFormatsFault, FormatsNeedsNoMemory};
+ghost use Rattle.pg_format.specs.Format.{Means, IsFaultOf};
+ghost use Rattle.pg_format.specs.Messages.{columns_of, copy_response};
+ghost use Rattle.pg_receive.specs.Copy.{shown_response, FormatsNeedsNoMemory};
 
 use crate::message::BackendMessage;
 use bytes::Bytes;
@@ -40,20 +42,23 @@ pub struct CopyInResponse(pub CopyResponseData);
 pub struct CopyOutResponse(pub CopyResponseData);
 
 impl BackendMessage for CopyInResponse {
-    ghost use Rattle.pg_receive.specs.Copy.{CopyFormats, formats_shown, MeansFormats, IsFormatsFault, FormatsNeedsNoMemory};
-    ghost use Rattle.pg_receive.specs.Copy.Laws.{one_formats, formats_or_fault};
+    ghost use Rattle.pg_format.specs.Format.{Means, IsFaultOf};
+    ghost use Rattle.pg_format.specs.Messages.{CopyResponse, copy_response};
+    ghost use Rattle.pg_format.proofs.FormatLaws.Whole.{one_meaning, meaning_or_fault};
+    ghost use Rattle.pg_format.proofs.FormatLaws.FromServer.{lawful_copy_response};
+    ghost use Rattle.pg_receive.specs.Copy.{shown_response, FormatsNeedsNoMemory};
 
     const FORMAT: BackendMessageFormat = BackendMessageFormat::CopyInResponse;
 
     ghost FORMAT = { formats.CopyInResponse };
 
-    ghost Shown = { CopyFormats };
+    ghost Shown = { CopyResponse };
 
-    ghost shown = { λ response. formats_shown response.0 };
+    ghost shown = { λ response. shown_response response.0 };
 
-    ghost Means = { MeansFormats };
+    ghost Means = { Means copy_response };
 
-    ghost IsFault = { IsFormatsFault };
+    ghost IsFault = { IsFaultOf copy_response };
 
     ghost NeedsNoMemory = { FormatsNeedsNoMemory };
 
@@ -61,26 +66,29 @@ impl BackendMessage for CopyInResponse {
         Ok(CopyInResponse(decode_formats(alloc, buf.as_slice())?))
     }
 
-    ghost one_value = { one_formats };
+    ghost one_value = { one_meaning lawful_copy_response };
 
-    ghost never_both = { formats_or_fault };
+    ghost never_both = { meaning_or_fault lawful_copy_response };
 }
 
 impl BackendMessage for CopyOutResponse {
-    ghost use Rattle.pg_receive.specs.Copy.{CopyFormats, formats_shown, MeansFormats, IsFormatsFault, FormatsNeedsNoMemory};
-    ghost use Rattle.pg_receive.specs.Copy.Laws.{one_formats, formats_or_fault};
+    ghost use Rattle.pg_format.specs.Format.{Means, IsFaultOf};
+    ghost use Rattle.pg_format.specs.Messages.{CopyResponse, copy_response};
+    ghost use Rattle.pg_format.proofs.FormatLaws.Whole.{one_meaning, meaning_or_fault};
+    ghost use Rattle.pg_format.proofs.FormatLaws.FromServer.{lawful_copy_response};
+    ghost use Rattle.pg_receive.specs.Copy.{shown_response, FormatsNeedsNoMemory};
 
     const FORMAT: BackendMessageFormat = BackendMessageFormat::CopyOutResponse;
 
     ghost FORMAT = { formats.CopyOutResponse };
 
-    ghost Shown = { CopyFormats };
+    ghost Shown = { CopyResponse };
 
-    ghost shown = { λ response. formats_shown response.0 };
+    ghost shown = { λ response. shown_response response.0 };
 
-    ghost Means = { MeansFormats };
+    ghost Means = { Means copy_response };
 
-    ghost IsFault = { IsFormatsFault };
+    ghost IsFault = { IsFaultOf copy_response };
 
     ghost NeedsNoMemory = { FormatsNeedsNoMemory };
 
@@ -88,14 +96,14 @@ impl BackendMessage for CopyOutResponse {
         Ok(CopyOutResponse(decode_formats(alloc, buf.as_slice())?))
     }
 
-    ghost one_value = { one_formats };
+    ghost one_value = { one_meaning lawful_copy_response };
 
-    ghost never_both = { formats_or_fault };
+    ghost never_both = { meaning_or_fault lawful_copy_response };
 }
 
 fn decode_formats(alloc: Global, body: &[u8]) -> Result<CopyResponseData, Error>
     requires { length body.now ≤ MAX_BODY }
-    ensures { Decodes MeansFormats IsFormatsFault FormatsNeedsNoMemory formats_shown None body.now result }
+    ensures { Decodes (Means copy_response) (IsFaultOf copy_response) FormatsNeedsNoMemory shown_response None body.now result }
 {
     let format = i8_at(body, 0)?;
     let num_columns = i16_at(body, COLUMNS)?;
@@ -114,7 +122,7 @@ fn decode_formats(alloc: Global, body: &[u8]) -> Result<CopyResponseData, Error>
 
 // How many codes follow a count of columns.
 fn code_count(num_columns: i16) -> usize
-    ensures { result ≡ codes_counted num_columns }
+    ensures { result ≡ columns_of num_columns }
 {
     usize::try_from(num_columns).unwrap_or(0)
 }

@@ -74,8 +74,11 @@ impl DataRow {
 
 impl BackendMessage for DataRow {
     ghost use Rattle.std.specs.Prelude.{ℕ, List, Option};
-    ghost use Rattle.pg_receive.specs.DataRow.{MeansRow, IsRowFault, RowNeedsNoMemory};
-    ghost use Rattle.pg_receive.specs.DataRow.Laws.{one_row, row_or_fault};
+    ghost use Rattle.pg_format.specs.Format.{Means, IsFaultOf};
+    ghost use Rattle.pg_format.specs.Messages.{data_row};
+    ghost use Rattle.pg_format.proofs.FormatLaws.Whole.{one_meaning, meaning_or_fault};
+    ghost use Rattle.pg_format.proofs.FormatLaws.FromServer.{lawful_data_row};
+    ghost use Rattle.pg_receive.specs.DataRow.{RowNeedsNoMemory};
 
     const FORMAT: BackendMessageFormat = BackendMessageFormat::DataRow;
 
@@ -85,9 +88,9 @@ impl BackendMessage for DataRow {
 
     ghost shown = { λ row. row };
 
-    ghost Means = { MeansRow };
+    ghost Means = { Means data_row };
 
-    ghost IsFault = { IsRowFault };
+    ghost IsFault = { IsFaultOf data_row };
 
     ghost NeedsNoMemory = { RowNeedsNoMemory };
 
@@ -97,7 +100,7 @@ impl BackendMessage for DataRow {
         Ok(DataRow { storage: buf, ends })
     }
 
-    ghost one_value = { one_row };
+    ghost one_value = { one_meaning lawful_data_row };
 
-    ghost never_both = { row_or_fault };
+    ghost never_both = { meaning_or_fault lawful_data_row };
 }

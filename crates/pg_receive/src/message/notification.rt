@@ -3,7 +3,8 @@
 ghost use Rattle.std.specs.Prelude.{◌≡◌, ◌+◌, ◌<◌, ◌-◌, IfOk, IfErr};
 ghost use Rattle.pg_base.specs.declared.error.Error.TheVariants.{OutOfMemory};
 ghost use Rattle.pg_base.specs.declared.format.BackendMessageFormat.TheVariants as formats;
-ghost use Rattle.pg_receive.specs.Notification.{Notified, MeansNotification, IsNotificationFault};
+ghost use Rattle.pg_format.specs.Format.{ReadsAs};
+ghost use Rattle.pg_format.specs.Messages.{notification};
 
 use crate::message::{BackendMessage, text_at};
 use bytes::Bytes;
@@ -27,9 +28,9 @@ pub struct Notification {
 
 impl Model for Notification {
     ghost use Rattle.std.specs.Prelude.{◌+◌, ◌<◌, length, take, drop};
-    ghost use Rattle.pg_receive.specs.Notification.{Notified};
+    ghost use Rattle.pg_format.specs.Messages.{Notification};
 
-    ghost Value = { Notified };
+    ghost Value = { Notification };
 
     ghost view = { λ n. record { process_id = n.process_id; channel = take n.channel_len n.texts; payload = drop (n.channel_len + 1) n.texts } };
 
@@ -72,20 +73,22 @@ impl Notification {
 }
 
 impl BackendMessage for Notification {
-    ghost use Rattle.pg_receive.specs.Notification.{Notified, MeansNotification, IsNotificationFault};
-    ghost use Rattle.pg_receive.specs.Notification.Laws.{one_notification, notification_or_fault};
+    ghost use Rattle.pg_format.specs.Format.{Means, IsFaultOf};
+    ghost use Rattle.pg_format.specs.Messages.{Notification, notification};
+    ghost use Rattle.pg_format.proofs.FormatLaws.Whole.{one_meaning, meaning_or_fault};
+    ghost use Rattle.pg_format.proofs.FormatLaws.FromServer.{lawful_notification};
 
     const FORMAT: BackendMessageFormat = BackendMessageFormat::NotificationResponse;
 
     ghost FORMAT = { formats.NotificationResponse };
 
-    ghost Shown = { Notified };
+    ghost Shown = { Notification };
 
-    ghost shown = { λ notification. notification };
+    ghost shown = { λ n. n };
 
-    ghost Means = { MeansNotification };
+    ghost Means = { Means notification };
 
-    ghost IsFault = { IsNotificationFault };
+    ghost IsFault = { IsFaultOf notification };
 
     ghost NeedsNoMemory = { λ _. Unit {0} };
 
@@ -106,9 +109,9 @@ impl BackendMessage for Notification {
         })
     }
 
-    ghost one_value = { one_notification };
+    ghost one_value = { one_meaning lawful_notification };
 
-    ghost never_both = { notification_or_fault };
+    ghost never_both = { meaning_or_fault lawful_notification };
 }
 
 /// A [`Notification`] that is borrowed from the body of its message.
@@ -125,8 +128,7 @@ pub struct NotificationRef<'a> {
 impl<'a> NotificationRef<'a> {
     /// Reads a body. Its value and its faults are those of [`Notification`].
     pub fn read(body: &'a [u8]) -> Result<NotificationRef<'a>, ProtocolFault>
-        ensures value { IfOk result (λ n. MeansNotification body.now (record { process_id = n.process_id; channel = n.channel.now; payload = n.payload.now })) }
-        ensures fault { IfErr result (IsNotificationFault body.now) }
+        ensures { ReadsAs notification (λ n. record { process_id = n.process_id; channel = n.channel.now; payload = n.payload.now }) body.now result }
     {
         let process_id = u32_at(body, 0)?;
         let (channel, after) = text_at(body, PROCESS_LENGTH)?;

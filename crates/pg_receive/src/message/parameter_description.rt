@@ -4,7 +4,9 @@ ghost use Rattle.std.specs.Prelude.{◌≤◌, length, None};
 ghost use Rattle.pg_base.specs.Decode.{Decodes};
 ghost use Rattle.pg_base.specs.declared.format.BackendMessageFormat.TheVariants as formats;
 ghost use Rattle.pg_base.specs.Numbers.{numbers_of};
-ghost use Rattle.pg_receive.specs.ParameterDescription.{MeansTypes, IsTypesFault, TypesNeedsNoMemory};
+ghost use Rattle.pg_format.specs.Format.{Means, IsFaultOf};
+ghost use Rattle.pg_format.specs.Messages.{parameter_description};
+ghost use Rattle.pg_receive.specs.ParameterDescription.{TypesNeedsNoMemory};
 
 use crate::message::BackendMessage;
 use bytes::Bytes;
@@ -30,8 +32,11 @@ pub struct ParameterDescription {
 impl BackendMessage for ParameterDescription {
     ghost use Rattle.std.specs.Prelude.{ℕ, List};
     ghost use Rattle.pg_base.specs.Numbers.{numbers_of};
-    ghost use Rattle.pg_receive.specs.ParameterDescription.{MeansTypes, IsTypesFault, TypesNeedsNoMemory};
-    ghost use Rattle.pg_receive.specs.ParameterDescription.Laws.{one_types, types_or_fault};
+    ghost use Rattle.pg_format.specs.Format.{Means, IsFaultOf};
+    ghost use Rattle.pg_format.specs.Messages.{parameter_description};
+    ghost use Rattle.pg_format.proofs.FormatLaws.Whole.{one_meaning, meaning_or_fault};
+    ghost use Rattle.pg_format.proofs.FormatLaws.FromServer.{lawful_parameter_description};
+    ghost use Rattle.pg_receive.specs.ParameterDescription.{TypesNeedsNoMemory};
 
     const FORMAT: BackendMessageFormat = BackendMessageFormat::ParameterDescription;
 
@@ -41,9 +46,9 @@ impl BackendMessage for ParameterDescription {
 
     ghost shown = { λ description. numbers_of description.types.items };
 
-    ghost Means = { MeansTypes };
+    ghost Means = { Means parameter_description };
 
-    ghost IsFault = { IsTypesFault };
+    ghost IsFault = { IsFaultOf parameter_description };
 
     ghost NeedsNoMemory = { TypesNeedsNoMemory };
 
@@ -52,14 +57,14 @@ impl BackendMessage for ParameterDescription {
         Ok(ParameterDescription { types })
     }
 
-    ghost one_value = { one_types };
+    ghost one_value = { one_meaning lawful_parameter_description };
 
-    ghost never_both = { types_or_fault };
+    ghost never_both = { meaning_or_fault lawful_parameter_description };
 }
 
 fn types_of(alloc: Global, body: &[u8]) -> Result<SmallVec<Oid, 6>, Error>
     requires { length body.now ≤ MAX_BODY }
-    ensures { Decodes MeansTypes IsTypesFault TypesNeedsNoMemory (λ types. numbers_of types.items) None body.now result }
+    ensures { Decodes (Means parameter_description) (IsFaultOf parameter_description) TypesNeedsNoMemory (λ types. numbers_of types.items) None body.now result }
 {
     let count = usize::from(u16_at(body, 0)?);
     bytes_at(body, FIRST_TYPE, TYPE_LENGTH * count)?;

@@ -1,9 +1,10 @@
 //! A setting of the server.
 
-ghost use Rattle.std.specs.Prelude.{None, IfOk, IfErr, string_bytes};
+ghost use Rattle.std.specs.Prelude.{None, string_bytes};
 ghost use Rattle.pg_base.specs.Decode.{Decodes};
 ghost use Rattle.pg_base.specs.declared.format.BackendMessageFormat.TheVariants as formats;
-ghost use Rattle.pg_receive.specs.ParameterStatus.{Setting, MeansSetting, IsSettingFault};
+ghost use Rattle.pg_format.specs.Format.{Means, IsFaultOf, ReadsAs};
+ghost use Rattle.pg_format.specs.Messages.{parameter_status};
 
 use crate::message::{BackendMessage, str_at};
 use bytes::Bytes;
@@ -22,8 +23,10 @@ pub struct ParameterStatus {
 
 impl BackendMessage for ParameterStatus {
     ghost use Rattle.std.specs.Prelude.{string_bytes};
-    ghost use Rattle.pg_receive.specs.ParameterStatus.{Setting, MeansSetting, IsSettingFault};
-    ghost use Rattle.pg_receive.specs.ParameterStatus.Laws.{one_setting, setting_or_fault};
+    ghost use Rattle.pg_format.specs.Format.{Means, IsFaultOf};
+    ghost use Rattle.pg_format.specs.Messages.{Setting, parameter_status};
+    ghost use Rattle.pg_format.proofs.FormatLaws.Whole.{one_meaning, meaning_or_fault};
+    ghost use Rattle.pg_format.proofs.FormatLaws.FromServer.{lawful_parameter_status};
 
     const FORMAT: BackendMessageFormat = BackendMessageFormat::ParameterStatus;
 
@@ -33,9 +36,9 @@ impl BackendMessage for ParameterStatus {
 
     ghost shown = { λ status. record { name = string_bytes status.name; value = string_bytes status.value } };
 
-    ghost Means = { MeansSetting };
+    ghost Means = { Means parameter_status };
 
-    ghost IsFault = { IsSettingFault };
+    ghost IsFault = { IsFaultOf parameter_status };
 
     ghost NeedsNoMemory = { λ _. ⊥ };
 
@@ -43,13 +46,13 @@ impl BackendMessage for ParameterStatus {
         setting_of(alloc, buf.as_slice())
     }
 
-    ghost one_value = { one_setting };
+    ghost one_value = { one_meaning lawful_parameter_status };
 
-    ghost never_both = { setting_or_fault };
+    ghost never_both = { meaning_or_fault lawful_parameter_status };
 }
 
 fn setting_of(alloc: Global, body: &[u8]) -> Result<ParameterStatus, Error>
-    ensures { Decodes MeansSetting IsSettingFault (λ _. ⊥) (λ status. record { name = string_bytes status.name; value = string_bytes status.value }) None body.now result }
+    ensures { Decodes (Means parameter_status) (IsFaultOf parameter_status) (λ _. ⊥) (λ status. record { name = string_bytes status.name; value = string_bytes status.value }) None body.now result }
 {
     let ParameterStatusRef { name, value } = ParameterStatusRef::read(body)?;
     Ok(ParameterStatus {
@@ -70,8 +73,7 @@ pub struct ParameterStatusRef<'a> {
 impl<'a> ParameterStatusRef<'a> {
     /// Reads a body. Its value and its faults are those of [`ParameterStatus`].
     pub fn read(body: &'a [u8]) -> Result<ParameterStatusRef<'a>, ProtocolFault>
-        ensures value { IfOk result (λ status. MeansSetting body.now (record { name = status.name.now; value = status.value.now })) }
-        ensures fault { IfErr result (IsSettingFault body.now) }
+        ensures { ReadsAs parameter_status (λ status. record { name = status.name.now; value = status.value.now }) body.now result }
     {
         let (name, after) = str_at(body, 0)?;
         let (value, _) = str_at(body, after)?;

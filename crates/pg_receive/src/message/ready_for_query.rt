@@ -1,7 +1,8 @@
 //! The server's word that it is ready for the next query.
 
-ghost use Rattle.std.specs.Prelude.{IfOk, IfErr};
-ghost use Rattle.pg_receive.specs.ReadyForQuery.{MeansStatus, IsStatusFault};
+ghost use Rattle.pg_format.specs.Format.{ReadsAs};
+ghost use Rattle.pg_format.specs.Messages.{ready_for_query};
+ghost use Rattle.pg_receive.specs.ReadyForQuery.{shown_status};
 ghost use Rattle.pg_base.specs.declared.format.BackendMessageFormat.TheVariants as formats;
 
 use crate::message::BackendMessage;
@@ -39,8 +40,7 @@ impl ReadyForQuery {
     /// Reads the body of a message: its first byte is the letter of the status. Refused with
     /// `Short` where there is none, and with `UnknownStatus` where it is no such letter.
     pub fn read(body: &[u8]) -> Result<ReadyForQuery, ProtocolFault>
-        ensures value { IfOk result (λ ready. MeansStatus body.now ready.transaction_status) }
-        ensures fault { IfErr result (IsStatusFault body.now) }
+        ensures { ReadsAs ready_for_query (λ ready. shown_status ready.transaction_status) body.now result }
     {
         let transaction_status = match bytes_at(body, 0, 1)?[0] {
             IDLE => TransactionStatus::Idle,
@@ -53,20 +53,23 @@ impl ReadyForQuery {
 }
 
 impl BackendMessage for ReadyForQuery {
-    ghost use Rattle.pg_receive.specs.declared.message.ready_for_query.TransactionStatus.{TransactionStatus};
-    ghost use Rattle.pg_receive.specs.ReadyForQuery.Laws.{one_status, status_or_fault};
+    ghost use Rattle.pg_format.specs.Format.{Means, IsFaultOf};
+    ghost use Rattle.pg_format.specs.Messages.{Status, ready_for_query};
+    ghost use Rattle.pg_format.proofs.FormatLaws.Whole.{one_meaning, meaning_or_fault};
+    ghost use Rattle.pg_format.proofs.FormatLaws.FromServer.{lawful_ready_for_query};
+    ghost use Rattle.pg_receive.specs.ReadyForQuery.{shown_status};
 
     const FORMAT: BackendMessageFormat = BackendMessageFormat::ReadyForQuery;
 
     ghost FORMAT = { formats.ReadyForQuery };
 
-    ghost Shown = { TransactionStatus };
+    ghost Shown = { Status };
 
-    ghost shown = { λ ready. ready.transaction_status };
+    ghost shown = { λ ready. shown_status ready.transaction_status };
 
-    ghost Means = { MeansStatus };
+    ghost Means = { Means ready_for_query };
 
-    ghost IsFault = { IsStatusFault };
+    ghost IsFault = { IsFaultOf ready_for_query };
 
     ghost NeedsNoMemory = { λ _. Unit {0} };
 
@@ -74,7 +77,7 @@ impl BackendMessage for ReadyForQuery {
         Ok(ReadyForQuery::read(buf.as_slice())?)
     }
 
-    ghost one_value = { one_status };
+    ghost one_value = { one_meaning lawful_ready_for_query };
 
-    ghost never_both = { status_or_fault };
+    ghost never_both = { meaning_or_fault lawful_ready_for_query };
 }

@@ -3,11 +3,13 @@
 mod column_reader;
 mod columns;
 
-ghost use Rattle.std.specs.Prelude.{◌≡◌, ◌+◌, ◌*◌, ◌≤◌, List, length, drop, map, None};
+ghost use Rattle.std.specs.Prelude.{◌≡◌, ◌+◌, ◌*◌, ◌≤◌, List, length, map, None};
 ghost use Rattle.pg_base.specs.Decode.{Decodes};
 ghost use Rattle.pg_base.specs.declared.format.BackendMessageFormat.TheVariants as formats;
-ghost use Rattle.pg_receive.specs.CountedItems.{IsEncodedAt};
-ghost use Rattle.pg_receive.specs.RowDescription.{Column, column_of, SpellsColumn, IsColumnFault, MeansColumns, IsColumnsFault, ColumnsNeedsNoMemory};
+ghost use Rattle.pg_format.specs.Format.{Means, IsFaultOf};
+ghost use Rattle.pg_format.specs.Format.Places.{IsReadAt, BreaksAt};
+ghost use Rattle.pg_format.specs.Messages.{column, row_description};
+ghost use Rattle.pg_receive.specs.RowDescription.{column_of, ColumnsNeedsNoMemory};
 
 use crate::message::BackendMessage;
 use bytes::Bytes;
@@ -54,8 +56,11 @@ pub struct Field {
 
 impl BackendMessage for RowDescription {
     ghost use Rattle.std.specs.Prelude.{List, map};
-    ghost use Rattle.pg_receive.specs.RowDescription.{Column, column_of, MeansColumns, IsColumnsFault, ColumnsNeedsNoMemory};
-    ghost use Rattle.pg_receive.specs.RowDescription.Laws.{one_description, description_or_fault};
+    ghost use Rattle.pg_format.specs.Format.{Means, IsFaultOf};
+    ghost use Rattle.pg_format.specs.Messages.{Column, row_description};
+    ghost use Rattle.pg_format.proofs.FormatLaws.Whole.{one_meaning, meaning_or_fault};
+    ghost use Rattle.pg_format.proofs.FormatLaws.FromServer.{lawful_row_description};
+    ghost use Rattle.pg_receive.specs.RowDescription.{column_of, ColumnsNeedsNoMemory};
 
     const FORMAT: BackendMessageFormat = BackendMessageFormat::RowDescription;
 
@@ -65,9 +70,9 @@ impl BackendMessage for RowDescription {
 
     ghost shown = { λ description. map column_of description.fields.items };
 
-    ghost Means = { MeansColumns };
+    ghost Means = { Means row_description };
 
-    ghost IsFault = { IsColumnsFault };
+    ghost IsFault = { IsFaultOf row_description };
 
     ghost NeedsNoMemory = { ColumnsNeedsNoMemory };
 
@@ -76,14 +81,14 @@ impl BackendMessage for RowDescription {
         Ok(RowDescription { fields })
     }
 
-    ghost one_value = { one_description };
+    ghost one_value = { one_meaning lawful_row_description };
 
-    ghost never_both = { description_or_fault };
+    ghost never_both = { meaning_or_fault lawful_row_description };
 }
 
 fn fields_of(alloc: Global, body: &[u8]) -> Result<Vec<Field>, Error>
     requires { length body.now ≤ MAX_BODY }
-    ensures { Decodes MeansColumns IsColumnsFault ColumnsNeedsNoMemory (λ fields. map column_of fields.items) None body.now result }
+    ensures { Decodes (Means row_description) (IsFaultOf row_description) ColumnsNeedsNoMemory (λ fields. map column_of fields.items) None body.now result }
 {
     let count = usize::from(u16_at(body, 0)?);
     bytes_at(body, FIRST_COLUMN, LEAST_COLUMN * count)?;
@@ -101,7 +106,7 @@ fn fields_of(alloc: Global, body: &[u8]) -> Result<Vec<Field>, Error>
 fn field_at(alloc: Global, body: &[u8], at: usize) -> Result<(Field, usize), Error>
     requires within { at ≤ length body.now }
     requires short { length body.now ≤ MAX_BODY }
-    ensures { Decodes (λ body found. IsEncodedAt SpellsColumn body at (column_of found.0) found.1) (λ body fault. IsColumnFault body at (drop at body) fault) (λ _. ⊥) (λ found. found) None body.now result }
+    ensures { Decodes (λ body found. IsReadAt column body at (column_of found.0) found.1) (λ body. BreaksAt column body at) (λ _. ⊥) (λ found. found) None body.now result }
 {
     let (column, end) = column_at(body, at)?;
     Ok((column.to_field(alloc)?, end))

@@ -1,4 +1,4 @@
-use Rattle.pg_receive.specs.DataRow.Laws.{cells_fit, value_is_after}
+use Rattle.pg_receive.proofs.DataRowLemmas.{cells_fit, value_is_after}
 use Rattle.pg_receive.proofs.laws.cells_are_in_order.Goals as goal
 
 pub returns : goal.returns

@@ -1,4 +1,4 @@
-use Rattle.pg_receive.specs.RowDescription.Laws.{columns_fit}
+use Rattle.pg_receive.proofs.RowDescriptionColumnsLemmas.{columns_fit}
 use Rattle.pg_receive.proofs.laws.columns_fit_in_their_body.Goals as goal
 
 pub returns : goal.returns

@@ -1,8 +1,8 @@
 //! One cell of a row.
 
-ghost use Rattle.std.specs.Prelude.{◌≡◌, ◌≤◌, length, drop, IfOk, IfErr, option_copied};
-ghost use Rattle.pg_receive.specs.CountedItems.{IsEncodedAt};
-ghost use Rattle.pg_receive.specs.DataRow.{SpellsCell, IsCellFault};
+ghost use Rattle.std.specs.Prelude.{◌≡◌, ◌≤◌, length, IfOk, IfErr, option_copied};
+ghost use Rattle.pg_format.specs.Format.Nullable.{cell};
+ghost use Rattle.pg_format.specs.Format.Places.{IsReadAt, BreaksAt};
 
 use crate::message::data_row::CELL_LENGTH;
 use pg_base::ProtocolFault;
@@ -14,8 +14,8 @@ use pg_base::io::{MAX_BODY, bytes_at, i32_at};
 pub fn cell_at(body: &[u8], at: usize) -> Result<(Option<&[u8]>, usize), ProtocolFault>
     requires within { at ≤ length body.now }
     requires short { length body.now ≤ MAX_BODY }
-    ensures cell { IfOk result (λ found. IsEncodedAt SpellsCell body.now at (option_copied found.0) found.1) }
-    ensures broken { IfErr result (λ fault. IsCellFault body.now at (drop at body.now) fault) }
+    ensures cell { IfOk result (λ found. IsReadAt cell body.now at (option_copied found.0) found.1) }
+    ensures broken { IfErr result (BreaksAt cell body.now at) }
 {
     let length = i32_at(body, at)?;
     let start = at + CELL_LENGTH;

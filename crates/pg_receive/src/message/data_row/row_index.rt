@@ -4,7 +4,9 @@ ghost use Rattle.std.specs.Prelude.{◌≡◌, ℕ, ◌<◌, ◌≤◌, List, Op
 ghost use Rattle.pg_base.specs.Decode.{Decodes};
 ghost use Rattle.pg_base.specs.declared.error.Error.TheVariants.{OutOfMemory};
 ghost use Rattle.pg_receive.specs.DataRow.CellEnd.{cells_from, first_cell, EndsRise};
-ghost use Rattle.pg_receive.specs.DataRow.{MeansRow, IsRowFault, RowNeedsNoMemory};
+ghost use Rattle.pg_format.specs.Format.{Means, IsFaultOf};
+ghost use Rattle.pg_format.specs.Messages.{data_row};
+ghost use Rattle.pg_receive.specs.DataRow.{RowNeedsNoMemory};
 
 use crate::message::data_row::cell::cell_at;
 use crate::message::data_row::cell_end::CellEnd;
@@ -45,9 +47,9 @@ impl RowIndex {
     /// are those of [`DataRow`](crate::message::DataRow).
     pub fn read<'a>(&'a mut self, body: &'a [u8]) -> Result<Row<'a>, Error>
         requires { length body.now ≤ MAX_BODY }
-        ensures answer { Decodes MeansRow IsRowFault RowNeedsNoMemory (λ row. row) None body.now result }
+        ensures answer { Decodes (Means data_row) (IsFaultOf data_row) RowNeedsNoMemory (λ row. row) None body.now result }
         // Memory runs out only on a row of more cells than there is room for.
-        ensures memory { IsErrOf result OutOfMemory → (cells : List (Option (List ℕ))) → MeansRow body.now cells → self.old < length cells }
+        ensures memory { IsErrOf result OutOfMemory → (cells : List (Option (List ℕ))) → Means data_row body.now cells → self.old < length cells }
     {
         read_ends(body, &mut self.ends)?;
         Ok(Row::new(body, self.ends.as_slice()))
@@ -57,9 +59,9 @@ impl RowIndex {
 // Where each cell of the body ends, in place of what the list had.
 pub(super) fn read_ends(body: &[u8], ends: &mut Vec<CellEnd>) -> Result<(), Error>
     requires { length body.now ≤ MAX_BODY }
-    ensures answer { Decodes MeansRow IsRowFault RowNeedsNoMemory (λ _. cells_from body.now first_cell ends.new.items) None body.now result }
+    ensures answer { Decodes (Means data_row) (IsFaultOf data_row) RowNeedsNoMemory (λ _. cells_from body.now first_cell ends.new.items) None body.now result }
     ensures rise { OnOk result (EndsRise first_cell ends.new.items (length body.now)) }
-    ensures memory { IsErrOf result OutOfMemory → (cells : List (Option (List ℕ))) → MeansRow body.now cells → vec_capacity ends.old < length cells }
+    ensures memory { IsErrOf result OutOfMemory → (cells : List (Option (List ℕ))) → Means data_row body.now cells → vec_capacity ends.old < length cells }
 {
     let count = usize::from(u16_at(body, 0)?);
     bytes_at(body, FIRST_CELL, CELL_LENGTH * count)?;

@@ -1,9 +1,8 @@
 //! The cells of a row, read one by one.
 
 ghost use Rattle.std.specs.Prelude.{◌≡◌, ◌≤◌, length, option_copied, IfOk, IfErr, MatchOption};
-ghost use Rattle.pg_receive.specs.CountedItems.{IsCountFault};
-ghost use Rattle.pg_receive.specs.CountedItems.Reading.{Begins, IsRead, AllAreRead, NextIsBroken};
-ghost use Rattle.pg_receive.specs.DataRow.{SpellsCell, IsCellFault, least_cell};
+ghost use Rattle.pg_format.specs.Format.Nullable.{cell};
+ghost use Rattle.pg_receive.specs.CountedItems.{IsCountFault, Begins, IsRead, NoneIsLeft, NextBreaks};
 
 use crate::message::data_row::cell::cell_at;
 use crate::message::data_row::{CELL_LENGTH, FIRST_CELL};
@@ -28,7 +27,7 @@ pub struct RowReader<'a> {
 impl<'a> Model for RowReader<'a> {
     ghost use Rattle.std.specs.Prelude.{◌≤◌, length};
     ghost use Rattle.pg_response.specs.Received.{max_body};
-    ghost use Rattle.pg_receive.specs.CountedItems.Reading.{Reading};
+    ghost use Rattle.pg_receive.specs.CountedItems.{Reading};
 
     ghost Value = { Reading };
 
@@ -42,8 +41,8 @@ impl<'a> RowReader<'a> {
     /// missing, or the body is shorter than so many cells that are NULL.
     pub fn new(body: &'a [u8]) -> Result<RowReader<'a>, ProtocolFault>
         requires { length body.now ≤ MAX_BODY }
-        ensures row { IfOk result (Begins SpellsCell IsCellFault least_cell body.now) }
-        ensures fault { IfErr result (IsCountFault least_cell body.now) }
+        ensures row { IfOk result (Begins 4 body.now) }
+        ensures fault { IfErr result (IsCountFault 4 body.now) }
     {
         let left = usize::from(u16_at(body, 0)?);
         bytes_at(body, FIRST_CELL, CELL_LENGTH * left)?;
@@ -64,8 +63,8 @@ impl<'a> RowReader<'a> {
     /// The next cell, nothing for NULL; or nothing where none is left. After a fault the reader is as
     /// it was.
     pub fn next_cell(&mut self) -> Result<Option<Option<&'a [u8]>>, ProtocolFault>
-        ensures cell { IfOk result (λ found. MatchOption found (AllAreRead SpellsCell self.old self.new) (λ cell. IsRead SpellsCell IsCellFault self.old self.new (option_copied cell))) }
-        ensures fault { IfErr result (λ fault. NextIsBroken SpellsCell IsCellFault self.old fault × (self.new ≡ self.old)) }
+        ensures cell { IfOk result (λ found. MatchOption found (NoneIsLeft self.old self.new) (λ value. IsRead cell self.old self.new (option_copied value))) }
+        ensures fault { IfErr result (NextBreaks cell self.old self.new) }
     {
         if self.left == 0 {
             return Ok(None);

@@ -1,10 +1,9 @@
 //! The columns of a result, read one by one.
 
 ghost use Rattle.std.specs.Prelude.{◌≡◌, ◌≤◌, length, IfOk, IfErr, MatchOption};
-ghost use Rattle.pg_receive.specs.CountedItems.{IsCountFault};
-ghost use Rattle.pg_receive.specs.CountedItems.Reading.{Begins, IsRead, AllAreRead, NextIsBroken};
+ghost use Rattle.pg_format.specs.Messages.{column};
+ghost use Rattle.pg_receive.specs.CountedItems.{IsCountFault, Begins, IsRead, NoneIsLeft, NextBreaks};
 ghost use Rattle.pg_receive.specs.RowDescription.Columns.{column_of_ref};
-ghost use Rattle.pg_receive.specs.RowDescription.{SpellsColumn, IsColumnFault, least_column};
 
 use crate::message::row_description::columns::{FieldRef, column_at};
 use crate::message::row_description::{FIRST_COLUMN, LEAST_COLUMN};
@@ -29,7 +28,7 @@ pub struct ColumnReader<'a> {
 impl<'a> Model for ColumnReader<'a> {
     ghost use Rattle.std.specs.Prelude.{◌≤◌, length};
     ghost use Rattle.pg_response.specs.Received.{max_body};
-    ghost use Rattle.pg_receive.specs.CountedItems.Reading.{Reading};
+    ghost use Rattle.pg_receive.specs.CountedItems.{Reading};
 
     ghost Value = { Reading };
 
@@ -43,8 +42,8 @@ impl<'a> ColumnReader<'a> {
     /// is missing, or the body is shorter than so many columns without a name.
     pub fn new(body: &'a [u8]) -> Result<ColumnReader<'a>, ProtocolFault>
         requires { length body.now ≤ MAX_BODY }
-        ensures columns { IfOk result (Begins SpellsColumn IsColumnFault least_column body.now) }
-        ensures fault { IfErr result (IsCountFault least_column body.now) }
+        ensures columns { IfOk result (Begins 19 body.now) }
+        ensures fault { IfErr result (IsCountFault 19 body.now) }
     {
         let left = usize::from(u16_at(body, 0)?);
         bytes_at(body, FIRST_COLUMN, LEAST_COLUMN * left)?;
@@ -64,8 +63,8 @@ impl<'a> ColumnReader<'a> {
 
     /// The next column; or nothing where none is left. After a fault the reader is as it was.
     pub fn next_column(&mut self) -> Result<Option<FieldRef<'a>>, ProtocolFault>
-        ensures column { IfOk result (λ found. MatchOption found (AllAreRead SpellsColumn self.old self.new) (λ column. IsRead SpellsColumn IsColumnFault self.old self.new (column_of_ref column))) }
-        ensures fault { IfErr result (λ fault. NextIsBroken SpellsColumn IsColumnFault self.old fault × (self.new ≡ self.old)) }
+        ensures column { IfOk result (λ found. MatchOption found (NoneIsLeft self.old self.new) (λ field. IsRead column self.old self.new (column_of_ref field))) }
+        ensures fault { IfErr result (NextBreaks column self.old self.new) }
     {
         if self.left == 0 {
             return Ok(None);

@@ -1,10 +1,12 @@
 //! The columns of a result, borrowed from their body.
 
-ghost use Rattle.std.specs.Prelude.{◌≡◌, ◌≤◌, List, length, drop, slice_get, IsOk, IfOk, IfErr, option_map};
+ghost use Rattle.std.specs.Prelude.{◌≡◌, ◌≤◌, ℕ, List, ◌++◌, length, slice_get, IsOk, IfOk, IfErr, option_map};
 ghost use Rattle.std.specs.Iterator.{YieldsFirstBy, item_count};
-ghost use Rattle.pg_receive.specs.CountedItems.{IsEncodedAt};
+ghost use Rattle.pg_format.specs.Format.{ReadsAs};
+ghost use Rattle.pg_format.specs.Format.Places.{IsReadAt, BreaksAt};
+ghost use Rattle.pg_format.specs.Messages.{numbers_of, numbers, column, row_description, table, attribute};
 ghost use Rattle.pg_receive.specs.RowDescription.Columns.{column_of_ref};
-ghost use Rattle.pg_receive.specs.RowDescription.{Column, column_of, table, attribute, numbers_length, SpellsNumbers, SpellsColumn, IsColumnFault, MeansColumns, IsColumnsFault};
+ghost use Rattle.pg_receive.specs.RowDescription.{column_of};
 
 use crate::message::row_description::{FIRST_COLUMN, Field, LEAST_COLUMN, NUMBERS_LENGTH};
 use crate::message::str_at;
@@ -63,7 +65,7 @@ pub struct Columns<'a> {
 
 impl<'a> Model for Columns<'a> {
     ghost use Rattle.std.specs.Prelude.{List};
-    ghost use Rattle.pg_receive.specs.RowDescription.{Column};
+    ghost use Rattle.pg_format.specs.Messages.{Column};
     ghost use Rattle.pg_receive.specs.RowDescription.Columns.{columns_from, AreColumns};
 
     ghost Value = { List Column };
@@ -78,8 +80,7 @@ impl<'a> Columns<'a> {
     /// it has and its faults are those of [`RowDescription`](crate::message::RowDescription).
     pub fn read(body: &'a [u8]) -> Result<Columns<'a>, ProtocolFault>
         requires { length body.now ≤ MAX_BODY }
-        ensures value { IfOk result (MeansColumns body.now) }
-        ensures fault { IfErr result (IsColumnsFault body.now) }
+        ensures { ReadsAs row_description (λ columns. columns) body.now result }
     {
         let count = usize::from(u16_at(body, 0)?);
         bytes_at(body, FIRST_COLUMN, LEAST_COLUMN * count)?;
@@ -144,29 +145,29 @@ impl<'a> Iterator for Columns<'a> {
 pub fn column_at(body: &[u8], at: usize) -> Result<(FieldRef<'_>, usize), ProtocolFault>
     requires within { at ≤ length body.now }
     requires short { length body.now ≤ MAX_BODY }
-    ensures column { IfOk result (λ found. IsEncodedAt SpellsColumn body.now at (column_of_ref found.0) found.1) }
-    ensures broken { IfErr result (λ fault. IsColumnFault body.now at (drop at body.now) fault) }
+    ensures column { IfOk result (λ found. IsReadAt column body.now at (column_of_ref found.0) found.1) }
+    ensures broken { IfErr result (BreaksAt column body.now at) }
 {
     let (name, after) = str_at(body, at)?;
     let numbers = bytes_at(body, after, NUMBERS_LENGTH)?;
     Ok((field_of(name, numbers)?, after + NUMBERS_LENGTH))
 }
 
-// The column of a name and the numbers after it.
-fn field_of<'a>(name: &'a str, numbers: &[u8]) -> Result<FieldRef<'a>, ProtocolFault>
-    requires { length numbers.now ≡ numbers_length }
+// The column of a name, and of the bytes of the numbers after it.
+fn field_of<'a>(name: &'a str, bytes: &[u8]) -> Result<FieldRef<'a>, ProtocolFault>
+    requires { length bytes.now ≡ 18 }
     ensures whole { IsOk result }
     ensures name { IfOk result (λ field. (column_of_ref field).name ≡ name.now) }
-    ensures numbers { IfOk result (λ field. SpellsNumbers numbers.now (column_of_ref field)) }
+    ensures numbers { IfOk result (λ field. (more : List ℕ) → numbers.Reads (bytes.now ++ more) (numbers_of (column_of_ref field)) more) }
 {
     Ok(FieldRef {
         name,
-        relation_id: relation_of(u32_at(numbers, 0)?),
-        relation_attribute_no: attribute_of(i16_at(numbers, 4)?),
-        data_type_id: Oid(u32_at(numbers, 6)?),
-        data_type_size: i16_at(numbers, 10)?,
-        type_modifier: i32_at(numbers, 12)?,
-        format: i16_at(numbers, 16)?,
+        relation_id: relation_of(u32_at(bytes, 0)?),
+        relation_attribute_no: attribute_of(i16_at(bytes, 4)?),
+        data_type_id: Oid(u32_at(bytes, 6)?),
+        data_type_size: i16_at(bytes, 10)?,
+        type_modifier: i32_at(bytes, 12)?,
+        format: i16_at(bytes, 16)?,
     })
 }
 

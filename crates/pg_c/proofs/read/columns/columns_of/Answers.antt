@@ -1,26 +1,42 @@
-use Rattle.std.proofs.Common.{arith}
+use Rattle.std.proofs.Common.{◌≡◌, ◌+◌, ◌*◌, ◌<◌, ◌≤◌, length, arith}
+use Rattle.std.proofs.lemmas.Result.{err_from_is_err_and}
+use Rattle.pg_format.specs.Messages.{column}
 use Rattle.pg_receive.specs.RowDescription.Columns.{column_of_ref}
-use Rattle.pg_receive.specs.RowDescription.{SpellsColumn}
-use Rattle.pg_receive.proofs.CountedItemsLemmas.{ends_within}
 use Rattle.pg_c.specs.Columns.{column_in}
-use Rattle.pg_c.proofs.ReadLemmas.{gives_more, gives_full}
+use Rattle.pg_c.proofs.ReadLemmas.{gives_more, gives_full, item_breaks, reads_items}
 use Rattle.pg_c.proofs.read.columns.columns_of.Goals as goal
 use Rattle.pg_c.proofs.read.columns.columns_of.Goals.{then-index-columns, else-index-columns}
 
 pub loop-index-preserved : goal.loop-index-preserved
 loop-index-preserved c =
     let body = c.args.body.now in
-    let read = c.loop-index in
-    let column = column_of_ref c.in_ok-column.column in
+    let loop = c.loop-index in
+    let field = column_of_ref c.in_ok-column.column in
     let end = c.in_ok-column.end in
-    let encoded = c.in_ok-column.ensures.column in
-    let gives = read.invariant.gives in
-    record {
-      within = ends_within SpellsColumn body read.at end column read.invariant.within encoded;
-      gives = elim c.if-index-columns.branch [
-        | then-index-columns w ↦ rw w.columns-is
-            (gives_more SpellsColumn (column_in body) body 2 read.at end read.index c.args.columns.now read.columns w.place_of.result column gives (w.place_of.ensures body end encoded) encoded w.if-index-columns.true)
-        | else-index-columns w ↦ rw w.columns-is
-            (gives_full SpellsColumn (column_in body) body 2 read.at end read.index c.args.columns.now read.columns column gives encoded (omega (arith, w.if-index-columns.false)))
-      ];
-    }
+    let read = c.in_ok-column.ensures.column in
+    let gives = loop.invariant in
+    elim c.if-index-columns.branch [
+      | then-index-columns w ↦ rw w.columns-is
+          (gives_more column (column_in body) body 2 loop.at end loop.index c.args.columns.now loop.columns w.place_of.result field gives (w.place_of.ensures body end read) read w.if-index-columns.true)
+      | else-index-columns w ↦ rw w.columns-is
+          (gives_full column (column_in body) body 2 loop.at end loop.index c.args.columns.now loop.columns field gives read (omega (arith, w.if-index-columns.false)))
+    ]
+
+pub returns-in_err-column-clause-fault : goal.returns-in_err-column-clause-fault
+returns-in_err-column-clause-fault c =
+    let p = err_from_is_err_and c.from_residual-in_err-column.result c.from_residual-in_err-column.ensures.1 in
+    let body = c.args.body.now in
+    let n = c.in_ok-u16_at.field-0 in
+    let loop = c.loop-index in
+    let holds : 2 + 19 * n ≤ length body = omega (arith, c.from-count.ensures, c.in_ok-bytes_at.ensures.found.0) in
+    let fewer : loop.index < n = omega (arith, c.from-count.ensures, c.loop-index-test.true) in
+    rw (p.1, p.2)
+    (item_breaks column 19 (column_in body) body n loop.at loop.index c.args.columns.now loop.columns c.in_err-column.field-0.0 c.in_ok-check_body.ensures.ok c.in_ok-u16_at.ensures.found holds fewer loop.invariant c.in_err-column.ensures.broken)
+
+pub returns-clause-columns : goal.returns-clause-columns
+returns-clause-columns c =
+    let body = c.args.body.now in
+    let loop = c.loop-index in
+    let count : c.from-count.result ≡ c.in_ok-u16_at.field-0 = c.from-count.ensures in
+    let all : loop.index ≡ c.from-count.result = omega (arith, c.loop-index-test.false, loop.auto.index-end) in
+    reads_items column 19 (column_in body) body c.from-count.result loop.at loop.index c.args.columns.now loop.columns (rw count c.in_ok-u16_at.ensures.found) all loop.invariant

@@ -1,16 +1,15 @@
-use Rattle.std.proofs.Common.{◌≡◌, ℕ, ◌+◌, ◌*◌, ℤ, Some, List, drop, refl, arith, rules, ap, sym, ◌∙◌, pos}
+use Rattle.std.proofs.Common.{◌≡◌, ℕ, ◌+◌, ◌*◌, ℤ, Some, refl, arith, rules, ap, sym, ◌∙◌, pos}
 use Rattle.std.specs.Int.{w8, w16}
 use Rattle.std.proofs.lemmas.Int.{to_z-of_z}
 use mir.Val.{SFits, to_z, of_z}
-use Rattle.pg_base.specs.Reading.{Signed}
-use Rattle.pg_receive.specs.CountedItems.{IsEncodedAt}
-use Rattle.pg_receive.specs.Copy.{SpellsCode, codes_counted}
+use Rattle.pg_format.specs.Format.Parts.{be_i16}
+use Rattle.pg_format.specs.Messages.{columns_of}
+use Rattle.pg_format.proofs.FormatLaws.Places.{stands_at}
+use Rattle.pg_format.proofs.FormatLaws.Takes.{takes_signed}
+use Rattle.pg_receive.proofs.CopyLemmas.{counts_at, response_at}
 use Rattle.pg_c.proofs.ReadLemmas.{gives_more, gives_full}
 use Rattle.pg_c.proofs.read.copy.codes_of.Goals as goal
 use Rattle.pg_c.proofs.read.copy.codes_of.Goals.{then-index-codes, else-index-codes}
-
-code_is_at : (body : List ℕ) (at : ℕ) (code : ℤ) → Signed 2 (drop at body) code (drop (at + 2) body) → IsEncodedAt SpellsCode body at code (at + 2)
-code_is_at body at code p = record { spelled = p.spelled; spells = record { wide = p.wide; is = p.is }; ends = omega (arith, p.wide); parts = p.parts }
 
 pub loop-index-preserved : goal.loop-index-preserved
 loop-index-preserved c =
@@ -20,11 +19,11 @@ loop-index-preserved c =
     let code = c.in_ok-code.code in
     let in_range : SFits w16 code = search rules in
     let same : to_z w16 (of_z w16 code) ≡ code = to_z-of_z w16 code in_range in
-    let encoded = code_is_at body at code c.in_ok-code.ensures.found in
+    let stands = stands_at be_i16 2 (takes_signed 2) body at code read.invariant.read.within c.in_ok-code.ensures.found in
     let next : 3 + 2 * (read.index + 1) ≡ at + 2 = omega arith in
     rw next (elim c.if-index-codes.branch [
-      | then-index-codes w ↦ rw (w.codes-is, same) (gives_more SpellsCode (λ (z : ℤ). Some z) body 3 at (at + 2) read.index c.args.codes.now read.codes code code read.invariant refl encoded w.if-index-codes.true)
-      | else-index-codes w ↦ rw w.codes-is (gives_full SpellsCode (λ (z : ℤ). Some z) body 3 at (at + 2) read.index c.args.codes.now read.codes code read.invariant encoded (omega (arith, w.if-index-codes.false)))
+      | then-index-codes w ↦ rw (w.codes-is, same) (gives_more be_i16 (λ (z : ℤ). Some z) body 3 at (at + 2) read.index c.args.codes.now read.codes code code read.invariant refl stands w.if-index-codes.true)
+      | else-index-codes w ↦ rw w.codes-is (gives_full be_i16 (λ (z : ℤ). Some z) body 3 at (at + 2) read.index c.args.codes.now read.codes code read.invariant stands (omega (arith, w.if-index-codes.false)))
     ])
 
 pub returns-clause-formats : goal.returns-clause-formats
@@ -35,23 +34,13 @@ returns-clause-formats c =
     let columns = c.in_ok-columns.columns in
     let format_range : SFits w8 format = search rules in
     let columns_range : SFits w16 columns = search rules in
-    let codes_are : c.code_count-count.result ≡ codes_counted columns = c.code_count-count.ensures ∙ ap codes_counted (to_z-of_z w16 columns columns_range) in
+    let codes_are : c.code_count-count.result ≡ columns_of columns = c.code_count-count.ensures ∙ ap columns_of (to_z-of_z w16 columns columns_range) in
     let all : c.loop-index.index ≡ c.code_count-count.result = omega (arith, c.loop-index-test.false, c.loop-index.auto.index-end) in
     record {
       formats = record { format = c.in_ok-format.format; num_columns = c.in_ok-columns.columns; format_codes = read.items };
-      means = record {
-        columns = drop 1 body;
-        after = drop 3 body;
-        spelled = read.encoded.spelled;
-        rest = drop (3 + 2 * c.loop-index.index) body;
-        format = c.in_ok-format.ensures.found;
-        count = c.in_ok-columns.ensures.found;
-        counted = read.counted ∙ all ∙ codes_are;
-        are_spelled = read.encoded.spells;
-        parts = read.encoded.parts;
-      };
+      means = response_at body format columns c.loop-index.index (3 + 2 * c.loop-index.index) read.items (counts_at body format columns c.in_ok-format.ensures.found c.in_ok-columns.ensures.found) (all ∙ codes_are) read.read;
       format = to_z-of_z w8 format format_range;
       columns = to_z-of_z w16 columns columns_range;
-      count = ap pos (sym (read.counted ∙ all));
+      count = ap pos (sym (read.read.reads.0 ∙ all));
       given = read.given;
     }

@@ -3,24 +3,24 @@ use Rattle.std.specs.Option.{is_some}
 use Rattle.std.specs.Int.{w32}
 use Rattle.std.proofs.lemmas.Bool.{both_ways}
 use mir.Val.{to_z}
-use Rattle.pg_receive.specs.CountedItems.{IsEncodedAt}
-use Rattle.pg_receive.specs.DataRow.{SpellsCell}
+use Rattle.pg_format.specs.Format.Nullable.{cell}
+use Rattle.pg_format.specs.Format.Places.{IsReadAt}
 use Rattle.pg_receive.proofs.DataRowLemmas.{value_at}
 use Rattle.pg_c.specs.Row.{value_in}
 use Rattle.pg_c.proofs.PlaceLemmas.{bytes_found}
 use Rattle.pg_c.proofs.read.row.place_of.Goals as goal
 
-value_found : (body : List ℕ) (cell : Option (Bor (List ℕ))) (at end n : ℕ) → n ≡ end - (at + 4) → end ≤ length body → is_some cell ≡ true → IsEncodedAt SpellsCell body at (option_copied cell) end
-    → value_in body (at + 4) (pos n) ≡ Some (option_copied cell)
-value_found body None at end n e within some p = absurd (both_ways false refl some)
-value_found body (Some value) at end n e within some p =
+value_found : (body : List ℕ) (value : Option (Bor (List ℕ))) (at end n : ℕ) → n ≡ end - (at + 4) → is_some value ≡ true → IsReadAt cell body at (option_copied value) end
+    → value_in body (at + 4) (pos n) ≡ Some (option_copied value)
+value_found body None at end n e some p = absurd (both_ways false refl some)
+value_found body (Some value) at end n e some p =
     let found = value_at body value.now at end p in
     let wide : n ≡ length value.now = omega (arith, e, found.0) in
     let stop : at + 4 + length value.now ≡ end = omega (arith, found.0) in
-    rw (wide, bytes_found body value.now (at + 4) (omega (arith, stop, within)) (rw stop found.1)) refl
+    rw (wide, bytes_found body value.now (at + 4) (omega (arith, stop, p.within)) (rw stop found.1)) refl
 
 pub returns-else-is_none : goal.returns-else-is_none
-returns-else-is_none c = λ body within encoded.
+returns-else-is_none c = λ body read.
     let n = c.args.end - (c.args.at + 4) in
     let len : to_z w32 n ≡ pos n = search rules in
-    rw len (value_found body c.args.cell c.args.at c.args.end n refl within (c.is_none.ensures ∙ ap not c.if-is_none.false) encoded)
+    rw len (value_found body c.args.value c.args.at c.args.end n refl (c.is_none.ensures ∙ ap not c.if-is_none.false) read)

@@ -4,10 +4,10 @@ use Rattle.std.proofs.lemmas.Bool.{false≢true}
 use Rattle.std.proofs.lemmas.Result.{err_from_is_err_and}
 use Rattle.pg_base.proofs.ReadingLemmas.{one_number}
 use Rattle.pg_receive.specs.DataRow.CellEnd.{end_of, cell_to, cells_from, last_end}
-use Rattle.pg_receive.specs.DataRow.{SpellsCell, IsCellFault}
-use Rattle.pg_receive.specs.DataRow.Laws.{cell_takes}
-use Rattle.pg_receive.proofs.DataRowLemmas.{length-cells_from, cells_from-push, last_end-push, ends_rise_push, entry_gives}
-use Rattle.pg_receive.proofs.CountedItemsLemmas.{none_are_at, one_more_is_at, ends_within, counted_items, next_breaks, asks_for_memory}
+use Rattle.pg_format.specs.Format.Nullable.{cell}
+use Rattle.pg_format.proofs.FormatLaws.Places.{none_at, one_more_at, counted_at, broken_at}
+use Rattle.pg_receive.proofs.DataRowLemmas.{cells_from-push, last_end-push, ends_rise_push, entry_gives, cell_is_wide}
+use Rattle.pg_receive.proofs.CountedItemsLemmas.{asks_for_memory}
 use Rattle.pg_receive.proofs.message.data_row.row_index.read_ends.Goals as goal
 
 pub returns-in_err-reserve_exact-clause-answer : goal.returns-in_err-reserve_exact-clause-answer
@@ -20,8 +20,9 @@ returns-in_err-reserve_exact-clause-answer c =
 
 pub returns-in_err-reserve_exact-clause-memory : goal.returns-in_err-reserve_exact-clause-memory
 returns-in_err-reserve_exact-clause-memory c = λ ran_out cells means.
-    let counts = one_number 2 c.args.body.now c.in_ok-u16_at.field-0 (length cells) (drop 2 c.args.body.now) means.after c.in_ok-u16_at.ensures.found means.count in
-    omega (arith, counts.0, c.in_err-reserve_exact.ensures.full, c.clear.ensures.capacity, c.clear.ensures.len, c.from-count.ensures)
+    let v = means.1 in
+    let counts = one_number 2 c.args.body.now c.in_ok-u16_at.field-0 v.0.0 (drop 2 c.args.body.now) v.1.mid c.in_ok-u16_at.ensures.found v.1.first in
+    omega (arith, counts.0, v.1.second.0, ap length v.2, c.in_err-reserve_exact.ensures.full, c.clear.ensures.capacity, c.clear.ensures.len, c.from-count.ensures)
 
 pub loop-index-init : goal.loop-index-init
 loop-index-init c =
@@ -34,7 +35,7 @@ loop-index-init c =
       counted = reserved.len ∙ c.clear.ensures.len;
       room = omega (arith, reserved.ok);
       rise = rw none within;
-      encoded = rw none (none_are_at SpellsCell c.args.body.now 2);
+      read = rw none (none_at cell c.args.body.now 2 within);
     }
 
 pub returns-in_err-cell-clause-answer : goal.returns-in_err-cell-clause-answer
@@ -45,8 +46,8 @@ returns-in_err-cell-clause-answer c =
     let row = c.loop-index in
     let cells = cells_from body 2 row.ends.items in
     let holds : 2 + 4 * n ≤ length body = omega (arith, c.from-count.ensures, c.in_ok-bytes_at.ensures.found.0) in
-    let fewer : length cells < n = omega (arith, length-cells_from body 2 row.ends.items, row.ends.ok.0, row.invariant.counted, c.from-count.ensures, c.loop-index-test.true) in
-    rw (p.1, p.2) (refl, next_breaks SpellsCell IsCellFault 4 body n row.at cells c.in_err-cell.field-0.0 c.in_ok-u16_at.ensures.found holds fewer row.invariant.encoded c.in_err-cell.ensures.broken)
+    let fewer : row._index < n = omega (arith, c.from-count.ensures, c.loop-index-test.true) in
+    rw (p.1, p.2) (refl, broken_at cell 4 body n row._index row.at cells c.in_err-cell.field-0.0 c.in_ok-u16_at.ensures.found holds row.invariant.read fewer c.in_err-cell.ensures.broken)
 
 turned : (none some : Bool) → some ≡ not none → none ≡ not some
 turned true some e = rw e refl
@@ -59,26 +60,25 @@ copied_none (Some value) = refl
 pub loop-index-preserved : goal.loop-index-preserved
 loop-index-preserved c =
     let body = c.args.body.now in
-    let cell = option_copied c.in_ok-cell.cell in
+    let found = option_copied c.in_ok-cell.cell in
     let end = c.in_ok-cell.end in
     let entry = c.new.result in
     let row = c.loop-index in
     let ends = row.ends.items in
-    let encoded = c.in_ok-cell.ensures.cell in
+    let read = c.in_ok-cell.ensures.cell in
     let made = c.new.ensures in
     let pushed = c.push_reserved.ensures in
-    let within : end ≤ length body = ends_within SpellsCell body row.at end cell row.invariant.within encoded in
     let said : c.is_none.result ≡ is_none c.in_ok-cell.cell = turned c.is_none.result (is_some c.in_ok-cell.cell) c.is_none.ensures in
-    let gives : cell_to body row.at entry ≡ cell = entry_gives body cell row.at end entry encoded made.end (rw (copied_none c.in_ok-cell.cell) (made.null ∙ said)) in
-    let rises : last_end 2 ends + 4 ≤ end_of entry = omega (arith, row.invariant.last, made.end, encoded.ends, cell_takes encoded.spelled cell encoded.spells) in
+    let gives : cell_to body row.at entry ≡ found = entry_gives body found row.at end entry read made.end (rw (copied_none c.in_ok-cell.cell) (made.null ∙ said)) in
+    let rises : last_end 2 ends + 4 ≤ end_of entry = omega (arith, row.invariant.last, made.end, cell_is_wide body row.at end found read) in
     record {
-      within = within;
+      within = read.within;
       last = sym made.end ∙ sym (last_end-push 2 ends entry) ∙ ap (last_end 2) (sym pushed.items);
       counted = omega (arith, pushed.len, row.invariant.counted);
       room = omega (arith, pushed.capacity, row.invariant.room);
-      rise = rw pushed.items (ends_rise_push 2 ends entry (length body) row.invariant.rise rises (omega (arith, made.end, within)));
-      encoded = rw (pushed.items, cells_from-push body 2 ends entry, ← row.invariant.last, gives)
-          (one_more_is_at SpellsCell body 2 row.at end (cells_from body 2 ends) cell row.invariant.encoded encoded);
+      rise = rw pushed.items (ends_rise_push 2 ends entry (length body) row.invariant.rise rises (omega (arith, made.end, read.within)));
+      read = rw (pushed.items, cells_from-push body 2 ends entry, ← row.invariant.last, gives)
+          (one_more_at cell body row._index 2 row.at end (cells_from body 2 ends) found row.invariant.read read);
     }
 
 pub returns-clause-answer : goal.returns-clause-answer
@@ -87,5 +87,5 @@ returns-clause-answer c =
     let n = c.in_ok-u16_at.field-0 in
     let row = c.loop-index in
     let cells = cells_from body 2 row.ends.items in
-    let count : length cells ≡ n = omega (arith, length-cells_from body 2 row.ends.items, row.ends.ok.0, row.invariant.counted, c.from-count.ensures) in
-    counted_items SpellsCell body n row.at cells c.in_ok-u16_at.ensures.found (omega arith) count row.invariant.encoded
+    let all : row._index ≡ n = omega (arith, c.from-count.ensures, c.loop-index-test.false, row.auto._index-end) in
+    counted_at cell 4 body n row.at cells c.in_ok-u16_at.ensures.found (rw all at row.invariant.read)

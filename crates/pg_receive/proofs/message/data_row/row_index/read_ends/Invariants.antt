@@ -1,7 +1,8 @@
 use Rattle.std.proofs.Common.{◌≡◌, ◌≤◌, length, vec_len, vec_capacity}
 use Rattle.pg_receive.specs.DataRow.CellEnd.{cells_from, last_end, first_cell, EndsRise}
-use Rattle.pg_receive.specs.DataRow.{SpellsCell}
-use Rattle.pg_receive.specs.CountedItems.{SpellItems, IsEncodedAt}
+use Rattle.pg_format.specs.Format.Lists.{times}
+use Rattle.pg_format.specs.Format.Nullable.{cell}
+use Rattle.pg_format.specs.Format.Places.{IsReadAt}
 use Rattle.pg_receive.proofs.message.data_row.row_index.read_ends.Given as goal
 
 abbrev pub invariant-loop-index : goal.invariant-loop-index
@@ -11,5 +12,5 @@ invariant-loop-index l = record {
   counted : vec_len l.ends ≡ l._index;
   room : l.count ≤ vec_capacity l.ends;
   rise : EndsRise first_cell l.ends.items (length l.body);
-  encoded : IsEncodedAt (SpellItems SpellsCell) l.body first_cell (cells_from l.body first_cell l.ends.items) l.at;
+  read : IsReadAt (times l._index cell) l.body first_cell (cells_from l.body first_cell l.ends.items) l.at;
 }

@@ -12,5 +12,5 @@ returns-clause-column c =
     let found = c.in_ok-numbers.ensures.found in
     let name = c.in_ok-name.name.now in
     let text = c.in_ok-name.ensures in
-    column_is_at c.args.body.now c.args.at c.in_ok-name.after name c.in_ok-numbers.numbers.now (column_of_ref c.in_ok-field_of.field-0) text.found text.after.0 found.0 found.1
+    column_is_at c.args.body.now c.args.at c.in_ok-name.after name c.in_ok-numbers.numbers.now (column_of_ref c.in_ok-field_of.field-0) text.found found.0 found.1
     c.in_ok-field_of.ensures.name c.in_ok-field_of.ensures.numbers

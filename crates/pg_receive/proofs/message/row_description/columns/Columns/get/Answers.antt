@@ -1,6 +1,6 @@
 use Rattle.std.proofs.Common.{List}
 use Rattle.std.proofs.lemmas.Iterator.Consumers.{nth_from_yields_List, YieldsList-from_first}
-use Rattle.pg_receive.specs.RowDescription.{Column}
+use Rattle.pg_format.specs.Messages.{Column}
 use Rattle.pg_receive.specs.RowDescription.Columns.{column_of_ref}
 use Rattle.pg_receive.proofs.message.row_description.columns.Columns.get.Goals as goal
 

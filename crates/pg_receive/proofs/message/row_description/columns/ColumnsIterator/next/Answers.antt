@@ -1,7 +1,7 @@
 use Rattle.std.proofs.Common.{◌≡◌, ℕ, suc, ◌+◌, ◌-◌, List, ◌∷◌, length, drop, sym, ap, ◌∙◌, arith}
-use Rattle.pg_receive.specs.CountedItems.{IsEncodedAt}
+use Rattle.pg_format.specs.Format.Places.{IsReadAt}
+use Rattle.pg_format.specs.Messages.{Column, column}
 use Rattle.pg_receive.specs.RowDescription.Columns.{column_of_ref, first_length, columns_from}
-use Rattle.pg_receive.specs.RowDescription.{Column, SpellsColumn}
 use Rattle.pg_receive.proofs.RowDescriptionColumnsLemmas.{column_at_is, columns_after, none_is_broken}
 use Rattle.pg_receive.proofs.message.row_description.columns.ColumnsIterator.next.Goals as goal
 
@@ -18,13 +18,13 @@ invariant_of-self c =
     columns_after columns.body.now columns.at (columns.left - 1) c.in-Ok.end (column_of_ref c.in-Ok.column) (rw more at c.self.invariant) c.in-Ok.ensures.column
 
 -- the columns of a body from an offset on, where one is encoded there
-one_and_more : (body : List ℕ) (at left end : ℕ) (column : Column) → left ≡ suc (left - 1) → IsEncodedAt SpellsColumn body at column end
-    → columns_from body at left ≡ column ∷ columns_from body end (left - 1)
-one_and_more body at left end column more p =
-    let found = column_at_is body at end column p in
+one_and_more : (body : List ℕ) (at left end : ℕ) (c : Column) → left ≡ suc (left - 1) → IsReadAt column body at c end
+    → columns_from body at left ≡ c ∷ columns_from body end (left - 1)
+one_and_more body at left end c more p =
+    let found = column_at_is body at end c p in
     ap (columns_from body at) more
     ∙ ap (λ (first : Column). first ∷ columns_from body (at + first_length (drop at body)) (left - 1)) found.0
-    ∙ ap (λ (k : ℕ). column ∷ columns_from body k (left - 1)) found.1
+    ∙ ap (λ (k : ℕ). c ∷ columns_from body k (left - 1)) found.1
 
 pub returns-clause-steps : goal.returns-clause-steps
 returns-clause-steps c =

@@ -1,0 +1,13 @@
+-- Values that stand between two offsets of a body.
+use Rattle.std.specs.Prelude.{ℕ, ◌≤◌, List, length, drop}
+use Rattle.pg_base.specs.declared.error.ProtocolFault.{ProtocolFault}
+use Rattle.pg_format.specs.Format.{Format}
+
+-- a value is read from one offset to another
+pub record IsReadAt {A : Type 0} (g : Format A) (body : List ℕ) (at : ℕ) (a : A) (end : ℕ) : Type 0 where
+  pub within : end ≤ length body
+  pub reads : g.Reads (drop at body) a (drop end body)
+
+-- what stands at an offset can't be read
+abbrev pub BreaksAt : {A : Type 0} → Format A → List ℕ → ℕ → ProtocolFault → Type 0
+BreaksAt g body at fault = g.Breaks (length body) (drop at body) fault
