@@ -2,7 +2,8 @@
 use Rattle.std.specs.Prelude.{◌≡◌, ◌⊎◌, ℕ, ℤ, pos, List, [], ◌∷◌, length}
 use Rattle.pg_base.specs.declared.error.ProtocolFault.{ProtocolFault}
 use Rattle.pg_base.specs.declared.error.ProtocolFault.TheVariants.{UnknownAuthentication}
-use Rattle.pg_receive.specs.Authentication.{AuthenticationValue, accepted, cleartext_password, md5_password, sasl, sasl_continue, sasl_final, method_of, MeansAuthentication, IsAuthenticationFault}
+use Rattle.pg_format.specs.Format.{Means, IsFaultOf}
+use Rattle.pg_receive.specs.Authentication.{AuthenticationValue, accepted, cleartext_password, md5_password, sasl, sasl_continue, sasl_final, method_of, requests}
 use Rattle.pg_receive.specs.Authentication.SaslContinue.{ContinueValue}
 use Rattle.pg_c.specs.Put.{IsGiven}
 use Rattle.pg_c.specs.Read.{IsBodyFault}
@@ -20,14 +21,14 @@ salt_of (sasl_final verifier) = 0 ∷ 0 ∷ 0 ∷ 0 ∷ []
 
 pub record ReadsAuthentication (body : List ℕ) (authentication : PgmAuthentication) : Type 0 where
   pub value : AuthenticationValue
-  pub means : MeansAuthentication body value
+  pub means : Means requests body value
   pub method : authentication.method ≡ method_of value
   pub salt : authentication.salt ≡ salt_of value
 
 -- the challenge, whose salt and nonce are given
 pub record ReadsChallenge (body : List ℕ) (challenge : PgmChallenge) (salt_old salt_new nonce_old nonce_new : List ℕ) : Type 0 where
   pub value : ContinueValue
-  pub means : MeansAuthentication body (sasl_continue value)
+  pub means : Means requests body (sasl_continue value)
   pub iterations : challenge.iterations ≡ value.iterations
   pub salt_len : challenge.salt_len ≡ length value.salt
   pub salt : IsGiven value.salt salt_old salt_new
@@ -37,15 +38,15 @@ pub record ReadsChallenge (body : List ℕ) (challenge : PgmChallenge) (salt_old
 -- the verifier, whose length is the result, is given
 pub record ReadsVerifier (body old new : List ℕ) (result : ℤ) : Type 0 where
   pub verifier : List ℕ
-  pub means : MeansAuthentication body (sasl_final verifier)
+  pub means : Means requests body (sasl_final verifier)
   pub length_is : result ≡ pos (length verifier)
   pub given : IsGiven verifier old new
 
 -- the body asks for something else
 pub record IsOtherMethod (body : List ℕ) (fault : ProtocolFault) : Type 0 where
   pub value : AuthenticationValue
-  pub means : MeansAuthentication body value
+  pub means : Means requests body value
   pub is : fault ≡ UnknownAuthentication (method_of value)
 
 abbrev pub IsAskedFault : List ℕ → ProtocolFault → Type 0
-IsAskedFault body fault = IsBodyFault IsAuthenticationFault body fault ⊎ IsOtherMethod body fault
+IsAskedFault body fault = IsBodyFault (IsFaultOf requests) body fault ⊎ IsOtherMethod body fault

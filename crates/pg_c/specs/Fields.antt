@@ -1,8 +1,9 @@
 -- What the place of a field says of the body: nothing where its value isn't in it.
 use Rattle.std.specs.Prelude.{◌≡◌, ℕ, ℤ, pos, List, Option, option_map}
-use Rattle.pg_response.specs.Response.Fields.{Field}
+use Rattle.pg_format.specs.Notices.{Field}
 use Rattle.pg_response.specs.Response.Severity.{severity_number}
-use Rattle.pg_response.specs.Response.{NoticeValue, MeansNotice}
+use Rattle.pg_format.specs.Format.{Means}
+use Rattle.pg_response.specs.Response.{NoticeValue, notices}
 use Rattle.pg_c.specs.Place.{part}
 use Rattle.pg_c.specs.declared.read.fields.PgmField.{PgmField}
 
@@ -12,5 +13,5 @@ field_in body field = option_map (λ value. (field.letter, value)) (part body fi
 -- the number of the severity of the error or notice that the body is
 pub record IsSeverityOf (body : List ℕ) (result : ℤ) : Type 0 where
   pub notice : NoticeValue
-  pub means : MeansNotice body notice
+  pub means : Means notices body notice
   pub number : result ≡ pos (severity_number notice.severity)

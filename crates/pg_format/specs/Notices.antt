@@ -4,7 +4,7 @@ use Rattle.std.specs.Str.{is_utf8, bytes_eq}
 use Rattle.std.specs.Option.{option_or}
 use Rattle.pg_base.specs.declared.error.ProtocolFault.{ProtocolFault}
 use Rattle.pg_base.specs.declared.error.ProtocolFault.TheVariants.{NoticeNotUtf8, UnknownSeverity}
-use Rattle.pg_format.specs.Keyed.{first_fault_of, last}
+use Rattle.pg_format.specs.Keyed.{plain, first_fault_of, last}
 
 -- a letter and what it says
 abbrev pub Field : Type 0
@@ -30,9 +30,10 @@ abbrev pub is_nonempty : List ℕ → Bool
 is_nonempty [] = false
 is_nonempty (byte ∷ bytes) = true
 
--- the last message and the last code of some fields aren't empty
-abbrev pub is_full : List Field → Bool
-is_full fields = is_nonempty (last [] message_letter fields) && is_nonempty (last [] code_letter fields)
+-- the last message and the last code, here after others, aren't empty
+abbrev pub is_full : List ℕ → List ℕ → List Field → Bool
+is_full message code front =
+    is_nonempty (last plain message message_letter front) && is_nonempty (last plain code code_letter front)
 
 -- the fronts of a list, the shortest first
 abbrev pub fronts : List Field → List (List Field)
@@ -41,7 +42,7 @@ fronts (field ∷ fields) = [] ∷ map (λ front. field ∷ front) (fronts field
 
 -- the part that is read: the shortest front with a message and a code, or all where none has both
 unfoldable pub read_part : List Field → List Field
-read_part fields = unwrap_or (find is_full (fronts fields)) fields
+read_part fields = unwrap_or (find (is_full [] []) (fronts fields)) fields
 
 abbrev pub text_fault : List ℕ → Option ProtocolFault
 text_fault value = if is_utf8 value then None else Some NoticeNotUtf8

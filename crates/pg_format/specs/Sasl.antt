@@ -8,7 +8,7 @@ use Rattle.base64.specs.Engines.{standard}
 use Rattle.base64.specs.GeneralPurpose.{decoded_of}
 use Rattle.pg_base.specs.declared.error.ProtocolFault.{ProtocolFault}
 use Rattle.pg_base.specs.declared.error.ProtocolFault.TheVariants.{ShortSaslItem, Base64, NotUtf8}
-use Rattle.pg_format.specs.Keyed.{first_fault_of, last}
+use Rattle.pg_format.specs.Keyed.{plain, first_fault_of, last}
 
 -- s, r and v
 abbrev pub salt_key : ℕ
@@ -47,10 +47,10 @@ abbrev pub utf8_fault : List ℕ → Option ProtocolFault
 utf8_fault bytes = if is_utf8 bytes then None else Some NotUtf8
 
 -- server-first-message: the first fault of an item, then that of the nonce, then that of the whole
-unfoldable pub first_message_fault : List ℕ → Option ProtocolFault
+abbrev pub first_message_fault : List ℕ → Option ProtocolFault
 first_message_fault bytes =
-    option_or (first_fault_of (item_fault salt_key) (items_in bytes)) (option_or (utf8_fault (last [] nonce_key (keyed (items_in bytes)))) (utf8_fault bytes))
+    option_or (first_fault_of (item_fault salt_key) (items_in bytes)) (option_or (utf8_fault (last plain [] nonce_key (keyed (items_in bytes)))) (utf8_fault bytes))
 
 -- server-final-message
-unfoldable pub final_message_fault : List ℕ → Option ProtocolFault
+abbrev pub final_message_fault : List ℕ → Option ProtocolFault
 final_message_fault bytes = first_fault_of (item_fault verifier_key) (items_in bytes)

@@ -7,6 +7,7 @@ ghost use Rattle.pg_frames.specs.declared.pieces.StreamEnd.{StreamEnd};
 ghost use Rattle.pg_frames.specs.Pieces.{IsRead};
 ghost use Rattle.pg_frames.specs.Values.{bodies_of, EachHas, EachAgree};
 ghost use Rattle.pg_base.specs.Decode.{Decodes};
+ghost use Rattle.pg_format.specs.Format.{Means, IsFaultOf};
 ghost use Rattle.pg_base.specs.declared.error.Error.{Error};
 ghost use Rattle.pg_base.specs.Format.{backend_tag};
 ghost use Rattle.pg_frames.specs.Stream.{Stream, Whole, WantsMore, IsStreamFault};
@@ -44,8 +45,8 @@ pub fn a_fault_stays()
 /// [`ReceivedMessage::decode`](pg_response::message::ReceivedMessage::decode) answers for them agrees
 /// place by place, memory aside.
 pub fn values_are_those_of_the_stream<T: BackendMessage>()
-    ensures values { (bytes : List ℕ) (xs ys : List (ℕ × List ℕ)) (d e : StreamEnd) (vs ws : List T.Shown) → IsRead bytes xs d → IsRead bytes ys e → EachHas T.Means (bodies_of (backend_tag T.FORMAT) xs) vs → EachHas T.Means (bodies_of (backend_tag T.FORMAT) ys) ws → vs ≡ ws }
-    ensures answers { (bytes : List ℕ) (xs ys : List (ℕ × List ℕ)) (d e : StreamEnd) (rs ss : List (Result T Error)) → IsRead bytes xs d → IsRead bytes ys e → EachHas (λ body. Decodes T.Means T.IsFault T.NeedsNoMemory T.shown (Some T.FORMAT) body) (bodies_of (backend_tag T.FORMAT) xs) rs → EachHas (λ body. Decodes T.Means T.IsFault T.NeedsNoMemory T.shown (Some T.FORMAT) body) (bodies_of (backend_tag T.FORMAT) ys) ss → EachAgree T.shown rs ss }
+    ensures values { (bytes : List ℕ) (xs ys : List (ℕ × List ℕ)) (d e : StreamEnd) (vs ws : List T.Shown) → IsRead bytes xs d → IsRead bytes ys e → EachHas (Means T.format) (bodies_of (backend_tag T.FORMAT) xs) vs → EachHas (Means T.format) (bodies_of (backend_tag T.FORMAT) ys) ws → vs ≡ ws }
+    ensures answers { (bytes : List ℕ) (xs ys : List (ℕ × List ℕ)) (d e : StreamEnd) (rs ss : List (Result T Error)) → IsRead bytes xs d → IsRead bytes ys e → EachHas (λ body. Decodes (Means T.format) (IsFaultOf T.format) T.NeedsNoMemory T.shown (Some T.FORMAT) body) (bodies_of (backend_tag T.FORMAT) xs) rs → EachHas (λ body. Decodes (Means T.format) (IsFaultOf T.format) T.NeedsNoMemory T.shown (Some T.FORMAT) body) (bodies_of (backend_tag T.FORMAT) ys) ss → EachAgree T.shown rs ss }
 {}
 
 /// A clone of an end is that end.

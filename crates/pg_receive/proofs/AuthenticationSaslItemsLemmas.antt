@@ -7,7 +7,8 @@ use Rattle.base64.specs.Engines.{standard}
 use Rattle.base64.specs.GeneralPurpose.{decoded_of, decode_of}
 use Rattle.base64.specs.declared.decode.DecodeError.{DecodeError}
 use Rattle.pg_base.specs.Reading.{HoldsNo}
-use Rattle.pg_receive.specs.Authentication.SaslItems.{comma, items_in, EachHoldsNo, AreItems, base64_of}
+use Rattle.pg_format.specs.Sasl.{items_in, base64_of}
+use Rattle.pg_receive.specs.Authentication.SaslItems.{comma, EachHoldsNo, AreItems}
 
 pub items_none : (bytes : List ℕ) → HoldsNo comma bytes → items_in bytes ≡ bytes ∷ []
 items_none [] h = refl

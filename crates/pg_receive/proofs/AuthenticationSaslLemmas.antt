@@ -1,7 +1,7 @@
 -- What the items that are left still say is what all say.
 use Rattle.std.proofs.Common.{◌≡◌, ℕ, List}
-use Rattle.pg_response.specs.Last.{last, first_fault_of}
-use Rattle.pg_receive.specs.Authentication.SaslItems.{keyed, item_fault}
+use Rattle.pg_format.specs.Keyed.{last, first_fault_of}
+use Rattle.pg_format.specs.Sasl.{keyed, item_fault}
 
 -- the fault of the items that are left is the first of all
 pub record LeftFaults (base64_key : ℕ) (all left : List (List ℕ)) : Type 0 where

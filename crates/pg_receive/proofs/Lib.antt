@@ -1,3 +1,4 @@
+pub mod AuthenticationLemmas
 pub mod AuthenticationMechanismsLemmas
 pub mod AuthenticationSaslItemsLemmas
 pub mod AuthenticationSaslLemmas

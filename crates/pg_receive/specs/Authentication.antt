@@ -1,20 +1,16 @@
--- What a server asks of a client that opens a session. Documentation: "Message Formats",
--- AuthenticationOk (B) and those after it.
-pub mod Laws
+-- What an authentication request says to a client: of SASL data, what its items say.
 pub mod Mechanisms
 pub mod SaslContinue
 pub mod SaslFinal
 pub mod SaslItems
 pub mod Shown
-use Rattle.std.specs.Prelude.{◌≡◌, ℕ, ◌==◌, ◌||◌, Bool, false, List, ◌++◌, length, ◌⊎◌}
-use Rattle.std.specs.Bool.{MatchBool}
-use Rattle.pg_base.specs.declared.error.ProtocolFault.{ProtocolFault}
-use Rattle.pg_base.specs.declared.error.ProtocolFault.TheVariants.{UnknownAuthentication}
-use Rattle.pg_base.specs.Error.{IsShort}
-use Rattle.pg_base.specs.Reading.{Number}
-use Rattle.pg_receive.specs.Authentication.Mechanisms.{mechanisms_in}
-use Rattle.pg_receive.specs.Authentication.SaslContinue.{ContinueValue, MeansContinue, IsContinueFault}
-use Rattle.pg_receive.specs.Authentication.SaslFinal.{MeansFinal, IsFinalFault}
+use Rattle.std.specs.Prelude.{◌≡◌, ℕ, ◌==◌, ◌||◌, false, List}
+use Rattle.pg_format.specs.Format.{Format}
+use Rattle.pg_format.specs.Format.Parts.{be_u32}
+use Rattle.pg_format.specs.Format.Sequences.{viewed}
+use Rattle.pg_format.specs.Messages as page
+use Rattle.pg_receive.specs.Authentication.SaslContinue.{ContinueValue, challenge_in}
+use Rattle.pg_receive.specs.Authentication.SaslFinal.{verifier_in}
 
 pub data AuthenticationValue : Type 0 where
   accepted : AuthenticationValue
@@ -24,68 +20,26 @@ pub data AuthenticationValue : Type 0 where
   sasl_continue : ContinueValue → AuthenticationValue
   sasl_final : List ℕ → AuthenticationValue
 
--- the numbers of the methods
-abbrev pub ok_method : ℕ
-ok_method = 0
+abbrev pub value_of : page.Authentication → AuthenticationValue
+value_of page.ok = accepted
+value_of page.cleartext_password = cleartext_password
+value_of (page.md5_password salt) = md5_password salt
+value_of (page.sasl names) = sasl names
+value_of (page.sasl_continue message) = sasl_continue (challenge_in message)
+value_of (page.sasl_final message) = sasl_final (verifier_in message)
 
-abbrev pub cleartext_method : ℕ
-cleartext_method = 3
+abbrev pub requests : Format AuthenticationValue
+requests = viewed value_of page.authentication
 
-abbrev pub md5_method : ℕ
-md5_method = 5
-
-abbrev pub sasl_method : ℕ
-sasl_method = 10
-
-abbrev pub sasl_continue_method : ℕ
-sasl_continue_method = 11
-
-abbrev pub sasl_final_method : ℕ
-sasl_final_method = 12
-
--- the bytes of the number of a method, and of the salt of MD5
-abbrev pub method_length : ℕ
-method_length = 4
-
-abbrev pub salt_length : ℕ
-salt_length = 4
-
--- the number of the method, which begins the body
+-- the number of the method
 abbrev pub method_of : AuthenticationValue → ℕ
-method_of accepted = ok_method
-method_of cleartext_password = cleartext_method
-method_of (md5_password salt) = md5_method
-method_of (sasl names) = sasl_method
-method_of (sasl_continue challenge) = sasl_continue_method
-method_of (sasl_final verifier) = sasl_final_method
-
--- what follows the number
-abbrev pub MeansRest : List ℕ → AuthenticationValue → Type 0
-MeansRest rest accepted = Unit {0}
-MeansRest rest cleartext_password = Unit {0}
-MeansRest rest (md5_password salt) = (more : List ℕ) × (length salt ≡ salt_length) × (rest ≡ salt ++ more)
-MeansRest rest (sasl names) = names ≡ mechanisms_in rest
-MeansRest rest (sasl_continue challenge) = MeansContinue rest challenge
-MeansRest rest (sasl_final verifier) = MeansFinal rest verifier
-
-abbrev pub MeansAuthentication : List ℕ → AuthenticationValue → Type 0
-MeansAuthentication body value = (rest : List ℕ) × Number method_length body (method_of value) rest × MeansRest rest value
-
--- methods that ask nothing that can be wrong
-abbrev pub is_plain : ℕ → Bool
-is_plain method = method == ok_method || method == cleartext_method || method == sasl_method
-
--- what is wrong after the number of a method, or with the number
-abbrev pub IsRestFault : List ℕ → ℕ → List ℕ → ProtocolFault → Type 0
-IsRestFault body method rest fault =
-    MatchBool (is_plain method) ⊥
-    (MatchBool (method == md5_method) (IsShort body method_length salt_length fault)
-    (MatchBool (method == sasl_continue_method) (IsContinueFault rest fault)
-    (MatchBool (method == sasl_final_method) (IsFinalFault rest fault) (fault ≡ UnknownAuthentication method))))
-
-abbrev pub IsAuthenticationFault : List ℕ → ProtocolFault → Type 0
-IsAuthenticationFault body fault = IsShort body 0 method_length fault ⊎ ((method : ℕ) × (rest : List ℕ) × Number method_length body method rest × IsRestFault body method rest fault)
+method_of accepted = 0
+method_of cleartext_password = 3
+method_of (md5_password salt) = 5
+method_of (sasl names) = 10
+method_of (sasl_continue challenge) = 11
+method_of (sasl_final verifier) = 12
 
 -- data of a SASL exchange is copied, and nothing else
 abbrev pub IsNoSaslData : List ℕ → Type 0
-IsNoSaslData body = (method : ℕ) (rest : List ℕ) → Number method_length body method rest → (method == sasl_continue_method || method == sasl_final_method) ≡ false
+IsNoSaslData body = (method : ℕ) (rest : List ℕ) → be_u32.Reads body method rest → (method == 11 || method == 12) ≡ false

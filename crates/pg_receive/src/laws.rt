@@ -3,8 +3,9 @@
 mod values;
 
 ghost use Rattle.std.specs.Prelude.{◌≡◌, ℕ, ◌+◌, ◌*◌, ◌≤◌, List, ◌∷◌, ◌++◌, Option, Some, length};
+ghost use Rattle.pg_format.specs.Sasl.{items_in};
 ghost use Rattle.pg_receive.specs.Authentication.Mechanisms.{AreMechanisms, mechanisms_in};
-ghost use Rattle.pg_receive.specs.Authentication.SaslItems.{AreItems, items_in};
+ghost use Rattle.pg_receive.specs.Authentication.SaslItems.{AreItems};
 ghost use Rattle.pg_receive.specs.CommandComplete.{IsRowsAffected, row_count};
 ghost use Rattle.pg_format.specs.Format.{Means};
 ghost use Rattle.pg_format.specs.Format.Nullable.{cell};

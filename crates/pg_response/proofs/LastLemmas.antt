@@ -1,7 +1,7 @@
 -- The last value of a key counts.
 use Rattle.std.proofs.Common.{◌≡◌, ℕ, ◌==◌, if◌then◌else◌, List, [], ◌∷◌, ◌++◌, refl}
 use Rattle.std.proofs.lemmas.Bool.{eq-eqb, ne_eqb}
-use Rattle.pg_response.specs.Last.{last, IsAbsent}
+use Rattle.pg_format.specs.Keyed.{last, IsAbsent}
 
 pub last_none : {A : Type 0} (view : List ℕ → A) (default : A) (key : ℕ) (pairs : List (ℕ × List ℕ)) → IsAbsent key pairs → last view default key pairs ≡ default
 last_none view default key [] h = refl

@@ -3,11 +3,10 @@ use Rattle.std.proofs.Common.{◌≡◌, ℕ, ◌==◌, Bool, true, false, List,
 use Rattle.std.specs.Prelude.{find, option_map, if◌then◌else◌}
 use Rattle.pg_base.specs.declared.error.ProtocolFault.{ProtocolFault}
 use Rattle.pg_response.specs.declared.message.response.severity.PgSeverity.{PgSeverity}
-use Rattle.pg_response.specs.Response.Fields.{Field}
-use Rattle.pg_response.specs.Last.{plain, last, first_fault_of}
+use Rattle.pg_format.specs.Notices.{Field, is_full, fronts, read_part, field_fault, code_letter, message_letter, localized_letter, severity_letter}
+use Rattle.pg_format.specs.Keyed.{plain, last, first_fault_of}
 use Rattle.pg_response.specs.Response.Severity.{severity_of_word}
-use Rattle.pg_response.specs.Response.{Read, is_full, fronts, read_part, field_fault}
-use Rattle.pg_response.specs.Response.Letters.{code_letter, message_letter, localized_letter, severity_letter}
+use Rattle.pg_response.specs.Response.{Read}
 
 -- the part of these fields that is read after others with this last message and code
 pub part_after : List ℕ → List ℕ → List Field → List Field

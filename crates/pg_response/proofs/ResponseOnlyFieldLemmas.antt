@@ -1,13 +1,15 @@
 -- What is read in the only field of a letter.
 use Rattle.std.proofs.Common.{◌≡◌, ℕ, ◌==◌, ◌≤◌, false, List, [], ◌∷◌, length, Option, Some, None, unwrap_or, inl, inr, refl, sym, ap, ◌∙◌, arith}
 use Rattle.std.proofs.lemmas.Bool.{cases_Bool, eqb-true}
-use Rattle.pg_response.specs.Response.Fields.{Field, first_value, first_text, text_of, of_letter, fields_in}
+use Rattle.pg_response.specs.Response.Fields.{first_value, first_text, text_of, of_letter, fields_in}
+use Rattle.pg_format.specs.Notices.{Field, field_fault, text_fault, is_full, code_letter, message_letter}
 use Rattle.std.specs.Option.{option_or}
 use Rattle.std.specs.Str.{is_utf8}
 use Rattle.pg_base.specs.declared.error.ProtocolFault.{ProtocolFault}
-use Rattle.pg_response.specs.Last.{plain, last, first_fault_of}
-use Rattle.pg_response.specs.Response.{NoticeValue, MeansNotice, field_fault, text_fault, is_full}
-use Rattle.pg_response.specs.Response.Letters.{code_letter, message_letter}
+use Rattle.pg_format.specs.Keyed.{plain, last, first_fault_of}
+use Rattle.pg_format.specs.Format.{Means}
+use Rattle.pg_response.specs.Response.{NoticeValue, notices}
+use Rattle.pg_response.proofs.ResponseFieldsLemmas.{notice_is}
 use Rattle.pg_response.proofs.ResponseLemmas.{part_after, part_step, part_full, part_end, part_of_all, seen}
 
 -- fields without the letter leave what was seen before them
@@ -45,13 +47,17 @@ only_code message (field ∷ fields) h =
       | inr other ↦ rw (part_step message [] field fields (no_code message), last, other) (only_code (seen plain message message_letter field) fields (rw other at h))
     ]
 
-pub message_of_one : (body : List ℕ) (notice : NoticeValue) → MeansNotice body notice → length (of_letter message_letter notice.fields) ≤ 1
+pub message_of_one : (body : List ℕ) (notice : NoticeValue) → Means notices body notice → length (of_letter message_letter notice.fields) ≤ 1
     → notice.message ≡ unwrap_or (first_value message_letter notice.fields) []
-message_of_one body notice p h = rw (p.1, part_of_all (fields_in body)) (only_message [] (fields_in body) (rw p.1 at h))
+message_of_one body notice p h =
+    let is = notice_is body notice p in
+    rw (is.1, part_of_all (fields_in body)) (only_message [] (fields_in body) (rw is.1 at h))
 
-pub code_of_one : (body : List ℕ) (notice : NoticeValue) → MeansNotice body notice → length (of_letter code_letter notice.fields) ≤ 1
+pub code_of_one : (body : List ℕ) (notice : NoticeValue) → Means notices body notice → length (of_letter code_letter notice.fields) ≤ 1
     → notice.code ≡ unwrap_or (first_value code_letter notice.fields) []
-code_of_one body notice p h = rw (p.1, part_of_all (fields_in body)) (only_code [] (fields_in body) (rw p.1 at h))
+code_of_one body notice p h =
+    let is = notice_is body notice p in
+    rw (is.1, part_of_all (fields_in body)) (only_code [] (fields_in body) (rw is.1 at h))
 
 none_of_or : (a b : Option ProtocolFault) → option_or a b ≡ None → (a ≡ None) × (b ≡ None)
 none_of_or None b h = (refl, h)
@@ -82,16 +88,18 @@ code_is_text message (field ∷ fields) h =
       | inr other ↦ rw other (code_is_text (seen plain message message_letter field) fields (rw other at both.1))
     ]
 
-pub message_by_get : (body : List ℕ) (notice : NoticeValue) → MeansNotice body notice → length (of_letter message_letter notice.fields) ≤ 1
+pub message_by_get : (body : List ℕ) (notice : NoticeValue) → Means notices body notice → length (of_letter message_letter notice.fields) ≤ 1
     → notice.message ≡ unwrap_or (first_text message_letter notice.fields) []
 message_by_get body notice p h =
+    let is = notice_is body notice p in
     let text : first_text message_letter notice.fields ≡ first_value message_letter notice.fields =
-    rw p.1 (message_is_text [] (fields_in body) (rw (part_of_all (fields_in body)) at p.0)) in
+    rw is.1 (message_is_text [] (fields_in body) (rw (part_of_all (fields_in body)) at is.0)) in
     message_of_one body notice p h ∙ ap (λ (found : Option (List ℕ)). unwrap_or found []) (sym text)
 
-pub code_by_get : (body : List ℕ) (notice : NoticeValue) → MeansNotice body notice → length (of_letter code_letter notice.fields) ≤ 1
+pub code_by_get : (body : List ℕ) (notice : NoticeValue) → Means notices body notice → length (of_letter code_letter notice.fields) ≤ 1
     → notice.code ≡ unwrap_or (first_text code_letter notice.fields) []
 code_by_get body notice p h =
+    let is = notice_is body notice p in
     let text : first_text code_letter notice.fields ≡ first_value code_letter notice.fields =
-    rw p.1 (code_is_text [] (fields_in body) (rw (part_of_all (fields_in body)) at p.0)) in
+    rw is.1 (code_is_text [] (fields_in body) (rw (part_of_all (fields_in body)) at is.0)) in
     code_of_one body notice p h ∙ ap (λ (found : Option (List ℕ)). unwrap_or found []) (sym text)

@@ -9,10 +9,11 @@ use Rattle.pg_base.specs.declared.error.ProtocolFault.{ProtocolFault}
 use Rattle.pg_response.specs.declared.message.response.severity.PgSeverity.{PgSeverity}
 use Rattle.pg_response.specs.Response.Fields.{BeginsWithField, fields_in}
 use Rattle.pg_response.specs.Response.Severity.{severity_of_word}
-use Rattle.pg_response.specs.Response.{is_nonempty, is_full, field_fault, notice_fault, text_fault}
-use Rattle.pg_response.specs.Response.Letters.{code_letter, message_letter, localized_letter, severity_letter}
+use Rattle.pg_format.specs.Format.{IsFaultOf}
+use Rattle.pg_response.specs.Response.{notices}
+use Rattle.pg_format.specs.Notices.{is_nonempty, is_full, field_fault, text_fault, code_letter, message_letter, localized_letter, severity_letter}
 use Rattle.pg_response.specs.Response.Places.{Place, bytes_in, IsPlaceIn}
-use Rattle.pg_response.proofs.ResponseFieldsLemmas.{fields_at}
+use Rattle.pg_response.proofs.ResponseFieldsLemmas.{fields_at, notice_breaks}
 use Rattle.pg_response.proofs.ResponseLemmas.{Left, left_all, left_more, left_past, left_fault}
 
 -- what was read of a body whose rest is left
@@ -120,6 +121,6 @@ kept_past body rest letter value after message code severity localized full fiel
 
 pub kept_fault : (body rest : List ℕ) (letter : ℕ) (value after : List ℕ) (message code : Place) (severity localized : Option PgSeverity) (fault : ProtocolFault)
     → is_full (bytes_in body message) (bytes_in body code) [] ≡ false → BeginsWithField rest letter value after → field_fault (letter, value) ≡ Some fault
-    → Kept body rest message code severity localized → notice_fault body ≡ Some fault
+    → Kept body rest message code severity localized → IsFaultOf notices body fault
 kept_fault body rest letter value after message code severity localized fault partial field is kept =
-    left_fault (fields_in body) (letter, value) (fields_in after) (bytes_in body message) (bytes_in body code) severity localized fault partial is (rw (fields_at rest letter value after field) at kept.left)
+    notice_breaks body fault (left_fault (fields_in body) (letter, value) (fields_in after) (bytes_in body message) (bytes_in body code) severity localized fault partial is (rw (fields_at rest letter value after field) at kept.left))

@@ -6,7 +6,8 @@ use Rattle.std.specs.Option.{option_or}
 use Rattle.std.specs.Str.{bytes_eq}
 use Rattle.pg_base.specs.declared.error.ErrorKind.{ErrorKind}
 use Rattle.pg_base.specs.declared.error.ErrorKind.TheVariants as kinds
-use Rattle.pg_response.specs.Response.Fields.{Field, first_value, first_text}
+use Rattle.pg_response.specs.Response.Fields.{first_value, first_text}
+use Rattle.pg_format.specs.Notices.{Field}
 use Rattle.pg_response.specs.Response.{NoticeValue}
 use Rattle.pg_response.specs.Response.Letters.{line_letter, position_letter, internal_position_letter, internal_query_letter}
 use Rattle.pg_response.specs.Decimal.{leading_decimal}

@@ -1,6 +1,5 @@
 pub mod Decimal
 pub mod EndedTexts
 pub mod Error
-pub mod Last
 pub mod Received
 pub mod Response

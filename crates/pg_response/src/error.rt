@@ -3,8 +3,9 @@
 ghost use Rattle.std.specs.Prelude.{◌≡◌, Some, None, option_copied, option_map};
 ghost use Rattle.pg_base.specs.declared.format.BackendMessageFormat.TheVariants as formats;
 ghost use Rattle.pg_response.specs.Response.Fields.{first_text};
-ghost use Rattle.pg_response.specs.Response.{NoticeValue, MeansNotice, IsNoticeFault};
-ghost use Rattle.pg_response.specs.Response.Laws.{one_notice, notice_or_fault};
+ghost use Rattle.pg_response.specs.Response.{NoticeValue, notices};
+ghost use Rattle.pg_format.proofs.FormatLaws.FromServer.{lawful_notice};
+ghost use Rattle.pg_format.proofs.FormatLaws.Sequences.{lawful_viewed};
 ghost use Rattle.pg_response.specs.Error.{first_number, position_of, kind_of, is_transient, database_error_words};
 ghost use Rattle.pg_response.specs.Response.Letters.{detail_letter, hint_letter, where_letter, schema_letter, table_letter, column_letter, data_type_letter, constraint_letter, file_letter, line_letter, routine_letter};
 
@@ -225,9 +226,7 @@ impl BackendMessage for PgDatabaseError {
 
     ghost shown = { λ error. error };
 
-    ghost Means = { MeansNotice };
-
-    ghost IsFault = { IsNoticeFault };
+    ghost format = { notices };
 
     ghost NeedsNoMemory = { λ _. Unit {0} };
 
@@ -235,7 +234,5 @@ impl BackendMessage for PgDatabaseError {
         Ok(PgDatabaseError(Notice::decode_body(alloc, buf)?))
     }
 
-    ghost one_value = { one_notice };
-
-    ghost never_both = { notice_or_fault };
+    ghost lawful = { lawful_viewed _ lawful_notice };
 }

@@ -5,10 +5,11 @@ mod values;
 ghost use Rattle.std.specs.Prelude.{◌≡◌, ℕ, ◌*◌, ◌≤◌, List, [], ◌∷◌, ◌++◌, Option, Some, length, unwrap_or};
 ghost use Rattle.pg_base.specs.Atoi.{Atoi};
 ghost use Rattle.pg_response.specs.Decimal.{leading_decimal};
-ghost use Rattle.pg_response.specs.Last.{last, IsAbsent};
-ghost use Rattle.pg_response.specs.Response.{NoticeValue, MeansNotice};
-ghost use Rattle.pg_response.specs.Response.Letters.{code_letter, message_letter};
-ghost use Rattle.pg_response.specs.Response.Fields.{Field, AreFields, fields_in, first_value, first_text, of_letter};
+ghost use Rattle.pg_format.specs.Keyed.{last, IsAbsent};
+ghost use Rattle.pg_format.specs.Format.{Means};
+ghost use Rattle.pg_response.specs.Response.{NoticeValue, notices};
+ghost use Rattle.pg_format.specs.Notices.{code_letter, message_letter, Field};
+ghost use Rattle.pg_response.specs.Response.Fields.{AreFields, fields_in, first_value, first_text, of_letter};
 
 use crate::message::response::letters;
 use crate::message::{Notice, PgSeverity};
@@ -50,16 +51,16 @@ pub fn the_last_of_a_key_counts()
 ///
 /// [`Notice::get`]: crate::message::Notice::get
 pub fn message_is_its_only_field()
-    ensures message { (body : List ℕ) (notice : NoticeValue) → MeansNotice body notice → length (of_letter message_letter notice.fields) ≤ 1 → notice.message ≡ unwrap_or (first_text message_letter notice.fields) [] }
-    ensures code { (body : List ℕ) (notice : NoticeValue) → MeansNotice body notice → length (of_letter code_letter notice.fields) ≤ 1 → notice.code ≡ unwrap_or (first_text code_letter notice.fields) [] }
-    ensures raw_message { (body : List ℕ) (notice : NoticeValue) → MeansNotice body notice → length (of_letter message_letter notice.fields) ≤ 1 → notice.message ≡ unwrap_or (first_value message_letter notice.fields) [] }
-    ensures raw_code { (body : List ℕ) (notice : NoticeValue) → MeansNotice body notice → length (of_letter code_letter notice.fields) ≤ 1 → notice.code ≡ unwrap_or (first_value code_letter notice.fields) [] }
+    ensures message { (body : List ℕ) (notice : NoticeValue) → Means notices body notice → length (of_letter message_letter notice.fields) ≤ 1 → notice.message ≡ unwrap_or (first_text message_letter notice.fields) [] }
+    ensures code { (body : List ℕ) (notice : NoticeValue) → Means notices body notice → length (of_letter code_letter notice.fields) ≤ 1 → notice.code ≡ unwrap_or (first_text code_letter notice.fields) [] }
+    ensures raw_message { (body : List ℕ) (notice : NoticeValue) → Means notices body notice → length (of_letter message_letter notice.fields) ≤ 1 → notice.message ≡ unwrap_or (first_value message_letter notice.fields) [] }
+    ensures raw_code { (body : List ℕ) (notice : NoticeValue) → Means notices body notice → length (of_letter code_letter notice.fields) ≤ 1 → notice.code ≡ unwrap_or (first_value code_letter notice.fields) [] }
 {}
 
 /// The same of a user's notice that was decoded: where it has at most one field `M`, what its `get`
 /// answers for `M`, or empty, is its message.
 pub fn message_by_get(notice: &Notice) -> &str
-    requires { (body : List ℕ) × MeansNotice body notice.now }
+    requires { (body : List ℕ) × Means notices body notice.now }
     ensures { length (of_letter message_letter notice.now.fields) ≤ 1 → result.now ≡ notice.now.message }
 {
     match notice.get(letters::MESSAGE) {
@@ -70,7 +71,7 @@ pub fn message_by_get(notice: &Notice) -> &str
 
 /// As [`message_by_get`], of `C` and the code.
 pub fn code_by_get(notice: &Notice) -> &str
-    requires { (body : List ℕ) × MeansNotice body notice.now }
+    requires { (body : List ℕ) × Means notices body notice.now }
     ensures { length (of_letter code_letter notice.now.fields) ≤ 1 → result.now ≡ notice.now.code }
 {
     match notice.get(letters::CODE) {

@@ -4,7 +4,8 @@ ghost use Rattle.std.specs.Prelude.{◌≡◌, ◌<ℤ◌, ◌≤ℤ◌, ⊤, po
 ghost use Rattle.pg_base.specs.declared.error.Error.TheVariants.{Protocol};
 ghost use Rattle.pg_base.specs.declared.error.ProtocolFault.TheVariants.{UnknownAuthentication};
 ghost use Rattle.pg_receive.specs.Authentication.Mechanisms.{mechanisms_in};
-ghost use Rattle.pg_receive.specs.Authentication.{MeansAuthentication, IsAuthenticationFault, sasl_continue, sasl_final, method_of};
+ghost use Rattle.pg_format.specs.Format.{Means, IsFaultOf};
+ghost use Rattle.pg_receive.specs.Authentication.{requests, sasl_continue, sasl_final, method_of};
 ghost use Rattle.pg_receive.specs.Authentication.SaslContinue.Shown.{continue_shown};
 ghost use Rattle.pg_receive.specs.Authentication.Shown.{authentication_shown};
 ghost use Rattle.pg_c.specs.Authentication.{ReadsAuthentication, ReadsChallenge, ReadsVerifier, IsAskedFault, salt_of};
@@ -54,7 +55,7 @@ pub extern "C" fn pgm_read_authentication(
 ) -> i32
     ensures result { result ≤ℤ pos 0 }
     ensures value { result ≡ pos 0 → ReadsAuthentication body.now authentication.new }
-    ensures fault { result <ℤ pos 0 → Refuses (IsBodyFault IsAuthenticationFault body.now) ⊤ fault.new result }
+    ensures fault { result <ℤ pos 0 → Refuses (IsBodyFault (IsFaultOf requests) body.now) ⊤ fault.new result }
     ensures kept { result <ℤ pos 0 → authentication.new ≡ authentication.old }
 {
     match authentication_of(alloc, body) {
@@ -67,8 +68,8 @@ pub extern "C" fn pgm_read_authentication(
 }
 
 fn authentication_of(alloc: Global, body: &[u8]) -> Result<Authentication, Error>
-    ensures value { IfOk result (λ asked. MeansAuthentication body.now (authentication_shown asked)) }
-    ensures fault { IfErr result (IsErrorOf (IsBodyFault IsAuthenticationFault body.now) ⊤) }
+    ensures value { IfOk result (λ asked. Means requests body.now (authentication_shown asked)) }
+    ensures fault { IfErr result (IsErrorOf (IsBodyFault (IsFaultOf requests) body.now) ⊤) }
 {
     check_body(body)?;
     let body = Bytes::copy_from_slice(alloc, body)?;
@@ -157,7 +158,7 @@ fn lengths_of(challenge: &AuthenticationSaslContinue) -> PgmChallenge
 }
 
 fn challenge_of(alloc: Global, body: &[u8]) -> Result<AuthenticationSaslContinue, Error>
-    ensures value { IfOk result (λ challenge. MeansAuthentication body.now (sasl_continue (continue_shown challenge))) }
+    ensures value { IfOk result (λ challenge. Means requests body.now (sasl_continue (continue_shown challenge))) }
     ensures fault { IfErr result (IsErrorOf (IsAskedFault body.now) ⊤) }
 {
     match authentication_of(alloc, body)? {
@@ -186,7 +187,7 @@ pub extern "C" fn pgm_read_verifier(
 }
 
 fn verifier_of(alloc: Global, body: &[u8]) -> Result<AuthenticationSaslFinal, Error>
-    ensures value { IfOk result (λ end. MeansAuthentication body.now (sasl_final end.verifier.items)) }
+    ensures value { IfOk result (λ end. Means requests body.now (sasl_final end.verifier.items)) }
     ensures fault { IfErr result (IsErrorOf (IsAskedFault body.now) ⊤) }
 {
     match authentication_of(alloc, body)? {

@@ -3,7 +3,7 @@ use Rattle.std.specs.Prelude.{◌≡◌, ℕ, List, ◌++◌, Option, Some, None
 use Rattle.std.proofs.Common.{refl, sym, ap, ◌∙◌, inl, inr, append_assoc}
 use Rattle.pg_base.specs.declared.error.ProtocolFault.{ProtocolFault}
 use Rattle.pg_format.specs.Format.{Format, Lawful, Canonical, Total, IsRead, IsBroken}
-use Rattle.pg_format.specs.Format.Sequences.{dep_pair, ◌⨾◌, record_of, mapped, written_where, FitsWhere, case_of, choose}
+use Rattle.pg_format.specs.Format.Sequences.{dep_pair, ◌⨾◌, record_of, mapped, viewed, written_where, FitsWhere, case_of, choose}
 use Rattle.pg_format.proofs.FormatLaws.Parts.{are_bytes_after}
 
 module _ {A B : Type 0} {g : Format A} (h : A → Format B) (eg : Lawful g) (eh : (a : A) → Lawful (h a)) where
@@ -110,6 +110,14 @@ lawful_mapped f back eg = record {
   one_fault = eg.one_fault;
   never_both = λ len bytes rest a e p q. eg.never_both len bytes rest p.0 e p.1 q;
   written = λ v rest fits. (back v, eg.written (back v) rest fits.0, sym fits.1);
+}
+
+pub lawful_viewed : {A B : Type 0} {g : Format A} (f : A → B) → Lawful g → Lawful (viewed f g)
+lawful_viewed f eg = record {
+  one_value = λ bytes x y a b p q. let both = eg.one_value bytes x y p.0 q.0 p.1 q.1 in (p.2 ∙ ap f both.0 ∙ sym q.2, both.1);
+  one_fault = eg.one_fault;
+  never_both = λ len bytes rest a e p q. eg.never_both len bytes rest p.0 e p.1 q;
+  written = λ v rest fits. absurd fits;
 }
 
 -- where going back gives what was read

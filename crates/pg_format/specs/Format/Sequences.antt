@@ -47,6 +47,15 @@ mapped {A} f back g = record {
   Fits = λ v rest. g.Fits (back v) rest × (f (back v) ≡ v);
 }
 
+-- what a function makes of the value that is read, for who only reads
+abbrev pub viewed : {A B : Type 0} → (A → B) → Format A → Format B
+viewed {A} f g = record {
+  Reads = λ bytes v rest. (a : A) × g.Reads bytes a rest × (v ≡ f a);
+  Breaks = g.Breaks;
+  Writes = λ v. [];
+  Fits = λ v rest. ⊥;
+}
+
 -- one case of several: a value of another case has nothing to be written
 abbrev pub written_where : {A : Type 0} → (A → List ℕ) → Option A → List ℕ
 written_where write None = []

@@ -35,9 +35,7 @@ impl BackendKeyData {
 }
 
 impl BackendMessage for BackendKeyData {
-    ghost use Rattle.pg_format.specs.Format.{Means, IsFaultOf};
     ghost use Rattle.pg_format.specs.Messages.{BackendKey, backend_key_data};
-    ghost use Rattle.pg_format.proofs.FormatLaws.Whole.{one_meaning, meaning_or_fault};
     ghost use Rattle.pg_format.proofs.FormatLaws.FromServer.{lawful_backend_key_data};
 
     const FORMAT: BackendMessageFormat = BackendMessageFormat::BackendKeyData;
@@ -48,9 +46,7 @@ impl BackendMessage for BackendKeyData {
 
     ghost shown = { λ key. record { process_id = key.process_id; secret_key = key.secret_key } };
 
-    ghost Means = { Means backend_key_data };
-
-    ghost IsFault = { IsFaultOf backend_key_data };
+    ghost format = { backend_key_data };
 
     ghost NeedsNoMemory = { λ _. Unit {0} };
 
@@ -58,7 +54,5 @@ impl BackendMessage for BackendKeyData {
         Ok(BackendKeyData::read(buf.as_slice())?)
     }
 
-    ghost one_value = { one_meaning lawful_backend_key_data };
-
-    ghost never_both = { meaning_or_fault lawful_backend_key_data };
+    ghost lawful = { lawful_backend_key_data };
 }

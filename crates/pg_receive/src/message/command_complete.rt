@@ -38,8 +38,9 @@ impl CommandComplete {
 }
 
 impl BackendMessage for CommandComplete {
-    ghost use Rattle.std.specs.Prelude.{◌≡◌, ℕ, List};
-    ghost use Rattle.std.proofs.Common.{◌∙◌, sym};
+    ghost use Rattle.std.specs.Prelude.{ℕ, List};
+    ghost use Rattle.pg_format.specs.Messages.{command_complete};
+    ghost use Rattle.pg_format.proofs.FormatLaws.Parts.{lawful_remaining};
 
     const FORMAT: BackendMessageFormat = BackendMessageFormat::CommandComplete;
 
@@ -49,10 +50,7 @@ impl BackendMessage for CommandComplete {
 
     ghost shown = { λ done. done };
 
-    // Every body is a tag.
-    ghost Means = { λ body tag. tag ≡ body };
-
-    ghost IsFault = { λ _ _. ⊥ };
+    ghost format = { command_complete };
 
     ghost NeedsNoMemory = { λ _. Unit {0} };
 
@@ -60,9 +58,7 @@ impl BackendMessage for CommandComplete {
         Ok(CommandComplete { tag: buf })
     }
 
-    ghost one_value = { λ body v w p q. p ∙ sym q };
-
-    ghost never_both = { λ body v fault p q. q };
+    ghost lawful = { lawful_remaining };
 }
 
 /// How many rows the command had to do with whose message has this body: what

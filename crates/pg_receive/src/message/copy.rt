@@ -42,9 +42,7 @@ pub struct CopyInResponse(pub CopyResponseData);
 pub struct CopyOutResponse(pub CopyResponseData);
 
 impl BackendMessage for CopyInResponse {
-    ghost use Rattle.pg_format.specs.Format.{Means, IsFaultOf};
     ghost use Rattle.pg_format.specs.Messages.{CopyResponse, copy_response};
-    ghost use Rattle.pg_format.proofs.FormatLaws.Whole.{one_meaning, meaning_or_fault};
     ghost use Rattle.pg_format.proofs.FormatLaws.FromServer.{lawful_copy_response};
     ghost use Rattle.pg_receive.specs.Copy.{shown_response, FormatsNeedsNoMemory};
 
@@ -56,9 +54,7 @@ impl BackendMessage for CopyInResponse {
 
     ghost shown = { λ response. shown_response response.0 };
 
-    ghost Means = { Means copy_response };
-
-    ghost IsFault = { IsFaultOf copy_response };
+    ghost format = { copy_response };
 
     ghost NeedsNoMemory = { FormatsNeedsNoMemory };
 
@@ -66,15 +62,11 @@ impl BackendMessage for CopyInResponse {
         Ok(CopyInResponse(decode_formats(alloc, buf.as_slice())?))
     }
 
-    ghost one_value = { one_meaning lawful_copy_response };
-
-    ghost never_both = { meaning_or_fault lawful_copy_response };
+    ghost lawful = { lawful_copy_response };
 }
 
 impl BackendMessage for CopyOutResponse {
-    ghost use Rattle.pg_format.specs.Format.{Means, IsFaultOf};
     ghost use Rattle.pg_format.specs.Messages.{CopyResponse, copy_response};
-    ghost use Rattle.pg_format.proofs.FormatLaws.Whole.{one_meaning, meaning_or_fault};
     ghost use Rattle.pg_format.proofs.FormatLaws.FromServer.{lawful_copy_response};
     ghost use Rattle.pg_receive.specs.Copy.{shown_response, FormatsNeedsNoMemory};
 
@@ -86,9 +78,7 @@ impl BackendMessage for CopyOutResponse {
 
     ghost shown = { λ response. shown_response response.0 };
 
-    ghost Means = { Means copy_response };
-
-    ghost IsFault = { IsFaultOf copy_response };
+    ghost format = { copy_response };
 
     ghost NeedsNoMemory = { FormatsNeedsNoMemory };
 
@@ -96,9 +86,7 @@ impl BackendMessage for CopyOutResponse {
         Ok(CopyOutResponse(decode_formats(alloc, buf.as_slice())?))
     }
 
-    ghost one_value = { one_meaning lawful_copy_response };
-
-    ghost never_both = { meaning_or_fault lawful_copy_response };
+    ghost lawful = { lawful_copy_response };
 }
 
 fn decode_formats(alloc: Global, body: &[u8]) -> Result<CopyResponseData, Error>

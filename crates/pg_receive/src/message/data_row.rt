@@ -74,9 +74,7 @@ impl DataRow {
 
 impl BackendMessage for DataRow {
     ghost use Rattle.std.specs.Prelude.{ℕ, List, Option};
-    ghost use Rattle.pg_format.specs.Format.{Means, IsFaultOf};
     ghost use Rattle.pg_format.specs.Messages.{data_row};
-    ghost use Rattle.pg_format.proofs.FormatLaws.Whole.{one_meaning, meaning_or_fault};
     ghost use Rattle.pg_format.proofs.FormatLaws.FromServer.{lawful_data_row};
     ghost use Rattle.pg_receive.specs.DataRow.{RowNeedsNoMemory};
 
@@ -88,9 +86,7 @@ impl BackendMessage for DataRow {
 
     ghost shown = { λ row. row };
 
-    ghost Means = { Means data_row };
-
-    ghost IsFault = { IsFaultOf data_row };
+    ghost format = { data_row };
 
     ghost NeedsNoMemory = { RowNeedsNoMemory };
 
@@ -100,7 +96,5 @@ impl BackendMessage for DataRow {
         Ok(DataRow { storage: buf, ends })
     }
 
-    ghost one_value = { one_meaning lawful_data_row };
-
-    ghost never_both = { meaning_or_fault lawful_data_row };
+    ghost lawful = { lawful_data_row };
 }

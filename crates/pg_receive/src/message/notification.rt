@@ -73,9 +73,7 @@ impl Notification {
 }
 
 impl BackendMessage for Notification {
-    ghost use Rattle.pg_format.specs.Format.{Means, IsFaultOf};
     ghost use Rattle.pg_format.specs.Messages.{Notification, notification};
-    ghost use Rattle.pg_format.proofs.FormatLaws.Whole.{one_meaning, meaning_or_fault};
     ghost use Rattle.pg_format.proofs.FormatLaws.FromServer.{lawful_notification};
 
     const FORMAT: BackendMessageFormat = BackendMessageFormat::NotificationResponse;
@@ -86,9 +84,7 @@ impl BackendMessage for Notification {
 
     ghost shown = { λ n. n };
 
-    ghost Means = { Means notification };
-
-    ghost IsFault = { IsFaultOf notification };
+    ghost format = { notification };
 
     ghost NeedsNoMemory = { λ _. Unit {0} };
 
@@ -109,9 +105,7 @@ impl BackendMessage for Notification {
         })
     }
 
-    ghost one_value = { one_meaning lawful_notification };
-
-    ghost never_both = { meaning_or_fault lawful_notification };
+    ghost lawful = { lawful_notification };
 }
 
 /// A [`Notification`] that is borrowed from the body of its message.

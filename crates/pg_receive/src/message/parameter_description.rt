@@ -32,9 +32,7 @@ pub struct ParameterDescription {
 impl BackendMessage for ParameterDescription {
     ghost use Rattle.std.specs.Prelude.{ℕ, List};
     ghost use Rattle.pg_base.specs.Numbers.{numbers_of};
-    ghost use Rattle.pg_format.specs.Format.{Means, IsFaultOf};
     ghost use Rattle.pg_format.specs.Messages.{parameter_description};
-    ghost use Rattle.pg_format.proofs.FormatLaws.Whole.{one_meaning, meaning_or_fault};
     ghost use Rattle.pg_format.proofs.FormatLaws.FromServer.{lawful_parameter_description};
     ghost use Rattle.pg_receive.specs.ParameterDescription.{TypesNeedsNoMemory};
 
@@ -46,9 +44,7 @@ impl BackendMessage for ParameterDescription {
 
     ghost shown = { λ description. numbers_of description.types.items };
 
-    ghost Means = { Means parameter_description };
-
-    ghost IsFault = { IsFaultOf parameter_description };
+    ghost format = { parameter_description };
 
     ghost NeedsNoMemory = { TypesNeedsNoMemory };
 
@@ -57,9 +53,7 @@ impl BackendMessage for ParameterDescription {
         Ok(ParameterDescription { types })
     }
 
-    ghost one_value = { one_meaning lawful_parameter_description };
-
-    ghost never_both = { meaning_or_fault lawful_parameter_description };
+    ghost lawful = { lawful_parameter_description };
 }
 
 fn types_of(alloc: Global, body: &[u8]) -> Result<SmallVec<Oid, 6>, Error>

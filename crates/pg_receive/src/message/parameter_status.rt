@@ -23,9 +23,7 @@ pub struct ParameterStatus {
 
 impl BackendMessage for ParameterStatus {
     ghost use Rattle.std.specs.Prelude.{string_bytes};
-    ghost use Rattle.pg_format.specs.Format.{Means, IsFaultOf};
     ghost use Rattle.pg_format.specs.Messages.{Setting, parameter_status};
-    ghost use Rattle.pg_format.proofs.FormatLaws.Whole.{one_meaning, meaning_or_fault};
     ghost use Rattle.pg_format.proofs.FormatLaws.FromServer.{lawful_parameter_status};
 
     const FORMAT: BackendMessageFormat = BackendMessageFormat::ParameterStatus;
@@ -36,9 +34,7 @@ impl BackendMessage for ParameterStatus {
 
     ghost shown = { λ status. record { name = string_bytes status.name; value = string_bytes status.value } };
 
-    ghost Means = { Means parameter_status };
-
-    ghost IsFault = { IsFaultOf parameter_status };
+    ghost format = { parameter_status };
 
     ghost NeedsNoMemory = { λ _. ⊥ };
 
@@ -46,9 +42,7 @@ impl BackendMessage for ParameterStatus {
         setting_of(alloc, buf.as_slice())
     }
 
-    ghost one_value = { one_meaning lawful_parameter_status };
-
-    ghost never_both = { meaning_or_fault lawful_parameter_status };
+    ghost lawful = { lawful_parameter_status };
 }
 
 fn setting_of(alloc: Global, body: &[u8]) -> Result<ParameterStatus, Error>

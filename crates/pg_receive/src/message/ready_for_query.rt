@@ -53,9 +53,7 @@ impl ReadyForQuery {
 }
 
 impl BackendMessage for ReadyForQuery {
-    ghost use Rattle.pg_format.specs.Format.{Means, IsFaultOf};
     ghost use Rattle.pg_format.specs.Messages.{Status, ready_for_query};
-    ghost use Rattle.pg_format.proofs.FormatLaws.Whole.{one_meaning, meaning_or_fault};
     ghost use Rattle.pg_format.proofs.FormatLaws.FromServer.{lawful_ready_for_query};
     ghost use Rattle.pg_receive.specs.ReadyForQuery.{shown_status};
 
@@ -67,9 +65,7 @@ impl BackendMessage for ReadyForQuery {
 
     ghost shown = { λ ready. shown_status ready.transaction_status };
 
-    ghost Means = { Means ready_for_query };
-
-    ghost IsFault = { IsFaultOf ready_for_query };
+    ghost format = { ready_for_query };
 
     ghost NeedsNoMemory = { λ _. Unit {0} };
 
@@ -77,7 +73,5 @@ impl BackendMessage for ReadyForQuery {
         Ok(ReadyForQuery::read(buf.as_slice())?)
     }
 
-    ghost one_value = { one_meaning lawful_ready_for_query };
-
-    ghost never_both = { meaning_or_fault lawful_ready_for_query };
+    ghost lawful = { lawful_ready_for_query };
 }

@@ -56,9 +56,7 @@ pub struct Field {
 
 impl BackendMessage for RowDescription {
     ghost use Rattle.std.specs.Prelude.{List, map};
-    ghost use Rattle.pg_format.specs.Format.{Means, IsFaultOf};
     ghost use Rattle.pg_format.specs.Messages.{Column, row_description};
-    ghost use Rattle.pg_format.proofs.FormatLaws.Whole.{one_meaning, meaning_or_fault};
     ghost use Rattle.pg_format.proofs.FormatLaws.FromServer.{lawful_row_description};
     ghost use Rattle.pg_receive.specs.RowDescription.{column_of, ColumnsNeedsNoMemory};
 
@@ -70,9 +68,7 @@ impl BackendMessage for RowDescription {
 
     ghost shown = { λ description. map column_of description.fields.items };
 
-    ghost Means = { Means row_description };
-
-    ghost IsFault = { IsFaultOf row_description };
+    ghost format = { row_description };
 
     ghost NeedsNoMemory = { ColumnsNeedsNoMemory };
 
@@ -81,9 +77,7 @@ impl BackendMessage for RowDescription {
         Ok(RowDescription { fields })
     }
 
-    ghost one_value = { one_meaning lawful_row_description };
-
-    ghost never_both = { meaning_or_fault lawful_row_description };
+    ghost lawful = { lawful_row_description };
 }
 
 fn fields_of(alloc: Global, body: &[u8]) -> Result<Vec<Field>, Error>

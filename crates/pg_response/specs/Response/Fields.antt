@@ -4,11 +4,8 @@ use Rattle.std.specs.Prelude.{◌≡◌, ◌≢◌, ℕ, ◌==◌, List, [], ◌
 use Rattle.std.specs.List.{filter}
 use Rattle.std.specs.Str.{is_utf8}
 use Rattle.pg_base.specs.Reading.{HoldsNo}
+use Rattle.pg_format.specs.Notices.{Field}
 use Rattle.pg_response.specs.EndedTexts.{texts_in, meanings_of, AreInOrder}
-
--- a letter and what it says
-abbrev pub Field : Type 0
-Field = ℕ × List ℕ
 
 -- a text split after its letter; an empty text is no field
 abbrev pub field_of : List ℕ → Option Field

@@ -1,17 +1,5 @@
--- The letters of fields. Documentation: "Error and Notice Message Fields".
+-- The letters of fields that are not read with the others. Documentation: "Error and Notice Message Fields".
 use Rattle.std.specs.Prelude.{ℕ}
-
-abbrev pub severity_letter : ℕ
-severity_letter = 86
-
-abbrev pub localized_letter : ℕ
-localized_letter = 83
-
-abbrev pub code_letter : ℕ
-code_letter = 67
-
-abbrev pub message_letter : ℕ
-message_letter = 77
 
 abbrev pub detail_letter : ℕ
 detail_letter = 68

@@ -9,9 +9,9 @@ use pg_base::{BackendMessageFormat, Error};
 use std::alloc::Global;
 
 impl BackendMessage for CopyData<Bytes> {
-    ghost use Rattle.std.specs.Prelude.{◌≡◌, ℕ, ◌≤◌, List, length, None};
-    ghost use Rattle.pg_base.specs.Decode.{Decodes};
-    ghost use Rattle.std.proofs.Common.{◌∙◌, sym};
+    ghost use Rattle.std.specs.Prelude.{ℕ, List};
+    ghost use Rattle.pg_format.specs.Messages.{copy_data};
+    ghost use Rattle.pg_format.proofs.FormatLaws.Parts.{lawful_remaining};
 
     const FORMAT: BackendMessageFormat = BackendMessageFormat::CopyData;
 
@@ -21,10 +21,7 @@ impl BackendMessage for CopyData<Bytes> {
 
     ghost shown = { λ part. part.0 };
 
-    // Every body is a part of the stream.
-    ghost Means = { λ body bytes. bytes ≡ body };
-
-    ghost IsFault = { λ _ _. ⊥ };
+    ghost format = { copy_data };
 
     ghost NeedsNoMemory = { λ _. Unit {0} };
 
@@ -32,13 +29,12 @@ impl BackendMessage for CopyData<Bytes> {
         Ok(CopyData(buf))
     }
 
-    ghost one_value = { λ body v w p q. p ∙ sym q };
-
-    ghost never_both = { λ body v fault p q. q };
+    ghost lawful = { lawful_remaining };
 }
 
 impl BackendMessage for CopyDone {
-    ghost use Rattle.std.proofs.Common.{refl};
+    ghost use Rattle.pg_format.specs.Messages.{no_body};
+    ghost use Rattle.pg_format.proofs.FormatLaws.FromServer.{lawful_no_body};
 
     const FORMAT: BackendMessageFormat = BackendMessageFormat::CopyDone;
 
@@ -48,10 +44,7 @@ impl BackendMessage for CopyDone {
 
     ghost shown = { λ _. tt };
 
-    // The message says nothing more, and its body is ignored.
-    ghost Means = { λ _ _. Unit {0} };
-
-    ghost IsFault = { λ _ _. ⊥ };
+    ghost format = { no_body };
 
     ghost NeedsNoMemory = { λ _. Unit {0} };
 
@@ -59,7 +52,5 @@ impl BackendMessage for CopyDone {
         Ok(CopyDone)
     }
 
-    ghost one_value = { λ body v w p q. refl };
-
-    ghost never_both = { λ body v fault p q. q };
+    ghost lawful = { lawful_no_body };
 }

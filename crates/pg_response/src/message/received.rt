@@ -2,8 +2,8 @@
 
 ghost use Rattle.std.specs.Prelude.{◌≡◌, ◌≤◌, ℕ, List, None, length};
 ghost use Rattle.pg_base.specs.declared.format.BackendMessageFormat.{BackendMessageFormat};
-ghost use Rattle.pg_base.specs.declared.error.ProtocolFault.{ProtocolFault};
 ghost use Rattle.pg_base.specs.Decode.{Decodes};
+ghost use Rattle.pg_format.specs.Format.{Format, Lawful, Means, IsFaultOf};
 ghost use Rattle.pg_response.specs.Received.{error_while_reading};
 
 use bytes::Bytes;
@@ -22,10 +22,8 @@ pub trait BackendMessage: Sized {
     ghost Shown: { Type 0 };
 
     ghost shown: { Self → Shown };
-    /// Which value a body means.
-    ghost Means: { List ℕ → Shown → Type 0 };
-    /// What is wrong with a body that means none: the first test that fails.
-    ghost IsFault: { List ℕ → ProtocolFault → Type 0 };
+    /// What a body means, and what is wrong with one that means nothing: the first test that fails.
+    ghost format: { Format Shown };
     /// That a body is read without asking for memory.
     ghost NeedsNoMemory: { List ℕ → Type 0 };
 
@@ -33,12 +31,10 @@ pub trait BackendMessage: Sized {
     /// the body, only if it means none; or `OutOfMemory`.
     fn decode_body(alloc: Global, buf: Bytes) -> Result<Self, Error>
         requires { length buf ≤ MAX_BODY }
-        ensures { Decodes Means IsFault NeedsNoMemory shown None buf result };
+        ensures { Decodes (Means format) (IsFaultOf format) NeedsNoMemory shown None buf result };
 
-    /// A body means one value.
-    ghost one_value: { (body : List ℕ) (v w : Shown) → Means body v → Means body w → v ≡ w };
-    /// A body with a value has no fault.
-    ghost never_both: { (body : List ℕ) (v : Shown) (fault : ProtocolFault) → Means body v → IsFault body fault → ⊥ };
+    /// A body means one value, or has one fault, never both.
+    ghost lawful: { Lawful format };
 }
 
 /// A message from the server, whose tag and length have been read.

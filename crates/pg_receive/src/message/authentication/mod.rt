@@ -5,12 +5,14 @@ mod sasl_continue;
 mod sasl_final;
 mod sasl_items;
 
-ghost use Rattle.std.specs.Prelude.{◌≡◌, ◌≤◌, ℕ, List, length, drop, IfOk, IfErr};
-ghost use Rattle.pg_base.specs.Error.{IsShort};
+ghost use Rattle.std.specs.Prelude.{◌≡◌, ◌≤◌, ℕ, List, length, IfOk, IfErr};
+ghost use Rattle.pg_format.specs.Format.Parts.{bytes_of};
+ghost use Rattle.pg_format.specs.Format.Places.{IsReadAt, BreaksAt};
+ghost use Rattle.pg_format.proofs.FormatLaws.FromServer.{lawful_authentication};
+ghost use Rattle.pg_format.proofs.FormatLaws.Sequences.{lawful_viewed};
 ghost use Rattle.pg_base.specs.declared.format.BackendMessageFormat.TheVariants as formats;
 ghost use Rattle.pg_receive.specs.Authentication.Mechanisms.{mechanisms_in};
-ghost use Rattle.pg_receive.specs.Authentication.{AuthenticationValue, md5_password, method_length, salt_length, MeansRest, MeansAuthentication, IsAuthenticationFault, IsNoSaslData};
-ghost use Rattle.pg_receive.specs.Authentication.Laws.{one_authentication, authentication_or_fault};
+ghost use Rattle.pg_receive.specs.Authentication.{AuthenticationValue, value_of, requests, IsNoSaslData};
 
 use crate::message::BackendMessage;
 use bytes::Bytes;
@@ -95,9 +97,7 @@ impl BackendMessage for Authentication {
 
     ghost shown = { authentication_shown };
 
-    ghost Means = { MeansAuthentication };
-
-    ghost IsFault = { IsAuthenticationFault };
+    ghost format = { requests };
 
     ghost NeedsNoMemory = { IsNoSaslData };
 
@@ -124,15 +124,13 @@ impl BackendMessage for Authentication {
         }
     }
 
-    ghost one_value = { one_authentication };
-
-    ghost never_both = { authentication_or_fault };
+    ghost lawful = { lawful_viewed value_of lawful_authentication };
 }
 
 fn md5_password_of(body: &[u8]) -> Result<AuthenticationMd5Password, ProtocolFault>
-    requires { method_length ≤ length body.now }
-    ensures salt { IfOk result (λ password. MeansRest (drop method_length body.now) (md5_password password.salt)) }
-    ensures short { IfErr result (λ fault. IsShort body.now method_length salt_length fault) }
+    requires { 4 ≤ length body.now }
+    ensures salt { IfOk result (λ password. IsReadAt (bytes_of 4) body.now 4 password.salt 8) }
+    ensures short { IfErr result (BreaksAt (bytes_of 4) body.now 4) }
 {
     let mut salt = [0; SALT_LENGTH];
     salt.copy_from_slice(bytes_at(body, METHOD_LENGTH, SALT_LENGTH)?);

@@ -2,10 +2,15 @@
 
 ghost use Rattle.std.specs.Prelude.{◌≡◌, [], ◌∷◌, None, Some, OnOk};
 ghost use Rattle.pg_base.specs.Decode.{Decodes};
-ghost use Rattle.pg_response.specs.Last.{plain, last};
-ghost use Rattle.pg_receive.specs.Authentication.SaslItems.{keyed, item_fault, base64_value};
-ghost use Rattle.pg_receive.specs.Authentication.SaslContinue.{ContinueValue, MeansContinue, IsContinueFault, iterations_key, nonce_key, salt_key, iterations_of};
-ghost use Rattle.pg_receive.specs.Authentication.SaslContinue.Laws.{one_challenge, challenge_or_fault};
+ghost use Rattle.pg_format.specs.Keyed.{plain, last};
+ghost use Rattle.pg_format.specs.Sasl.{keyed, item_fault, nonce_key, salt_key, first_message_fault};
+ghost use Rattle.pg_receive.specs.Authentication.SaslItems.{base64_value};
+ghost use Rattle.pg_receive.specs.Authentication.SaslContinue.{ContinueValue, challenge_in, challenges, iterations_key, iterations_of};
+ghost use Rattle.pg_format.specs.Format.{Means, IsFaultOf};
+ghost use Rattle.pg_format.proofs.FormatLaws.Whole.{one_meaning, meaning_or_fault};
+ghost use Rattle.pg_format.proofs.FormatLaws.Parts.{lawful_remaining};
+ghost use Rattle.pg_format.proofs.FormatLaws.Sequences.{lawful_viewed};
+ghost use Rattle.pg_format.proofs.FormatLaws.Tests.{lawful_checked};
 ghost use Rattle.pg_receive.specs.Authentication.SaslContinue.Shown.{continue_shown};
 
 use crate::message::authentication::sasl_items::{SaslItems, decode_base64, split_key};
@@ -44,9 +49,9 @@ impl ProtocolDecode for AuthenticationSaslContinue {
 
     ghost shown = { continue_shown };
 
-    ghost Means = { MeansContinue };
+    ghost Means = { Means challenges };
 
-    ghost IsFault = { IsContinueFault };
+    ghost IsFault = { IsFaultOf challenges };
 
     ghost NeedsNoMemory = { λ _. ⊥ };
 
@@ -54,9 +59,9 @@ impl ProtocolDecode for AuthenticationSaslContinue {
         decode_challenge(alloc, buf.as_slice())
     }
 
-    ghost one_value = { one_challenge };
+    ghost one_value = { one_meaning (lawful_viewed challenge_in (lawful_checked first_message_fault lawful_remaining)) };
 
-    ghost never_both = { challenge_or_fault };
+    ghost never_both = { meaning_or_fault (lawful_viewed challenge_in (lawful_checked first_message_fault lawful_remaining)) };
 }
 
 // What the items of a challenge say.
@@ -92,7 +97,7 @@ pub(crate) fn decode_challenge(
     alloc: Global,
     body: &[u8],
 ) -> Result<AuthenticationSaslContinue, Error>
-    ensures { Decodes MeansContinue IsContinueFault (λ _. ⊥) continue_shown None body.now result }
+    ensures { Decodes (Means challenges) (IsFaultOf challenges) (λ _. ⊥) continue_shown None body.now result }
 {
     let mut challenge = Challenge {
         salt: Vec::new(alloc),

@@ -2,8 +2,13 @@
 
 ghost use Rattle.std.specs.Prelude.{ℕ, List, None};
 ghost use Rattle.pg_base.specs.Decode.{Decodes};
-ghost use Rattle.pg_receive.specs.Authentication.SaslFinal.{MeansFinal, IsFinalFault};
-ghost use Rattle.pg_receive.specs.Authentication.SaslFinal.Laws.{one_verifier, verifier_or_fault};
+ghost use Rattle.pg_format.specs.Format.{Means, IsFaultOf};
+ghost use Rattle.pg_format.proofs.FormatLaws.Whole.{one_meaning, meaning_or_fault};
+ghost use Rattle.pg_format.proofs.FormatLaws.Parts.{lawful_remaining};
+ghost use Rattle.pg_format.proofs.FormatLaws.Sequences.{lawful_viewed};
+ghost use Rattle.pg_format.proofs.FormatLaws.Tests.{lawful_checked};
+ghost use Rattle.pg_format.specs.Sasl.{final_message_fault};
+ghost use Rattle.pg_receive.specs.Authentication.SaslFinal.{verifier_in, verifiers};
 ghost use Rattle.pg_receive.specs.Authentication.SaslFinal.Shown.{final_shown};
 
 use crate::message::authentication::sasl_items::{SaslItems, decode_base64, split_key};
@@ -28,9 +33,9 @@ impl ProtocolDecode for AuthenticationSaslFinal {
 
     ghost shown = { final_shown };
 
-    ghost Means = { MeansFinal };
+    ghost Means = { Means verifiers };
 
-    ghost IsFault = { IsFinalFault };
+    ghost IsFault = { IsFaultOf verifiers };
 
     ghost NeedsNoMemory = { λ _. ⊥ };
 
@@ -39,14 +44,14 @@ impl ProtocolDecode for AuthenticationSaslFinal {
         Ok(AuthenticationSaslFinal { verifier })
     }
 
-    ghost one_value = { one_verifier };
+    ghost one_value = { one_meaning (lawful_viewed verifier_in (lawful_checked final_message_fault lawful_remaining)) };
 
-    ghost never_both = { verifier_or_fault };
+    ghost never_both = { meaning_or_fault (lawful_viewed verifier_in (lawful_checked final_message_fault lawful_remaining)) };
 }
 
 /// The verifier in the server-final-message that SASL data is.
 pub(crate) fn decode_verifier(alloc: Global, body: &[u8]) -> Result<Vec<u8>, Error>
-    ensures { Decodes MeansFinal IsFinalFault (λ _. ⊥) (λ verifier. verifier.items) None body.now result }
+    ensures { Decodes (Means verifiers) (IsFaultOf verifiers) (λ _. ⊥) (λ verifier. verifier.items) None body.now result }
 {
     let mut verifier = Vec::new(alloc);
     for item in SaslItems::new(body) {

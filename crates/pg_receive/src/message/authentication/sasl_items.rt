@@ -5,7 +5,8 @@ ghost use Rattle.std.specs.Iterator.{YieldsFirstRef, item_count};
 ghost use Rattle.std.specs.Option.{option_map_or};
 ghost use Rattle.pg_base.specs.Decode.{Decodes};
 ghost use Rattle.pg_base.specs.declared.error.ProtocolFault.TheVariants.{ShortSaslItem, Base64};
-ghost use Rattle.pg_receive.specs.Authentication.SaslItems.{items_in, IsShortItem, base64_of};
+ghost use Rattle.pg_format.specs.Sasl.{items_in, base64_of};
+ghost use Rattle.pg_receive.specs.Authentication.SaslItems.{IsShortItem};
 
 use base64::DecodeAllocError;
 use base64::engine::general_purpose::STANDARD;

@@ -2,7 +2,8 @@
 
 ghost use Rattle.std.specs.Prelude.{◌≡◌, ◌*◌, List, [], IfSome, IfNone};
 ghost use Rattle.std.specs.Iterator.{YieldsFirstBy, item_count};
-ghost use Rattle.pg_response.specs.Response.Fields.{Field, BeginsWithField, fields_in};
+ghost use Rattle.pg_response.specs.Response.Fields.{BeginsWithField, fields_in};
+ghost use Rattle.pg_format.specs.Notices.{Field};
 
 use crate::message::split_text;
 use std::marker::Model;

@@ -10,8 +10,11 @@ ghost use Rattle.std.specs.Prelude.{◌≡◌, option_copied};
 ghost use Rattle.pg_base.specs.declared.format.BackendMessageFormat.TheVariants as formats;
 ghost use Rattle.pg_response.specs.Response.Lengths.{HasLengths};
 ghost use Rattle.pg_response.specs.Response.Fields.{fields_in, first_value, first_text};
-ghost use Rattle.pg_response.specs.Response.{NoticeValue, MeansNotice, IsNoticeFault};
-ghost use Rattle.pg_response.specs.Response.Laws.{one_notice, notice_or_fault};
+ghost use Rattle.pg_response.specs.Response.{NoticeValue, notices};
+ghost use Rattle.pg_format.specs.Format.{Means, IsFaultOf};
+ghost use Rattle.pg_format.proofs.FormatLaws.FromServer.{lawful_notice};
+ghost use Rattle.pg_format.proofs.FormatLaws.Sequences.{lawful_viewed};
+ghost use Rattle.pg_format.proofs.FormatLaws.Whole.{one_meaning, meaning_or_fault};
 ghost use Rattle.pg_response.specs.Response.Places.{IsPlaceIn, bytes_in};
 
 use crate::message::{BackendMessage, utf8_text};
@@ -106,9 +109,9 @@ impl ProtocolDecode for Notice {
 
     ghost shown = { λ notice. notice };
 
-    ghost Means = { MeansNotice };
+    ghost Means = { Means notices };
 
-    ghost IsFault = { IsNoticeFault };
+    ghost IsFault = { IsFaultOf notices };
 
     ghost NeedsNoMemory = { λ _. Unit {0} };
 
@@ -123,9 +126,9 @@ impl ProtocolDecode for Notice {
         })
     }
 
-    ghost one_value = { one_notice };
+    ghost one_value = { one_meaning (lawful_viewed _ lawful_notice) };
 
-    ghost never_both = { notice_or_fault };
+    ghost never_both = { meaning_or_fault (lawful_viewed _ lawful_notice) };
 }
 
 impl BackendMessage for Notice {
@@ -137,9 +140,7 @@ impl BackendMessage for Notice {
 
     ghost shown = { λ notice. notice };
 
-    ghost Means = { MeansNotice };
-
-    ghost IsFault = { IsNoticeFault };
+    ghost format = { notices };
 
     ghost NeedsNoMemory = { λ _. Unit {0} };
 
@@ -147,9 +148,7 @@ impl BackendMessage for Notice {
         Notice::decode(alloc, buf)
     }
 
-    ghost one_value = { one_notice };
-
-    ghost never_both = { notice_or_fault };
+    ghost lawful = { lawful_viewed _ lawful_notice };
 }
 
 // The text at a place that was found to hold one.

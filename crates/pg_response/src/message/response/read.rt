@@ -8,8 +8,9 @@ ghost use Rattle.std.specs.Option.{option_or, unwrap_or};
 ghost use Rattle.pg_response.specs.declared.message.response.severity.PgSeverity.TheVariants.{Log};
 ghost use Rattle.pg_response.specs.Response.Severity.{severity_of_word};
 ghost use Rattle.pg_base.specs.declared.error.ProtocolFault.TheVariants.{NoticeNotUtf8};
-ghost use Rattle.pg_response.specs.Response.{Read, field_fault, notice_fault};
-ghost use Rattle.pg_response.specs.Response.Letters.{code_letter, message_letter, severity_letter, localized_letter};
+ghost use Rattle.pg_format.specs.Format.{IsFaultOf};
+ghost use Rattle.pg_response.specs.Response.{Read, notices};
+ghost use Rattle.pg_format.specs.Notices.{field_fault, code_letter, message_letter, severity_letter, localized_letter};
 ghost use Rattle.pg_response.specs.Response.Places.{IsPlaceIn, bytes_in, are_full};
 
 use crate::message::response::PgSeverity;
@@ -48,6 +49,7 @@ impl ReadPart {
     }
 
     // Takes in a field whose value is at this place, unless there are a message and a code.
+    #[tactic(auto, using(crate::proofs::ResponseSeverityLemmas::unknown_severity))]
     fn take(&mut self, letter: u8, value: &[u8], place: Range<usize>) -> Result<(), ProtocolFault>
         ensures full { OnOk result (are_full self.old.message self.old.code ≡ true → self.new ≡ self.old) }
         ensures clean { OnOk result (are_full self.old.message self.old.code ≡ false → field_fault (letter, value.now) ≡ None) }
@@ -98,7 +100,7 @@ pub(crate) fn read(
     ensures within { IfOk result (λ read. IsPlaceIn body.now read.0.message × IsPlaceIn body.now read.0.code) }
     ensures reads { IfOk result (λ read. Read (fields_in body.now) (bytes_in body.now read.0.message) (bytes_in body.now read.0.code) read.0.severity read.0.localized) }
     ensures lengths { IfOk result (λ read. HasLengths body.now read.1.items) }
-    ensures fault { IfErr result (λ fault. notice_fault body.now ≡ Some fault) }
+    ensures fault { IfErr result (IsFaultOf notices body.now) }
 {
     let mut part = ReadPart {
         severity: None,

@@ -1,5 +1,5 @@
-use Rattle.std.proofs.Common.{drop, sym, ◌∙◌}
-use Rattle.std.proofs.lemmas.List.{take-append-drop}
+use Rattle.std.proofs.Common.{ℕ, List, ◌++◌, take, drop, sym, ap, ◌∙◌}
+use Rattle.std.proofs.lemmas.List.{take-append-drop, drop-drop}
 use Rattle.pg_base.proofs.NumbersLemmas.{wide_enough}
 use Rattle.pg_receive.proofs.message.authentication.md5_password_of.Goals as goal
 
@@ -8,4 +8,5 @@ returns-clause-salt c =
     let body = c.args.body.now in
     let found = c.in_ok-bytes_at.ensures.found in
     let salt = c.copy_from_slice.ensures.after ∙ found.1 in
-    rw salt (drop 4 (drop 4 body), wide_enough body 4 4 found.0, sym (take-append-drop 4 (drop 4 body)))
+    let split = sym (take-append-drop 4 (drop 4 body)) ∙ ap (λ (l : List ℕ). take 4 (drop 4 body) ++ l) (drop-drop 4 4 body) in
+    rw salt (record { within = found.0; reads = (wide_enough body 4 4 found.0, split) })

@@ -1,7 +1,8 @@
 use Rattle.std.proofs.Common.{[]}
-use Rattle.pg_response.specs.Last.{plain}
-use Rattle.pg_receive.specs.Authentication.SaslItems.{items_in, base64_value}
-use Rattle.pg_receive.specs.Authentication.SaslContinue.{iterations_key, nonce_key, salt_key, iterations_of, default_iterations}
+use Rattle.pg_format.specs.Keyed.{plain}
+use Rattle.pg_format.specs.Sasl.{items_in, nonce_key, salt_key}
+use Rattle.pg_receive.specs.Authentication.SaslItems.{base64_value}
+use Rattle.pg_receive.specs.Authentication.SaslContinue.{iterations_key, iterations_of, default_iterations}
 use Rattle.pg_receive.proofs.AuthenticationSaslLemmas.{LeftFaults, LeftLast}
 use Rattle.pg_receive.proofs.message.authentication.sasl_continue.decode_challenge.Given as goal
 

@@ -1,6 +1,6 @@
 use Rattle.std.proofs.Common.{[]}
-use Rattle.pg_receive.specs.Authentication.SaslItems.{items_in, base64_value}
-use Rattle.pg_receive.specs.Authentication.SaslFinal.{verifier_key}
+use Rattle.pg_format.specs.Sasl.{items_in, verifier_key}
+use Rattle.pg_receive.specs.Authentication.SaslItems.{base64_value}
 use Rattle.pg_receive.proofs.AuthenticationSaslLemmas.{LeftFaults, LeftLast}
 use Rattle.pg_receive.proofs.message.authentication.sasl_final.decode_verifier.Given as goal
 
