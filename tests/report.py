@@ -11,6 +11,9 @@ ANSWER = re.compile(r"(?:\./)?(proofs/\S+?)/\w+\.antt:\d+:\d+: error")
 # An answer that names what the text no longer has says nothing of the contract.
 SHAPE = re.compile(r"has no field|is not in scope|has no `|was not admitted")
 
+# A proof that doesn't hold.
+LAW = re.compile(r"(?:\./)?proofs/\S+?\.antt:\d+:\d+: error: `(\w\S*)`")
+
 # A line by which the text itself can't be read, of which no goal was tried.
 UNREAD = re.compile(r"(?:\./)?((?:src|specs)/\S+?):(\d+):\d+: error(?:\[[\w-]+\])?: (.*)")
 
@@ -34,9 +37,12 @@ class Report:
             else:
                 above.append(line)
         self.answers = [(answer[1], line) for line in lines if (answer := ANSWER.match(line))]
+        self.laws = {law[1]: line for line in lines if (law := LAW.match(line))}
 
     def verdict(self, function):
         """What the check says of a function and its closures, and the line that shows it."""
+        if function in self.laws:
+            return OPEN_GOAL, self.laws[function]
         each = [self.verdict_of(name) for name in [function, *self.closures(function)]]
         order = [OPEN_GOAL, UNKNOWN, OF_SHAPE, WAITS, PROVED]
         return min(each, key=lambda it: order.index(it[0]))

@@ -53,8 +53,9 @@ class Trial:
     def check(self, edits):
         """The report of a check of the functions that these edits change."""
         self.checks += 1
-        functions = sorted({owner.partition("::")[2] for edit in edits for owner in edit.owners})
-        only = [word for function in functions for word in ("--only", function)]
+        functions = sorted({owner.partition("::")[2] for edit in edits for owner in edit.owners - edit.laws})
+        # A law is checked with all that is.
+        only = [] if any(edit.laws for edit in edits) else [word for function in functions for word in ("--only", function)]
         return report.Report(self.crate.check(wrong_bodies.texts(self.crate, edits), only, self.kept))
 
     def together(self, batch):

@@ -12,7 +12,8 @@ class Edit:
     """A file of lines `file: PATH`, `old: TEXT` and `new: TEXT`; other lines say what is wrong.
 
     Each TEXT stands once in its file, on one line. A line `refused by: FUNCTION` names, by the end of its path, the
-    function whose contract refuses an edit that stands in none, as that of a number of an enum.
+    function whose contract refuses an edit that stands in none, as that of a number of an enum. A line
+    `refused by law: NAME` names the proof that no longer holds of a definition.
     """
 
     def __init__(self, crate, file):
@@ -22,13 +23,13 @@ class Edit:
             self.read(file.read_text())
             # What changes more than bodies could also refuse what stands beside it.
             self.is_apart = bool(self.refusing)
-            self.owners = self.refusing or self.changed_functions()
+            self.owners = self.refusing | self.laws or self.changed_functions()
         except (OSError, ValueError) as why:
             self.why_not = str(why)
 
     def read(self, text):
         """Reads the changed lines, by path and number."""
-        self.refusing, path, old = set(), None, None
+        self.refusing, self.laws, path, old = set(), set(), None, None
         for line in text.splitlines():
             word, _, rest = line.partition(":")
             rest = rest.removeprefix(" ")
@@ -40,6 +41,8 @@ class Edit:
                 self.change(path, old, rest)
             elif word == "refused by":
                 self.refusing.add("::".join([self.crate.name, rest]))
+            elif word == "refused by law":
+                self.laws.add(rest)
         if not self.changes:
             raise ValueError("it changes nothing")
 
