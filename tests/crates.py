@@ -107,15 +107,9 @@ def build(crates, report=lambda crate, done, total: None):
     left, running = list(wanted), {}
     with ThreadPoolExecutor(processors()) as pool:
         while left or running:
-            waiting = {*left, *(crate for crate, _ in running.values())}
-            ready = sorted((crate for crate in left if waiting.isdisjoint(crate.libraries())), key=lambda it: -chain(it))
-            for at, crate in enumerate(ready):
-                # Crates of long chains share the idle processors; one of a short chain waits for one that is left.
-                idle = processors() - sum(jobs for _, jobs in running.values())
-                if idle:
-                    jobs = max(1, min(4, idle // sum(2 * chain(it) > chain(crate) for it in ready[at:])))
-                    running[pool.submit(build_one, made[crate.name], jobs)] = crate, jobs
-                    left.remove(crate)
+            for crate, jobs in startable(left, running.values()):
+                running[pool.submit(build_one, made[crate.name], jobs)] = crate, jobs
+                left.remove(crate)
             for ended in wait(running, return_when=FIRST_COMPLETED).done:
                 crate, _ = running.pop(ended)
                 if said := ended.result():
@@ -124,6 +118,23 @@ def build(crates, report=lambda crate, done, total: None):
                 report(crate, len(wanted) - len(left) - len(running), len(wanted))
     for it in held:
         os.close(it)
+
+
+def startable(left, running):
+    """The crates that wait for none, and the jobs of each, as far as processors are idle.
+
+    Crates of long chains share the idle processors; one of a short chain waits for one that is left.
+    """
+    waiting = {*left, *(crate for crate, _ in running)}
+    ready = sorted((crate for crate in left if waiting.isdisjoint(crate.libraries())), key=lambda it: -chain(it))
+    idle = processors() - sum(jobs for _, jobs in running)
+    started = []
+    for at, crate in enumerate(ready):
+        if idle:
+            jobs = max(1, min(4, idle // sum(2 * chain(it) > chain(crate) for it in ready[at:])))
+            started.append((crate, jobs))
+            idle -= jobs
+    return started
 
 
 def build_one(made, jobs):
