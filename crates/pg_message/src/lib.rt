@@ -12,5 +12,3 @@
 pub mod error;
 pub mod io;
 pub mod message;
-#[cfg(test)]
-mod tests;

@@ -1,9 +1,0 @@
-use Rattle.std.proofs.Common.{length}
-use Rattle.example_copy_load.proofs.LoadLemmas.{Copied}
-use Rattle.example_copy_load.proofs.load.encode_rows.Given as goal
-
-abbrev pub decreases-parts : goal.decreases-parts
-decreases-parts l = length l.rest
-
-abbrev pub invariant-parts : goal.invariant-parts
-invariant-parts l = Copied l.most l.rows l.rest l.initial.output.items l.output.items

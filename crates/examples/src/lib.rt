@@ -1,0 +1,8 @@
+//! Small programs' cores over `pg_message` alone, without a socket: what the guide shows.
+#![tactic(auto)]
+
+pub mod copy_load;
+#[cfg(test)]
+mod first;
+pub mod listen;
+pub mod record;
