@@ -9,8 +9,9 @@
  *
  * A call that writes a message returns the length of the message in bytes, and has written it at the front
  * of `out` where `out` is that long; else `out` is as it was. A call that reads gives places in the bytes
- * that it was passed. Either refuses by one of the numbers below 0, which one that reads says in `fault`
- * too; then an array of places may have been written in part, and all else is as it was. */
+ * that it was passed. Both refuse by one of the numbers below 0. One that reads then fills `fault` too, which
+ * only a refusal writes; an array of places holds at most the items before the one that is broken, and all
+ * else is as it was. */
 
 #ifndef PG_MESSAGE_H
 #define PG_MESSAGE_H

@@ -9,7 +9,7 @@ use Rattle.pg_format.specs.Format.Lists.{times, counted_least}
 use Rattle.pg_format.specs.Format.Parts.{be_u16}
 use Rattle.pg_format.specs.Format.Places.{IsReadAt, BreaksAt}
 use Rattle.pg_format.proofs.FormatLaws.Places.{none_at, one_more_at, counted_at, broken_at}
-use Rattle.pg_c.specs.Read.{IsBodyFault, AreGiven, ReadsItems}
+use Rattle.pg_c.specs.Read.{IsBodyFault, AreGiven, GivesItems, GivesFront, ReadsItems}
 
 take-nil : {X : Type 0} (n : ℕ) → take {A = X} n [] ≡ []
 take-nil zero = refl
@@ -64,12 +64,6 @@ no_more_given item_at items old new item p le =
       rest = rw more (one_less (length items) old new p.rest);
     }
 
--- so many items are read, up to an offset, and given
-pub record GivesItems {X P : Type 0} (g : Format X) (item_at : P → Option X) (body : List ℕ) (first at index : ℕ) (old new : List P) : Type 0 where
-  pub items : List X
-  pub read : IsReadAt (times index g) body first items at
-  pub given : AreGiven item_at items old new
-
 pub gives_none : {X P : Type 0} (g : Format X) (item_at : P → Option X) (body : List ℕ) (first : ℕ) (places : List P) → first ≤ length body → GivesItems g item_at body first first 0 places places
 gives_none g item_at body first places within = record { items = []; read = none_at g body first within; given = none_given item_at places }
 
@@ -99,6 +93,10 @@ reads_items g least item_at body n at index old new counted all p =
       count = ap pos (sym read.reads.0);
       given = p.given;
     }
+
+-- those before a fault
+pub gives_front : {X P : Type 0} (g : Format X) (item_at : P → Option X) (body : List ℕ) (first at index : ℕ) (old new : List P) → GivesItems g item_at body first at index old new → GivesFront g item_at body first old new
+gives_front g item_at body first at index old new p = inr (index, at, p)
 
 -- an item that can't be read
 pub item_breaks : {X P : Type 0} (g : Format X) (least : ℕ) (item_at : P → Option X) (body : List ℕ) (n at index : ℕ) (old new : List P) (fault : ProtocolFault) → length body ≤ max_body → be_u16.Reads body n (drop 2 body)

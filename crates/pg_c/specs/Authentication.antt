@@ -1,5 +1,5 @@
 -- What a server asks of a client, as a C program reads it.
-use Rattle.std.specs.Prelude.{◌≡◌, ◌⊎◌, ℕ, ℤ, pos, List, [], ◌∷◌, length}
+use Rattle.std.specs.Prelude.{◌≡◌, ◌≢◌, ◌⊎◌, ℕ, ℤ, pos, List, [], ◌∷◌, length}
 use Rattle.pg_base.specs.declared.error.ProtocolFault.{ProtocolFault}
 use Rattle.pg_base.specs.declared.error.ProtocolFault.TheVariants.{UnknownAuthentication}
 use Rattle.pg_format.specs.Format.{Means, IsFaultOf}
@@ -42,11 +42,13 @@ pub record ReadsVerifier (body old new : List ℕ) (result : ℤ) : Type 0 where
   pub length_is : result ≡ pos (length verifier)
   pub given : IsGiven verifier old new
 
--- the body asks for something else
-pub record IsOtherMethod (body : List ℕ) (fault : ProtocolFault) : Type 0 where
+-- the body asks for something else than by this method
+pub record IsOtherMethod (method : ℕ) (body : List ℕ) (fault : ProtocolFault) : Type 0 where
   pub value : AuthenticationValue
   pub means : Means requests body value
+  pub other : method_of value ≢ method
   pub is : fault ≡ UnknownAuthentication (method_of value)
 
-abbrev pub IsAskedFault : List ℕ → ProtocolFault → Type 0
-IsAskedFault body fault = IsBodyFault (IsFaultOf requests) body fault ⊎ IsOtherMethod body fault
+-- what is wrong with the body of a request by this method
+abbrev pub IsAskedFault : ℕ → List ℕ → ProtocolFault → Type 0
+IsAskedFault method body fault = IsBodyFault (IsFaultOf requests) body fault ⊎ IsOtherMethod method body fault

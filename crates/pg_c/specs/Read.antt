@@ -1,19 +1,36 @@
 -- What a call that reads items into an array of places answers.
-use Rattle.std.specs.Prelude.{◌≡◌, ◌<◌, ◌≤◌, ◌⊎◌, ℕ, ℤ, pos, List, Option, Some, map, take, drop, length}
+use Rattle.std.specs.Prelude.{◌≡◌, ◌<◌, ◌≤◌, ◌⊎◌, ℕ, ℤ, pos, List, Option, Some, map, take, drop, length, Result, Ok, Err}
 use Rattle.pg_base.specs.declared.error.ProtocolFault.{ProtocolFault}
 use Rattle.pg_base.specs.declared.error.ProtocolFault.TheVariants.{BodyTooLong}
 use Rattle.pg_response.specs.Received.{max_body}
-use Rattle.pg_format.specs.Format.{Format, Means}
+use Rattle.pg_format.specs.Format.{Format, Means, IsFaultOf}
+use Rattle.pg_format.specs.Format.Lists.{times}
+use Rattle.pg_format.specs.Format.Places.{IsReadAt}
 
 -- a body that is longer than any, or has a fault
 abbrev pub IsBodyFault : (List ℕ → ProtocolFault → Type 0) → List ℕ → ProtocolFault → Type 0
 IsBodyFault IsFault body fault = ((max_body < length body) × (fault ≡ BodyTooLong (length body))) ⊎ ((length body ≤ max_body) × IsFault body fault)
+
+-- what is read of a body: a value that it means, or its fault
+abbrev pub ReadsBody : {A V : Type 0} → Format V → (A → V) → List ℕ → Result A ProtocolFault → Type 0
+ReadsBody g shown body (Ok value) = (length body ≤ max_body) × Means g body (shown value)
+ReadsBody g shown body (Err fault) = IsBodyFault (IsFaultOf g) body fault
 
 -- the places give each item for which there is room, in order, and those after them are as they were
 pub record AreGiven {X P : Type 0} (item_at : P → Option X) (items : List X) (old new : List P) : Type 0 where
   pub room : length new ≡ length old
   pub given : map item_at (take (length items) new) ≡ map Some (take (length new) items)
   pub rest : drop (length items) new ≡ drop (length items) old
+
+-- so many items are read, up to an offset, and given
+pub record GivesItems {X P : Type 0} (g : Format X) (item_at : P → Option X) (body : List ℕ) (first at index : ℕ) (old new : List P) : Type 0 where
+  pub items : List X
+  pub read : IsReadAt (times index g) body first items at
+  pub given : AreGiven item_at items old new
+
+-- where a body is refused: nothing is given, or the items before that with the fault
+abbrev pub GivesFront : {X P : Type 0} → Format X → (P → Option X) → List ℕ → ℕ → List P → List P → Type 0
+GivesFront g item_at body first old new = (new ≡ old) ⊎ ((index : ℕ) × (at : ℕ) × GivesItems g item_at body first at index old new)
 
 -- the body means items, as many as the result, and they are given
 pub record ReadsItems {X P : Type 0} (format : Format (List X)) (item_at : P → Option X) (body : List ℕ) (old new : List P) (result : ℤ) : Type 0 where

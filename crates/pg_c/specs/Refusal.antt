@@ -1,5 +1,5 @@
 -- The numbers by which a call refuses, and what is reported of a fault.
-use Rattle.std.specs.Prelude.{◌≡◌, ◌⊎◌, ℕ, ℤ, negsuc, None, take}
+use Rattle.std.specs.Prelude.{◌≡◌, ◌⊎◌, ℕ, ℤ, negsuc, None, take, drop}
 use Rattle.pg_base.specs.Error.{error_words}
 use Rattle.pg_base.specs.declared.error.ProtocolFault.{ProtocolFault}
 use Rattle.pg_base.specs.declared.error.ProtocolFault.TheVariants as faults
@@ -47,12 +47,13 @@ abbrev pub fault_place : Error → ℕ
 fault_place (Protocol reading fault) = place_in fault
 fault_place OutOfMemory = 0
 
--- an error is reported with its number, its offset and its words, or without words
-pub record IsReport (error : Error) (fault : PgmFault) (result : ℤ) : Type 0 where
+-- an error is reported with its number, its offset and its words, or without words; what follows the words is as it was
+pub record IsReport (error : Error) (old fault : PgmFault) (result : ℤ) : Type 0 where
   pub returned : result ≡ refusal_number error
   pub number : fault.number ≡ refusal_number error
   pub at : fault.at ≡ fault_place error
   pub words : (fault.words_len ≡ 0) ⊎ (take fault.words_len fault.words ≡ error_words error)
+  pub rest : drop fault.words_len fault.words ≡ drop fault.words_len old.words
 
 -- a fault that the bytes have, of no message read as a kind; or out of memory
 abbrev pub IsErrorOf : (ProtocolFault → Type 0) → Type 0 → Error → Type 0
@@ -60,7 +61,7 @@ IsErrorOf IsFault AsksForMemory (Protocol reading fault) = (reading ≡ None) ×
 IsErrorOf IsFault AsksForMemory OutOfMemory = AsksForMemory
 
 -- a call that reads refuses for a fault that the bytes have; memory ran out only where it was asked for
-pub record Refuses (IsFault : ProtocolFault → Type 0) (AsksForMemory : Type 0) (fault : PgmFault) (result : ℤ) : Type 0 where
+pub record Refuses (IsFault : ProtocolFault → Type 0) (AsksForMemory : Type 0) (old fault : PgmFault) (result : ℤ) : Type 0 where
   pub error : Error
   pub is : IsErrorOf IsFault AsksForMemory error
-  pub report : IsReport error fault result
+  pub report : IsReport error old fault result

@@ -128,7 +128,7 @@ fn place_of(error: Error) -> usize
 
 /// Fills the fault with an error, and gives its number.
 pub fn report(alloc: Global, error: Error, fault: &mut PgmFault) -> i32
-    ensures { IsReport error fault.new result }
+    ensures { IsReport error fault.old fault.new result }
 {
     let number = number_of(error);
     fault.number = number;

@@ -1,8 +1,9 @@
 //! The client's part of a COPY.
 
-ghost use Rattle.std.specs.Prelude.{◌≡◌, ◌≢◌, ◌<◌, ◌≤ℤ◌, ◌++◌, ℕ, List, pos, length, true, false, Some};
+ghost use Rattle.std.specs.Prelude.{◌≡◌, ◌≢◌, ◌+◌, ◌<◌, ◌≤◌, ◌≤ℤ◌, ◌++◌, ℕ, List, pos, length, true, false, Some};
 ghost use Rattle.std.specs.Str.{is_utf8};
 ghost use Rattle.pg_base.specs.declared.error.ProtocolFault.TheVariants.{NotUtf8};
+ghost use Rattle.pg_base.specs.Cutting.{max_length};
 ghost use Rattle.pg_request.specs.Message as message;
 ghost use Rattle.pg_request.specs.Message.{text, fault};
 ghost use Rattle.pg_c.specs.Put.{PutsMessage, MayPut, IsRefused};
@@ -28,7 +29,8 @@ pub extern "C" fn pgm_put_copy_data(alloc: Global, data: &[u8], out: &mut [u8]) 
 pub extern "C" fn pgm_put_copy_head(len: usize, head: &mut [u8; 5]) -> i32
     ensures result { result ≤ℤ pos 0 }
     ensures head { (bytes : List ℕ) → length bytes ≡ len → result ≡ pos 0 → head.new ++ bytes ≡ text (message.CopyData bytes) }
-    ensures refused { (bytes : List ℕ) → length bytes ≡ len → result ≢ pos 0 → (result ≡ too_long_number) × (head.new ≡ head.old) }
+    ensures within { result ≡ pos 0 → len + 4 ≤ max_length }
+    ensures refused { result ≢ pos 0 → (max_length < len + 4) × (result ≡ too_long_number) × (head.new ≡ head.old) }
 {
     if len > MAX_BODY {
         return MESSAGE_TOO_LONG;

@@ -1,6 +1,6 @@
 //! What the server asks of a client that opens a session.
 
-ghost use Rattle.std.specs.Prelude.{◌≡◌, ◌<ℤ◌, ◌≤ℤ◌, ⊤, pos, drop, length, None, IfOk, IfErr};
+ghost use Rattle.std.specs.Prelude.{◌≡◌, ◌≤◌, ◌<ℤ◌, ◌≤ℤ◌, ⊤, pos, drop, length, None, OnOk, IfOk, IfErr};
 ghost use Rattle.pg_base.specs.declared.error.Error.TheVariants.{Protocol};
 ghost use Rattle.pg_base.specs.declared.error.ProtocolFault.TheVariants.{UnknownAuthentication};
 ghost use Rattle.pg_receive.specs.Authentication.Mechanisms.{mechanisms_in};
@@ -8,6 +8,7 @@ ghost use Rattle.pg_format.specs.Format.{Means, IsFaultOf};
 ghost use Rattle.pg_receive.specs.Authentication.{requests, sasl_continue, sasl_final, method_of};
 ghost use Rattle.pg_receive.specs.Authentication.SaslContinue.Shown.{continue_shown};
 ghost use Rattle.pg_receive.specs.Authentication.Shown.{authentication_shown};
+ghost use Rattle.pg_response.specs.Received.{max_body};
 ghost use Rattle.pg_c.specs.Authentication.{ReadsAuthentication, ReadsChallenge, ReadsVerifier, IsAskedFault, salt_of};
 ghost use Rattle.pg_c.specs.Place.{part};
 ghost use Rattle.pg_c.specs.Read.{AreGiven, IsBodyFault};
@@ -55,7 +56,9 @@ pub extern "C" fn pgm_read_authentication(
 ) -> i32
     ensures result { result ≤ℤ pos 0 }
     ensures value { result ≡ pos 0 → ReadsAuthentication body.now authentication.new }
-    ensures fault { result <ℤ pos 0 → Refuses (IsBodyFault (IsFaultOf requests) body.now) ⊤ fault.new result }
+    ensures fault { result <ℤ pos 0 → Refuses (IsBodyFault (IsFaultOf requests) body.now) ⊤ fault.old fault.new result }
+    ensures within { pos 0 ≤ℤ result → length body.now ≤ max_body }
+    ensures untouched { pos 0 ≤ℤ result → fault.new ≡ fault.old }
     ensures kept { result <ℤ pos 0 → authentication.new ≡ authentication.old }
 {
     match authentication_of(alloc, body) {
@@ -69,6 +72,7 @@ pub extern "C" fn pgm_read_authentication(
 
 fn authentication_of(alloc: Global, body: &[u8]) -> Result<Authentication, Error>
     ensures value { IfOk result (λ asked. Means requests body.now (authentication_shown asked)) }
+    ensures within { OnOk result (length body.now ≤ max_body) }
     ensures fault { IfErr result (IsErrorOf (IsBodyFault (IsFaultOf requests) body.now) ⊤) }
 {
     check_body(body)?;
@@ -131,7 +135,9 @@ pub extern "C" fn pgm_read_challenge(
 ) -> i32
     ensures result { result ≤ℤ pos 0 }
     ensures value { result ≡ pos 0 → ReadsChallenge body.now challenge.new salt.old salt.new nonce.old nonce.new }
-    ensures fault { result <ℤ pos 0 → Refuses (IsAskedFault body.now) ⊤ fault.new result }
+    ensures fault { result <ℤ pos 0 → Refuses (IsAskedFault 11 body.now) ⊤ fault.old fault.new result }
+    ensures within { pos 0 ≤ℤ result → length body.now ≤ max_body }
+    ensures untouched { pos 0 ≤ℤ result → fault.new ≡ fault.old }
     ensures kept { result <ℤ pos 0 → (challenge.new ≡ challenge.old) × (salt.new ≡ salt.old) × (nonce.new ≡ nonce.old) }
 {
     match challenge_of(alloc, body) {
@@ -159,7 +165,8 @@ fn lengths_of(challenge: &AuthenticationSaslContinue) -> PgmChallenge
 
 fn challenge_of(alloc: Global, body: &[u8]) -> Result<AuthenticationSaslContinue, Error>
     ensures value { IfOk result (λ challenge. Means requests body.now (sasl_continue (continue_shown challenge))) }
-    ensures fault { IfErr result (IsErrorOf (IsAskedFault body.now) ⊤) }
+    ensures within { OnOk result (length body.now ≤ max_body) }
+    ensures fault { IfErr result (IsErrorOf (IsAskedFault 11 body.now) ⊤) }
 {
     match authentication_of(alloc, body)? {
         Authentication::SaslContinue(challenge) => Ok(challenge),
@@ -177,7 +184,9 @@ pub extern "C" fn pgm_read_verifier(
     fault: &mut PgmFault,
 ) -> isize
     ensures value { pos 0 ≤ℤ result → ReadsVerifier body.now verifier.old verifier.new result }
-    ensures fault { result <ℤ pos 0 → Refuses (IsAskedFault body.now) ⊤ fault.new result }
+    ensures fault { result <ℤ pos 0 → Refuses (IsAskedFault 12 body.now) ⊤ fault.old fault.new result }
+    ensures within { pos 0 ≤ℤ result → length body.now ≤ max_body }
+    ensures untouched { pos 0 ≤ℤ result → fault.new ≡ fault.old }
     ensures kept { result <ℤ pos 0 → verifier.new ≡ verifier.old }
 {
     match verifier_of(alloc, body) {
@@ -188,7 +197,8 @@ pub extern "C" fn pgm_read_verifier(
 
 fn verifier_of(alloc: Global, body: &[u8]) -> Result<AuthenticationSaslFinal, Error>
     ensures value { IfOk result (λ end. Means requests body.now (sasl_final end.verifier.items)) }
-    ensures fault { IfErr result (IsErrorOf (IsAskedFault body.now) ⊤) }
+    ensures within { OnOk result (length body.now ≤ max_body) }
+    ensures fault { IfErr result (IsErrorOf (IsAskedFault 12 body.now) ⊤) }
 {
     match authentication_of(alloc, body)? {
         Authentication::SaslFinal(end) => Ok(end),

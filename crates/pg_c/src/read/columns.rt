@@ -1,13 +1,15 @@
 //! The columns of a result, and the types of a statement's parameters.
 
-ghost use Rattle.std.specs.Prelude.{◌≡◌, ◌≤◌, ◌<ℤ◌, ◌≤ℤ◌, ℕ, List, pos, length, Some, IfOk, IfErr};
+ghost use Rattle.std.specs.Prelude.{◌≡◌, ◌≤◌, ◌<ℤ◌, ◌≤ℤ◌, ℕ, List, pos, length, Some, OnOk, IfOk, IfErr};
 ghost use Rattle.std.specs.Option.{option_map_or};
 ghost use Rattle.pg_format.specs.Format.{IsFaultOf};
+ghost use Rattle.pg_format.specs.Format.Parts.{be_u32};
 ghost use Rattle.pg_format.specs.Format.Places.{IsReadAt};
 ghost use Rattle.pg_format.specs.Messages.{column, row_description, parameter_description};
 ghost use Rattle.pg_receive.specs.RowDescription.Columns.{column_of_ref};
+ghost use Rattle.pg_response.specs.Received.{max_body};
 ghost use Rattle.pg_c.specs.Columns.{column_in};
-ghost use Rattle.pg_c.specs.Read.{ReadsItems, IsBodyFault};
+ghost use Rattle.pg_c.specs.Read.{ReadsItems, GivesFront, IsBodyFault};
 ghost use Rattle.pg_c.specs.Refusal.{Refuses};
 
 use crate::place::PgmSpan;
@@ -50,7 +52,10 @@ pub extern "C" fn pgm_read_columns(
     fault: &mut PgmFault,
 ) -> isize
     ensures columns { pos 0 ≤ℤ result → ReadsItems row_description (column_in body.now) body.now columns.old columns.new result }
-    ensures fault { result <ℤ pos 0 → Refuses (IsBodyFault (IsFaultOf row_description) body.now) ⊥ fault.new result }
+    ensures fault { result <ℤ pos 0 → Refuses (IsBodyFault (IsFaultOf row_description) body.now) ⊥ fault.old fault.new result }
+    ensures within { pos 0 ≤ℤ result → length body.now ≤ max_body }
+    ensures front { result <ℤ pos 0 → GivesFront column (column_in body.now) body.now 2 columns.old columns.new }
+    ensures untouched { pos 0 ≤ℤ result → fault.new ≡ fault.old }
 {
     match columns_of(body, columns) {
         Ok(count) => count as isize,
@@ -61,7 +66,9 @@ pub extern "C" fn pgm_read_columns(
 fn columns_of(body: &[u8], columns: &mut [PgmColumn]) -> Result<usize, ProtocolFault>
     ensures small { IfOk result (λ count. count ≤ 65535) }
     ensures columns { IfOk result (λ count. ReadsItems row_description (column_in body.now) body.now columns.old columns.new (pos count)) }
+    ensures within { OnOk result (length body.now ≤ max_body) }
     ensures fault { IfErr result (IsBodyFault (IsFaultOf row_description) body.now) }
+    ensures front { IfErr result (λ _. GivesFront column (column_in body.now) body.now 2 columns.old columns.new) }
 {
     check_body(body)?;
     let count = usize::from(u16_at(body, 0)?);
@@ -114,7 +121,10 @@ pub extern "C" fn pgm_read_parameter_types(
     fault: &mut PgmFault,
 ) -> isize
     ensures types { pos 0 ≤ℤ result → ReadsItems parameter_description (λ number. Some number) body.now types.old types.new result }
-    ensures fault { result <ℤ pos 0 → Refuses (IsBodyFault (IsFaultOf parameter_description) body.now) ⊥ fault.new result }
+    ensures fault { result <ℤ pos 0 → Refuses (IsBodyFault (IsFaultOf parameter_description) body.now) ⊥ fault.old fault.new result }
+    ensures within { pos 0 ≤ℤ result → length body.now ≤ max_body }
+    ensures front { result <ℤ pos 0 → GivesFront be_u32 (λ number. Some number) body.now 2 types.old types.new }
+    ensures untouched { pos 0 ≤ℤ result → fault.new ≡ fault.old }
 {
     match types_of(body, types) {
         Ok(count) => count as isize,
@@ -125,7 +135,9 @@ pub extern "C" fn pgm_read_parameter_types(
 fn types_of(body: &[u8], types: &mut [u32]) -> Result<usize, ProtocolFault>
     ensures small { IfOk result (λ count. count ≤ 65535) }
     ensures types { IfOk result (λ count. ReadsItems parameter_description (λ number. Some number) body.now types.old types.new (pos count)) }
+    ensures within { OnOk result (length body.now ≤ max_body) }
     ensures fault { IfErr result (IsBodyFault (IsFaultOf parameter_description) body.now) }
+    ensures front { IfErr result (λ _. GivesFront be_u32 (λ number. Some number) body.now 2 types.old types.new) }
 {
     check_body(body)?;
     let count = usize::from(u16_at(body, 0)?);

@@ -1,10 +1,12 @@
 //! How the data of a COPY is spelled.
 
-ghost use Rattle.std.specs.Prelude.{◌≡◌, ◌≤◌, ◌<ℤ◌, ◌≤ℤ◌, pos, length, IfOk, IfErr};
+ghost use Rattle.std.specs.Prelude.{◌≡◌, ◌≤◌, ◌<ℤ◌, ◌≤ℤ◌, pos, length, Some, OnOk, IfOk, IfErr};
 ghost use Rattle.pg_format.specs.Format.{IsFaultOf};
+ghost use Rattle.pg_format.specs.Format.Parts.{be_i16};
 ghost use Rattle.pg_format.specs.Messages.{columns_of, copy_response};
+ghost use Rattle.pg_response.specs.Received.{max_body};
 ghost use Rattle.pg_c.specs.Copy.{ReadsFormats};
-ghost use Rattle.pg_c.specs.Read.{IsBodyFault};
+ghost use Rattle.pg_c.specs.Read.{GivesFront, IsBodyFault};
 ghost use Rattle.pg_c.specs.Refusal.{Refuses};
 
 use crate::read::check_body;
@@ -40,7 +42,10 @@ pub extern "C" fn pgm_read_copy_response(
     fault: &mut PgmFault,
 ) -> isize
     ensures formats { pos 0 ≤ℤ result → ReadsFormats body.now response.new codes.old codes.new result }
-    ensures fault { result <ℤ pos 0 → Refuses (IsBodyFault (IsFaultOf copy_response) body.now) ⊥ fault.new result }
+    ensures fault { result <ℤ pos 0 → Refuses (IsBodyFault (IsFaultOf copy_response) body.now) ⊥ fault.old fault.new result }
+    ensures within { pos 0 ≤ℤ result → length body.now ≤ max_body }
+    ensures front { result <ℤ pos 0 → GivesFront be_i16 (λ code. Some code) body.now 3 codes.old codes.new }
+    ensures untouched { pos 0 ≤ℤ result → fault.new ≡ fault.old }
     ensures kept { result <ℤ pos 0 → response.new ≡ response.old }
 {
     match codes_of(body, response, codes) {
@@ -56,7 +61,9 @@ fn codes_of(
 ) -> Result<usize, ProtocolFault>
     ensures small { IfOk result (λ count. count ≤ 65535) }
     ensures formats { IfOk result (λ count. ReadsFormats body.now response.new codes.old codes.new (pos count)) }
+    ensures within { OnOk result (length body.now ≤ max_body) }
     ensures fault { IfErr result (IsBodyFault (IsFaultOf copy_response) body.now) }
+    ensures front { IfErr result (λ _. GivesFront be_i16 (λ code. Some code) body.now 3 codes.old codes.new) }
     ensures kept { IfErr result (λ _. response.new ≡ response.old) }
 {
     check_body(body)?;

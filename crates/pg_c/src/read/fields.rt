@@ -1,10 +1,11 @@
 //! The fields of an error or a notice, and how grave it is.
 
-ghost use Rattle.std.specs.Prelude.{◌≡◌, ◌<ℤ◌, ◌≤ℤ◌, ⊤, pos, length, IfOk, IfErr};
+ghost use Rattle.std.specs.Prelude.{◌≡◌, ◌≤◌, ◌<ℤ◌, ◌≤ℤ◌, ⊤, pos, length, OnOk, IfOk, IfErr};
 ghost use Rattle.pg_response.specs.Response.Fields.{fields_in};
 ghost use Rattle.pg_response.specs.Response.Severity.{severity_number};
 ghost use Rattle.pg_format.specs.Format.{IsFaultOf};
 ghost use Rattle.pg_response.specs.Response.{notices};
+ghost use Rattle.pg_response.specs.Received.{max_body};
 ghost use Rattle.pg_c.specs.Fields.{field_in, IsSeverityOf};
 ghost use Rattle.pg_c.specs.Read.{AreGiven, IsBodyFault};
 ghost use Rattle.pg_c.specs.Refusal.{Refuses, IsErrorOf};
@@ -56,7 +57,9 @@ pub extern "C" fn pgm_read_fields(body: &[u8], fields: &mut [PgmField]) -> usize
 #[unsafe(no_mangle)]
 pub extern "C" fn pgm_read_severity(alloc: Global, body: &[u8], fault: &mut PgmFault) -> i32
     ensures severity { pos 0 ≤ℤ result → IsSeverityOf body.now result }
-    ensures fault { result <ℤ pos 0 → Refuses (IsBodyFault (IsFaultOf notices) body.now) ⊤ fault.new result }
+    ensures fault { result <ℤ pos 0 → Refuses (IsBodyFault (IsFaultOf notices) body.now) ⊤ fault.old fault.new result }
+    ensures within { pos 0 ≤ℤ result → length body.now ≤ max_body }
+    ensures untouched { pos 0 ≤ℤ result → fault.new ≡ fault.old }
 {
     match severity_of(alloc, body) {
         Ok(severity) => severity as i32,
@@ -66,6 +69,7 @@ pub extern "C" fn pgm_read_severity(alloc: Global, body: &[u8], fault: &mut PgmF
 
 fn severity_of(alloc: Global, body: &[u8]) -> Result<PgSeverity, Error>
     ensures severity { IfOk result (λ severity. IsSeverityOf body.now (pos (severity_number severity))) }
+    ensures within { OnOk result (length body.now ≤ max_body) }
     ensures fault { IfErr result (IsErrorOf (IsBodyFault (IsFaultOf notices) body.now) ⊤) }
 {
     check_body(body)?;

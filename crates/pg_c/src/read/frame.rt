@@ -38,7 +38,9 @@ pub extern "C" fn pgm_next_frame(
     ensures result { result ≤ℤ pos 1 }
     ensures whole { result ≡ pos 1 → IsWhole stream.now frame.new }
     ensures part { result ≡ pos 0 → Needs stream.now frame.new.length }
-    ensures fault { result <ℤ pos 0 → Refuses (IsStreamFault stream.now) ⊥ fault.new result }
+    ensures part_alone { result ≡ pos 0 → (frame.new.tag ≡ frame.old.tag) × (frame.new.body ≡ frame.old.body) }
+    ensures fault { result <ℤ pos 0 → Refuses (IsStreamFault stream.now) ⊥ fault.old fault.new result }
+    ensures untouched { pos 0 ≤ℤ result → fault.new ≡ fault.old }
     ensures kept { result <ℤ pos 0 → frame.new ≡ frame.old }
 {
     match next_frame(stream) {

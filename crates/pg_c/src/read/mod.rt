@@ -1,8 +1,8 @@
 //! Messages from the server, read where they are.
 //!
 //! Bodies are those of the frames of `pgm_next_frame`. Places are in the bytes that were passed. A call
-//! refuses by a number below 0, and then fills `fault`; an array of places may have been written in
-//! part by then.
+//! refuses by a number below 0, and then alone fills `fault`; an array of places holds at most the
+//! items before the one that is broken.
 
 mod authentication;
 mod columns;

@@ -1,11 +1,12 @@
 //! The cells of a row.
 
-ghost use Rattle.std.specs.Prelude.{◌≡◌, ◌+◌, ◌≤◌, ◌<ℤ◌, ◌≤ℤ◌, ℕ, List, pos, option_copied, Some, IfOk, IfErr};
+ghost use Rattle.std.specs.Prelude.{◌≡◌, ◌+◌, ◌≤◌, ◌<ℤ◌, ◌≤ℤ◌, ℕ, List, pos, length, option_copied, Some, OnOk, IfOk, IfErr};
 ghost use Rattle.pg_format.specs.Format.{IsFaultOf};
 ghost use Rattle.pg_format.specs.Format.Nullable.{cell};
 ghost use Rattle.pg_format.specs.Format.Places.{IsReadAt};
 ghost use Rattle.pg_format.specs.Messages.{data_row};
-ghost use Rattle.pg_c.specs.Read.{ReadsItems, IsBodyFault};
+ghost use Rattle.pg_response.specs.Received.{max_body};
+ghost use Rattle.pg_c.specs.Read.{ReadsItems, GivesFront, IsBodyFault};
 ghost use Rattle.pg_c.specs.Row.{cell_in};
 ghost use Rattle.pg_c.specs.Refusal.{Refuses};
 
@@ -40,7 +41,10 @@ pub extern "C" fn pgm_read_row(
     fault: &mut PgmFault,
 ) -> isize
     ensures row { pos 0 ≤ℤ result → ReadsItems data_row (cell_in body.now) body.now cells.old cells.new result }
-    ensures fault { result <ℤ pos 0 → Refuses (IsBodyFault (IsFaultOf data_row) body.now) ⊥ fault.new result }
+    ensures fault { result <ℤ pos 0 → Refuses (IsBodyFault (IsFaultOf data_row) body.now) ⊥ fault.old fault.new result }
+    ensures within { pos 0 ≤ℤ result → length body.now ≤ max_body }
+    ensures front { result <ℤ pos 0 → GivesFront cell (cell_in body.now) body.now 2 cells.old cells.new }
+    ensures untouched { pos 0 ≤ℤ result → fault.new ≡ fault.old }
 {
     match cells_of(body, cells) {
         Ok(count) => count as isize,
@@ -51,7 +55,9 @@ pub extern "C" fn pgm_read_row(
 fn cells_of(body: &[u8], cells: &mut [PgmCell]) -> Result<usize, ProtocolFault>
     ensures small { IfOk result (λ count. count ≤ 65535) }
     ensures row { IfOk result (λ count. ReadsItems data_row (cell_in body.now) body.now cells.old cells.new (pos count)) }
+    ensures within { OnOk result (length body.now ≤ max_body) }
     ensures fault { IfErr result (IsBodyFault (IsFaultOf data_row) body.now) }
+    ensures front { IfErr result (λ _. GivesFront cell (cell_in body.now) body.now 2 cells.old cells.new) }
 {
     check_body(body)?;
     let count = usize::from(u16_at(body, 0)?);

@@ -1,14 +1,19 @@
 //! Notifications, settings, keys, and what a command and a session report of themselves.
 
-ghost use Rattle.std.specs.Prelude.{◌≡◌, ◌<ℤ◌, ◌≤ℤ◌, pos};
+ghost use Rattle.std.specs.Prelude.{◌≡◌, ◌≤◌, ◌<ℤ◌, ◌≤ℤ◌, pos, length};
 ghost use Rattle.pg_format.specs.Format.{Means, IsFaultOf};
 ghost use Rattle.pg_format.specs.Messages as page;
 ghost use Rattle.pg_receive.specs.CommandComplete.{row_count};
+ghost use Rattle.pg_receive.specs.ReadyForQuery.{shown_status};
+ghost use Rattle.pg_response.specs.Received.{max_body};
+ghost use Rattle.pg_c.specs.Read.{IsBodyFault, ReadsBody};
 ghost use Rattle.pg_c.specs.Refusal.{Refuses};
 ghost use Rattle.pg_c.specs.Status.{ReadsNotification, ReadsSetting, IsStatusLetter};
 
 use crate::place::PgmSpan;
+use crate::read::check_body;
 use crate::refusal::{PgmFault, report};
+use pg_base::ProtocolFault;
 use pg_receive::message::{
     BackendKeyData, NotificationRef, ParameterStatusRef, ReadyForQuery, rows_affected,
 };
@@ -49,10 +54,12 @@ pub extern "C" fn pgm_read_notification(
 ) -> i32
     ensures result { result ≤ℤ pos 0 }
     ensures value { result ≡ pos 0 → ReadsNotification body.now notification.new }
-    ensures fault { result <ℤ pos 0 → Refuses (IsFaultOf page.notification body.now) ⊥ fault.new result }
+    ensures fault { result <ℤ pos 0 → Refuses (IsBodyFault (IsFaultOf page.notification) body.now) ⊥ fault.old fault.new result }
+    ensures within { pos 0 ≤ℤ result → length body.now ≤ max_body }
+    ensures untouched { pos 0 ≤ℤ result → fault.new ≡ fault.old }
     ensures kept { result <ℤ pos 0 → notification.new ≡ notification.old }
 {
-    match NotificationRef::read(body) {
+    match notification_of(body) {
         Ok(read) => {
             let channel = PgmSpan {
                 at: 4,
@@ -72,6 +79,13 @@ pub extern "C" fn pgm_read_notification(
     }
 }
 
+fn notification_of(body: &[u8]) -> Result<NotificationRef<'_>, ProtocolFault>
+    ensures { ReadsBody page.notification (λ n. record { process_id = n.process_id; channel = n.channel.now; payload = n.payload.now }) body.now result }
+{
+    check_body(body)?;
+    NotificationRef::read(body)
+}
+
 /// A setting of the server, by the body of its ParameterStatus. 0, or why it is refused.
 #[unsafe(no_mangle)]
 pub extern "C" fn pgm_read_parameter_status(
@@ -82,10 +96,12 @@ pub extern "C" fn pgm_read_parameter_status(
 ) -> i32
     ensures result { result ≤ℤ pos 0 }
     ensures value { result ≡ pos 0 → ReadsSetting body.now status.new }
-    ensures fault { result <ℤ pos 0 → Refuses (IsFaultOf page.parameter_status body.now) ⊥ fault.new result }
+    ensures fault { result <ℤ pos 0 → Refuses (IsBodyFault (IsFaultOf page.parameter_status) body.now) ⊥ fault.old fault.new result }
+    ensures within { pos 0 ≤ℤ result → length body.now ≤ max_body }
+    ensures untouched { pos 0 ≤ℤ result → fault.new ≡ fault.old }
     ensures kept { result <ℤ pos 0 → status.new ≡ status.old }
 {
-    match ParameterStatusRef::read(body) {
+    match setting_of(body) {
         Ok(read) => {
             *status = PgmParameterStatus {
                 name: PgmSpan {
@@ -103,6 +119,13 @@ pub extern "C" fn pgm_read_parameter_status(
     }
 }
 
+fn setting_of(body: &[u8]) -> Result<ParameterStatusRef<'_>, ProtocolFault>
+    ensures { ReadsBody page.parameter_status (λ status. record { name = status.name.now; value = status.value.now }) body.now result }
+{
+    check_body(body)?;
+    ParameterStatusRef::read(body)
+}
+
 /// What a request to cancel has to name, by the body of a BackendKeyData. 0, or why it is refused.
 #[unsafe(no_mangle)]
 pub extern "C" fn pgm_read_key_data(
@@ -113,10 +136,12 @@ pub extern "C" fn pgm_read_key_data(
 ) -> i32
     ensures result { result ≤ℤ pos 0 }
     ensures value { result ≡ pos 0 → Means page.backend_key_data body.now (record { process_id = key.new.process_id; secret_key = key.new.secret_key }) }
-    ensures fault { result <ℤ pos 0 → Refuses (IsFaultOf page.backend_key_data body.now) ⊥ fault.new result }
+    ensures fault { result <ℤ pos 0 → Refuses (IsBodyFault (IsFaultOf page.backend_key_data) body.now) ⊥ fault.old fault.new result }
+    ensures within { pos 0 ≤ℤ result → length body.now ≤ max_body }
+    ensures untouched { pos 0 ≤ℤ result → fault.new ≡ fault.old }
     ensures kept { result <ℤ pos 0 → key.new ≡ key.old }
 {
-    match BackendKeyData::read(body) {
+    match key_of(body) {
         Ok(read) => {
             *key = PgmKeyData {
                 process_id: read.process_id,
@@ -126,6 +151,13 @@ pub extern "C" fn pgm_read_key_data(
         }
         Err(why) => report(alloc, why.into(), fault),
     }
+}
+
+fn key_of(body: &[u8]) -> Result<BackendKeyData, ProtocolFault>
+    ensures { ReadsBody page.backend_key_data (λ key. record { process_id = key.process_id; secret_key = key.secret_key }) body.now result }
+{
+    check_body(body)?;
+    BackendKeyData::read(body)
 }
 
 /// How many rows a command had to do with, by the body of its CommandComplete: the number after the
@@ -142,10 +174,19 @@ pub extern "C" fn pgm_read_rows_affected(body: &[u8]) -> u64
 #[unsafe(no_mangle)]
 pub extern "C" fn pgm_read_ready(alloc: Global, body: &[u8], fault: &mut PgmFault) -> i32
     ensures value { pos 0 ≤ℤ result → IsStatusLetter body.now result }
-    ensures fault { result <ℤ pos 0 → Refuses (IsFaultOf page.ready_for_query body.now) ⊥ fault.new result }
+    ensures fault { result <ℤ pos 0 → Refuses (IsBodyFault (IsFaultOf page.ready_for_query) body.now) ⊥ fault.old fault.new result }
+    ensures within { pos 0 ≤ℤ result → length body.now ≤ max_body }
+    ensures untouched { pos 0 ≤ℤ result → fault.new ≡ fault.old }
 {
-    match ReadyForQuery::read(body) {
+    match status_of(body) {
         Ok(ready) => ready.transaction_status as i32,
         Err(why) => report(alloc, why.into(), fault),
     }
+}
+
+fn status_of(body: &[u8]) -> Result<ReadyForQuery, ProtocolFault>
+    ensures { ReadsBody page.ready_for_query (λ ready. shown_status ready.transaction_status) body.now result }
+{
+    check_body(body)?;
+    ReadyForQuery::read(body)
 }

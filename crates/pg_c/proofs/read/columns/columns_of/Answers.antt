@@ -3,7 +3,7 @@ use Rattle.std.proofs.lemmas.Result.{err_from_is_err_and}
 use Rattle.pg_format.specs.Messages.{column}
 use Rattle.pg_receive.specs.RowDescription.Columns.{column_of_ref}
 use Rattle.pg_c.specs.Columns.{column_in}
-use Rattle.pg_c.proofs.ReadLemmas.{gives_more, gives_full, item_breaks, reads_items}
+use Rattle.pg_c.proofs.ReadLemmas.{gives_more, gives_full, gives_front, item_breaks, reads_items}
 use Rattle.pg_c.proofs.read.columns.columns_of.Goals as goal
 use Rattle.pg_c.proofs.read.columns.columns_of.Goals.{then-index-columns, else-index-columns}
 
@@ -40,3 +40,8 @@ returns-clause-columns c =
     let count : c.from-count.result ≡ c.in_ok-u16_at.field-0 = c.from-count.ensures in
     let all : loop.index ≡ c.from-count.result = omega (arith, c.loop-index-test.false, loop.auto.index-end) in
     reads_items column 19 (column_in body) body c.from-count.result loop.at loop.index c.args.columns.now loop.columns (rw count c.in_ok-u16_at.ensures.found) all loop.invariant
+
+pub returns-in_err-column-clause-front : goal.returns-in_err-column-clause-front
+returns-in_err-column-clause-front c =
+    let loop = c.loop-index in
+    rw (err_from_is_err_and c.from_residual-in_err-column.result c.from_residual-in_err-column.ensures.1).1 (gives_front column (column_in c.args.body.now) c.args.body.now 2 loop.at loop.index c.args.columns.now loop.columns loop.invariant)

@@ -1,8 +1,9 @@
 use Rattle.std.proofs.Common.{◌≡◌, ℕ, ◌+◌, ◌*◌, Some, refl, arith}
+use Rattle.std.proofs.lemmas.Result.{err_from_is_err_and}
 use Rattle.pg_format.specs.Format.Parts.{be_u32}
 use Rattle.pg_format.proofs.FormatLaws.Places.{stands_at}
 use Rattle.pg_format.proofs.FormatLaws.Takes.{takes_unsigned}
-use Rattle.pg_c.proofs.ReadLemmas.{gives_more, gives_full, reads_items}
+use Rattle.pg_c.proofs.ReadLemmas.{gives_more, gives_full, gives_front, reads_items}
 use Rattle.pg_c.proofs.read.columns.types_of.Goals as goal
 use Rattle.pg_c.proofs.read.columns.types_of.Goals.{then-index-types, else-index-types}
 
@@ -26,3 +27,8 @@ returns-clause-types c =
     let count : c.from-count.result ≡ c.in_ok-u16_at.field-0 = c.from-count.ensures in
     let all : loop.index ≡ c.from-count.result = omega (arith, c.loop-index-test.false, loop.auto.index-end) in
     reads_items be_u32 4 (λ (number : ℕ). Some number) body c.from-count.result (2 + 4 * loop.index) loop.index c.args.types.now loop.types (rw count c.in_ok-u16_at.ensures.found) all loop.invariant
+
+pub returns-in_err-number-clause-front : goal.returns-in_err-number-clause-front
+returns-in_err-number-clause-front c =
+    let loop = c.loop-index in
+    rw (err_from_is_err_and c.from_residual-in_err-number.result c.from_residual-in_err-number.ensures.1).1 (gives_front be_u32 (λ (n : ℕ). Some n) c.args.body.now 2 (2 + 4 * loop.index) loop.index c.args.types.now loop.types loop.invariant)

@@ -1,13 +1,14 @@
-use Rattle.std.proofs.Common.{◌≡◌, ℕ, ◌+◌, ◌*◌, ℤ, Some, refl, arith, rules, ap, sym, ◌∙◌, pos}
+use Rattle.std.proofs.Common.{◌≡◌, ◌+◌, ◌*◌, ℤ, Some, refl, arith, rules, ap, sym, ◌∙◌, pos}
 use Rattle.std.specs.Int.{w8, w16}
 use Rattle.std.proofs.lemmas.Int.{to_z-of_z}
 use mir.Val.{SFits, to_z, of_z}
+use Rattle.std.proofs.lemmas.Result.{err_from_is_err_and}
 use Rattle.pg_format.specs.Format.Parts.{be_i16}
 use Rattle.pg_format.specs.Messages.{columns_of}
 use Rattle.pg_format.proofs.FormatLaws.Places.{stands_at}
 use Rattle.pg_format.proofs.FormatLaws.Takes.{takes_signed}
 use Rattle.pg_receive.proofs.CopyLemmas.{counts_at, response_at}
-use Rattle.pg_c.proofs.ReadLemmas.{gives_more, gives_full}
+use Rattle.pg_c.proofs.ReadLemmas.{gives_more, gives_full, gives_front}
 use Rattle.pg_c.proofs.read.copy.codes_of.Goals as goal
 use Rattle.pg_c.proofs.read.copy.codes_of.Goals.{then-index-codes, else-index-codes}
 
@@ -44,3 +45,8 @@ returns-clause-formats c =
       count = ap pos (sym (read.read.reads.0 ∙ all));
       given = read.given;
     }
+
+pub returns-in_err-code-clause-front : goal.returns-in_err-code-clause-front
+returns-in_err-code-clause-front c =
+    let loop = c.loop-index in
+    rw (err_from_is_err_and c.from_residual-in_err-code.result c.from_residual-in_err-code.ensures.1).1 (gives_front be_i16 (λ (z : ℤ). Some z) c.args.body.now 3 (3 + 2 * loop.index) loop.index c.args.codes.now loop.codes loop.invariant)

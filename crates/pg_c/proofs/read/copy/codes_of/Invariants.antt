@@ -1,6 +1,6 @@
 use Rattle.std.proofs.Common.{ℤ, ◌+◌, ◌*◌, Some}
 use Rattle.pg_format.specs.Format.Parts.{be_i16}
-use Rattle.pg_c.proofs.ReadLemmas.{GivesItems}
+use Rattle.pg_c.specs.Read.{GivesItems}
 use Rattle.pg_c.proofs.read.copy.codes_of.Given as goal
 
 abbrev pub invariant-loop-index : goal.invariant-loop-index

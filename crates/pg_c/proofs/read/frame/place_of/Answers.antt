@@ -1,4 +1,4 @@
-use Rattle.std.proofs.Common.{◌≡◌, refl}
+use Rattle.std.proofs.Common.{◌≡◌, refl, sym}
 use Rattle.std.specs.Prelude.{slice_index_or}
 use Rattle.pg_base.specs.Format.{backend_tag}
 use Rattle.pg_c.proofs.FrameLemmas.{message_at}
@@ -10,4 +10,4 @@ returns c =
     let frame = c.args.frame.now in
     let first : slice_index_or stream 0 0 ≡ backend_tag frame.format = rw c.requires.parts refl in
     let found = message_at stream (backend_tag frame.format) frame.body.now frame.rest.now c.requires in
-    record { body = frame.body.now; begins = rw (first, found.1) c.requires; place = found.0; all = refl }
+    record { known = (frame.format, sym first); body = frame.body.now; begins = rw (first, found.1) c.requires; place = found.0; all = refl }

@@ -3,7 +3,7 @@ use Rattle.std.proofs.lemmas.Result.{err_from_is_err_and}
 use Rattle.pg_format.specs.Format.Nullable.{cell}
 use Rattle.pg_c.specs.Row.{cell_in}
 use Rattle.pg_receive.proofs.DataRowLemmas.{cell_is_wide}
-use Rattle.pg_c.proofs.ReadLemmas.{gives_more, gives_full, item_breaks, reads_items}
+use Rattle.pg_c.proofs.ReadLemmas.{gives_more, gives_full, gives_front, item_breaks, reads_items}
 use Rattle.pg_c.proofs.read.row.cells_of.Goals as goal
 use Rattle.pg_c.proofs.read.row.cells_of.Goals.{then-index-cells, else-index-cells}
 
@@ -43,3 +43,8 @@ returns-clause-row c =
 
 pub place_of-requires-clause-wide : goal.place_of-requires-clause-wide
 place_of-requires-clause-wide c = cell_is_wide c.args.body.now c.loop-index.at c.in_ok-cell.end (option_copied c.in_ok-cell.cell) c.in_ok-cell.ensures.cell
+
+pub returns-in_err-cell-clause-front : goal.returns-in_err-cell-clause-front
+returns-in_err-cell-clause-front c =
+    let loop = c.loop-index in
+    rw (err_from_is_err_and c.from_residual-in_err-cell.result c.from_residual-in_err-cell.ensures.1).1 (gives_front cell (cell_in c.args.body.now) c.args.body.now 2 loop.at loop.index c.args.cells.now loop.cells loop.invariant)

@@ -1,6 +1,6 @@
 use Rattle.pg_format.specs.Format.Nullable.{cell}
 use Rattle.pg_c.specs.Row.{cell_in}
-use Rattle.pg_c.proofs.ReadLemmas.{GivesItems}
+use Rattle.pg_c.specs.Read.{GivesItems}
 use Rattle.pg_c.proofs.read.row.cells_of.Given as goal
 
 abbrev pub invariant-loop-index : goal.invariant-loop-index

@@ -1,4 +1,4 @@
-use Rattle.std.proofs.Common.{◌≡◌, ℕ, ◌+◌, ◌-◌, ◌≤◌, pos, List, length, Bor, Option, Some, None, true, false, not, option_copied, refl, ap, ◌∙◌, arith, rules}
+use Rattle.std.proofs.Common.{◌≡◌, ℕ, ◌+◌, ◌-◌, pos, List, length, Bor, Option, Some, None, true, false, not, option_copied, refl, ap, ◌∙◌, arith, rules}
 use Rattle.std.specs.Option.{is_some}
 use Rattle.std.specs.Int.{w32}
 use Rattle.std.proofs.lemmas.Bool.{both_ways}
