@@ -27,6 +27,7 @@ int main(void)
     test_put(&tally);
     test_refusals(&tally);
     test_read(&tally);
+    test_words(&tally);
     test_login(&tally);
     if (tally.failed > 0) {
         printf("%u checks passed, %u failed\n", tally.passed, tally.failed);

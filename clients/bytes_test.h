@@ -24,6 +24,7 @@ bool are_bytes(const uint8_t *bytes, size_t len, const char *text, size_t text_l
 void test_put(struct tally *tally);
 void test_refusals(struct tally *tally);
 void test_read(struct tally *tally);
+void test_words(struct tally *tally);
 void test_login(struct tally *tally);
 
 #endif

@@ -36,7 +36,7 @@ enum {
     PGM_TOO_MANY_PARAM_TYPES = -4,
     /* A message is longer than its length field can say. */
     PGM_MESSAGE_TOO_LONG = -5,
-    /* A message was read as one of another kind. */
+    /* A message was read as one of another kind. No call of this library returns it. */
     PGM_WRONG_FORMAT = -6,
     /* A received body is longer than a length field can say. */
     PGM_BODY_TOO_LONG = -7,

@@ -21,7 +21,7 @@ pub const TOO_MANY_PARAM_TYPES: i32 = -4;
 /// A message is longer than its length field can say.
 pub const MESSAGE_TOO_LONG: i32 = -5;
 
-/// A message was read as one of another kind.
+/// A message was read as one of another kind. No call of this library returns it.
 pub const WRONG_FORMAT: i32 = -6;
 
 /// A received body is longer than a length field can say.
