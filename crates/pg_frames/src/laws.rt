@@ -1,5 +1,5 @@
-//! What follows of streams from what a stream is, for whoever proves more: empty functions, each with
-//! a law as its contract.
+//! What follows of streams from what a stream is, for whoever proves more: the contract of each
+//! function is a law. Those of clones call the clone; the others do nothing.
 
 ghost use Rattle.std.specs.Prelude.{◌≡◌, ◌++◌, ℕ, List, Result, Some, Ok};
 ghost use Rattle.pg_base.specs.declared.error.ProtocolFault.{ProtocolFault};
