@@ -3,15 +3,15 @@ use Rattle.std.proofs.Common.{◌≡◌, ℕ, ◌+◌, ◌<◌, ◌≤◌, Some,
 use Rattle.pg_response.specs.Response.Fields.{BeginsWithField, fields_in}
 use Rattle.pg_response.proofs.ResponseFieldsLemmas.{fields_at}
 use Rattle.pg_c.specs.Fields.{field_in}
-use Rattle.pg_c.specs.declared.read.fields.PgmField.{PgmField}
+use Rattle.pg_c.specs.declared.read.fields.PgmsgField.{PgmsgField}
 use Rattle.pg_c.proofs.ListLemmas.{GivesAll, one_more, no_more}
 use Rattle.pg_c.proofs.PlaceLemmas.{bytes_are}
 
-abbrev pub GivesFields : List ℕ → List ℕ → ℕ → ℕ → List PgmField → List PgmField → Type 0
+abbrev pub GivesFields : List ℕ → List ℕ → ℕ → ℕ → List PgmsgField → List PgmsgField → Type 0
 GivesFields body rest at count old new = GivesAll fields_in (field_in body) body body rest at count old new
 
-module _ (body rest : List ℕ) (at count : ℕ) (old new : List PgmField) (letter : ℕ) (value after : List ℕ) (p : GivesFields body rest at count old new) (q : BeginsWithField rest letter value after) where
-  abbrev place : PgmField
+module _ (body rest : List ℕ) (at count : ℕ) (old new : List PgmsgField) (letter : ℕ) (value after : List ℕ) (p : GivesFields body rest at count old new) (q : BeginsWithField rest letter value after) where
+  abbrev place : PgmsgField
   place = record { letter = letter; value = record { at = at + 1; len = length value } }
 
   abbrev spelled : List ℕ

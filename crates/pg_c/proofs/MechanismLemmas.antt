@@ -3,15 +3,15 @@ use Rattle.std.proofs.Common.{◌≡◌, ℕ, ◌+◌, ◌<◌, ◌≤◌, Some,
 use Rattle.pg_receive.specs.Authentication.Mechanisms.{BeginsWithName, mechanisms_in}
 use Rattle.pg_receive.proofs.AuthenticationMechanismsLemmas.{mechanisms_at}
 use Rattle.pg_c.specs.Place.{part}
-use Rattle.pg_c.specs.declared.place.PgmSpan.{PgmSpan}
+use Rattle.pg_c.specs.declared.place.PgmsgSpan.{PgmsgSpan}
 use Rattle.pg_c.proofs.ListLemmas.{GivesAll, one_more, no_more}
 use Rattle.pg_c.proofs.PlaceLemmas.{bytes_are}
 
-abbrev pub GivesNames : List ℕ → List ℕ → List ℕ → ℕ → ℕ → List PgmSpan → List PgmSpan → Type 0
+abbrev pub GivesNames : List ℕ → List ℕ → List ℕ → ℕ → ℕ → List PgmsgSpan → List PgmsgSpan → Type 0
 GivesNames body start rest at count old new = GivesAll mechanisms_in (part body) body start rest at count old new
 
-module _ (body start rest : List ℕ) (at count : ℕ) (old new : List PgmSpan) (name after : List ℕ) (p : GivesNames body start rest at count old new) (q : BeginsWithName rest name after) where
-  abbrev place : PgmSpan
+module _ (body start rest : List ℕ) (at count : ℕ) (old new : List PgmsgSpan) (name after : List ℕ) (p : GivesNames body start rest at count old new) (q : BeginsWithName rest name after) where
+  abbrev place : PgmsgSpan
   place = record { at = at; len = length name }
 
   abbrev spelled : List ℕ

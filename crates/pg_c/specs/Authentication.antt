@@ -7,8 +7,8 @@ use Rattle.pg_receive.specs.Authentication.{AuthenticationValue, accepted, clear
 use Rattle.pg_receive.specs.Authentication.SaslContinue.{ContinueValue}
 use Rattle.pg_c.specs.Put.{IsGiven}
 use Rattle.pg_c.specs.Read.{IsBodyFault}
-use Rattle.pg_c.specs.declared.read.authentication.PgmAuthentication.{PgmAuthentication}
-use Rattle.pg_c.specs.declared.read.authentication.PgmChallenge.{PgmChallenge}
+use Rattle.pg_c.specs.declared.read.authentication.PgmsgAuthentication.{PgmsgAuthentication}
+use Rattle.pg_c.specs.declared.read.authentication.PgmsgChallenge.{PgmsgChallenge}
 
 -- the salt of a request for an MD5 digest, and zeros of any other
 abbrev pub salt_of : AuthenticationValue → List ℕ
@@ -19,14 +19,14 @@ salt_of (sasl names) = 0 ∷ 0 ∷ 0 ∷ 0 ∷ []
 salt_of (sasl_continue challenge) = 0 ∷ 0 ∷ 0 ∷ 0 ∷ []
 salt_of (sasl_final verifier) = 0 ∷ 0 ∷ 0 ∷ 0 ∷ []
 
-pub record ReadsAuthentication (body : List ℕ) (authentication : PgmAuthentication) : Type 0 where
+pub record ReadsAuthentication (body : List ℕ) (authentication : PgmsgAuthentication) : Type 0 where
   pub value : AuthenticationValue
   pub means : Means requests body value
   pub method : authentication.method ≡ method_of value
   pub salt : authentication.salt ≡ salt_of value
 
 -- the challenge, whose salt and nonce are given
-pub record ReadsChallenge (body : List ℕ) (challenge : PgmChallenge) (salt_old salt_new nonce_old nonce_new : List ℕ) : Type 0 where
+pub record ReadsChallenge (body : List ℕ) (challenge : PgmsgChallenge) (salt_old salt_new nonce_old nonce_new : List ℕ) : Type 0 where
   pub value : ContinueValue
   pub means : Means requests body (sasl_continue value)
   pub iterations : challenge.iterations ≡ value.iterations

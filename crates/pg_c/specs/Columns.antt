@@ -2,10 +2,10 @@
 use Rattle.std.specs.Prelude.{ℕ, List, Option, option_map}
 use Rattle.pg_format.specs.Messages.{Column, table, attribute}
 use Rattle.pg_c.specs.Place.{part}
-use Rattle.pg_c.specs.declared.read.columns.PgmColumn.{PgmColumn}
+use Rattle.pg_c.specs.declared.read.columns.PgmsgColumn.{PgmsgColumn}
 
 -- the column of a name
-abbrev pub column_named : PgmColumn → List ℕ → Column
+abbrev pub column_named : PgmsgColumn → List ℕ → Column
 column_named column name = record {
   name = name;
   relation_id = table column.table;
@@ -16,5 +16,5 @@ column_named column name = record {
   format = column.format;
 }
 
-abbrev pub column_in : List ℕ → PgmColumn → Option Column
+abbrev pub column_in : List ℕ → PgmsgColumn → Option Column
 column_in body column = option_map (column_named column) (part body column.name)

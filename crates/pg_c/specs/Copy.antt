@@ -3,10 +3,10 @@ use Rattle.std.specs.Prelude.{◌≡◌, ℕ, ℤ, pos, List, Some, length}
 use Rattle.pg_format.specs.Format.{Means}
 use Rattle.pg_format.specs.Messages.{CopyResponse, copy_response}
 use Rattle.pg_c.specs.Read.{AreGiven}
-use Rattle.pg_c.specs.declared.read.copy.PgmCopyResponse.{PgmCopyResponse}
+use Rattle.pg_c.specs.declared.read.copy.PgmsgCopyResponse.{PgmsgCopyResponse}
 
 -- the body means these formats, as many as the result, and they are given
-pub record ReadsFormats (body : List ℕ) (response : PgmCopyResponse) (old new : List ℤ) (result : ℤ) : Type 0 where
+pub record ReadsFormats (body : List ℕ) (response : PgmsgCopyResponse) (old new : List ℤ) (result : ℤ) : Type 0 where
   pub formats : CopyResponse
   pub means : Means copy_response body formats
   pub format : response.format ≡ formats.format

@@ -5,9 +5,9 @@ use Rattle.pg_response.specs.Response.Severity.{severity_number}
 use Rattle.pg_format.specs.Format.{Means}
 use Rattle.pg_response.specs.Response.{NoticeValue, notices}
 use Rattle.pg_c.specs.Place.{part}
-use Rattle.pg_c.specs.declared.read.fields.PgmField.{PgmField}
+use Rattle.pg_c.specs.declared.read.fields.PgmsgField.{PgmsgField}
 
-abbrev pub field_in : List ℕ → PgmField → Option Field
+abbrev pub field_in : List ℕ → PgmsgField → Option Field
 field_in body field = option_map (λ value. (field.letter, value)) (part body field.value)
 
 -- the number of the severity of the error or notice that the body is

@@ -4,10 +4,10 @@ use Rattle.pg_base.specs.Cutting.{Begins}
 use Rattle.pg_base.specs.Format.{IsBackendTag}
 use Rattle.pg_frames.specs.Stream.{Announces}
 use Rattle.pg_c.specs.Place.{part}
-use Rattle.pg_c.specs.declared.read.frame.PgmFrame.{PgmFrame}
+use Rattle.pg_c.specs.declared.read.frame.PgmsgFrame.{PgmsgFrame}
 
 -- the message is whole: its tag, which a server sends, the place of its body, and its length with both
-pub record IsWhole (stream : List ℕ) (frame : PgmFrame) : Type 0 where
+pub record IsWhole (stream : List ℕ) (frame : PgmsgFrame) : Type 0 where
   pub body : List ℕ
   pub known : IsBackendTag frame.tag
   pub begins : Begins stream frame.tag body (drop frame.length stream)

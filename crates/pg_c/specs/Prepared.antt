@@ -10,14 +10,14 @@ use Rattle.pg_request.specs.Target.{Portal}
 use Rattle.pg_base.specs.declared.error.Error.TheVariants.{OutOfMemory}
 use Rattle.pg_base.specs.declared.error.ProtocolFault.TheVariants.{BadParams}
 use Rattle.pg_c.specs.Refusal.{fault_number, refusal_number, too_long_number}
-use Rattle.pg_c.specs.declared.put.prepared.PgmValue.{PgmValue}
+use Rattle.pg_c.specs.declared.put.prepared.PgmsgValue.{PgmsgValue}
 
 -- 0 is text, and anything else binary
 abbrev pub format_of : ℕ → ℕ
 format_of number = if number == 0 then 0 else 1
 
 -- NULL, or a value
-abbrev pub value_of : PgmValue → Option (List ℕ)
+abbrev pub value_of : PgmsgValue → Option (List ℕ)
 value_of value = if value.is_null then None else Some value.bytes.now
 
 -- as a Bind has it: after its length, which is -1 for NULL
@@ -25,19 +25,19 @@ abbrev pub spelled : Option (List ℕ) → List ℕ
 spelled None = be32 null_length
 spelled (Some value) = be32 (length value) ++ value
 
-abbrev pub values_spelled : List PgmValue → List ℕ
-values_spelled values = flat_map (λ (value : PgmValue). spelled (value_of value)) values
+abbrev pub values_spelled : List PgmsgValue → List ℕ
+values_spelled values = flat_map (λ (value : PgmsgValue). spelled (value_of value)) values
 
 -- NULL, or a value that isn't too long for any message
-abbrev pub fits : PgmValue → Bool
+abbrev pub fits : PgmsgValue → Bool
 fits value = value.is_null || nat_le (length value.bytes.now + 4) max_length
 
 -- the number of the refusal of more values than a Bind can count, or else of one that is too long
-abbrev pub values_refusal : List PgmValue → Option ℤ
+abbrev pub values_refusal : List PgmsgValue → Option ℤ
 values_refusal values = if nat_le (length values) max_count then (if list_all fits values then None else Some too_long_number) else Some (fault_number BadParams)
 
 -- the Bind of these
-abbrev pub bind_of : ℕ → ℕ → List ℕ → List PgmValue → List ℕ → BindFields
+abbrev pub bind_of : ℕ → ℕ → List ℕ → List PgmsgValue → List ℕ → BindFields
 bind_of portal statement formats values result_formats = record {
   portal = portal;
   statement = statement;

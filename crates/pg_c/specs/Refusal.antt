@@ -5,7 +5,7 @@ use Rattle.pg_base.specs.declared.error.ProtocolFault.{ProtocolFault}
 use Rattle.pg_base.specs.declared.error.ProtocolFault.TheVariants as faults
 use Rattle.pg_base.specs.declared.error.Error.{Error}
 use Rattle.pg_base.specs.declared.error.Error.TheVariants.{Protocol, OutOfMemory}
-use Rattle.pg_c.specs.declared.refusal.PgmFault.{PgmFault}
+use Rattle.pg_c.specs.declared.refusal.PgmsgFault.{PgmsgFault}
 
 -- the number of any message or value that is too long
 abbrev pub too_long_number : ℤ
@@ -48,7 +48,7 @@ fault_place (Protocol reading fault) = place_in fault
 fault_place OutOfMemory = 0
 
 -- an error is reported with its number, its offset and its words, or without words; what follows the words is as it was
-pub record IsReport (error : Error) (old fault : PgmFault) (result : ℤ) : Type 0 where
+pub record IsReport (error : Error) (old fault : PgmsgFault) (result : ℤ) : Type 0 where
   pub returned : result ≡ refusal_number error
   pub number : fault.number ≡ refusal_number error
   pub at : fault.at ≡ fault_place error
@@ -61,7 +61,7 @@ IsErrorOf IsFault AsksForMemory (Protocol reading fault) = (reading ≡ None) ×
 IsErrorOf IsFault AsksForMemory OutOfMemory = AsksForMemory
 
 -- a call that reads refuses for a fault that the bytes have; memory ran out only where it was asked for
-pub record Refuses (IsFault : ProtocolFault → Type 0) (AsksForMemory : Type 0) (old fault : PgmFault) (result : ℤ) : Type 0 where
+pub record Refuses (IsFault : ProtocolFault → Type 0) (AsksForMemory : Type 0) (old fault : PgmsgFault) (result : ℤ) : Type 0 where
   pub error : Error
   pub is : IsErrorOf IsFault AsksForMemory error
   pub report : IsReport error old fault result

@@ -1,7 +1,7 @@
 -- What the place of a cell says of the body: nothing where it is of no cell.
 use Rattle.std.specs.Prelude.{ℕ, zero, suc, ℤ, pos, negsuc, List, Option, Some, None, option_map}
 use Rattle.pg_c.specs.Place.{bytes_in}
-use Rattle.pg_c.specs.declared.read.row.PgmCell.{PgmCell}
+use Rattle.pg_c.specs.declared.read.row.PgmsgCell.{PgmsgCell}
 
 -- so many bytes from an offset on, or NULL by a length of -1
 abbrev pub value_in : List ℕ → ℕ → ℤ → Option (Option (List ℕ))
@@ -9,5 +9,5 @@ value_in body at (pos len) = option_map (λ value. Some value) (bytes_in body at
 value_in body at (negsuc zero) = Some None
 value_in body at (negsuc (suc n)) = None
 
-abbrev pub cell_in : List ℕ → PgmCell → Option (Option (List ℕ))
+abbrev pub cell_in : List ℕ → PgmsgCell → Option (Option (List ℕ))
 cell_in body cell = value_in body cell.at cell.len

@@ -6,16 +6,16 @@ use Rattle.pg_base.specs.declared.error.ProtocolFault.TheVariants.{TextHoldsNul}
 use Rattle.pg_request.specs.Frame.{first_fault, IsStrictAnswerOf}
 use Rattle.pg_request.specs.Startup.{StartupFields, StartupCanRoundTrip, startup_body, startup_text}
 use Rattle.pg_c.specs.Put.{Answer, IsPut}
-use Rattle.pg_c.specs.declared.put.session.PgmSetting.{PgmSetting}
+use Rattle.pg_c.specs.declared.put.session.PgmsgSetting.{PgmsgSetting}
 
-abbrev pub name_and_value : PgmSetting → List ℕ × List ℕ
+abbrev pub name_and_value : PgmsgSetting → List ℕ × List ℕ
 name_and_value setting = (setting.name.now, setting.value.now)
 
 -- name and value are UTF-8
-abbrev pub is_text : PgmSetting → Bool
+abbrev pub is_text : PgmsgSetting → Bool
 is_text setting = is_utf8 setting.name.now && is_utf8 setting.value.now
 
-abbrev pub startup_of : List PgmSetting → StartupFields
+abbrev pub startup_of : List PgmsgSetting → StartupFields
 startup_of settings = record { username = None; database = None; params = map name_and_value settings }
 
 -- the startup message of these settings is put, or refused for its length, or else exactly where the
@@ -26,5 +26,5 @@ pub record PutsSettings (fields : StartupFields) (old new : List ℕ) (result : 
   pub put : IsPut (startup_text fields) answer old new result
 
 -- the same, where memory may run out before the message is made
-abbrev pub PutsStartup : List PgmSetting → List ℕ → List ℕ → ℤ → Type 0
+abbrev pub PutsStartup : List PgmsgSetting → List ℕ → List ℕ → ℤ → Type 0
 PutsStartup settings old new result = PutsSettings (startup_of settings) old new result ⊎ IsPut [] (Err OutOfMemory) old new result

@@ -3,11 +3,11 @@ use Rattle.std.specs.Prelude.{◌≡◌, ℕ, ℤ, pos, List, Some}
 use Rattle.pg_format.specs.Format.{Means}
 use Rattle.pg_format.specs.Messages.{Notification, notification, Setting, parameter_status, Status, status_letter, ready_for_query}
 use Rattle.pg_c.specs.Place.{part}
-use Rattle.pg_c.specs.declared.read.status.PgmNotification.{PgmNotification}
-use Rattle.pg_c.specs.declared.read.status.PgmParameterStatus.{PgmParameterStatus}
+use Rattle.pg_c.specs.declared.read.status.PgmsgNotification.{PgmsgNotification}
+use Rattle.pg_c.specs.declared.read.status.PgmsgParameterStatus.{PgmsgParameterStatus}
 
 -- the body means a notification, and this is it
-pub record ReadsNotification (body : List ℕ) (read : PgmNotification) : Type 0 where
+pub record ReadsNotification (body : List ℕ) (read : PgmsgNotification) : Type 0 where
   pub value : Notification
   pub means : Means notification body value
   pub process_id : read.process_id ≡ value.process_id
@@ -15,7 +15,7 @@ pub record ReadsNotification (body : List ℕ) (read : PgmNotification) : Type 0
   pub payload : part body read.payload ≡ Some value.payload
 
 -- the body means a setting, and this is it
-pub record ReadsSetting (body : List ℕ) (status : PgmParameterStatus) : Type 0 where
+pub record ReadsSetting (body : List ℕ) (status : PgmsgParameterStatus) : Type 0 where
   pub setting : Setting
   pub means : Means parameter_status body setting
   pub name : part body status.name ≡ Some setting.name

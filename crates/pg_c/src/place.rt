@@ -3,7 +3,7 @@
 /// A place in the bytes that were passed: `len` of them from `at` on.
 #[repr(C)]
 #[derive(Clone, Copy)]
-pub struct PgmSpan {
+pub struct PgmsgSpan {
     pub at: usize,
     pub len: usize,
 }

@@ -70,7 +70,7 @@ pub const BAD_PARAMS: i32 = -20;
 /// in them, where the fault has one, else 0. `words` are `words_len` bytes of ASCII, none where
 /// there was no memory for them.
 #[repr(C)]
-pub struct PgmFault {
+pub struct PgmsgFault {
     pub number: i32,
     pub at: usize,
     pub words_len: usize,
@@ -127,7 +127,7 @@ fn place_of(error: Error) -> usize
 }
 
 /// Fills the fault with an error, and gives its number.
-pub fn report(alloc: Global, error: Error, fault: &mut PgmFault) -> i32
+pub fn report(alloc: Global, error: Error, fault: &mut PgmsgFault) -> i32
     ensures { IsReport error fault.old fault.new result }
 {
     let number = number_of(error);

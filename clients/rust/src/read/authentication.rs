@@ -53,7 +53,7 @@ pub fn authentication(body: &[u8]) -> Result<Authentication<'_>, Fault> {
     let mut fault = sys::Fault::new();
     // SAFETY: `body` is a slice, valid for its length; `read` and `fault` are apart from it.
     let number =
-        unsafe { sys::pgm_read_authentication(body.as_ptr(), body.len(), &mut read, &mut fault) };
+        unsafe { sys::pgmsg_read_authentication(body.as_ptr(), body.len(), &mut read, &mut fault) };
     answer(number as isize, &fault)?;
     match read.method {
         0 => Ok(Authentication::Ok),
@@ -71,7 +71,7 @@ fn mechanisms(body: &[u8]) -> Result<Vec<&str>, Fault> {
     let places = fill(&mut room, |room: &mut [sys::Span]| {
         // SAFETY: both are slices, valid for their lengths, and `&mut` keeps `room` apart.
         let count = unsafe {
-            sys::pgm_read_mechanisms(body.as_ptr(), body.len(), room.as_mut_ptr(), room.len())
+            sys::pgmsg_read_mechanisms(body.as_ptr(), body.len(), room.as_mut_ptr(), room.len())
         };
         Ok(count)
     })?;
@@ -103,7 +103,7 @@ fn challenge_into(body: &[u8], salt: &mut [u8], nonce: &mut [u8]) -> Result<sys:
     // SAFETY: `body`, `salt` and `nonce` are slices, valid for their lengths, and `&mut` keeps all
     // that is written apart.
     let number = unsafe {
-        sys::pgm_read_challenge(
+        sys::pgmsg_read_challenge(
             body.as_ptr(),
             body.len(),
             &mut read,
@@ -125,7 +125,7 @@ fn verifier(body: &[u8]) -> Result<Vec<u8>, Fault> {
         // SAFETY: `body` and `room` are slices, valid for their lengths, and `&mut` keeps `room`
         // and `fault` apart.
         let length = unsafe {
-            sys::pgm_read_verifier(
+            sys::pgmsg_read_verifier(
                 body.as_ptr(),
                 body.len(),
                 room.as_mut_ptr(),

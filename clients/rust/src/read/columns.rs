@@ -33,7 +33,7 @@ pub fn columns(body: &[u8]) -> Result<Vec<Column<'_>>, Fault> {
         // SAFETY: `body` and `room` are slices, valid for their lengths, and `&mut` keeps `room`
         // and `fault` apart.
         let count = unsafe {
-            sys::pgm_read_columns(
+            sys::pgmsg_read_columns(
                 body.as_ptr(),
                 body.len(),
                 room.as_mut_ptr(),
@@ -69,7 +69,7 @@ pub fn parameter_types(body: &[u8]) -> Result<Vec<u32>, Fault> {
         // SAFETY: `body` and `room` are slices, valid for their lengths, and `&mut` keeps `room`
         // and `fault` apart.
         let count = unsafe {
-            sys::pgm_read_parameter_types(
+            sys::pgmsg_read_parameter_types(
                 body.as_ptr(),
                 body.len(),
                 room.as_mut_ptr(),

@@ -25,7 +25,7 @@ pub fn copy_response(body: &[u8]) -> Result<CopyResponse, Fault> {
         // SAFETY: `body` and `room` are slices, valid for their lengths, and `&mut` keeps `room`,
         // `response` and `fault` apart.
         let count = unsafe {
-            sys::pgm_read_copy_response(
+            sys::pgmsg_read_copy_response(
                 body.as_ptr(),
                 body.len(),
                 &mut response,

@@ -109,7 +109,7 @@ pub fn fields(body: &[u8]) -> Result<Fields<'_>, Fault> {
     let fields = fill(&mut room, |room: &mut [sys::Field]| {
         // SAFETY: both are slices, valid for their lengths, and `&mut` keeps `room` apart.
         let count = unsafe {
-            sys::pgm_read_fields(body.as_ptr(), body.len(), room.as_mut_ptr(), room.len())
+            sys::pgmsg_read_fields(body.as_ptr(), body.len(), room.as_mut_ptr(), room.len())
         };
         Ok(count)
     })?;
@@ -166,7 +166,7 @@ const SEVERITIES: [Severity; 8] = [
 pub fn severity(body: &[u8]) -> Result<Severity, Fault> {
     let mut fault = sys::Fault::new();
     // SAFETY: `body` is a slice, valid for its length, and `fault` is apart from it.
-    let number = unsafe { sys::pgm_read_severity(body.as_ptr(), body.len(), &mut fault) };
+    let number = unsafe { sys::pgmsg_read_severity(body.as_ptr(), body.len(), &mut fault) };
     let number = answer(number as isize, &fault)?;
     let severity = SEVERITIES.get(number).copied();
     severity.ok_or_else(|| Fault::unexpected(number))

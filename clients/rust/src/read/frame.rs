@@ -38,7 +38,7 @@ pub fn next_frame(stream: &[u8]) -> Result<Next<'_>, Fault> {
     let mut fault = sys::Fault::new();
     // SAFETY: `stream` is a slice, valid for its length; `frame` and `fault` are apart from it.
     let number =
-        unsafe { sys::pgm_next_frame(stream.as_ptr(), stream.len(), &mut frame, &mut fault) };
+        unsafe { sys::pgmsg_next_frame(stream.as_ptr(), stream.len(), &mut frame, &mut fault) };
     match answer(number as isize, &fault)? {
         0 => Ok(Next::Incomplete {
             needed: frame.length,

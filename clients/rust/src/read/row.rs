@@ -39,7 +39,7 @@ impl RowReader {
             // SAFETY: `body` and `room` are slices, valid for their lengths, and `&mut` keeps
             // `room` and `fault` apart.
             let count = unsafe {
-                sys::pgm_read_row(
+                sys::pgmsg_read_row(
                     body.as_ptr(),
                     body.len(),
                     room.as_mut_ptr(),

@@ -21,7 +21,7 @@ pub fn notification(body: &[u8]) -> Result<Notification<'_>, Fault> {
     let mut fault = sys::Fault::new();
     // SAFETY: `body` is a slice, valid for its length; `read` and `fault` are apart from it.
     let number =
-        unsafe { sys::pgm_read_notification(body.as_ptr(), body.len(), &mut read, &mut fault) };
+        unsafe { sys::pgmsg_read_notification(body.as_ptr(), body.len(), &mut read, &mut fault) };
     answer(number as isize, &fault)?;
     Ok(Notification {
         process_id: read.process_id,
@@ -45,7 +45,7 @@ pub fn parameter_status(body: &[u8]) -> Result<ParameterStatus<'_>, Fault> {
     let mut fault = sys::Fault::new();
     // SAFETY: `body` is a slice, valid for its length; `read` and `fault` are apart from it.
     let number =
-        unsafe { sys::pgm_read_parameter_status(body.as_ptr(), body.len(), &mut read, &mut fault) };
+        unsafe { sys::pgmsg_read_parameter_status(body.as_ptr(), body.len(), &mut read, &mut fault) };
     answer(number as isize, &fault)?;
     Ok(ParameterStatus {
         name: text(body, read.name)?,
@@ -68,7 +68,7 @@ pub fn key_data(body: &[u8]) -> Result<KeyData, Fault> {
     let mut fault = sys::Fault::new();
     // SAFETY: `body` is a slice, valid for its length; `read` and `fault` are apart from it.
     let number =
-        unsafe { sys::pgm_read_key_data(body.as_ptr(), body.len(), &mut read, &mut fault) };
+        unsafe { sys::pgmsg_read_key_data(body.as_ptr(), body.len(), &mut read, &mut fault) };
     answer(number as isize, &fault)?;
     Ok(KeyData {
         process_id: read.process_id,
@@ -80,7 +80,7 @@ pub fn key_data(body: &[u8]) -> Result<KeyData, Fault> {
 /// last space, and 0 where there is none.
 pub fn rows_affected(body: &[u8]) -> u64 {
     // SAFETY: `body` is a slice, valid for its length.
-    unsafe { sys::pgm_read_rows_affected(body.as_ptr(), body.len()) }
+    unsafe { sys::pgmsg_read_rows_affected(body.as_ptr(), body.len()) }
 }
 
 /// Whether a transaction is open.
@@ -98,7 +98,7 @@ pub enum TransactionStatus {
 pub fn ready(body: &[u8]) -> Result<TransactionStatus, Fault> {
     let mut fault = sys::Fault::new();
     // SAFETY: `body` is a slice, valid for its length, and `fault` is apart from it.
-    let number = unsafe { sys::pgm_read_ready(body.as_ptr(), body.len(), &mut fault) };
+    let number = unsafe { sys::pgmsg_read_ready(body.as_ptr(), body.len(), &mut fault) };
     let letter = answer(number as isize, &fault)?;
     match u8::try_from(letter) {
         Ok(b'I') => Ok(TransactionStatus::Idle),

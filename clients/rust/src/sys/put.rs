@@ -3,44 +3,44 @@
 use super::{Setting, Value};
 
 extern "C" {
-    pub fn pgm_put_startup(
+    pub fn pgmsg_put_startup(
         settings: *const Setting,
         settings_len: usize,
         out: *mut u8,
         out_len: usize,
     ) -> isize;
-    pub fn pgm_put_ssl_request(out: *mut u8, out_len: usize) -> isize;
-    pub fn pgm_put_password(
+    pub fn pgmsg_put_ssl_request(out: *mut u8, out_len: usize) -> isize;
+    pub fn pgmsg_put_password(
         password: *const u8,
         password_len: usize,
         out: *mut u8,
         out_len: usize,
     ) -> isize;
-    pub fn pgm_put_md5_password(digest: *const [u8; 16], out: *mut u8, out_len: usize) -> isize;
-    pub fn pgm_put_sasl_initial(
+    pub fn pgmsg_put_md5_password(digest: *const [u8; 16], out: *mut u8, out_len: usize) -> isize;
+    pub fn pgmsg_put_sasl_initial(
         response: *const u8,
         response_len: usize,
         plus: bool,
         out: *mut u8,
         out_len: usize,
     ) -> isize;
-    pub fn pgm_put_sasl_response(
+    pub fn pgmsg_put_sasl_response(
         response: *const u8,
         response_len: usize,
         out: *mut u8,
         out_len: usize,
     ) -> isize;
-    pub fn pgm_put_terminate(out: *mut u8, out_len: usize) -> isize;
-    pub fn pgm_put_query(query: *const u8, query_len: usize, out: *mut u8, out_len: usize)
+    pub fn pgmsg_put_terminate(out: *mut u8, out_len: usize) -> isize;
+    pub fn pgmsg_put_query(query: *const u8, query_len: usize, out: *mut u8, out_len: usize)
         -> isize;
-    pub fn pgm_put_describe_statement(statement: u32, out: *mut u8, out_len: usize) -> isize;
-    pub fn pgm_put_describe_portal(portal: u32, out: *mut u8, out_len: usize) -> isize;
-    pub fn pgm_put_close_statement(statement: u32, out: *mut u8, out_len: usize) -> isize;
-    pub fn pgm_put_close_portal(portal: u32, out: *mut u8, out_len: usize) -> isize;
-    pub fn pgm_put_execute(portal: u32, limit: u32, out: *mut u8, out_len: usize) -> isize;
-    pub fn pgm_put_flush(out: *mut u8, out_len: usize) -> isize;
-    pub fn pgm_put_sync(out: *mut u8, out_len: usize) -> isize;
-    pub fn pgm_put_parse(
+    pub fn pgmsg_put_describe_statement(statement: u32, out: *mut u8, out_len: usize) -> isize;
+    pub fn pgmsg_put_describe_portal(portal: u32, out: *mut u8, out_len: usize) -> isize;
+    pub fn pgmsg_put_close_statement(statement: u32, out: *mut u8, out_len: usize) -> isize;
+    pub fn pgmsg_put_close_portal(portal: u32, out: *mut u8, out_len: usize) -> isize;
+    pub fn pgmsg_put_execute(portal: u32, limit: u32, out: *mut u8, out_len: usize) -> isize;
+    pub fn pgmsg_put_flush(out: *mut u8, out_len: usize) -> isize;
+    pub fn pgmsg_put_sync(out: *mut u8, out_len: usize) -> isize;
+    pub fn pgmsg_put_parse(
         statement: u32,
         query: *const u8,
         query_len: usize,
@@ -49,7 +49,7 @@ extern "C" {
         out: *mut u8,
         out_len: usize,
     ) -> isize;
-    pub fn pgm_put_bind(
+    pub fn pgmsg_put_bind(
         portal: u32,
         statement: u32,
         formats: *const u8,
@@ -61,7 +61,7 @@ extern "C" {
         out: *mut u8,
         out_len: usize,
     ) -> isize;
-    pub fn pgm_put_batch(
+    pub fn pgmsg_put_batch(
         query: *const u8,
         query_len: usize,
         formats: *const u8,
@@ -73,15 +73,15 @@ extern "C" {
         out: *mut u8,
         out_len: usize,
     ) -> isize;
-    pub fn pgm_put_copy_data(
+    pub fn pgmsg_put_copy_data(
         data: *const u8,
         data_len: usize,
         out: *mut u8,
         out_len: usize,
     ) -> isize;
-    pub fn pgm_put_copy_head(len: usize, head: *mut [u8; 5]) -> i32;
-    pub fn pgm_put_copy_done(out: *mut u8, out_len: usize) -> isize;
-    pub fn pgm_put_copy_fail(
+    pub fn pgmsg_put_copy_head(len: usize, head: *mut [u8; 5]) -> i32;
+    pub fn pgmsg_put_copy_done(out: *mut u8, out_len: usize) -> isize;
+    pub fn pgmsg_put_copy_fail(
         reason: *const u8,
         reason_len: usize,
         out: *mut u8,

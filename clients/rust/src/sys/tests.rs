@@ -7,7 +7,7 @@ use std::io::Write;
 use std::mem::{offset_of, size_of};
 use std::process::{Command, Stdio};
 
-const HEADER: &str = include_str!(concat!(env!("CARGO_MANIFEST_DIR"), "/../pg_message.h"));
+const HEADER: &str = include_str!(concat!(env!("CARGO_MANIFEST_DIR"), "/../c/include/pg_message.h"));
 const HEADER_FOLDER: &str = concat!(env!("CARGO_MANIFEST_DIR"), "/..");
 const DECLARATIONS: &str = concat!(include_str!("put.rs"), include_str!("read.rs"));
 
@@ -32,20 +32,20 @@ macro_rules! layout {
 #[test]
 fn layouts_are_those_of_a_c_compiler() {
     let assertions = [
-        layout!(Span, pgm_span, at len),
-        layout!(Setting, pgm_setting, name name_len value value_len),
-        layout!(Value, pgm_value, bytes bytes_len is_null),
-        layout!(Fault, pgm_fault, number at words_len words),
-        layout!(Frame, pgm_frame, tag body length),
-        layout!(Cell, pgm_cell, at len),
-        layout!(Column, pgm_column, name table attribute type_id type_size type_modifier format),
-        layout!(Field, pgm_field, letter value),
-        layout!(Notification, pgm_notification, process_id channel payload),
-        layout!(ParameterStatus, pgm_parameter_status, name value),
-        layout!(KeyData, pgm_key_data, process_id secret_key),
-        layout!(CopyResponse, pgm_copy_response, format columns),
-        layout!(Authentication, pgm_authentication, method salt),
-        layout!(Challenge, pgm_challenge, iterations salt_len nonce_len),
+        layout!(Span, pgmsg_span, at len),
+        layout!(Setting, pgmsg_setting, name name_len value value_len),
+        layout!(Value, pgmsg_value, bytes bytes_len is_null),
+        layout!(Fault, pgmsg_fault, number at words_len words),
+        layout!(Frame, pgmsg_frame, tag body length),
+        layout!(Cell, pgmsg_cell, at len),
+        layout!(Column, pgmsg_column, name table attribute type_id type_size type_modifier format),
+        layout!(Field, pgmsg_field, letter value),
+        layout!(Notification, pgmsg_notification, process_id channel payload),
+        layout!(ParameterStatus, pgmsg_parameter_status, name value),
+        layout!(KeyData, pgmsg_key_data, process_id secret_key),
+        layout!(CopyResponse, pgmsg_copy_response, format columns),
+        layout!(Authentication, pgmsg_authentication, method salt),
+        layout!(Challenge, pgmsg_challenge, iterations salt_len nonce_len),
     ];
     compile(&assertions.concat());
 }
@@ -53,11 +53,11 @@ fn layouts_are_those_of_a_c_compiler() {
 #[test]
 fn refusals_have_the_numbers_of_the_header() {
     let numbers = -20..=-1;
-    let count = without_comments(HEADER).matches("PGM_").count();
+    let count = without_comments(HEADER).matches("PGMSG_").count();
     assert_eq!(count, numbers.clone().count());
     let assertions = numbers.map(|number| {
         let name = upper_snake(&format!("{:?}", Refusal::from_number(number)));
-        format!("_Static_assert(PGM_{name} == {number}, \"{name}\");\n")
+        format!("_Static_assert(PGMSG_{name} == {number}, \"{name}\");\n")
     });
     compile(&assertions.collect::<String>());
 }
@@ -154,7 +154,7 @@ fn type_of(name: &str) -> String {
         "uint64_t" => "u64".into(),
         "int16_t" => "i16".into(),
         "int32_t" => "i32".into(),
-        _ => camel(name.strip_prefix("pgm_").expect("a type of the header")),
+        _ => camel(name.strip_prefix("pgmsg_").expect("a type of the header")),
     }
 }
 

@@ -13,7 +13,7 @@ use crate::sys;
 pub fn copy_head(len: usize) -> Result<[u8; 5], Refusal> {
     let mut head = [0; 5];
     // SAFETY: `head` is an array of the five bytes that the call writes.
-    let number = unsafe { sys::pgm_put_copy_head(len, &mut head) };
+    let number = unsafe { sys::pgmsg_put_copy_head(len, &mut head) };
     match number {
         0 => Ok(head),
         _ => Err(Refusal::from_number(number as isize)),
@@ -28,7 +28,7 @@ impl Messages {
         self.put(|out| {
             // SAFETY: both are slices, valid for their lengths, and `&mut` keeps `out` apart.
             unsafe {
-                sys::pgm_put_copy_data(data.as_ptr(), data.len(), out.as_mut_ptr(), out.len())
+                sys::pgmsg_put_copy_data(data.as_ptr(), data.len(), out.as_mut_ptr(), out.len())
             }
         })
     }
@@ -37,7 +37,7 @@ impl Messages {
     pub fn copy_done(&mut self) -> Result<&mut Self, Refusal> {
         self.put(|out| {
             // SAFETY: `out` is a slice, valid for its length.
-            unsafe { sys::pgm_put_copy_done(out.as_mut_ptr(), out.len()) }
+            unsafe { sys::pgmsg_put_copy_done(out.as_mut_ptr(), out.len()) }
         })
     }
 
@@ -48,7 +48,7 @@ impl Messages {
         self.put(|out| {
             // SAFETY: both are slices, valid for their lengths, and `&mut` keeps `out` apart.
             unsafe {
-                sys::pgm_put_copy_fail(reason.as_ptr(), reason.len(), out.as_mut_ptr(), out.len())
+                sys::pgmsg_put_copy_fail(reason.as_ptr(), reason.len(), out.as_mut_ptr(), out.len())
             }
         })
     }

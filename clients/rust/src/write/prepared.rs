@@ -22,7 +22,7 @@ impl Messages {
         self.put(|out| {
             // SAFETY: all are slices, valid for their lengths, and `&mut` keeps `out` apart.
             unsafe {
-                sys::pgm_put_parse(
+                sys::pgmsg_put_parse(
                     statement.0,
                     query.as_ptr(),
                     query.len(),
@@ -51,7 +51,7 @@ impl Messages {
             // SAFETY: all are slices, valid for their lengths, as are those that `values` points
             // to; `&mut` keeps `out` apart. A format is one byte.
             unsafe {
-                sys::pgm_put_bind(
+                sys::pgmsg_put_bind(
                     portal.0,
                     statement.0,
                     codes(parameters.formats),
@@ -78,7 +78,7 @@ impl Messages {
             // SAFETY: all are slices, valid for their lengths, as are those that `values` points
             // to; `&mut` keeps `out` apart. A format is one byte.
             unsafe {
-                sys::pgm_put_batch(
+                sys::pgmsg_put_batch(
                     query.as_ptr(),
                     query.len(),
                     codes(parameters.formats),

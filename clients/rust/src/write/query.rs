@@ -12,7 +12,7 @@ impl Messages {
     pub fn query(&mut self, query: &str) -> Result<&mut Self, Refusal> {
         self.put(|out| {
             // SAFETY: both are slices, valid for their lengths, and `&mut` keeps `out` apart.
-            unsafe { sys::pgm_put_query(query.as_ptr(), query.len(), out.as_mut_ptr(), out.len()) }
+            unsafe { sys::pgmsg_put_query(query.as_ptr(), query.len(), out.as_mut_ptr(), out.len()) }
         })
     }
 
@@ -20,7 +20,7 @@ impl Messages {
     pub fn describe_statement(&mut self, statement: Statement) -> Result<&mut Self, Refusal> {
         self.put(|out| {
             // SAFETY: `out` is a slice, valid for its length.
-            unsafe { sys::pgm_put_describe_statement(statement.0, out.as_mut_ptr(), out.len()) }
+            unsafe { sys::pgmsg_put_describe_statement(statement.0, out.as_mut_ptr(), out.len()) }
         })
     }
 
@@ -28,7 +28,7 @@ impl Messages {
     pub fn describe_portal(&mut self, portal: Portal) -> Result<&mut Self, Refusal> {
         self.put(|out| {
             // SAFETY: `out` is a slice, valid for its length.
-            unsafe { sys::pgm_put_describe_portal(portal.0, out.as_mut_ptr(), out.len()) }
+            unsafe { sys::pgmsg_put_describe_portal(portal.0, out.as_mut_ptr(), out.len()) }
         })
     }
 
@@ -43,7 +43,7 @@ impl Messages {
         let limit = limit.map_or(0, NonZeroU32::get);
         self.put(|out| {
             // SAFETY: `out` is a slice, valid for its length.
-            unsafe { sys::pgm_put_execute(portal.0, limit, out.as_mut_ptr(), out.len()) }
+            unsafe { sys::pgmsg_put_execute(portal.0, limit, out.as_mut_ptr(), out.len()) }
         })
     }
 
@@ -51,7 +51,7 @@ impl Messages {
     pub fn close_statement(&mut self, statement: Statement) -> Result<&mut Self, Refusal> {
         self.put(|out| {
             // SAFETY: `out` is a slice, valid for its length.
-            unsafe { sys::pgm_put_close_statement(statement.0, out.as_mut_ptr(), out.len()) }
+            unsafe { sys::pgmsg_put_close_statement(statement.0, out.as_mut_ptr(), out.len()) }
         })
     }
 
@@ -59,7 +59,7 @@ impl Messages {
     pub fn close_portal(&mut self, portal: Portal) -> Result<&mut Self, Refusal> {
         self.put(|out| {
             // SAFETY: `out` is a slice, valid for its length.
-            unsafe { sys::pgm_put_close_portal(portal.0, out.as_mut_ptr(), out.len()) }
+            unsafe { sys::pgmsg_put_close_portal(portal.0, out.as_mut_ptr(), out.len()) }
         })
     }
 
@@ -67,7 +67,7 @@ impl Messages {
     pub fn flush(&mut self) -> Result<&mut Self, Refusal> {
         self.put(|out| {
             // SAFETY: `out` is a slice, valid for its length.
-            unsafe { sys::pgm_put_flush(out.as_mut_ptr(), out.len()) }
+            unsafe { sys::pgmsg_put_flush(out.as_mut_ptr(), out.len()) }
         })
     }
 
@@ -75,7 +75,7 @@ impl Messages {
     pub fn sync(&mut self) -> Result<&mut Self, Refusal> {
         self.put(|out| {
             // SAFETY: `out` is a slice, valid for its length.
-            unsafe { sys::pgm_put_sync(out.as_mut_ptr(), out.len()) }
+            unsafe { sys::pgmsg_put_sync(out.as_mut_ptr(), out.len()) }
         })
     }
 }

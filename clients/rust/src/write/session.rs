@@ -36,7 +36,7 @@ impl Messages {
             // SAFETY: both are slices, valid for their lengths, as are those that `settings`
             // points to; `&mut` keeps `out` apart.
             unsafe {
-                sys::pgm_put_startup(
+                sys::pgmsg_put_startup(
                     settings.as_ptr(),
                     settings.len(),
                     out.as_mut_ptr(),
@@ -52,7 +52,7 @@ impl Messages {
     pub fn ssl_request(&mut self) -> Result<&mut Self, Refusal> {
         self.put(|out| {
             // SAFETY: `out` is a slice, valid for its length.
-            unsafe { sys::pgm_put_ssl_request(out.as_mut_ptr(), out.len()) }
+            unsafe { sys::pgmsg_put_ssl_request(out.as_mut_ptr(), out.len()) }
         })
     }
 
@@ -64,7 +64,7 @@ impl Messages {
         self.put(|out| {
             // SAFETY: both are slices, valid for their lengths, and `&mut` keeps `out` apart.
             unsafe {
-                sys::pgm_put_password(bytes.as_ptr(), bytes.len(), out.as_mut_ptr(), out.len())
+                sys::pgmsg_put_password(bytes.as_ptr(), bytes.len(), out.as_mut_ptr(), out.len())
             }
         })
     }
@@ -77,7 +77,7 @@ impl Messages {
         self.put(|out| {
             // SAFETY: `digest` is an array of sixteen bytes, and `out` a slice, valid for its
             // length and apart from it.
-            unsafe { sys::pgm_put_md5_password(digest, out.as_mut_ptr(), out.len()) }
+            unsafe { sys::pgmsg_put_md5_password(digest, out.as_mut_ptr(), out.len()) }
         })
     }
 
@@ -91,7 +91,7 @@ impl Messages {
         self.put(|out| {
             // SAFETY: both are slices, valid for their lengths, and `&mut` keeps `out` apart.
             unsafe {
-                sys::pgm_put_sasl_initial(
+                sys::pgmsg_put_sasl_initial(
                     response.as_ptr(),
                     response.len(),
                     plus,
@@ -108,7 +108,7 @@ impl Messages {
         self.put(|out| {
             // SAFETY: both are slices, valid for their lengths, and `&mut` keeps `out` apart.
             unsafe {
-                sys::pgm_put_sasl_response(bytes.as_ptr(), bytes.len(), out.as_mut_ptr(), out.len())
+                sys::pgmsg_put_sasl_response(bytes.as_ptr(), bytes.len(), out.as_mut_ptr(), out.len())
             }
         })
     }
@@ -117,7 +117,7 @@ impl Messages {
     pub fn terminate(&mut self) -> Result<&mut Self, Refusal> {
         self.put(|out| {
             // SAFETY: `out` is a slice, valid for its length.
-            unsafe { sys::pgm_put_terminate(out.as_mut_ptr(), out.len()) }
+            unsafe { sys::pgmsg_put_terminate(out.as_mut_ptr(), out.len()) }
         })
     }
 }

@@ -17,7 +17,7 @@ use std::alloc::Global;
 
 /// A part of the data of a COPY.
 #[unsafe(no_mangle)]
-pub extern "C" fn pgm_put_copy_data(alloc: Global, data: &[u8], out: &mut [u8]) -> isize
+pub extern "C" fn pgmsg_put_copy_data(alloc: Global, data: &[u8], out: &mut [u8]) -> isize
     ensures { PutsMessage (message.CopyData «data».now) out.old out.new result }
 {
     put(alloc, &CopyData(data), Ok(()), out)
@@ -26,7 +26,7 @@ pub extern "C" fn pgm_put_copy_data(alloc: Global, data: &[u8], out: &mut [u8]) 
 /// The five bytes before `len` bytes of the data of a COPY, which the caller sends after them. 0, or
 /// why there are none.
 #[unsafe(no_mangle)]
-pub extern "C" fn pgm_put_copy_head(len: usize, head: &mut [u8; 5]) -> i32
+pub extern "C" fn pgmsg_put_copy_head(len: usize, head: &mut [u8; 5]) -> i32
     ensures result { result ≤ℤ pos 0 }
     ensures head { (bytes : List ℕ) → length bytes ≡ len → result ≡ pos 0 → head.new ++ bytes ≡ text (message.CopyData bytes) }
     ensures within { result ≡ pos 0 → len + 4 ≤ max_length }
@@ -42,7 +42,7 @@ pub extern "C" fn pgm_put_copy_head(len: usize, head: &mut [u8; 5]) -> i32
 
 /// The end of the data of a COPY.
 #[unsafe(no_mangle)]
-pub extern "C" fn pgm_put_copy_done(alloc: Global, out: &mut [u8]) -> isize
+pub extern "C" fn pgmsg_put_copy_done(alloc: Global, out: &mut [u8]) -> isize
     ensures { PutsMessage message.CopyDone out.old out.new result }
 {
     put(alloc, &CopyDone, Ok(()), out)
@@ -50,7 +50,7 @@ pub extern "C" fn pgm_put_copy_done(alloc: Global, out: &mut [u8]) -> isize
 
 /// Fails a COPY, and says why, in UTF-8.
 #[unsafe(no_mangle)]
-pub extern "C" fn pgm_put_copy_fail(alloc: Global, reason: &[u8], out: &mut [u8]) -> isize
+pub extern "C" fn pgmsg_put_copy_fail(alloc: Global, reason: &[u8], out: &mut [u8]) -> isize
     ensures utf8 { is_utf8 reason.now ≡ true → MayPut (message.CopyFail reason.now) out.old out.new result }
     ensures not_utf8 { is_utf8 reason.now ≡ false → IsRefused NotUtf8 out.old out.new result }
 {

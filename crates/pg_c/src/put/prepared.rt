@@ -25,7 +25,7 @@ const MAX_VALUES: usize = 65535;
 /// The value of a parameter.
 #[repr(C)]
 #[derive(Clone, Copy)]
-pub struct PgmValue<'a> {
+pub struct PgmsgValue<'a> {
     pub bytes: &'a [u8],
     pub is_null: bool,
 }
@@ -34,7 +34,7 @@ pub struct PgmValue<'a> {
 /// query is in UTF-8. `types` are those of the parameters from the first on; the server infers those
 /// that are 0 or missing.
 #[unsafe(no_mangle)]
-pub extern "C" fn pgm_put_parse(
+pub extern "C" fn pgmsg_put_parse(
     alloc: Global,
     statement: u32,
     query: &[u8],
@@ -65,12 +65,12 @@ pub extern "C" fn pgm_put_parse(
 /// portal `sqlx_p_N` on the wire, and the statement `sqlx_s_N`; 0 is the unnamed one of each. Formats:
 /// 0 is text, anything else binary; none where all are text, one for all, or one each.
 #[unsafe(no_mangle)]
-pub extern "C" fn pgm_put_bind(
+pub extern "C" fn pgmsg_put_bind(
     alloc: Global,
     portal: u32,
     statement: u32,
     formats: &[u8],
-    values: &[PgmValue<'_>],
+    values: &[PgmsgValue<'_>],
     result_formats: &[u8],
     out: &mut [u8],
 ) -> isize
@@ -86,13 +86,13 @@ pub extern "C" fn pgm_put_bind(
 }
 
 /// A batch: Parse of the unnamed statement, Bind of the unnamed portal, Describe of it, Execute, and
-/// Sync. The query is in UTF-8. Formats are as in `pgm_put_bind`.
+/// Sync. The query is in UTF-8. Formats are as in `pgmsg_put_bind`.
 #[unsafe(no_mangle)]
-pub extern "C" fn pgm_put_batch(
+pub extern "C" fn pgmsg_put_batch(
     alloc: Global,
     query: &[u8],
     formats: &[u8],
-    values: &[PgmValue<'_>],
+    values: &[PgmsgValue<'_>],
     result_formats: &[u8],
     out: &mut [u8],
 ) -> isize
@@ -166,7 +166,7 @@ impl BindParts {
 fn bind_parts(
     alloc: Global,
     formats: &[u8],
-    values: &[PgmValue<'_>],
+    values: &[PgmsgValue<'_>],
     result_formats: &[u8],
 ) -> Result<BindParts, Error>
     ensures formats { IfOk result (λ parts. format_codes parts.formats.items ≡ map format_of formats.now) }
@@ -184,7 +184,7 @@ fn bind_parts(
 }
 
 // The values as a Bind has them.
-fn values_of(alloc: Global, values: &[PgmValue<'_>]) -> Result<BindValues, Error>
+fn values_of(alloc: Global, values: &[PgmsgValue<'_>]) -> Result<BindValues, Error>
     ensures count { IfOk result (λ held. held.count ≡ length values.now) }
     ensures values { IfOk result (λ held. held.bytes ≡ values_spelled values.now) }
     ensures none { IfOk result (λ _. values_refusal values.now ≡ None) }
@@ -200,7 +200,7 @@ fn values_of(alloc: Global, values: &[PgmValue<'_>]) -> Result<BindValues, Error
     Ok(held)
 }
 
-fn push(value: &PgmValue<'_>, held: &mut BindValues) -> Result<(), Error>
+fn push(value: &PgmsgValue<'_>, held: &mut BindValues) -> Result<(), Error>
     requires { held.old.count < 65535 }
     ensures count { OnOk result (held.new.count ≡ held.old.count + 1) }
     ensures bytes { OnOk result (held.new.bytes ≡ held.old.bytes ++ spelled (value_of value.now)) }

@@ -15,7 +15,7 @@ use std::alloc::Global;
 
 /// Runs the statements of a text, in UTF-8.
 #[unsafe(no_mangle)]
-pub extern "C" fn pgm_put_query(alloc: Global, query: &[u8], out: &mut [u8]) -> isize
+pub extern "C" fn pgmsg_put_query(alloc: Global, query: &[u8], out: &mut [u8]) -> isize
     ensures utf8 { is_utf8 query.now ≡ true → PutsMessage (message.Query query.now) out.old out.new result }
     ensures not_utf8 { is_utf8 query.now ≡ false → IsRefused NotUtf8 out.old out.new result }
 {
@@ -30,7 +30,11 @@ pub extern "C" fn pgm_put_query(alloc: Global, query: &[u8], out: &mut [u8]) -> 
 
 /// Describes the prepared statement `sqlx_s_N`, by its number N; 0 is the unnamed one.
 #[unsafe(no_mangle)]
-pub extern "C" fn pgm_put_describe_statement(alloc: Global, statement: u32, out: &mut [u8]) -> isize
+pub extern "C" fn pgmsg_put_describe_statement(
+    alloc: Global,
+    statement: u32,
+    out: &mut [u8],
+) -> isize
     ensures { PutsMessage (message.Describe (Statement statement)) out.old out.new result }
 {
     let describe = Describe::Statement(StatementId::from_number(statement));
@@ -39,7 +43,7 @@ pub extern "C" fn pgm_put_describe_statement(alloc: Global, statement: u32, out:
 
 /// Describes the portal `sqlx_p_N`, by its number N; 0 is the unnamed one.
 #[unsafe(no_mangle)]
-pub extern "C" fn pgm_put_describe_portal(alloc: Global, portal: u32, out: &mut [u8]) -> isize
+pub extern "C" fn pgmsg_put_describe_portal(alloc: Global, portal: u32, out: &mut [u8]) -> isize
     ensures { PutsMessage (message.Describe (Portal portal)) out.old out.new result }
 {
     let describe = Describe::Portal(PortalId::from_number(portal));
@@ -48,7 +52,7 @@ pub extern "C" fn pgm_put_describe_portal(alloc: Global, portal: u32, out: &mut 
 
 /// Closes the prepared statement `sqlx_s_N`, by its number N; 0 is the unnamed one.
 #[unsafe(no_mangle)]
-pub extern "C" fn pgm_put_close_statement(alloc: Global, statement: u32, out: &mut [u8]) -> isize
+pub extern "C" fn pgmsg_put_close_statement(alloc: Global, statement: u32, out: &mut [u8]) -> isize
     ensures { PutsMessage (message.Close (Statement statement)) out.old out.new result }
 {
     let close = Close::Statement(StatementId::from_number(statement));
@@ -57,7 +61,7 @@ pub extern "C" fn pgm_put_close_statement(alloc: Global, statement: u32, out: &m
 
 /// Closes the portal `sqlx_p_N`, by its number N; 0 is the unnamed one.
 #[unsafe(no_mangle)]
-pub extern "C" fn pgm_put_close_portal(alloc: Global, portal: u32, out: &mut [u8]) -> isize
+pub extern "C" fn pgmsg_put_close_portal(alloc: Global, portal: u32, out: &mut [u8]) -> isize
     ensures { PutsMessage (message.Close (Portal portal)) out.old out.new result }
 {
     let close = Close::Portal(PortalId::from_number(portal));
@@ -67,7 +71,7 @@ pub extern "C" fn pgm_put_close_portal(alloc: Global, portal: u32, out: &mut [u8
 /// Runs the portal `sqlx_p_N`, by its number N; 0 is the unnamed one. `limit` is the most rows to send
 /// back, 0 for all of them.
 #[unsafe(no_mangle)]
-pub extern "C" fn pgm_put_execute(alloc: Global, portal: u32, limit: u32, out: &mut [u8]) -> isize
+pub extern "C" fn pgmsg_put_execute(alloc: Global, portal: u32, limit: u32, out: &mut [u8]) -> isize
     ensures { PutsMessage (message.Execute (record { portal = portal; limit = limit })) out.old out.new result }
 {
     let execute = Execute {
@@ -79,7 +83,7 @@ pub extern "C" fn pgm_put_execute(alloc: Global, portal: u32, limit: u32, out: &
 
 /// Asks for the answers that the server still has to send.
 #[unsafe(no_mangle)]
-pub extern "C" fn pgm_put_flush(alloc: Global, out: &mut [u8]) -> isize
+pub extern "C" fn pgmsg_put_flush(alloc: Global, out: &mut [u8]) -> isize
     ensures { PutsMessage message.Flush out.old out.new result }
 {
     put(alloc, &Flush, Ok(()), out)
@@ -87,7 +91,7 @@ pub extern "C" fn pgm_put_flush(alloc: Global, out: &mut [u8]) -> isize
 
 /// Ends a run of messages: the server answers that it is ready.
 #[unsafe(no_mangle)]
-pub extern "C" fn pgm_put_sync(alloc: Global, out: &mut [u8]) -> isize
+pub extern "C" fn pgmsg_put_sync(alloc: Global, out: &mut [u8]) -> isize
     ensures { PutsMessage message.Sync out.old out.new result }
 {
     put(alloc, &Sync, Ok(()), out)

@@ -24,7 +24,7 @@ use std::alloc::Global;
 /// The name of a setting and its value, in UTF-8.
 #[repr(C)]
 #[derive(Clone, Copy)]
-pub struct PgmSetting<'a> {
+pub struct PgmsgSetting<'a> {
     pub name: &'a [u8],
     pub value: &'a [u8],
 }
@@ -33,9 +33,9 @@ pub struct PgmSetting<'a> {
 /// that holds a NUL, or an empty name, is refused as a text that holds a NUL: the server would read
 /// other settings.
 #[unsafe(no_mangle)]
-pub extern "C" fn pgm_put_startup(
+pub extern "C" fn pgmsg_put_startup(
     alloc: Global,
-    settings: &[PgmSetting<'_>],
+    settings: &[PgmsgSetting<'_>],
     out: &mut [u8],
 ) -> isize
     ensures utf8 { list_all is_text settings.now ≡ true → PutsStartup settings.now out.old out.new result }
@@ -78,7 +78,7 @@ fn add_startup(startup: &Startup<'_>, buf: &mut Vec<u8>) -> Result<(), Error>
 // The settings as texts.
 fn params_of<'a>(
     alloc: Global,
-    settings: &[PgmSetting<'a>],
+    settings: &[PgmsgSetting<'a>],
 ) -> Result<Vec<(&'a str, &'a str)>, Error>
     ensures ok { IfOk result (λ params. (settings_of params.items ≡ map name_and_value settings.now) × (list_all is_text settings.now ≡ true)) }
     ensures err { IfErr result (λ error. (error ≡ OutOfMemory) ⊎ ((error ≡ Protocol None NotUtf8) × (list_all is_text settings.now ≡ false))) }
@@ -92,7 +92,7 @@ fn params_of<'a>(
 
 /// Asks for an encrypted connection, before the session is opened.
 #[unsafe(no_mangle)]
-pub extern "C" fn pgm_put_ssl_request(alloc: Global, out: &mut [u8]) -> isize
+pub extern "C" fn pgmsg_put_ssl_request(alloc: Global, out: &mut [u8]) -> isize
     ensures { PutsText ssl_request_text None out.old out.new result }
 {
     put_untagged(alloc, &SslRequest, out)
@@ -100,7 +100,7 @@ pub extern "C" fn pgm_put_ssl_request(alloc: Global, out: &mut [u8]) -> isize
 
 /// Answers a request for a password with the password, in UTF-8.
 #[unsafe(no_mangle)]
-pub extern "C" fn pgm_put_password(alloc: Global, password: &[u8], out: &mut [u8]) -> isize
+pub extern "C" fn pgmsg_put_password(alloc: Global, password: &[u8], out: &mut [u8]) -> isize
     ensures utf8 { is_utf8 password.now ≡ true → PutsMessage (message.CleartextPassword password.now) out.old out.new result }
     ensures not_utf8 { is_utf8 password.now ≡ false → IsRefused NotUtf8 out.old out.new result }
 {
@@ -116,7 +116,7 @@ pub extern "C" fn pgm_put_password(alloc: Global, password: &[u8], out: &mut [u8
 /// Answers a request for an MD5 digest with it: the digest of the salt after the digest, in
 /// hexadecimal, of the user's name after the password.
 #[unsafe(no_mangle)]
-pub extern "C" fn pgm_put_md5_password(alloc: Global, digest: &[u8; 16], out: &mut [u8]) -> isize
+pub extern "C" fn pgmsg_put_md5_password(alloc: Global, digest: &[u8; 16], out: &mut [u8]) -> isize
     ensures { PutsMessage (message.Md5Password digest.now) out.old out.new result }
 {
     let password = Password::Md5 { digest: *digest };
@@ -125,7 +125,7 @@ pub extern "C" fn pgm_put_md5_password(alloc: Global, digest: &[u8; 16], out: &m
 
 /// Chooses SCRAM-SHA-256, or SCRAM-SHA-256-PLUS where `plus`, and begins it with `response`, in UTF-8.
 #[unsafe(no_mangle)]
-pub extern "C" fn pgm_put_sasl_initial(
+pub extern "C" fn pgmsg_put_sasl_initial(
     alloc: Global,
     response: &[u8],
     plus: bool,
@@ -145,7 +145,7 @@ pub extern "C" fn pgm_put_sasl_initial(
 
 /// Answers a challenge of the SASL exchange, in UTF-8.
 #[unsafe(no_mangle)]
-pub extern "C" fn pgm_put_sasl_response(alloc: Global, response: &[u8], out: &mut [u8]) -> isize
+pub extern "C" fn pgmsg_put_sasl_response(alloc: Global, response: &[u8], out: &mut [u8]) -> isize
     ensures utf8 { is_utf8 response.now ≡ true → PutsMessage (message.SaslResponse response.now) out.old out.new result }
     ensures not_utf8 { is_utf8 response.now ≡ false → IsRefused NotUtf8 out.old out.new result }
 {
@@ -157,7 +157,7 @@ pub extern "C" fn pgm_put_sasl_response(alloc: Global, response: &[u8], out: &mu
 
 /// Ends the session.
 #[unsafe(no_mangle)]
-pub extern "C" fn pgm_put_terminate(alloc: Global, out: &mut [u8]) -> isize
+pub extern "C" fn pgmsg_put_terminate(alloc: Global, out: &mut [u8]) -> isize
     ensures { PutsMessage message.Terminate out.old out.new result }
 {
     put(alloc, &Terminate, Ok(()), out)

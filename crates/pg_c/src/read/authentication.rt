@@ -14,10 +14,10 @@ ghost use Rattle.pg_c.specs.Place.{part};
 ghost use Rattle.pg_c.specs.Read.{AreGiven, IsBodyFault};
 ghost use Rattle.pg_c.specs.Refusal.{Refuses, IsErrorOf};
 
-use crate::place::PgmSpan;
+use crate::place::PgmsgSpan;
 use crate::put::give;
 use crate::read::check_body;
-use crate::refusal::{PgmFault, report};
+use crate::refusal::{PgmsgFault, report};
 use bytes::Bytes;
 use pg_base::{Error, ProtocolFault};
 use pg_receive::message::{
@@ -32,7 +32,7 @@ const METHOD_LENGTH: usize = 4;
 /// SASL, 11 and 12 what follows in a SASL exchange.
 #[repr(C)]
 #[derive(Clone, Copy)]
-pub struct PgmAuthentication {
+pub struct PgmsgAuthentication {
     pub method: u32,
     pub salt: [u8; 4],
 }
@@ -40,7 +40,7 @@ pub struct PgmAuthentication {
 /// The challenge of a SASL exchange: how long its salt and its nonce are, in bytes.
 #[repr(C)]
 #[derive(Clone, Copy)]
-pub struct PgmChallenge {
+pub struct PgmsgChallenge {
     pub iterations: u32,
     pub salt_len: usize,
     pub nonce_len: usize,
@@ -48,11 +48,11 @@ pub struct PgmChallenge {
 
 /// What the server asks for, by the body of its Authentication. 0, or why it is refused.
 #[unsafe(no_mangle)]
-pub extern "C" fn pgm_read_authentication(
+pub extern "C" fn pgmsg_read_authentication(
     alloc: Global,
     body: &[u8],
-    authentication: &mut PgmAuthentication,
-    fault: &mut PgmFault,
+    authentication: &mut PgmsgAuthentication,
+    fault: &mut PgmsgFault,
 ) -> i32
     ensures result { result ≤ℤ pos 0 }
     ensures value { result ≡ pos 0 → ReadsAuthentication body.now authentication.new }
@@ -80,7 +80,7 @@ fn authentication_of(alloc: Global, body: &[u8]) -> Result<Authentication, Error
     Authentication::decode_body(alloc, body)
 }
 
-fn shown(asked: &Authentication) -> PgmAuthentication
+fn shown(asked: &Authentication) -> PgmsgAuthentication
     ensures method { result.method ≡ method_of (authentication_shown asked.now) }
     ensures salt { result.salt ≡ salt_of (authentication_shown asked.now) }
 {
@@ -92,13 +92,13 @@ fn shown(asked: &Authentication) -> PgmAuthentication
         Authentication::SaslContinue(_) => (11, [0; 4]),
         Authentication::SaslFinal(_) => (12, [0; 4]),
     };
-    PgmAuthentication { method, salt }
+    PgmsgAuthentication { method, salt }
 }
 
 /// The mechanisms that the server offers, by the body of an Authentication of method 10: how many there
 /// are. As many as there is room for are written.
 #[unsafe(no_mangle)]
-pub extern "C" fn pgm_read_mechanisms(body: &[u8], mechanisms: &mut [PgmSpan]) -> usize
+pub extern "C" fn pgmsg_read_mechanisms(body: &[u8], mechanisms: &mut [PgmsgSpan]) -> usize
     ensures count { result ≡ length (mechanisms_in (drop 4 body.now)) }
     ensures given { AreGiven (part body.now) (mechanisms_in (drop 4 body.now)) mechanisms.old mechanisms.new }
 {
@@ -110,7 +110,7 @@ pub extern "C" fn pgm_read_mechanisms(body: &[u8], mechanisms: &mut [PgmSpan]) -
     let mut count: usize = 0;
     while let Some((name, after)) = split_name(rest) {
         if count < mechanisms.len() {
-            mechanisms[count] = PgmSpan {
+            mechanisms[count] = PgmsgSpan {
                 at,
                 len: name.len(),
             };
@@ -125,13 +125,13 @@ pub extern "C" fn pgm_read_mechanisms(body: &[u8], mechanisms: &mut [PgmSpan]) -
 /// The challenge of a SASL exchange, by the body of an Authentication of method 11. Salt and nonce are
 /// written where their rooms are long enough. 0, or why it is refused.
 #[unsafe(no_mangle)]
-pub extern "C" fn pgm_read_challenge(
+pub extern "C" fn pgmsg_read_challenge(
     alloc: Global,
     body: &[u8],
-    challenge: &mut PgmChallenge,
+    challenge: &mut PgmsgChallenge,
     salt: &mut [u8],
     nonce: &mut [u8],
-    fault: &mut PgmFault,
+    fault: &mut PgmsgFault,
 ) -> i32
     ensures result { result ≤ℤ pos 0 }
     ensures value { result ≡ pos 0 → ReadsChallenge body.now challenge.new salt.old salt.new nonce.old nonce.new }
@@ -151,12 +151,12 @@ pub extern "C" fn pgm_read_challenge(
     }
 }
 
-fn lengths_of(challenge: &AuthenticationSaslContinue) -> PgmChallenge
+fn lengths_of(challenge: &AuthenticationSaslContinue) -> PgmsgChallenge
     ensures iterations { result.iterations ≡ (continue_shown challenge.now).iterations }
     ensures salt { result.salt_len ≡ length (continue_shown challenge.now).salt }
     ensures nonce { result.nonce_len ≡ length (continue_shown challenge.now).nonce }
 {
-    PgmChallenge {
+    PgmsgChallenge {
         iterations: challenge.iterations,
         salt_len: challenge.salt.len(),
         nonce_len: challenge.nonce.len(),
@@ -177,11 +177,11 @@ fn challenge_of(alloc: Global, body: &[u8]) -> Result<AuthenticationSaslContinue
 /// The verifier that ends a SASL exchange, by the body of an Authentication of method 12: its length in
 /// bytes. It is written where its room is that long.
 #[unsafe(no_mangle)]
-pub extern "C" fn pgm_read_verifier(
+pub extern "C" fn pgmsg_read_verifier(
     alloc: Global,
     body: &[u8],
     verifier: &mut [u8],
-    fault: &mut PgmFault,
+    fault: &mut PgmsgFault,
 ) -> isize
     ensures value { pos 0 ≤ℤ result → ReadsVerifier body.now verifier.old verifier.new result }
     ensures fault { result <ℤ pos 0 → Refuses (IsAskedFault 12 body.now) ⊤ fault.old fault.new result }

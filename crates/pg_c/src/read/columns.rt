@@ -12,9 +12,9 @@ ghost use Rattle.pg_c.specs.Columns.{column_in};
 ghost use Rattle.pg_c.specs.Read.{ReadsItems, GivesFront, IsBodyFault};
 ghost use Rattle.pg_c.specs.Refusal.{Refuses};
 
-use crate::place::PgmSpan;
+use crate::place::PgmsgSpan;
 use crate::read::check_body;
-use crate::refusal::{PgmFault, report};
+use crate::refusal::{PgmsgFault, report};
 use pg_base::ProtocolFault;
 use pg_base::io::{Oid, bytes_at, u16_at, u32_at};
 use pg_receive::message::{FieldRef, column_at};
@@ -32,8 +32,8 @@ const TYPE_LENGTH: usize = 4;
 /// where it varies. `format` is 0 for text, 1 for binary.
 #[repr(C)]
 #[derive(Clone, Copy)]
-pub struct PgmColumn {
-    pub name: PgmSpan,
+pub struct PgmsgColumn {
+    pub name: PgmsgSpan,
     pub table: u32,
     pub attribute: i16,
     pub type_id: u32,
@@ -45,11 +45,11 @@ pub struct PgmColumn {
 /// The columns of a result, by the body of its RowDescription: how many there are. As many as there is
 /// room for are written; the rest are read too.
 #[unsafe(no_mangle)]
-pub extern "C" fn pgm_read_columns(
+pub extern "C" fn pgmsg_read_columns(
     alloc: Global,
     body: &[u8],
-    columns: &mut [PgmColumn],
-    fault: &mut PgmFault,
+    columns: &mut [PgmsgColumn],
+    fault: &mut PgmsgFault,
 ) -> isize
     ensures columns { pos 0 ≤ℤ result → ReadsItems row_description (column_in body.now) body.now columns.old columns.new result }
     ensures fault { result <ℤ pos 0 → Refuses (IsBodyFault (IsFaultOf row_description) body.now) ⊥ fault.old fault.new result }
@@ -63,7 +63,7 @@ pub extern "C" fn pgm_read_columns(
     }
 }
 
-fn columns_of(body: &[u8], columns: &mut [PgmColumn]) -> Result<usize, ProtocolFault>
+fn columns_of(body: &[u8], columns: &mut [PgmsgColumn]) -> Result<usize, ProtocolFault>
     ensures small { IfOk result (λ count. count ≤ 65535) }
     ensures columns { IfOk result (λ count. ReadsItems row_description (column_in body.now) body.now columns.old columns.new (pos count)) }
     ensures within { OnOk result (length body.now ≤ max_body) }
@@ -85,11 +85,11 @@ fn columns_of(body: &[u8], columns: &mut [PgmColumn]) -> Result<usize, ProtocolF
 }
 
 // The place of the column that begins at an offset.
-fn place_of(at: usize, field: &FieldRef<'_>) -> PgmColumn
+fn place_of(at: usize, field: &FieldRef<'_>) -> PgmsgColumn
     ensures { (body : List ℕ) (end : ℕ) → IsReadAt column body at (column_of_ref field.now) end → column_in body result ≡ Some (column_of_ref field.now) }
 {
-    PgmColumn {
-        name: PgmSpan {
+    PgmsgColumn {
+        name: PgmsgSpan {
             at,
             len: field.name.len(),
         },
@@ -114,11 +114,11 @@ fn table_of(id: Option<Oid>) -> u32
 /// The types of a statement's parameters, by the body of its ParameterDescription: how many there are.
 /// As many as there is room for are written.
 #[unsafe(no_mangle)]
-pub extern "C" fn pgm_read_parameter_types(
+pub extern "C" fn pgmsg_read_parameter_types(
     alloc: Global,
     body: &[u8],
     types: &mut [u32],
-    fault: &mut PgmFault,
+    fault: &mut PgmsgFault,
 ) -> isize
     ensures types { pos 0 ≤ℤ result → ReadsItems parameter_description (λ number. Some number) body.now types.old types.new result }
     ensures fault { result <ℤ pos 0 → Refuses (IsBodyFault (IsFaultOf parameter_description) body.now) ⊥ fault.old fault.new result }

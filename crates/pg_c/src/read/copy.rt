@@ -10,7 +10,7 @@ ghost use Rattle.pg_c.specs.Read.{GivesFront, IsBodyFault};
 ghost use Rattle.pg_c.specs.Refusal.{Refuses};
 
 use crate::read::check_body;
-use crate::refusal::{PgmFault, report};
+use crate::refusal::{PgmsgFault, report};
 use pg_base::ProtocolFault;
 use pg_base::io::{bytes_at, i8_at, i16_at};
 use std::alloc::Global;
@@ -26,7 +26,7 @@ const CODE_LENGTH: usize = 2;
 /// none.
 #[repr(C)]
 #[derive(Clone, Copy)]
-pub struct PgmCopyResponse {
+pub struct PgmsgCopyResponse {
     pub format: i8,
     pub columns: i16,
 }
@@ -34,12 +34,12 @@ pub struct PgmCopyResponse {
 /// How the data of a COPY is spelled, by the body of a CopyInResponse or CopyOutResponse: how many
 /// columns have a code. As many codes as there is room for are written.
 #[unsafe(no_mangle)]
-pub extern "C" fn pgm_read_copy_response(
+pub extern "C" fn pgmsg_read_copy_response(
     alloc: Global,
     body: &[u8],
-    response: &mut PgmCopyResponse,
+    response: &mut PgmsgCopyResponse,
     codes: &mut [i16],
-    fault: &mut PgmFault,
+    fault: &mut PgmsgFault,
 ) -> isize
     ensures formats { pos 0 ≤ℤ result → ReadsFormats body.now response.new codes.old codes.new result }
     ensures fault { result <ℤ pos 0 → Refuses (IsBodyFault (IsFaultOf copy_response) body.now) ⊥ fault.old fault.new result }
@@ -56,7 +56,7 @@ pub extern "C" fn pgm_read_copy_response(
 
 fn codes_of(
     body: &[u8],
-    response: &mut PgmCopyResponse,
+    response: &mut PgmsgCopyResponse,
     codes: &mut [i16],
 ) -> Result<usize, ProtocolFault>
     ensures small { IfOk result (λ count. count ≤ 65535) }
@@ -77,7 +77,7 @@ fn codes_of(
             codes[index] = code;
         }
     }
-    *response = PgmCopyResponse { format, columns };
+    *response = PgmsgCopyResponse { format, columns };
     Ok(count)
 }
 

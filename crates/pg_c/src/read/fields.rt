@@ -10,9 +10,9 @@ ghost use Rattle.pg_c.specs.Fields.{field_in, IsSeverityOf};
 ghost use Rattle.pg_c.specs.Read.{AreGiven, IsBodyFault};
 ghost use Rattle.pg_c.specs.Refusal.{Refuses, IsErrorOf};
 
-use crate::place::PgmSpan;
+use crate::place::PgmsgSpan;
 use crate::read::check_body;
-use crate::refusal::{PgmFault, report};
+use crate::refusal::{PgmsgFault, report};
 use bytes::Bytes;
 use pg_base::Error;
 use pg_receive::message::{BackendMessage, Notice, PgSeverity};
@@ -22,15 +22,15 @@ use std::alloc::Global;
 /// A field of an error or a notice, by its letter.
 #[repr(C)]
 #[derive(Clone, Copy)]
-pub struct PgmField {
+pub struct PgmsgField {
     pub letter: u8,
-    pub value: PgmSpan,
+    pub value: PgmsgSpan,
 }
 
 /// The fields of an error or a notice, in order: how many there are. As many as there is room for are
 /// written.
 #[unsafe(no_mangle)]
-pub extern "C" fn pgm_read_fields(body: &[u8], fields: &mut [PgmField]) -> usize
+pub extern "C" fn pgmsg_read_fields(body: &[u8], fields: &mut [PgmsgField]) -> usize
     ensures count { result ≡ length (fields_in body.now) }
     ensures given { AreGiven (field_in body.now) (fields_in body.now) fields.old fields.new }
 {
@@ -39,11 +39,11 @@ pub extern "C" fn pgm_read_fields(body: &[u8], fields: &mut [PgmField]) -> usize
     let mut count: usize = 0;
     while let Some((letter, value, after)) = split_field(rest) {
         if count < fields.len() {
-            let value = PgmSpan {
+            let value = PgmsgSpan {
                 at: at + 1,
                 len: value.len(),
             };
-            fields[count] = PgmField { letter, value };
+            fields[count] = PgmsgField { letter, value };
         }
         at += value.len() + 2;
         count += 1;
@@ -55,7 +55,7 @@ pub extern "C" fn pgm_read_fields(body: &[u8], fields: &mut [PgmField]) -> usize
 /// How grave an error or a notice is: 0 PANIC, 1 FATAL, 2 ERROR, 3 WARNING, 4 NOTICE, 5 DEBUG, 6 INFO,
 /// 7 LOG.
 #[unsafe(no_mangle)]
-pub extern "C" fn pgm_read_severity(alloc: Global, body: &[u8], fault: &mut PgmFault) -> i32
+pub extern "C" fn pgmsg_read_severity(alloc: Global, body: &[u8], fault: &mut PgmsgFault) -> i32
     ensures severity { pos 0 ≤ℤ result → IsSeverityOf body.now result }
     ensures fault { result <ℤ pos 0 → Refuses (IsBodyFault (IsFaultOf notices) body.now) ⊤ fault.old fault.new result }
     ensures within { pos 0 ≤ℤ result → length body.now ≤ max_body }

@@ -7,8 +7,8 @@ ghost use Rattle.pg_frames.specs.Stream.{WantsMore, IsStreamFault};
 ghost use Rattle.pg_c.specs.Frame.{IsWhole, Needs};
 ghost use Rattle.pg_c.specs.Refusal.{Refuses};
 
-use crate::place::PgmSpan;
-use crate::refusal::{PgmFault, report};
+use crate::place::PgmsgSpan;
+use crate::refusal::{PgmsgFault, report};
 use pg_base::io::i32_at;
 use pg_frames::{Frame, next_frame};
 use std::alloc::Global;
@@ -20,20 +20,20 @@ const HEADER: usize = 5;
 /// whole, how many are needed at least.
 #[repr(C)]
 #[derive(Clone, Copy)]
-pub struct PgmFrame {
+pub struct PgmsgFrame {
     pub tag: u8,
-    pub body: PgmSpan,
+    pub body: PgmsgSpan,
     pub length: usize,
 }
 
 /// The message at the front of a stream: 1 where it is whole, 0 where more bytes are needed. Refused
 /// where no message from a server has this tag, or its length is below 4: then, whatever comes next.
 #[unsafe(no_mangle)]
-pub extern "C" fn pgm_next_frame(
+pub extern "C" fn pgmsg_next_frame(
     alloc: Global,
     stream: &[u8],
-    frame: &mut PgmFrame,
-    fault: &mut PgmFault,
+    frame: &mut PgmsgFrame,
+    fault: &mut PgmsgFault,
 ) -> i32
     ensures result { result ≤ℤ pos 1 }
     ensures whole { result ≡ pos 1 → IsWhole stream.now frame.new }
@@ -57,13 +57,13 @@ pub extern "C" fn pgm_next_frame(
 }
 
 // Where the message at the front is.
-fn place_of(stream: &[u8], frame: &Frame<'_>) -> PgmFrame
+fn place_of(stream: &[u8], frame: &Frame<'_>) -> PgmsgFrame
     requires { Begins stream.now (backend_tag frame.now.format) frame.now.body.now frame.now.rest.now }
     ensures { IsWhole stream.now result }
 {
-    PgmFrame {
+    PgmsgFrame {
         tag: stream[0],
-        body: PgmSpan {
+        body: PgmsgSpan {
             at: HEADER,
             len: frame.body.len(),
         },

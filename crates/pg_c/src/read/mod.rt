@@ -1,6 +1,6 @@
 //! Messages from the server, read where they are.
 //!
-//! Bodies are those of the frames of `pgm_next_frame`. Places are in the bytes that were passed. A call
+//! Bodies are those of the frames of `pgmsg_next_frame`. Places are in the bytes that were passed. A call
 //! refuses by a number below 0, and then alone fills `fault`; an array of places holds at most the
 //! items before the one that is broken.
 

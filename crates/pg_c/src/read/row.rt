@@ -11,7 +11,7 @@ ghost use Rattle.pg_c.specs.Row.{cell_in};
 ghost use Rattle.pg_c.specs.Refusal.{Refuses};
 
 use crate::read::check_body;
-use crate::refusal::{PgmFault, report};
+use crate::refusal::{PgmsgFault, report};
 use pg_base::ProtocolFault;
 use pg_base::io::{MAX_BODY, bytes_at, u16_at};
 use pg_receive::message::cell_at;
@@ -26,7 +26,7 @@ const CELL_LENGTH: usize = 4;
 /// A cell of a row: `len` bytes from `at` on, or NULL where `len` is -1.
 #[repr(C)]
 #[derive(Clone, Copy)]
-pub struct PgmCell {
+pub struct PgmsgCell {
     pub at: u32,
     pub len: i32,
 }
@@ -34,11 +34,11 @@ pub struct PgmCell {
 /// The cells of a row, by the body of its DataRow: how many it has. As many as there is room for are
 /// written; the rest are read too, so a row is refused for any of its cells.
 #[unsafe(no_mangle)]
-pub extern "C" fn pgm_read_row(
+pub extern "C" fn pgmsg_read_row(
     alloc: Global,
     body: &[u8],
-    cells: &mut [PgmCell],
-    fault: &mut PgmFault,
+    cells: &mut [PgmsgCell],
+    fault: &mut PgmsgFault,
 ) -> isize
     ensures row { pos 0 ≤ℤ result → ReadsItems data_row (cell_in body.now) body.now cells.old cells.new result }
     ensures fault { result <ℤ pos 0 → Refuses (IsBodyFault (IsFaultOf data_row) body.now) ⊥ fault.old fault.new result }
@@ -52,7 +52,7 @@ pub extern "C" fn pgm_read_row(
     }
 }
 
-fn cells_of(body: &[u8], cells: &mut [PgmCell]) -> Result<usize, ProtocolFault>
+fn cells_of(body: &[u8], cells: &mut [PgmsgCell]) -> Result<usize, ProtocolFault>
     ensures small { IfOk result (λ count. count ≤ 65535) }
     ensures row { IfOk result (λ count. ReadsItems data_row (cell_in body.now) body.now cells.old cells.new (pos count)) }
     ensures within { OnOk result (length body.now ≤ max_body) }
@@ -74,13 +74,13 @@ fn cells_of(body: &[u8], cells: &mut [PgmCell]) -> Result<usize, ProtocolFault>
 }
 
 // The place of the cell from one offset to another.
-fn place_of(at: usize, value: Option<&[u8]>, end: usize) -> PgmCell
+fn place_of(at: usize, value: Option<&[u8]>, end: usize) -> PgmsgCell
     requires wide { at + 4 ≤ end }
     requires short { end ≤ MAX_BODY }
     ensures { (body : List ℕ) → IsReadAt cell body at (option_copied value.entry) end → cell_in body result ≡ Some (option_copied value.entry) }
 {
     let start = at + CELL_LENGTH;
-    PgmCell {
+    PgmsgCell {
         at: start as u32,
         len: if value.is_none() {
             -1

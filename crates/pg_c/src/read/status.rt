@@ -10,9 +10,9 @@ ghost use Rattle.pg_c.specs.Read.{IsBodyFault, ReadsBody};
 ghost use Rattle.pg_c.specs.Refusal.{Refuses};
 ghost use Rattle.pg_c.specs.Status.{ReadsNotification, ReadsSetting, IsStatusLetter};
 
-use crate::place::PgmSpan;
+use crate::place::PgmsgSpan;
 use crate::read::check_body;
-use crate::refusal::{PgmFault, report};
+use crate::refusal::{PgmsgFault, report};
 use pg_base::ProtocolFault;
 use pg_receive::message::{
     BackendKeyData, NotificationRef, ParameterStatusRef, ReadyForQuery, rows_affected,
@@ -22,35 +22,35 @@ use std::alloc::Global;
 /// A notification from another session.
 #[repr(C)]
 #[derive(Clone, Copy)]
-pub struct PgmNotification {
+pub struct PgmsgNotification {
     pub process_id: u32,
-    pub channel: PgmSpan,
-    pub payload: PgmSpan,
+    pub channel: PgmsgSpan,
+    pub payload: PgmsgSpan,
 }
 
 /// A setting of the server and its value.
 #[repr(C)]
 #[derive(Clone, Copy)]
-pub struct PgmParameterStatus {
-    pub name: PgmSpan,
-    pub value: PgmSpan,
+pub struct PgmsgParameterStatus {
+    pub name: PgmsgSpan,
+    pub value: PgmsgSpan,
 }
 
 /// What a request to cancel has to name.
 #[repr(C)]
 #[derive(Clone, Copy)]
-pub struct PgmKeyData {
+pub struct PgmsgKeyData {
     pub process_id: u32,
     pub secret_key: u32,
 }
 
 /// A notification, by the body of its NotificationResponse. 0, or why it is refused.
 #[unsafe(no_mangle)]
-pub extern "C" fn pgm_read_notification(
+pub extern "C" fn pgmsg_read_notification(
     alloc: Global,
     body: &[u8],
-    notification: &mut PgmNotification,
-    fault: &mut PgmFault,
+    notification: &mut PgmsgNotification,
+    fault: &mut PgmsgFault,
 ) -> i32
     ensures result { result ≤ℤ pos 0 }
     ensures value { result ≡ pos 0 → ReadsNotification body.now notification.new }
@@ -61,14 +61,14 @@ pub extern "C" fn pgm_read_notification(
 {
     match notification_of(body) {
         Ok(read) => {
-            let channel = PgmSpan {
+            let channel = PgmsgSpan {
                 at: 4,
                 len: read.channel.len(),
             };
-            *notification = PgmNotification {
+            *notification = PgmsgNotification {
                 process_id: read.process_id,
                 channel,
-                payload: PgmSpan {
+                payload: PgmsgSpan {
                     at: channel.at + channel.len + 1,
                     len: read.payload.len(),
                 },
@@ -88,11 +88,11 @@ fn notification_of(body: &[u8]) -> Result<NotificationRef<'_>, ProtocolFault>
 
 /// A setting of the server, by the body of its ParameterStatus. 0, or why it is refused.
 #[unsafe(no_mangle)]
-pub extern "C" fn pgm_read_parameter_status(
+pub extern "C" fn pgmsg_read_parameter_status(
     alloc: Global,
     body: &[u8],
-    status: &mut PgmParameterStatus,
-    fault: &mut PgmFault,
+    status: &mut PgmsgParameterStatus,
+    fault: &mut PgmsgFault,
 ) -> i32
     ensures result { result ≤ℤ pos 0 }
     ensures value { result ≡ pos 0 → ReadsSetting body.now status.new }
@@ -103,12 +103,12 @@ pub extern "C" fn pgm_read_parameter_status(
 {
     match setting_of(body) {
         Ok(read) => {
-            *status = PgmParameterStatus {
-                name: PgmSpan {
+            *status = PgmsgParameterStatus {
+                name: PgmsgSpan {
                     at: 0,
                     len: read.name.len(),
                 },
-                value: PgmSpan {
+                value: PgmsgSpan {
                     at: read.name.len() + 1,
                     len: read.value.len(),
                 },
@@ -128,11 +128,11 @@ fn setting_of(body: &[u8]) -> Result<ParameterStatusRef<'_>, ProtocolFault>
 
 /// What a request to cancel has to name, by the body of a BackendKeyData. 0, or why it is refused.
 #[unsafe(no_mangle)]
-pub extern "C" fn pgm_read_key_data(
+pub extern "C" fn pgmsg_read_key_data(
     alloc: Global,
     body: &[u8],
-    key: &mut PgmKeyData,
-    fault: &mut PgmFault,
+    key: &mut PgmsgKeyData,
+    fault: &mut PgmsgFault,
 ) -> i32
     ensures result { result ≤ℤ pos 0 }
     ensures value { result ≡ pos 0 → Means page.backend_key_data body.now (record { process_id = key.new.process_id; secret_key = key.new.secret_key }) }
@@ -143,7 +143,7 @@ pub extern "C" fn pgm_read_key_data(
 {
     match key_of(body) {
         Ok(read) => {
-            *key = PgmKeyData {
+            *key = PgmsgKeyData {
                 process_id: read.process_id,
                 secret_key: read.secret_key,
             };
@@ -163,7 +163,7 @@ fn key_of(body: &[u8]) -> Result<BackendKeyData, ProtocolFault>
 /// How many rows a command had to do with, by the body of its CommandComplete: the number after the
 /// last space, and 0 where there is none.
 #[unsafe(no_mangle)]
-pub extern "C" fn pgm_read_rows_affected(body: &[u8]) -> u64
+pub extern "C" fn pgmsg_read_rows_affected(body: &[u8]) -> u64
     ensures { result ≡ row_count body.now }
 {
     rows_affected(body)
@@ -172,7 +172,7 @@ pub extern "C" fn pgm_read_rows_affected(body: &[u8]) -> u64
 /// The letter of the transaction's status, by the body of a ReadyForQuery: I where none is open, T in
 /// one, E in one that has failed.
 #[unsafe(no_mangle)]
-pub extern "C" fn pgm_read_ready(alloc: Global, body: &[u8], fault: &mut PgmFault) -> i32
+pub extern "C" fn pgmsg_read_ready(alloc: Global, body: &[u8], fault: &mut PgmsgFault) -> i32
     ensures value { pos 0 ≤ℤ result → IsStatusLetter body.now result }
     ensures fault { result <ℤ pos 0 → Refuses (IsBodyFault (IsFaultOf page.ready_for_query) body.now) ⊥ fault.old fault.new result }
     ensures within { pos 0 ≤ℤ result → length body.now ≤ max_body }

@@ -1,0 +1,340 @@
+/* The messages of the PostgreSQL wire protocol, version 3.0, for C and for what calls C.
+ *
+ * clients/header makes this file of crates/pg_c/src: change it there.
+ *
+ * No call keeps a pointer, opens anything, or waits. Each pointer is valid for its length for the time of the
+ * call, aligned, and never NULL, also where the length is 0. What a call writes overlaps nothing that it
+ * reads. Calls may run at once in several threads, each on memory of its own; none may run in a signal
+ * handler.
+ *
+ * A call that writes a message returns the length of the message in bytes, and has written it at the front
+ * of `out` where `out` is that long; else `out` is as it was. A call that reads gives places in the bytes
+ * that it was passed. Both refuse by one of the numbers below 0. One that reads then fills `fault` too, which
+ * only a refusal writes; an array of places holds at most the items before the one that is broken, and all
+ * else is as it was. */
+
+#ifndef PG_MESSAGE_H
+#define PG_MESSAGE_H
+
+#include <stdbool.h>
+#include <stddef.h>
+#include <stdint.h>
+
+#ifdef __cplusplus
+extern "C" {
+#endif
+
+/* Why a call refuses. */
+enum {
+    /* No memory was there. */
+    PGMSG_OUT_OF_MEMORY = -1,
+    /* More parameter formats than a message can count. */
+    PGMSG_TOO_MANY_PARAM_FORMATS = -2,
+    /* More result formats than a message can count. */
+    PGMSG_TOO_MANY_RESULT_FORMATS = -3,
+    /* More parameter types than a message can count. */
+    PGMSG_TOO_MANY_PARAM_TYPES = -4,
+    /* A message is longer than its length field can say. */
+    PGMSG_MESSAGE_TOO_LONG = -5,
+    /* A message was read as one of another kind. No call of this library returns it. */
+    PGMSG_WRONG_FORMAT = -6,
+    /* A received body is longer than a length field can say. */
+    PGMSG_BODY_TOO_LONG = -7,
+    /* No message from the server that is known here has this tag. */
+    PGMSG_UNKNOWN_MESSAGE_TYPE = -8,
+    /* A method of authentication that isn't known here. */
+    PGMSG_UNKNOWN_AUTHENTICATION = -9,
+    /* No transaction status has this letter. */
+    PGMSG_UNKNOWN_STATUS = -10,
+    /* No severity has this word. */
+    PGMSG_UNKNOWN_SEVERITY = -11,
+    /* A body has fewer bytes than are needed. */
+    PGMSG_SHORT = -12,
+    /* A text has no end. */
+    PGMSG_MISSING_NUL = -13,
+    /* A text is not UTF-8. */
+    PGMSG_NOT_UTF8 = -14,
+    /* A text of an error or a notice is not UTF-8. */
+    PGMSG_NOTICE_NOT_UTF8 = -15,
+    /* An item of SASL data has no room for a key and its separator. */
+    PGMSG_SHORT_SASL_ITEM = -16,
+    /* A value of SASL data is not base64. */
+    PGMSG_BASE64 = -17,
+    /* The length of a message is below 4. */
+    PGMSG_BAD_LENGTH = -18,
+    /* A text to be sent holds a NUL, or the name of a setting is empty. */
+    PGMSG_TEXT_HOLDS_NUL = -19,
+    /* The values of a Bind can't be counted. */
+    PGMSG_BAD_PARAMS = -20,
+};
+
+/* What is wrong with bytes that were read. `number` is what the call returned. `at` is an offset in
+ * them, where the fault has one, else 0. `words` are `words_len` bytes of ASCII, none where there
+ * was no memory for them. */
+typedef struct {
+    int32_t number;
+    size_t at;
+    size_t words_len;
+    uint8_t words[256];
+} pgmsg_fault;
+
+/* A place in the bytes that were passed: `len` of them from `at` on. */
+typedef struct {
+    size_t at;
+    size_t len;
+} pgmsg_span;
+
+/* The name of a setting and its value, in UTF-8. */
+typedef struct {
+    const uint8_t *name;
+    size_t name_len;
+    const uint8_t *value;
+    size_t value_len;
+} pgmsg_setting;
+
+/* The value of a parameter. */
+typedef struct {
+    const uint8_t *bytes;
+    size_t bytes_len;
+    bool is_null;
+} pgmsg_value;
+
+/* A message at the front of a stream. `length` is how many bytes of the stream it takes; where it
+ * isn't whole, how many are needed at least. */
+typedef struct {
+    uint8_t tag;
+    pgmsg_span body;
+    size_t length;
+} pgmsg_frame;
+
+/* A cell of a row: `len` bytes from `at` on, or NULL where `len` is -1. */
+typedef struct {
+    uint32_t at;
+    int32_t len;
+} pgmsg_cell;
+
+/* A column of a result. `table` and `attribute` are 0 where it is of no table. `type_size` is below
+ * 0 where it varies. `format` is 0 for text, 1 for binary. */
+typedef struct {
+    pgmsg_span name;
+    uint32_t table;
+    int16_t attribute;
+    uint32_t type_id;
+    int16_t type_size;
+    int32_t type_modifier;
+    int16_t format;
+} pgmsg_column;
+
+/* A field of an error or a notice, by its letter. */
+typedef struct {
+    uint8_t letter;
+    pgmsg_span value;
+} pgmsg_field;
+
+/* A notification from another session. */
+typedef struct {
+    uint32_t process_id;
+    pgmsg_span channel;
+    pgmsg_span payload;
+} pgmsg_notification;
+
+/* A setting of the server and its value. */
+typedef struct {
+    pgmsg_span name;
+    pgmsg_span value;
+} pgmsg_parameter_status;
+
+/* What a request to cancel has to name. */
+typedef struct {
+    uint32_t process_id;
+    uint32_t secret_key;
+} pgmsg_key_data;
+
+/* How the data of a COPY is spelled: 0 for text, 1 for binary. `columns` may be below 0, which
+ * means none. */
+typedef struct {
+    int8_t format;
+    int16_t columns;
+} pgmsg_copy_response;
+
+/* What the server asks for: 0 nothing more, 3 a password in clear, 5 an MD5 digest with this salt,
+ * 10 SASL, 11 and 12 what follows in a SASL exchange. */
+typedef struct {
+    uint32_t method;
+    uint8_t salt[4];
+} pgmsg_authentication;
+
+/* The challenge of a SASL exchange: how long its salt and its nonce are, in bytes. */
+typedef struct {
+    uint32_t iterations;
+    size_t salt_len;
+    size_t nonce_len;
+} pgmsg_challenge;
+
+/* Opens a session with these settings, of which `user` is required by the server. A name or a value
+ * that holds a NUL, or an empty name, is refused as a text that holds a NUL: the server would read
+ * other settings. */
+ptrdiff_t pgmsg_put_startup(const pgmsg_setting *settings, size_t settings_len, uint8_t *out,
+    size_t out_len);
+
+/* Asks for an encrypted connection, before the session is opened. */
+ptrdiff_t pgmsg_put_ssl_request(uint8_t *out, size_t out_len);
+
+/* Answers a request for a password with the password, in UTF-8. */
+ptrdiff_t pgmsg_put_password(const uint8_t *password, size_t password_len, uint8_t *out,
+    size_t out_len);
+
+/* Answers a request for an MD5 digest with it: the digest of the salt after the digest, in
+ * hexadecimal, of the user's name after the password. */
+ptrdiff_t pgmsg_put_md5_password(const uint8_t digest[16], uint8_t *out, size_t out_len);
+
+/* Chooses SCRAM-SHA-256, or SCRAM-SHA-256-PLUS where `plus`, and begins it with `response`, in
+ * UTF-8. */
+ptrdiff_t pgmsg_put_sasl_initial(const uint8_t *response, size_t response_len, bool plus,
+    uint8_t *out, size_t out_len);
+
+/* Answers a challenge of the SASL exchange, in UTF-8. */
+ptrdiff_t pgmsg_put_sasl_response(const uint8_t *response, size_t response_len, uint8_t *out,
+    size_t out_len);
+
+/* Ends the session. */
+ptrdiff_t pgmsg_put_terminate(uint8_t *out, size_t out_len);
+
+/* Runs the statements of a text, in UTF-8. */
+ptrdiff_t pgmsg_put_query(const uint8_t *query, size_t query_len, uint8_t *out, size_t out_len);
+
+/* Describes the prepared statement `sqlx_s_N`, by its number N; 0 is the unnamed one. */
+ptrdiff_t pgmsg_put_describe_statement(uint32_t statement, uint8_t *out, size_t out_len);
+
+/* Describes the portal `sqlx_p_N`, by its number N; 0 is the unnamed one. */
+ptrdiff_t pgmsg_put_describe_portal(uint32_t portal, uint8_t *out, size_t out_len);
+
+/* Closes the prepared statement `sqlx_s_N`, by its number N; 0 is the unnamed one. */
+ptrdiff_t pgmsg_put_close_statement(uint32_t statement, uint8_t *out, size_t out_len);
+
+/* Closes the portal `sqlx_p_N`, by its number N; 0 is the unnamed one. */
+ptrdiff_t pgmsg_put_close_portal(uint32_t portal, uint8_t *out, size_t out_len);
+
+/* Runs the portal `sqlx_p_N`, by its number N; 0 is the unnamed one. `limit` is the most rows to
+ * send back, 0 for all of them. */
+ptrdiff_t pgmsg_put_execute(uint32_t portal, uint32_t limit, uint8_t *out, size_t out_len);
+
+/* Asks for the answers that the server still has to send. */
+ptrdiff_t pgmsg_put_flush(uint8_t *out, size_t out_len);
+
+/* Ends a run of messages: the server answers that it is ready. */
+ptrdiff_t pgmsg_put_sync(uint8_t *out, size_t out_len);
+
+/* Prepares a statement: the number N names it `sqlx_s_N` on the wire, and 0 is the unnamed one. The
+ * query is in UTF-8. `types` are those of the parameters from the first on; the server infers those
+ * that are 0 or missing. */
+ptrdiff_t pgmsg_put_parse(uint32_t statement, const uint8_t *query, size_t query_len,
+    const uint32_t *types, size_t types_len, uint8_t *out, size_t out_len);
+
+/* Makes a portal of a prepared statement and the values of its parameters. The number N names the
+ * portal `sqlx_p_N` on the wire, and the statement `sqlx_s_N`; 0 is the unnamed one of each.
+ * Formats: 0 is text, anything else binary; none where all are text, one for all, or one each. */
+ptrdiff_t pgmsg_put_bind(uint32_t portal, uint32_t statement, const uint8_t *formats,
+    size_t formats_len, const pgmsg_value *values, size_t values_len, const uint8_t *result_formats,
+    size_t result_formats_len, uint8_t *out, size_t out_len);
+
+/* A batch: Parse of the unnamed statement, Bind of the unnamed portal, Describe of it, Execute, and
+ * Sync. The query is in UTF-8. Formats are as in `pgmsg_put_bind`. */
+ptrdiff_t pgmsg_put_batch(const uint8_t *query, size_t query_len, const uint8_t *formats,
+    size_t formats_len, const pgmsg_value *values, size_t values_len, const uint8_t *result_formats,
+    size_t result_formats_len, uint8_t *out, size_t out_len);
+
+/* A part of the data of a COPY. */
+ptrdiff_t pgmsg_put_copy_data(const uint8_t *data, size_t data_len, uint8_t *out, size_t out_len);
+
+/* The five bytes before `len` bytes of the data of a COPY, which the caller sends after them. 0, or
+ * why there are none. */
+int32_t pgmsg_put_copy_head(size_t len, uint8_t head[5]);
+
+/* The end of the data of a COPY. */
+ptrdiff_t pgmsg_put_copy_done(uint8_t *out, size_t out_len);
+
+/* Fails a COPY, and says why, in UTF-8. */
+ptrdiff_t pgmsg_put_copy_fail(const uint8_t *reason, size_t reason_len, uint8_t *out,
+    size_t out_len);
+
+/* The message at the front of a stream: 1 where it is whole, 0 where more bytes are needed. Refused
+ * where no message from a server has this tag, or its length is below 4: then, whatever comes
+ * next. */
+int32_t pgmsg_next_frame(const uint8_t *stream, size_t stream_len, pgmsg_frame *frame,
+    pgmsg_fault *fault);
+
+/* The cells of a row, by the body of its DataRow: how many it has. As many as there is room for are
+ * written; the rest are read too, so a row is refused for any of its cells. */
+ptrdiff_t pgmsg_read_row(const uint8_t *body, size_t body_len, pgmsg_cell *cells, size_t cells_len,
+    pgmsg_fault *fault);
+
+/* The columns of a result, by the body of its RowDescription: how many there are. As many as there
+ * is room for are written; the rest are read too. */
+ptrdiff_t pgmsg_read_columns(const uint8_t *body, size_t body_len, pgmsg_column *columns,
+    size_t columns_len, pgmsg_fault *fault);
+
+/* The types of a statement's parameters, by the body of its ParameterDescription: how many there
+ * are. As many as there is room for are written. */
+ptrdiff_t pgmsg_read_parameter_types(const uint8_t *body, size_t body_len, uint32_t *types,
+    size_t types_len, pgmsg_fault *fault);
+
+/* The fields of an error or a notice, in order: how many there are. As many as there is room for
+ * are written. */
+size_t pgmsg_read_fields(const uint8_t *body, size_t body_len, pgmsg_field *fields,
+    size_t fields_len);
+
+/* How grave an error or a notice is: 0 PANIC, 1 FATAL, 2 ERROR, 3 WARNING, 4 NOTICE, 5 DEBUG, 6
+ * INFO, 7 LOG. */
+int32_t pgmsg_read_severity(const uint8_t *body, size_t body_len, pgmsg_fault *fault);
+
+/* A notification, by the body of its NotificationResponse. 0, or why it is refused. */
+int32_t pgmsg_read_notification(const uint8_t *body, size_t body_len,
+    pgmsg_notification *notification, pgmsg_fault *fault);
+
+/* A setting of the server, by the body of its ParameterStatus. 0, or why it is refused. */
+int32_t pgmsg_read_parameter_status(const uint8_t *body, size_t body_len,
+    pgmsg_parameter_status *status, pgmsg_fault *fault);
+
+/* What a request to cancel has to name, by the body of a BackendKeyData. 0, or why it is
+ * refused. */
+int32_t pgmsg_read_key_data(const uint8_t *body, size_t body_len, pgmsg_key_data *key,
+    pgmsg_fault *fault);
+
+/* How many rows a command had to do with, by the body of its CommandComplete: the number after the
+ * last space, and 0 where there is none. */
+uint64_t pgmsg_read_rows_affected(const uint8_t *body, size_t body_len);
+
+/* The letter of the transaction's status, by the body of a ReadyForQuery: I where none is open, T
+ * in one, E in one that has failed. */
+int32_t pgmsg_read_ready(const uint8_t *body, size_t body_len, pgmsg_fault *fault);
+
+/* How the data of a COPY is spelled, by the body of a CopyInResponse or CopyOutResponse: how many
+ * columns have a code. As many codes as there is room for are written. */
+ptrdiff_t pgmsg_read_copy_response(const uint8_t *body, size_t body_len,
+    pgmsg_copy_response *response, int16_t *codes, size_t codes_len, pgmsg_fault *fault);
+
+/* What the server asks for, by the body of its Authentication. 0, or why it is refused. */
+int32_t pgmsg_read_authentication(const uint8_t *body, size_t body_len,
+    pgmsg_authentication *authentication, pgmsg_fault *fault);
+
+/* The mechanisms that the server offers, by the body of an Authentication of method 10: how many
+ * there are. As many as there is room for are written. */
+size_t pgmsg_read_mechanisms(const uint8_t *body, size_t body_len, pgmsg_span *mechanisms,
+    size_t mechanisms_len);
+
+/* The challenge of a SASL exchange, by the body of an Authentication of method 11. Salt and nonce
+ * are written where their rooms are long enough. 0, or why it is refused. */
+int32_t pgmsg_read_challenge(const uint8_t *body, size_t body_len, pgmsg_challenge *challenge,
+    uint8_t *salt, size_t salt_len, uint8_t *nonce, size_t nonce_len, pgmsg_fault *fault);
+
+/* The verifier that ends a SASL exchange, by the body of an Authentication of method 12: its length
+ * in bytes. It is written where its room is that long. */
+ptrdiff_t pgmsg_read_verifier(const uint8_t *body, size_t body_len, uint8_t *verifier,
+    size_t verifier_len, pgmsg_fault *fault);
+
+#ifdef __cplusplus
+}
+#endif
+
+#endif

@@ -1,0 +1,176 @@
+#define _DEFAULT_SOURCE
+
+#include "connection.h"
+#include "address.h"
+#include "login.h"
+#include "wait.h"
+
+#include <errno.h>
+#include <string.h>
+#include <unistd.h>
+
+enum {
+    OUTPUT_ROOM = 4096,
+    INPUT_ROOM = 65536,
+    LEAST_READ = 8192,
+    /* No message to these programs is nearly as long; a number above it is not PostgreSQL's. */
+    LONGEST_MESSAGE = 64 * 1024 * 1024
+};
+
+/* A message that can't be sent is made of a name or of a password that the user gave. */
+static enum status complain_of_refusal(ptrdiff_t number)
+{
+    if (number == PGMSG_NOT_UTF8)
+        return complain(STATUS_USAGE, "a name or a password is not UTF-8");
+    return complain(STATUS_USAGE, "a message is refused, by the number %td", number);
+}
+
+bool connection_put(struct connection *connection, ptrdiff_t length)
+{
+    struct buffer *output = &connection->output;
+    if (length == PGMSG_OUT_OF_MEMORY) {
+        connection->failure = complain_of_memory();
+        return false;
+    }
+    if (length < 0) {
+        connection->failure = complain_of_refusal(length);
+        return false;
+    }
+    if ((size_t)length > output->room - output->end) {
+        if (buffer_reserve(output, (size_t)length))
+            return true;
+        connection->failure = complain_of_memory();
+        return false;
+    }
+    output->end += (size_t)length;
+    return false;
+}
+
+void connection_write(struct connection *connection)
+{
+    struct buffer *output = &connection->output;
+    ssize_t count = write(connection->socket, output->bytes + output->start, output->end - output->start);
+    if (count >= 0) {
+        output->start += (size_t)count;
+    } else if (!is_temporary(errno)) {
+        connection->is_gone = true;
+        output->start = output->end;
+    }
+}
+
+enum status connection_flush(struct connection *connection)
+{
+    struct buffer *output = &connection->output;
+    struct pollfd ready = {.fd = connection->socket, .events = POLLOUT};
+    while (connection->failure == STATUS_OK && output->start < output->end) {
+        connection_write(connection);
+        if (output->start < output->end) {
+            enum status status = wait_for(&ready, 1, -1);
+            if (status != STATUS_OK)
+                return status;
+        }
+    }
+    return connection->failure;
+}
+
+enum status connection_read(struct connection *connection)
+{
+    struct buffer *input = &connection->input;
+    if (!buffer_reserve(input, LEAST_READ))
+        return complain_of_memory();
+    ssize_t count = read(connection->socket, input->bytes + input->end, input->room - input->end);
+    if (count == 0)
+        return complain(STATUS_BROKEN, "the server closed the connection");
+    if (count > 0)
+        input->end += (size_t)count;
+    else if (!is_temporary(errno))
+        return complain(STATUS_BROKEN, "the connection broke: %s", strerror(errno));
+    return STATUS_OK;
+}
+
+enum status connection_next(struct connection *connection, struct message *message)
+{
+    struct buffer *input = &connection->input;
+    const uint8_t *front = input->bytes + input->start;
+    pgmsg_frame frame;
+    pgmsg_fault fault;
+    *message = (struct message){.body = front};
+    int32_t is_whole = pgmsg_next_frame(front, input->end - input->start, &frame, &fault);
+    if (is_whole < 0)
+        return complain_of_fault(&fault);
+    if (frame.length > LONGEST_MESSAGE)
+        return complain(STATUS_PROTOCOL, "a message of %zu bytes is too long", frame.length);
+    if (is_whole == 0)
+        return STATUS_OK;
+    *message = (struct message){.tag = frame.tag, .body = front + frame.body.at, .len = frame.body.len};
+    input->start += frame.length;
+    return STATUS_OK;
+}
+
+enum status connection_receive(struct connection *connection, struct message *message)
+{
+    struct pollfd ready = {.fd = connection->socket, .events = POLLIN};
+    for (;;) {
+        enum status status = connection_next(connection, message);
+        if (status != STATUS_OK || message->tag != 0)
+            return status;
+        status = wait_for(&ready, 1, -1);
+        if (status == STATUS_OK)
+            status = connection_read(connection);
+        if (status != STATUS_OK)
+            return status;
+    }
+}
+
+enum status check_ready(const struct message *message)
+{
+    pgmsg_fault fault;
+    if (pgmsg_read_ready(message->body, message->len, &fault) < 0)
+        return complain_of_fault(&fault);
+    return STATUS_OK;
+}
+
+static enum status connect_and_log_in(struct connection *connection, struct options *options)
+{
+    struct address address;
+    enum status status = address_find(&address, options->host, options->port);
+    if (status != STATUS_OK)
+        return status;
+    /* Not before: a search for an address doesn't end by a signal that is caught. */
+    catch_signals();
+    status = address_connect(&address, &connection->socket);
+    address_free(&address);
+    if (status != STATUS_OK) {
+        connection->socket = -1;
+        return status;
+    }
+    return log_in(connection, options);
+}
+
+enum status connection_open(struct connection *connection, struct options *options)
+{
+    *connection = (struct connection){.socket = -1};
+    enum status status = STATUS_OK;
+    if (!buffer_make(&connection->output, OUTPUT_ROOM) || !buffer_make(&connection->input, INPUT_ROOM))
+        status = complain_of_memory();
+    if (status == STATUS_OK)
+        status = connect_and_log_in(connection, options);
+    if (status != STATUS_OK)
+        connection_close(connection);
+    return status;
+}
+
+void connection_terminate(struct connection *connection)
+{
+    PUT(connection, pgmsg_put_terminate(SPARE(connection)));
+    connection_write(connection);
+}
+
+void connection_close(struct connection *connection)
+{
+    if (connection->socket >= 0)
+        close(connection->socket);
+    connection->socket = -1;
+    buffer_free(&connection->output);
+    buffer_free(&connection->input);
+}

@@ -1,0 +1,153 @@
+#include "login.h"
+#include "scram.h"
+
+#include <stdlib.h>
+#include <string.h>
+
+/* What the server asks for, by the numbers of the protocol. */
+enum method {
+    METHOD_ACCEPTED = 0,
+    METHOD_CLEAR_TEXT = 3,
+    METHOD_MD5 = 5,
+    METHOD_SASL = 10,
+    METHOD_SASL_CHALLENGE = 11,
+    METHOD_SASL_VERIFIER = 12
+};
+
+/* How far a login is. */
+struct login {
+    struct connection *connection;
+    struct options *options;
+    struct scram scram;
+    bool has_answered; /* a question for the password, of which there is one */
+    bool is_accepted;
+    bool is_ready;
+};
+
+static pgmsg_setting setting(const char *name, const char *value)
+{
+    return (pgmsg_setting){
+        .name = (const uint8_t *)name,
+        .name_len = strlen(name),
+        .value = (const uint8_t *)value,
+        .value_len = strlen(value),
+    };
+}
+
+static enum status send_startup(struct connection *connection, const struct options *options)
+{
+    const char *encoding = getenv("PGCLIENTENCODING");
+    const pgmsg_setting settings[] = {
+        setting("user", options->user),
+        setting("database", options->database),
+        setting("application_name", options->application),
+        setting("client_encoding", encoding != NULL && *encoding != '\0' ? encoding : "UTF8"),
+    };
+    PUT(connection, pgmsg_put_startup(settings, sizeof settings / sizeof *settings, SPARE(connection)));
+    return connection_flush(connection);
+}
+
+static enum status send_clear_text(struct login *login)
+{
+    enum status status = options_ask_password(login->options);
+    if (status != STATUS_OK)
+        return status;
+    const char *password = login->options->password;
+    PUT(login->connection,
+        pgmsg_put_password((const uint8_t *)password, strlen(password), SPARE(login->connection)));
+    return connection_flush(login->connection);
+}
+
+static enum status send_md5(struct login *login, const uint8_t salt[4])
+{
+    uint8_t digest[MD5_LENGTH];
+    enum status status = options_ask_password(login->options);
+    if (status == STATUS_OK)
+        status = md5_of_password(login->options->password, login->options->user, salt, digest);
+    if (status != STATUS_OK)
+        return status;
+    PUT(login->connection, pgmsg_put_md5_password(digest, SPARE(login->connection)));
+    return connection_flush(login->connection);
+}
+
+static enum status begin_scram(struct login *login, const struct message *message)
+{
+    enum status status = options_ask_password(login->options);
+    if (status == STATUS_OK)
+        status = scram_begin(&login->scram, login->connection, message);
+    return status;
+}
+
+/* Answers with the password. A server that asks once more, in another way, may be after the password. */
+static enum status answer_once(struct login *login, const pgmsg_authentication *asked,
+                               const struct message *message)
+{
+    if (login->has_answered)
+        return complain_of_message(message);
+    login->has_answered = true;
+    switch (asked->method) {
+    case METHOD_CLEAR_TEXT: return send_clear_text(login);
+    case METHOD_MD5: return send_md5(login, asked->salt);
+    default: return begin_scram(login, message);
+    }
+}
+
+static enum status accept_login(struct login *login)
+{
+    if (scram_is_open(&login->scram))
+        return complain(STATUS_PROTOCOL, "the server didn't show that it knows the password");
+    login->is_accepted = true;
+    return STATUS_OK;
+}
+
+static enum status answer(struct login *login, const struct message *message)
+{
+    pgmsg_authentication asked;
+    pgmsg_fault fault;
+    if (pgmsg_read_authentication(message->body, message->len, &asked, &fault) < 0) {
+        enum status status = complain_of_fault(&fault);
+        return fault.number == PGMSG_UNKNOWN_AUTHENTICATION ? STATUS_REFUSED : status;
+    }
+    if (login->is_accepted)
+        return complain_of_message(message);
+    switch (asked.method) {
+    case METHOD_ACCEPTED: return accept_login(login);
+    case METHOD_CLEAR_TEXT:
+    case METHOD_MD5:
+    case METHOD_SASL: return answer_once(login, &asked, message);
+    case METHOD_SASL_CHALLENGE:
+        return scram_answer(&login->scram, login->connection, login->options->password, message);
+    case METHOD_SASL_VERIFIER: return scram_verify(&login->scram, message);
+    default: return complain_of_message(message);
+    }
+}
+
+static enum status take(struct login *login, const struct message *message)
+{
+    switch (message->tag) {
+    case 'R': return answer(login, message);
+    case 'E': report(message); return STATUS_REFUSED;
+    case 'N': report(message); return STATUS_OK;
+    case 'K':
+    case 'S': return STATUS_OK;
+    case 'Z':
+        if (!login->is_accepted)
+            return complain_of_message(message);
+        login->is_ready = true;
+        return check_ready(message);
+    default: return complain_of_message(message);
+    }
+}
+
+enum status log_in(struct connection *connection, struct options *options)
+{
+    struct login login = {.connection = connection, .options = options};
+    enum status status = send_startup(connection, options);
+    while (status == STATUS_OK && !login.is_ready) {
+        struct message message;
+        status = connection_receive(connection, &message);
+        if (status == STATUS_OK)
+            status = take(&login, &message);
+    }
+    return status;
+}

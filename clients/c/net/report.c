@@ -1,0 +1,81 @@
+#define _DEFAULT_SOURCE
+
+#include "status.h"
+
+#include <err.h>
+#include <stdarg.h>
+#include <stdio.h>
+
+/* More fields than a server has letters for. */
+enum { FIELDS = 32 };
+
+enum status complain(enum status status, const char *format, ...)
+{
+    va_list arguments;
+    va_start(arguments, format);
+    vwarnx(format, arguments);
+    va_end(arguments);
+    return status;
+}
+
+enum status complain_of_memory(void)
+{
+    return complain(STATUS_MEMORY, "out of memory");
+}
+
+enum status complain_of_fault(const pgmsg_fault *fault)
+{
+    enum status status = fault->number == PGMSG_OUT_OF_MEMORY ? STATUS_MEMORY : STATUS_PROTOCOL;
+    return complain(status, "%.*s", (int)fault->words_len, (const char *)fault->words);
+}
+
+enum status complain_of_message(const struct message *message)
+{
+    return complain(STATUS_PROTOCOL, "a message of type %c may not come here", message->tag);
+}
+
+/* Prints a text of the server without the bytes that a terminal would obey. */
+static void print_text(const uint8_t *text, size_t len)
+{
+    for (size_t i = 0; i < len; i++) {
+        bool is_plain = (text[i] >= ' ' && text[i] != 0x7f) || text[i] == '\n' || text[i] == '\t';
+        putc(is_plain ? text[i] : '?', stderr);
+    }
+}
+
+/* The fields of an error or a notice. */
+struct fields {
+    const uint8_t *body;
+    size_t count;
+    pgmsg_field all[FIELDS];
+};
+
+/* Prints the first field of a letter between two texts, where there is one. */
+static bool print_field(const struct fields *fields, char letter, const char *before, const char *after)
+{
+    for (size_t i = 0; i < fields->count; i++) {
+        const pgmsg_field *field = &fields->all[i];
+        if (field->letter == (uint8_t)letter) {
+            fputs(before, stderr);
+            print_text(fields->body + field->value.at, field->value.len);
+            fputs(after, stderr);
+            return true;
+        }
+    }
+    return false;
+}
+
+void report(const struct message *message)
+{
+    struct fields fields = {.body = message->body};
+    size_t count = pgmsg_read_fields(message->body, message->len, fields.all, FIELDS);
+    fields.count = count < FIELDS ? count : FIELDS;
+    if (!print_field(&fields, 'S', "", " "))
+        print_field(&fields, 'V', "", " ");
+    print_field(&fields, 'C', "", ": ");
+    if (!print_field(&fields, 'M', "", "\n"))
+        fputs("the server gives no reason\n", stderr);
+    print_field(&fields, 'D', "detail: ", "\n");
+    print_field(&fields, 'H', "hint: ", "\n");
+    print_field(&fields, 'W', "context: ", "\n");
+}

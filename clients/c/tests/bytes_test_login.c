@@ -1,0 +1,77 @@
+/* What a server asks of a client that logs in. */
+#include "bytes_test.h"
+
+#include <string.h>
+
+static void test_methods(struct tally *tally)
+{
+    pgmsg_authentication asked;
+    pgmsg_fault fault;
+    CHECK(tally, pgmsg_read_authentication(BYTES("\0\0\0\0"), &asked, &fault) == 0 && asked.method == 0);
+    CHECK(tally, pgmsg_read_authentication(BYTES("\0\0\0\3"), &asked, &fault) == 0 && asked.method == 3);
+    CHECK(tally, pgmsg_read_authentication(BYTES("\0\0\0\5" "\1\2\3\4"), &asked, &fault) == 0);
+    CHECK(tally, asked.method == 5 && memcmp(asked.salt, "\1\2\3\4", 4) == 0);
+    CHECK(tally, pgmsg_read_authentication(BYTES("\0\0\0\5" "\1\2\3"), &asked, &fault) == PGMSG_SHORT);
+    CHECK(tally, pgmsg_read_authentication(BYTES("\0\0\0\12" "\0"), &asked, &fault) == 0 && asked.method == 10);
+    CHECK(tally, pgmsg_read_authentication(BYTES("\0\0\0\7"), &asked, &fault) == PGMSG_UNKNOWN_AUTHENTICATION);
+    CHECK(tally, fault.number == PGMSG_UNKNOWN_AUTHENTICATION && fault.words_len > 0);
+    CHECK(tally, pgmsg_read_authentication(BYTES("\0\0"), &asked, &fault) == PGMSG_SHORT);
+}
+
+static void test_mechanisms(struct tally *tally)
+{
+    static const char body[] = "\0\0\0\12" "SCRAM-SHA-256-PLUS\0" "SCRAM-SHA-256\0" "\0";
+    pgmsg_span spans[3];
+    memset(spans, 0xaa, sizeof spans);
+    pgmsg_span untouched = spans[2];
+    CHECK(tally, pgmsg_read_mechanisms(BYTES(body), spans, 3) == 2);
+    CHECK(tally, are_bytes((const uint8_t *)body + spans[0].at, spans[0].len, "SCRAM-SHA-256-PLUS", 18));
+    CHECK(tally, are_bytes((const uint8_t *)body + spans[1].at, spans[1].len, "SCRAM-SHA-256", 13));
+    CHECK(tally, spans[2].at == untouched.at && spans[2].len == untouched.len);
+    spans[1] = untouched;
+    CHECK(tally, pgmsg_read_mechanisms(BYTES(body), spans, 1) == 2 && spans[1].at == untouched.at);
+    CHECK(tally, pgmsg_read_mechanisms(BYTES("\0\0"), spans, 3) == 0);
+}
+
+static void test_challenges(struct tally *tally)
+{
+    static const char body[] = "\0\0\0\13" "r=abc,s=AQID,i=8192";
+    pgmsg_challenge challenge;
+    uint8_t salt[4] = "----", nonce[4] = "----";
+    pgmsg_fault fault;
+    CHECK(tally, pgmsg_read_challenge(BYTES(body), &challenge, salt, 4, nonce, 4, &fault) == 0);
+    CHECK(tally, challenge.iterations == 8192 && challenge.salt_len == 3 && challenge.nonce_len == 3);
+    CHECK(tally, memcmp(salt, "\1\2\3-", 4) == 0 && memcmp(nonce, "abc-", 4) == 0);
+    memcpy(salt, "----", 4);
+    memcpy(nonce, "----", 4);
+    CHECK(tally, pgmsg_read_challenge(BYTES(body), &challenge, salt, 2, nonce, 2, &fault) == 0);
+    CHECK(tally, challenge.salt_len == 3 && challenge.nonce_len == 3);
+    CHECK(tally, memcmp(salt, "----", 4) == 0 && memcmp(nonce, "----", 4) == 0);
+    CHECK(tally, pgmsg_read_challenge(BYTES("\0\0\0\13" "s=?"), &challenge, salt, 4, nonce, 4, &fault)
+                     == PGMSG_BASE64);
+    CHECK(tally, pgmsg_read_challenge(BYTES("\0\0\0\13" "r"), &challenge, salt, 4, nonce, 4, &fault)
+                     == PGMSG_SHORT_SASL_ITEM);
+    /* A body of another method. */
+    CHECK(tally, pgmsg_read_challenge(BYTES("\0\0\0\0"), &challenge, salt, 4, nonce, 4, &fault) < 0);
+}
+
+static void test_verifiers(struct tally *tally)
+{
+    uint8_t verifier[4] = "----";
+    pgmsg_fault fault;
+    CHECK(tally, pgmsg_read_verifier(BYTES("\0\0\0\14" "v=AQID"), verifier, 2, &fault) == 3);
+    CHECK(tally, memcmp(verifier, "----", 4) == 0);
+    CHECK(tally, pgmsg_read_verifier(BYTES("\0\0\0\14" "v=AQID"), verifier, 4, &fault) == 3);
+    CHECK(tally, memcmp(verifier, "\1\2\3-", 4) == 0);
+    CHECK(tally, pgmsg_read_verifier(BYTES("\0\0\0\14" "e=no"), verifier, 4, &fault) == 0);
+    CHECK(tally, pgmsg_read_verifier(BYTES("\0\0\0\14" "v=?"), verifier, 4, &fault) == PGMSG_BASE64);
+    CHECK(tally, pgmsg_read_verifier(BYTES("\0\0\0\3"), verifier, 4, &fault) < 0);
+}
+
+void test_login(struct tally *tally)
+{
+    test_methods(tally);
+    test_mechanisms(tally);
+    test_challenges(tally);
+    test_verifiers(tally);
+}

@@ -1,0 +1,150 @@
+/* Messages to the server, and what is left of `out` where there is no room for them. */
+#include "bytes_test.h"
+
+#include <stdio.h>
+#include <string.h>
+
+enum { ROOM = 256, UNTOUCHED = 0xaa };
+
+static const pgmsg_setting settings[] = {
+    {(const uint8_t *)"user", 4, (const uint8_t *)"ann", 3},
+    {(const uint8_t *)"database", 8, (const uint8_t *)"d", 1},
+};
+
+static const uint8_t digest[16] = {0, 1, 2, 3, 4, 5, 6, 7, 8, 9, 10, 11, 12, 13, 14, 255};
+
+static const uint8_t no_format[1];
+static const uint8_t text_format[] = {0};
+static const uint8_t mixed_formats[] = {1, 0};
+static const uint32_t types[] = {23};
+
+static const pgmsg_value values[] = {
+    {(const uint8_t *)"ab", 2, false},
+    {(const uint8_t *)"", 0, true},
+    {(const uint8_t *)"", 0, false},
+};
+
+static const pgmsg_value five = {(const uint8_t *)"5", 1, false};
+
+/* Each message once, by a function of the room for it. */
+#define MESSAGE(name, call)                              \
+    static ptrdiff_t name(uint8_t *out, size_t out_len) \
+    {                                                    \
+        return call;                                     \
+    }
+
+MESSAGE(startup, pgmsg_put_startup(settings, 2, out, out_len))
+MESSAGE(bare_startup, pgmsg_put_startup(settings, 0, out, out_len))
+MESSAGE(ssl_request, pgmsg_put_ssl_request(out, out_len))
+MESSAGE(password, pgmsg_put_password(BYTES("pw"), out, out_len))
+MESSAGE(md5_password, pgmsg_put_md5_password(digest, out, out_len))
+MESSAGE(sasl_initial, pgmsg_put_sasl_initial(BYTES("n,,n=,r=x"), false, out, out_len))
+MESSAGE(sasl_plus, pgmsg_put_sasl_initial(BYTES("y"), true, out, out_len))
+MESSAGE(sasl_response, pgmsg_put_sasl_response(BYTES("c=biws"), out, out_len))
+MESSAGE(terminate, pgmsg_put_terminate(out, out_len))
+MESSAGE(query, pgmsg_put_query(BYTES("SELECT 1"), out, out_len))
+MESSAGE(empty_query, pgmsg_put_query(BYTES(""), out, out_len))
+MESSAGE(describe_statement, pgmsg_put_describe_statement(12, out, out_len))
+MESSAGE(describe_portal, pgmsg_put_describe_portal(0, out, out_len))
+MESSAGE(close_statement, pgmsg_put_close_statement(0, out, out_len))
+MESSAGE(close_portal, pgmsg_put_close_portal(UINT32_MAX, out, out_len))
+MESSAGE(execute, pgmsg_put_execute(0, 100, out, out_len))
+MESSAGE(flush, pgmsg_put_flush(out, out_len))
+MESSAGE(sync, pgmsg_put_sync(out, out_len))
+MESSAGE(parse, pgmsg_put_parse(2, BYTES("SELECT $1"), types, 1, out, out_len))
+MESSAGE(bare_parse, pgmsg_put_parse(0, BYTES(""), types, 0, out, out_len))
+MESSAGE(bind, pgmsg_put_bind(0, 1, text_format, 1, values, 3, mixed_formats, 2, out, out_len))
+MESSAGE(bare_bind, pgmsg_put_bind(3, 0, no_format, 0, values, 0, no_format, 0, out, out_len))
+MESSAGE(batch, pgmsg_put_batch(BYTES("SELECT $1"), no_format, 0, &five, 1, no_format, 0, out, out_len))
+MESSAGE(copy_data, pgmsg_put_copy_data(BYTES("1\t2\n"), out, out_len))
+MESSAGE(empty_copy_data, pgmsg_put_copy_data(BYTES(""), out, out_len))
+MESSAGE(copy_done, pgmsg_put_copy_done(out, out_len))
+MESSAGE(copy_fail, pgmsg_put_copy_fail(BYTES("no"), out, out_len))
+
+struct sample {
+    ptrdiff_t (*put)(uint8_t *out, size_t out_len);
+    const char *bytes;
+    size_t len;
+};
+
+#define SAMPLE(put, literal) {put, literal, sizeof(literal) - 1}
+
+static const struct sample samples[] = {
+    SAMPLE(startup, "\0\0\0\35" "\0\3\0\0" "user\0" "ann\0" "database\0" "d\0" "\0"),
+    SAMPLE(bare_startup, "\0\0\0\11" "\0\3\0\0" "\0"),
+    SAMPLE(ssl_request, "\0\0\0\10" "\4\322\26\57"),
+    SAMPLE(password, "p\0\0\0\7" "pw\0"),
+    SAMPLE(md5_password, "p\0\0\0\50" "md5" "000102030405060708090a0b0c0d0eff\0"),
+    SAMPLE(sasl_initial, "p\0\0\0\37" "SCRAM-SHA-256\0" "\0\0\0\11" "n,,n=,r=x"),
+    SAMPLE(sasl_plus, "p\0\0\0\34" "SCRAM-SHA-256-PLUS\0" "\0\0\0\1" "y"),
+    SAMPLE(sasl_response, "p\0\0\0\12" "c=biws"),
+    SAMPLE(terminate, "X\0\0\0\4"),
+    SAMPLE(query, "Q\0\0\0\15" "SELECT 1\0"),
+    SAMPLE(empty_query, "Q\0\0\0\5" "\0"),
+    SAMPLE(describe_statement, "D\0\0\0\17" "S" "sqlx_s_12\0"),
+    SAMPLE(describe_portal, "D\0\0\0\6" "P" "\0"),
+    SAMPLE(close_statement, "C\0\0\0\6" "S" "\0"),
+    SAMPLE(close_portal, "C\0\0\0\27" "P" "sqlx_p_4294967295\0"),
+    SAMPLE(execute, "E\0\0\0\11" "\0" "\0\0\0\144"),
+    SAMPLE(flush, "H\0\0\0\4"),
+    SAMPLE(sync, "S\0\0\0\4"),
+    SAMPLE(parse, "P\0\0\0\35" "sqlx_s_2\0" "SELECT $1\0" "\0\1" "\0\0\0\27"),
+    SAMPLE(bare_parse, "P\0\0\0\10" "\0" "\0" "\0\0"),
+    SAMPLE(bind, "B\0\0\0\50" "\0" "sqlx_s_1\0" "\0\1" "\0\0" "\0\3" "\0\0\0\2" "ab" "\377\377\377\377"
+                 "\0\0\0\0" "\0\2" "\0\1" "\0\0"),
+    SAMPLE(bare_bind, "B\0\0\0\24" "sqlx_p_3\0" "\0" "\0\0" "\0\0" "\0\0"),
+    SAMPLE(batch, "P\0\0\0\21" "\0" "SELECT $1\0" "\0\0"
+                  "B\0\0\0\21" "\0" "\0" "\0\0" "\0\1" "\0\0\0\1" "5" "\0\0"
+                  "D\0\0\0\6" "P" "\0" "E\0\0\0\11" "\0" "\0\0\0\0" "S\0\0\0\4"),
+    SAMPLE(copy_data, "d\0\0\0\10" "1\t2\n"),
+    SAMPLE(empty_copy_data, "d\0\0\0\4"),
+    SAMPLE(copy_done, "c\0\0\0\4"),
+    SAMPLE(copy_fail, "f\0\0\0\7" "no\0"),
+};
+
+/* Whether the bytes from an offset on are as they were. */
+static bool is_untouched(const uint8_t *out, size_t from)
+{
+    for (size_t i = from; i < ROOM; i++)
+        if (out[i] != UNTOUCHED)
+            return false;
+    return true;
+}
+
+/* Puts a message into so much room. It is there, and nothing after it, or else nothing at all. */
+static void test_room(struct tally *tally, const struct sample *sample, size_t room)
+{
+    uint8_t out[ROOM];
+    memset(out, UNTOUCHED, sizeof out);
+    ptrdiff_t len = sample->put(out, room);
+    CHECK(tally, len == (ptrdiff_t)sample->len);
+    if (room < sample->len) {
+        CHECK(tally, is_untouched(out, 0));
+    } else {
+        CHECK(tally, are_bytes(out, sample->len, sample->bytes, sample->len));
+        CHECK(tally, is_untouched(out, sample->len));
+    }
+}
+
+static void test_heads(struct tally *tally)
+{
+    uint8_t head[5];
+    CHECK(tally, pgmsg_put_copy_head(0, head) == 0 && are_bytes(head, 5, "d\0\0\0\4", 5));
+    CHECK(tally, pgmsg_put_copy_head(65536, head) == 0 && are_bytes(head, 5, "d\0\1\0\4", 5));
+    CHECK(tally, pgmsg_put_copy_head(2147483643, head) == 0 && are_bytes(head, 5, "d\177\377\377\377", 5));
+    memset(head, UNTOUCHED, sizeof head);
+    CHECK(tally, pgmsg_put_copy_head(2147483644, head) == PGMSG_MESSAGE_TOO_LONG);
+    CHECK(tally, pgmsg_put_copy_head(SIZE_MAX, head) == PGMSG_MESSAGE_TOO_LONG);
+    CHECK(tally, are_bytes(head, 5, "\252\252\252\252\252", 5));
+}
+
+void test_put(struct tally *tally)
+{
+    for (size_t i = 0; i < sizeof samples / sizeof *samples; i++) {
+        test_room(tally, &samples[i], ROOM);
+        test_room(tally, &samples[i], samples[i].len);
+        test_room(tally, &samples[i], samples[i].len - 1);
+        test_room(tally, &samples[i], 0);
+    }
+    test_heads(tally);
+}

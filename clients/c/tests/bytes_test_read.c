@@ -1,0 +1,188 @@
+/* Messages from the server. */
+#include "bytes_test.h"
+
+#include <string.h>
+
+/* Whether a fault has this number and place, and words. */
+static bool is_fault(const pgmsg_fault *fault, int32_t number, size_t at)
+{
+    return fault->number == number && fault->at == at && fault->words_len > 0
+        && fault->words_len <= sizeof fault->words;
+}
+
+/* Whether some bytes at a place are those of a text. */
+static bool is_at(const char *body, pgmsg_span span, const char *text)
+{
+    return are_bytes((const uint8_t *)body + span.at, span.len, text, strlen(text));
+}
+
+static void test_frames(struct tally *tally)
+{
+    pgmsg_frame frame;
+    pgmsg_fault fault;
+    CHECK(tally, pgmsg_next_frame(BYTES("Z\0\0\0\5IZ\0"), &frame, &fault) == 1);
+    CHECK(tally, frame.tag == 'Z' && frame.length == 6 && frame.body.at == 5 && frame.body.len == 1);
+    CHECK(tally, pgmsg_next_frame(BYTES("1\0\0\0\4"), &frame, &fault) == 1);
+    CHECK(tally, frame.tag == '1' && frame.length == 5 && frame.body.len == 0);
+    CHECK(tally, pgmsg_next_frame(BYTES(""), &frame, &fault) == 0 && frame.length == 5);
+    CHECK(tally, pgmsg_next_frame(BYTES("Z\0\0"), &frame, &fault) == 0 && frame.length == 5);
+    CHECK(tally, pgmsg_next_frame(BYTES("D\0\0\1\0\0"), &frame, &fault) == 0 && frame.length == 257);
+    CHECK(tally, pgmsg_next_frame(BYTES("v\0\0\0\4"), &frame, &fault) == PGMSG_UNKNOWN_MESSAGE_TYPE);
+    CHECK(tally, is_fault(&fault, PGMSG_UNKNOWN_MESSAGE_TYPE, 0));
+    CHECK(tally, are_bytes(fault.words, fault.words_len, "unknown message type: 118", 25));
+    CHECK(tally, pgmsg_next_frame(BYTES("Z\0\0\0\3"), &frame, &fault) == PGMSG_BAD_LENGTH);
+    CHECK(tally, pgmsg_next_frame(BYTES("Z\377\377\377\377"), &frame, &fault) == PGMSG_BAD_LENGTH);
+}
+
+static void test_rows(struct tally *tally)
+{
+    static const char body[] = "\0\3" "\0\0\0\2" "ab" "\377\377\377\377" "\0\0\0\0";
+    pgmsg_cell cells[4];
+    pgmsg_fault fault;
+    memset(cells, 0xaa, sizeof cells);
+    pgmsg_cell untouched = cells[3];
+    CHECK(tally, pgmsg_read_row(BYTES(body), cells, 4, &fault) == 3);
+    CHECK(tally, cells[0].len == 2 && memcmp(body + cells[0].at, "ab", 2) == 0);
+    CHECK(tally, cells[1].len == -1);
+    CHECK(tally, cells[2].len == 0 && cells[2].at == sizeof body - 1);
+    CHECK(tally, memcmp(&cells[3], &untouched, sizeof untouched) == 0);
+    cells[2] = untouched;
+    CHECK(tally, pgmsg_read_row(BYTES(body), cells, 2, &fault) == 3);
+    CHECK(tally, memcmp(&cells[2], &untouched, sizeof untouched) == 0);
+    CHECK(tally, pgmsg_read_row(BYTES(body), cells, 0, &fault) == 3);
+    CHECK(tally, pgmsg_read_row(BYTES("\0\0"), cells, 4, &fault) == 0);
+    CHECK(tally, pgmsg_read_row(BYTES(""), cells, 4, &fault) == PGMSG_SHORT && is_fault(&fault, PGMSG_SHORT, 0));
+    CHECK(tally, pgmsg_read_row(BYTES("\0\1" "\0\0\0\5" "ab"), cells, 4, &fault) == PGMSG_SHORT);
+    CHECK(tally, is_fault(&fault, PGMSG_SHORT, 6));
+    /* Cells without room are read too. */
+    CHECK(tally, pgmsg_read_row(BYTES("\0\2" "\0\0\0\0" "\0\0\0\1"), cells, 1, &fault) == PGMSG_SHORT);
+}
+
+static void test_columns(struct tally *tally)
+{
+    static const char body[] = "\0\2" "id\0" "\0\0\100\1" "\0\1" "\0\0\0\27" "\0\4" "\377\377\377\377" "\0\0"
+                               "n\0" "\0\0\0\0" "\0\0" "\0\0\0\31" "\377\377" "\0\0\0\24" "\0\1";
+    pgmsg_column columns[2], untouched;
+    pgmsg_fault fault;
+    CHECK(tally, pgmsg_read_columns(BYTES(body), columns, 2, &fault) == 2);
+    CHECK(tally, is_at(body, columns[0].name, "id") && is_at(body, columns[1].name, "n"));
+    CHECK(tally, columns[0].table == 16385 && columns[0].attribute == 1);
+    CHECK(tally, columns[0].type_id == 23 && columns[0].type_size == 4);
+    CHECK(tally, columns[0].type_modifier == -1 && columns[0].format == 0);
+    CHECK(tally, columns[1].table == 0 && columns[1].attribute == 0);
+    CHECK(tally, columns[1].type_id == 25 && columns[1].type_size == -1);
+    CHECK(tally, columns[1].type_modifier == 20 && columns[1].format == 1);
+    memset(&untouched, 0xaa, sizeof untouched);
+    memcpy(&columns[1], &untouched, sizeof untouched);
+    CHECK(tally, pgmsg_read_columns(BYTES(body), columns, 1, &fault) == 2);
+    CHECK(tally, memcmp(&columns[1], &untouched, sizeof untouched) == 0);
+    CHECK(tally, pgmsg_read_columns(BYTES("\0\0"), columns, 0, &fault) == 0);
+    CHECK(tally, pgmsg_read_columns(BYTES("\0\1"), columns, 2, &fault) == PGMSG_SHORT);
+    CHECK(tally, fault.number == PGMSG_SHORT);
+}
+
+static void test_types(struct tally *tally)
+{
+    uint32_t types[3] = {0, 0, 7};
+    pgmsg_fault fault;
+    CHECK(tally, pgmsg_read_parameter_types(BYTES("\0\2" "\0\0\0\27" "\0\0\0\31"), types, 3, &fault) == 2);
+    CHECK(tally, types[0] == 23 && types[1] == 25 && types[2] == 7);
+    CHECK(tally, pgmsg_read_parameter_types(BYTES("\0\2" "\0\0\0\1" "\0\0\0\2"), types, 1, &fault) == 2);
+    CHECK(tally, types[0] == 1 && types[1] == 25);
+    CHECK(tally, pgmsg_read_parameter_types(BYTES("\0\1" "\0\0"), types, 3, &fault) == PGMSG_SHORT);
+}
+
+static void test_fields(struct tally *tally)
+{
+    static const char body[] = "SERROR\0" "VERROR\0" "C42P01\0" "Mno\0";
+    pgmsg_field fields[5];
+    pgmsg_fault fault;
+    memset(fields, 0xaa, sizeof fields);
+    CHECK(tally, pgmsg_read_fields(BYTES(body), fields, 5) == 4);
+    CHECK(tally, fields[0].letter == 'S' && is_at(body, fields[0].value, "ERROR"));
+    CHECK(tally, fields[2].letter == 'C' && is_at(body, fields[2].value, "42P01"));
+    CHECK(tally, fields[3].letter == 'M' && is_at(body, fields[3].value, "no"));
+    CHECK(tally, fields[4].letter == 0xaa);
+    fields[1].letter = 0xaa;
+    CHECK(tally, pgmsg_read_fields(BYTES(body), fields, 1) == 4 && fields[1].letter == 0xaa);
+    CHECK(tally, pgmsg_read_fields(BYTES(""), fields, 5) == 0);
+    CHECK(tally, pgmsg_read_fields(BYTES("SERROR"), fields, 5) == 0);
+    CHECK(tally, pgmsg_read_severity(BYTES(body), &fault) == 2);
+    CHECK(tally, pgmsg_read_severity(BYTES("VPANIC\0" "\0"), &fault) == 0);
+    CHECK(tally, pgmsg_read_severity(BYTES("VLOG\0" "\0"), &fault) == 7);
+    CHECK(tally, pgmsg_read_severity(BYTES("VODD\0" "\0"), &fault) == PGMSG_UNKNOWN_SEVERITY);
+    CHECK(tally, is_fault(&fault, PGMSG_UNKNOWN_SEVERITY, 0));
+    CHECK(tally, pgmsg_read_severity(BYTES("M\377\0" "\0"), &fault) == PGMSG_NOTICE_NOT_UTF8);
+}
+
+static void test_notifications(struct tally *tally)
+{
+    static const char body[] = "\0\0\4\322" "ch\0" "hi";
+    pgmsg_notification notification;
+    pgmsg_fault fault;
+    /* With the NUL of the literal. */
+    CHECK(tally, pgmsg_read_notification((const uint8_t *)body, sizeof body, &notification, &fault) == 0);
+    CHECK(tally, notification.process_id == 1234);
+    CHECK(tally, is_at(body, notification.channel, "ch") && is_at(body, notification.payload, "hi"));
+    CHECK(tally, pgmsg_read_notification(BYTES("\0\0\0\1" "\0" "\0"), &notification, &fault) == 0);
+    CHECK(tally, notification.channel.len == 0 && notification.payload.len == 0);
+    CHECK(tally, pgmsg_read_notification(BYTES(body), &notification, &fault) == PGMSG_MISSING_NUL);
+    CHECK(tally, is_fault(&fault, PGMSG_MISSING_NUL, 7));
+    CHECK(tally, pgmsg_read_notification(BYTES("\0\0"), &notification, &fault) == PGMSG_SHORT);
+}
+
+static void test_settings(struct tally *tally)
+{
+    static const char body[] = "TimeZone\0" "UTC\0";
+    pgmsg_parameter_status status;
+    pgmsg_key_data key;
+    pgmsg_fault fault;
+    CHECK(tally, pgmsg_read_parameter_status(BYTES(body), &status, &fault) == 0);
+    CHECK(tally, is_at(body, status.name, "TimeZone") && is_at(body, status.value, "UTC"));
+    CHECK(tally, pgmsg_read_parameter_status(BYTES("a\0b"), &status, &fault) == PGMSG_MISSING_NUL);
+    CHECK(tally, pgmsg_read_parameter_status(BYTES("a\0\377\0"), &status, &fault) == PGMSG_NOT_UTF8);
+    CHECK(tally, pgmsg_read_key_data(BYTES("\0\0\4\322" "\377\0\0\1"), &key, &fault) == 0);
+    CHECK(tally, key.process_id == 1234 && key.secret_key == 0xff000001);
+    CHECK(tally, pgmsg_read_key_data(BYTES("\0\0\4\322" "\377\0\0"), &key, &fault) == PGMSG_SHORT);
+}
+
+static void test_ends(struct tally *tally)
+{
+    pgmsg_fault fault;
+    CHECK(tally, pgmsg_read_rows_affected(BYTES("INSERT 0 42\0")) == 42);
+    CHECK(tally, pgmsg_read_rows_affected(BYTES("COPY 18446744073709551615\0")) == UINT64_MAX);
+    CHECK(tally, pgmsg_read_rows_affected(BYTES("BEGIN\0")) == 0);
+    CHECK(tally, pgmsg_read_rows_affected(BYTES("")) == 0);
+    CHECK(tally, pgmsg_read_ready(BYTES("I"), &fault) == 'I');
+    CHECK(tally, pgmsg_read_ready(BYTES("T"), &fault) == 'T');
+    CHECK(tally, pgmsg_read_ready(BYTES("E"), &fault) == 'E');
+    CHECK(tally, pgmsg_read_ready(BYTES("Q"), &fault) == PGMSG_UNKNOWN_STATUS);
+    CHECK(tally, pgmsg_read_ready(BYTES(""), &fault) == PGMSG_SHORT);
+}
+
+static void test_copies(struct tally *tally)
+{
+    static const char body[] = "\1" "\0\2" "\0\0" "\0\1";
+    pgmsg_copy_response response;
+    int16_t codes[3] = {7, 7, 7};
+    pgmsg_fault fault;
+    CHECK(tally, pgmsg_read_copy_response(BYTES(body), &response, codes, 3, &fault) == 2);
+    CHECK(tally, response.format == 1 && response.columns == 2);
+    CHECK(tally, codes[0] == 0 && codes[1] == 1 && codes[2] == 7);
+    CHECK(tally, pgmsg_read_copy_response(BYTES("\0" "\377\377"), &response, codes, 0, &fault) == 0);
+    CHECK(tally, response.format == 0 && response.columns == -1);
+    CHECK(tally, pgmsg_read_copy_response(BYTES("\0" "\0\2" "\0\0"), &response, codes, 3, &fault) == PGMSG_SHORT);
+}
+
+void test_read(struct tally *tally)
+{
+    test_frames(tally);
+    test_rows(tally);
+    test_columns(tally);
+    test_types(tally);
+    test_fields(tally);
+    test_notifications(tally);
+    test_settings(tally);
+    test_ends(tally);
+    test_copies(tally);
+}

@@ -1,0 +1,164 @@
+/* The number, the offset and the words of each fault of bytes that are read, and what a refusal leaves alone. */
+#define _DEFAULT_SOURCE
+
+#include "bytes_test.h"
+
+#include <string.h>
+#include <sys/mman.h>
+
+enum { UNTOUCHED = 0xaa };
+
+/* A body that is longer than any, as a length field has 31 bits. */
+#define TOO_LONG ((size_t)2147483644)
+
+#define TOO_LONG_WORDS "message body out of range for protocol: 2147483644"
+
+static const char notice_not_utf8[] =
+    "Postgres returned a non-UTF-8 string for its error message. This is most likely due to an error that occurred "
+    "during authentication and the default lc_messages locale is not binary-compatible with UTF-8. See the server logs "
+    "for the error details.";
+
+/* Whether a fault is this one, and no byte after its words was written. */
+static bool is_fault(const pgmsg_fault *fault, int32_t number, size_t at, const char *words)
+{
+    size_t len = strlen(words);
+    if (fault->number != number || fault->at != at || !are_bytes(fault->words, fault->words_len, words, len))
+        return false;
+    for (size_t i = len; i < sizeof fault->words; i++)
+        if (fault->words[i] != UNTOUCHED)
+            return false;
+    return true;
+}
+
+/* Checks that a call returns a number, and fills `fault` with it. */
+#define REFUSES(tally, expected, offset, words, call)                   \
+    do {                                                                \
+        pgmsg_fault fault;                                              \
+        memset(&fault, UNTOUCHED, sizeof fault);                        \
+        CHECK((tally), (call) == (expected));                           \
+        CHECK((tally), is_fault(&fault, (expected), (offset), (words))); \
+    } while (0)
+
+static void words_of_streams(struct tally *tally)
+{
+    pgmsg_frame frame;
+    REFUSES(tally, PGMSG_UNKNOWN_MESSAGE_TYPE, 0, "unknown message type: 118",
+            pgmsg_next_frame(BYTES("v\0\0\0\3"), &frame, &fault));
+    REFUSES(tally, PGMSG_BAD_LENGTH, 0, "bad message length: 3", pgmsg_next_frame(BYTES("Z\0\0\0\3"), &frame, &fault));
+    REFUSES(tally, PGMSG_BAD_LENGTH, 0, "bad message length: -1",
+            pgmsg_next_frame(BYTES("1\377\377\377\377"), &frame, &fault));
+}
+
+static void words_of_bodies(struct tally *tally)
+{
+    pgmsg_key_data key;
+    pgmsg_notification notification;
+    pgmsg_parameter_status status;
+    pgmsg_column column;
+    REFUSES(tally, PGMSG_UNKNOWN_STATUS, 0, "unknown transaction status: 81", pgmsg_read_ready(BYTES("Q"), &fault));
+    REFUSES(tally, PGMSG_SHORT, 4, "expected 4 bytes at offset 4, got 2",
+            pgmsg_read_key_data(BYTES("\0\0\x27\xc6\x89\x52"), &key, &fault));
+    REFUSES(tally, PGMSG_SHORT, 2, "expected 1245165 bytes at offset 2, got 0",
+            pgmsg_read_columns(BYTES("\377\377"), &column, 1, &fault));
+    REFUSES(tally, PGMSG_MISSING_NUL, 6, "expected NUL after offset 6",
+            pgmsg_read_notification(BYTES("\0\0\0\1a\0b"), &notification, &fault));
+    REFUSES(tally, PGMSG_NOT_UTF8, 0, "text is not UTF-8",
+            pgmsg_read_parameter_status(BYTES("a\0\377\0"), &status, &fault));
+    REFUSES(tally, PGMSG_UNKNOWN_SEVERITY, 0, "unknown severity", pgmsg_read_severity(BYTES("VFOO\0\0"), &fault));
+    REFUSES(tally, PGMSG_NOTICE_NOT_UTF8, 0, notice_not_utf8, pgmsg_read_severity(BYTES("M\377\0\0"), &fault));
+}
+
+static void words_of_logins(struct tally *tally)
+{
+    pgmsg_authentication authentication;
+    pgmsg_challenge challenge;
+    uint8_t salt[8], nonce[8], verifier[8];
+    REFUSES(tally, PGMSG_UNKNOWN_AUTHENTICATION, 0, "unknown authentication method: 7",
+            pgmsg_read_authentication(BYTES("\0\0\0\7"), &authentication, &fault));
+    REFUSES(tally, PGMSG_UNKNOWN_AUTHENTICATION, 0, "unknown authentication method: 12",
+            pgmsg_read_challenge(BYTES("\0\0\0\x0cv="), &challenge, salt, sizeof salt, nonce, sizeof nonce, &fault));
+    REFUSES(tally, PGMSG_UNKNOWN_AUTHENTICATION, 0, "unknown authentication method: 11",
+            pgmsg_read_verifier(BYTES("\0\0\0\x0br="), verifier, sizeof verifier, &fault));
+    REFUSES(tally, PGMSG_SHORT_SASL_ITEM, 0, "SASL item of fewer than two bytes",
+            pgmsg_read_authentication(BYTES("\0\0\0\x0br"), &authentication, &fault));
+    REFUSES(tally, PGMSG_BASE64, 0, "SASL value is not base64",
+            pgmsg_read_authentication(BYTES("\0\0\0\x0cv=*"), &authentication, &fault));
+}
+
+/* Bodies that are refused before a byte of them is read, so that the memory of them is never there. */
+static void words_of_long_bodies(struct tally *tally)
+{
+    void *body = mmap(NULL, TOO_LONG, PROT_READ, MAP_PRIVATE | MAP_ANONYMOUS | MAP_NORESERVE, -1, 0);
+    CHECK(tally, body != MAP_FAILED);
+    if (body == MAP_FAILED)
+        return;
+    pgmsg_cell cell;
+    pgmsg_column column;
+    uint32_t type;
+    int16_t code;
+    pgmsg_copy_response response;
+    pgmsg_notification notification;
+    pgmsg_parameter_status status;
+    pgmsg_key_data key;
+    pgmsg_authentication authentication;
+    pgmsg_challenge challenge;
+    uint8_t salt[8], nonce[8], verifier[8];
+#define REFUSES_LONG(call) REFUSES(tally, PGMSG_BODY_TOO_LONG, 0, TOO_LONG_WORDS, call)
+    REFUSES_LONG(pgmsg_read_row(body, TOO_LONG, &cell, 1, &fault));
+    REFUSES_LONG(pgmsg_read_columns(body, TOO_LONG, &column, 1, &fault));
+    REFUSES_LONG(pgmsg_read_parameter_types(body, TOO_LONG, &type, 1, &fault));
+    REFUSES_LONG(pgmsg_read_copy_response(body, TOO_LONG, &response, &code, 1, &fault));
+    REFUSES_LONG(pgmsg_read_severity(body, TOO_LONG, &fault));
+    REFUSES_LONG(pgmsg_read_notification(body, TOO_LONG, &notification, &fault));
+    REFUSES_LONG(pgmsg_read_parameter_status(body, TOO_LONG, &status, &fault));
+    REFUSES_LONG(pgmsg_read_key_data(body, TOO_LONG, &key, &fault));
+    REFUSES_LONG(pgmsg_read_ready(body, TOO_LONG, &fault));
+    REFUSES_LONG(pgmsg_read_authentication(body, TOO_LONG, &authentication, &fault));
+    REFUSES_LONG(pgmsg_read_challenge(body, TOO_LONG, &challenge, salt, sizeof salt, nonce, sizeof nonce, &fault));
+    REFUSES_LONG(pgmsg_read_verifier(body, TOO_LONG, verifier, sizeof verifier, &fault));
+#undef REFUSES_LONG
+    CHECK(tally, munmap(body, TOO_LONG) == 0);
+}
+
+/* What is not answered stays as it was. */
+static void what_is_left_alone(struct tally *tally)
+{
+    pgmsg_fault fault, untouched;
+    memset(&fault, UNTOUCHED, sizeof fault);
+    memset(&untouched, UNTOUCHED, sizeof untouched);
+    pgmsg_frame frame, before;
+    memset(&frame, UNTOUCHED, sizeof frame);
+    memset(&before, UNTOUCHED, sizeof before);
+    CHECK(tally, pgmsg_next_frame(BYTES("D\0\0\0\x0a"), &frame, &fault) == 0);
+    CHECK(tally, frame.length == 11 && frame.tag == before.tag);
+    CHECK(tally, frame.body.at == before.body.at && frame.body.len == before.body.len);
+    CHECK(tally, pgmsg_read_ready(BYTES("I"), &fault) == 'I');
+    CHECK(tally, memcmp(&fault, &untouched, sizeof fault) == 0);
+
+    uint32_t types[2] = {7, 7};
+    CHECK(tally, pgmsg_read_parameter_types(BYTES("\0\2\0\0\0\1\0"), types, 2, &fault) == PGMSG_SHORT);
+    CHECK(tally, types[0] == 7 && types[1] == 7);
+}
+
+/* The five bytes before the data of a COPY, at the greatest length and beyond it. */
+static void heads_of_a_copy(struct tally *tally)
+{
+    uint8_t head[5] = {1, 2, 3, 4, 5};
+    CHECK(tally, pgmsg_put_copy_head(2147483644, head) == PGMSG_MESSAGE_TOO_LONG);
+    CHECK(tally, pgmsg_put_copy_head(4294967291, head) == PGMSG_MESSAGE_TOO_LONG);
+    CHECK(tally, are_bytes(head, sizeof head, "\1\2\3\4\5", 5));
+    CHECK(tally, pgmsg_put_copy_head(1 << 20, head) == 0);
+    CHECK(tally, are_bytes(head, sizeof head, "d\0\x10\0\4", 5));
+    CHECK(tally, pgmsg_put_copy_head(2147483643, head) == 0);
+    CHECK(tally, are_bytes(head, sizeof head, "d\x7f\377\377\377", 5));
+}
+
+void test_words(struct tally *tally)
+{
+    words_of_streams(tally);
+    words_of_bodies(tally);
+    words_of_logins(tally);
+    words_of_long_bodies(tally);
+    what_is_left_alone(tally);
+    heads_of_a_copy(tally);
+}

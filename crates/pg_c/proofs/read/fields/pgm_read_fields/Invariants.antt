@@ -1,9 +1,0 @@
-use Rattle.std.proofs.Common.{length}
-use Rattle.pg_c.proofs.FieldLemmas.{GivesFields}
-use Rattle.pg_c.proofs.read.fields.pgm_read_fields.Given as goal
-
-abbrev pub invariant-loop-letter : goal.invariant-loop-letter
-invariant-loop-letter l = GivesFields l.body l.rest l.at l.count l.fn.fields l.fields
-
-abbrev pub decreases-loop-letter : goal.decreases-loop-letter
-decreases-loop-letter l = length l.rest
