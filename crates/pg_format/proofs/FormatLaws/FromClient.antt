@@ -7,8 +7,8 @@ use Rattle.pg_format.specs.Format.{Lawful, Canonical, Total}
 use Rattle.pg_format.specs.Format.Parts.{until_nul}
 use Rattle.pg_format.specs.Format.Sequences.{◌⨾◌}
 use Rattle.pg_format.specs.Format.Tests.{only}
-use Rattle.pg_format.specs.Messages.{format_codes, bind, empty, Target, statement, portal, target_of, target_letter, targeted, execute, parse, text, sasl_initial_response, startup}
-use Rattle.pg_format.proofs.FormatLaws.Parts.{lawful_until_nul, canonical_until_nul, total_until_nul, lawful_unsigned, canonical_unsigned, total_unsigned, lawful_one_of, canonical_one_of, total_one_of, lawful_success, canonical_success, total_success}
+use Rattle.pg_format.specs.Messages.{format_codes, bind, empty, Target, statement, portal, target_of, target_letter, targeted, execute, parse, text, sasl_initial_response, sasl_response, ssl_request, startup}
+use Rattle.pg_format.proofs.FormatLaws.Parts.{lawful_until_nul, canonical_until_nul, total_until_nul, lawful_unsigned, canonical_unsigned, total_unsigned, lawful_remaining, canonical_remaining, lawful_one_of, canonical_one_of, total_one_of, lawful_success, canonical_success, total_success}
 use Rattle.pg_format.proofs.FormatLaws.Sequences.{◌l⨾◌, ◌c⨾◌, ◌t⨾◌, lawful_record_of, canonical_record_of, total_record_of}
 use Rattle.pg_format.proofs.FormatLaws.Tests.{lawful_only}
 use Rattle.pg_format.proofs.FormatLaws.Ends.{lawful_exactly, canonical_exactly, total_exactly}
@@ -109,6 +109,15 @@ canonical_sasl_initial_response = canonical_exactly (canonical_record_of _ (cano
 
 pub total_sasl_initial_response : Total sasl_initial_response
 total_sasl_initial_response = total_exactly (total_record_of _ (λ a. record { mechanism = a.0; response = a.1 }) (λ a. refl) (total_until_nul t⨾ total_value))
+
+pub lawful_sasl_response : Lawful sasl_response
+lawful_sasl_response = lawful_remaining
+
+pub canonical_sasl_response : Canonical sasl_response
+canonical_sasl_response = canonical_remaining
+
+pub lawful_ssl_request : Lawful ssl_request
+lawful_ssl_request = lawful_exactly (lawful_only (λ n. n ≡ 80877103) (lawful_unsigned 4 tt))
 
 -- at the byte 0 no setting begins
 no_setting : (s : List ℕ × List ℕ) (rest : List ℕ) → ¬ ((only (λ s. s.0 ≢ []) (until_nul ⨾ until_nul)).Reads (0 ∷ []) s rest)
