@@ -8,7 +8,7 @@ use std::mem::{offset_of, size_of};
 use std::process::{Command, Stdio};
 
 const HEADER: &str = include_str!(concat!(env!("CARGO_MANIFEST_DIR"), "/../c/include/pg_message.h"));
-const HEADER_FOLDER: &str = concat!(env!("CARGO_MANIFEST_DIR"), "/..");
+const HEADER_FOLDER: &str = concat!(env!("CARGO_MANIFEST_DIR"), "/../c/include");
 const DECLARATIONS: &str = concat!(include_str!("put.rs"), include_str!("read.rs"));
 
 /// Assertions in C of the size of a struct and of the offsets of its fields.
@@ -93,7 +93,7 @@ fn calls_are_those_of_the_header() {
         assert!(declared.contains(&expected), "{expected}");
     }
     assert!(!prototypes.is_empty());
-    assert_eq!(declared.matches("pubfnpgm_").count(), prototypes.len());
+    assert_eq!(declared.matches("pubfnpgmsg_").count(), prototypes.len());
 }
 
 /// The prototypes of the header, each on one line and without its semicolon.
