@@ -44,8 +44,9 @@ pub fn parameter_status(body: &[u8]) -> Result<ParameterStatus<'_>, Fault> {
     let mut read = sys::ParameterStatus::default();
     let mut fault = sys::Fault::new();
     // SAFETY: `body` is a slice, valid for its length; `read` and `fault` are apart from it.
-    let number =
-        unsafe { sys::pgmsg_read_parameter_status(body.as_ptr(), body.len(), &mut read, &mut fault) };
+    let number = unsafe {
+        sys::pgmsg_read_parameter_status(body.as_ptr(), body.len(), &mut read, &mut fault)
+    };
     answer(number as isize, &fault)?;
     Ok(ParameterStatus {
         name: text(body, read.name)?,

@@ -31,8 +31,12 @@ extern "C" {
         out_len: usize,
     ) -> isize;
     pub fn pgmsg_put_terminate(out: *mut u8, out_len: usize) -> isize;
-    pub fn pgmsg_put_query(query: *const u8, query_len: usize, out: *mut u8, out_len: usize)
-        -> isize;
+    pub fn pgmsg_put_query(
+        query: *const u8,
+        query_len: usize,
+        out: *mut u8,
+        out_len: usize,
+    ) -> isize;
     pub fn pgmsg_put_describe_statement(statement: u32, out: *mut u8, out_len: usize) -> isize;
     pub fn pgmsg_put_describe_portal(portal: u32, out: *mut u8, out_len: usize) -> isize;
     pub fn pgmsg_put_close_statement(statement: u32, out: *mut u8, out_len: usize) -> isize;

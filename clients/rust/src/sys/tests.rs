@@ -7,7 +7,10 @@ use std::io::Write;
 use std::mem::{offset_of, size_of};
 use std::process::{Command, Stdio};
 
-const HEADER: &str = include_str!(concat!(env!("CARGO_MANIFEST_DIR"), "/../c/include/pg_message.h"));
+const HEADER: &str = include_str!(concat!(
+    env!("CARGO_MANIFEST_DIR"),
+    "/../c/include/pg_message.h"
+));
 const HEADER_FOLDER: &str = concat!(env!("CARGO_MANIFEST_DIR"), "/../c/include");
 const DECLARATIONS: &str = concat!(include_str!("put.rs"), include_str!("read.rs"));
 

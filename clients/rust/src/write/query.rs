@@ -12,7 +12,9 @@ impl Messages {
     pub fn query(&mut self, query: &str) -> Result<&mut Self, Refusal> {
         self.put(|out| {
             // SAFETY: both are slices, valid for their lengths, and `&mut` keeps `out` apart.
-            unsafe { sys::pgmsg_put_query(query.as_ptr(), query.len(), out.as_mut_ptr(), out.len()) }
+            unsafe {
+                sys::pgmsg_put_query(query.as_ptr(), query.len(), out.as_mut_ptr(), out.len())
+            }
         })
     }
 

@@ -108,7 +108,12 @@ impl Messages {
         self.put(|out| {
             // SAFETY: both are slices, valid for their lengths, and `&mut` keeps `out` apart.
             unsafe {
-                sys::pgmsg_put_sasl_response(bytes.as_ptr(), bytes.len(), out.as_mut_ptr(), out.len())
+                sys::pgmsg_put_sasl_response(
+                    bytes.as_ptr(),
+                    bytes.len(),
+                    out.as_mut_ptr(),
+                    out.len(),
+                )
             }
         })
     }
