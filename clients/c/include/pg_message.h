@@ -20,6 +20,9 @@
 #include <stddef.h>
 #include <stdint.h>
 
+/* The version of this header and of the library with it. */
+#define PGMSG_VERSION "0.1.0"
+
 #ifdef __cplusplus
 extern "C" {
 #endif
