@@ -1,5 +1,7 @@
 """The crates of the repository, what they are made of, and how one is checked with some of its texts changed."""
 
+import contextlib
+import fcntl
 import functools
 import os
 import pathlib
@@ -58,10 +60,13 @@ class Crate:
                     shutil.copytree(self.folder / part, f"{copy}/{part}")
             for path, text in texts.items():
                 pathlib.Path(copy, path).write_text(text)
-            run = subprocess.run([*self.command("check"), "--incremental", kept, "--jobs", "1", *flags], cwd=copy,
-                                 stdin=subprocess.DEVNULL, stdout=subprocess.PIPE, stderr=subprocess.STDOUT,
-                                 text=True, errors="replace")
+            run = self.run("check", "--incremental", kept, "--jobs", "1", *flags, folder=copy)
         return run.stdout.splitlines()
+
+    def run(self, verb, *flags, folder=None):
+        """A compiler's call over the libraries that are built, in its folder or in a copy of that."""
+        return subprocess.run([*self.command(verb), *flags], cwd=folder or self.folder, stdin=subprocess.DEVNULL,
+                              stdout=subprocess.PIPE, stderr=subprocess.STDOUT, text=True, errors="replace")
 
     def command(self, verb):
         """The words of a compiler's call over the libraries that are built."""
@@ -98,52 +103,54 @@ def build(crates, report=lambda crate, done, total: None):
     wanted = [below for below in known().values() if any(below in crate.libraries() for crate in crates)]
     if not any(crate.is_older(crate.built() / "format") for crate in wanted):
         return
-    # A second rt would wait for the first: rt's own module builds several.
-    sys.path.append(str(kit() / "bin"))
-    import rtlib
-    made = {crate.name: crate for crate in rtlib.crates_below(str(TOP))}
-    rtlib.guarded()
-    held = rtlib.lock(made.values())
     left, running = list(wanted), {}
-    with ThreadPoolExecutor(processors()) as pool:
+    with locked(wanted), ThreadPoolExecutor(processors()) as pool:
         while left or running:
             for crate, jobs in startable(left, running.values()):
-                running[pool.submit(build_one, made[crate.name], jobs)] = crate, jobs
+                running[pool.submit(build_one, crate, jobs)] = crate, jobs
                 left.remove(crate)
             for ended in wait(running, return_when=FIRST_COMPLETED).done:
                 crate, _ = running.pop(ended)
                 if said := ended.result():
                     raise SystemExit(f"{said[-3000:]}{crate.name}: is not proved")
-                (crate.built() / "format").touch()
                 report(crate, len(wanted) - len(left) - len(running), len(wanted))
-    for it in held:
-        os.close(it)
+
+
+@contextlib.contextmanager
+def locked(crates):
+    """Waits for each rt that works in a crate's folder, and keeps others out."""
+    with contextlib.ExitStack() as held:
+        for folder in sorted(crate.folder for crate in crates):
+            opened = os.open(folder, os.O_RDONLY)
+            held.callback(os.close, opened)
+            fcntl.flock(opened, fcntl.LOCK_EX)
+        yield
 
 
 def startable(left, running):
-    """The crates that wait for none, and the jobs of each, as far as processors are idle.
+    """The crates that wait for none, the longest chain first, and the jobs of each, as far as processors are idle.
 
-    Crates of long chains share the idle processors; one of a short chain waits for one that is left.
+    Each gets the idle processors but one for those after it.
     """
     waiting = {*left, *(crate for crate, _ in running)}
     ready = sorted((crate for crate in left if waiting.isdisjoint(crate.libraries())), key=lambda it: -chain(it))
     idle = processors() - sum(jobs for _, jobs in running)
     started = []
-    for at, crate in enumerate(ready):
+    for crate in ready:
         if idle:
-            jobs = max(1, min(4, idle // sum(2 * chain(it) > chain(crate) for it in ready[at:])))
-            started.append((crate, jobs))
-            idle -= jobs
+            others = len(ready) > len(started) + 1 and idle > 2
+            started.append((crate, min(4, idle - others)))
+            idle -= started[-1][1]
     return started
 
 
-def build_one(made, jobs):
-    """What a build that failed printed."""
-    with tempfile.TemporaryFile("a+", errors="replace") as made.out:
-        if not made.build_rlib(["--jobs", str(jobs)], anew=False):
-            return ""
-        made.out.seek(0)
-        return made.out.read()
+def build_one(crate, jobs):
+    """Proves a library, and keeps what others can cite of it; what a build that failed printed."""
+    # What rt keeps of an older build goes away, so that rt takes none of this one for its own.
+    shutil.rmtree(crate.built().parent, ignore_errors=True)
+    crate.built().parent.mkdir(parents=True)
+    run = crate.run("build", "--statements", "--jobs", str(jobs), "-o", crate.built())
+    return run.stdout if run.returncode else ""
 
 
 @functools.lru_cache(maxsize=None)
