@@ -99,12 +99,15 @@ def kit():
 
 
 def build(crates, report=lambda crate, done, total: None):
-    """Builds what these crates stand on where one is missing or not newer than its sources, beside each other."""
-    wanted = [below for below in known().values() if any(below in crate.libraries() for crate in crates)]
-    if not any(crate.is_older(crate.built() / "format") for crate in wanted):
-        return
-    left, running = list(wanted), {}
-    with locked(wanted), ThreadPoolExecutor(processors()) as pool:
+    """Builds those that these crates stand on that are missing or not newer than their sources, beside each other."""
+    below = {it for crate in crates for it in crate.libraries()}
+    left, running = [], {}
+    for crate in sorted(below, key=lambda it: len(it.libraries())):
+        # What stands on a library that is built anew goes with it.
+        if crate.is_older(crate.built() / "format") or not set(left).isdisjoint(crate.libraries()):
+            left.append(crate)
+    total = len(left)
+    with locked(left), ThreadPoolExecutor(processors()) as pool:
         while left or running:
             for crate, jobs in startable(left, running.values()):
                 running[pool.submit(build_one, crate, jobs)] = crate, jobs
@@ -113,7 +116,7 @@ def build(crates, report=lambda crate, done, total: None):
                 crate, _ = running.pop(ended)
                 if said := ended.result():
                     raise SystemExit(f"{said[-3000:]}{crate.name}: is not proved")
-                report(crate, len(wanted) - len(left) - len(running), len(wanted))
+                report(crate, total - len(left) - len(running), total)
 
 
 @contextlib.contextmanager
