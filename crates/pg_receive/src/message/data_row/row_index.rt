@@ -1,10 +1,11 @@
 //! Where the cells of a row end, found in its body.
 
-ghost use Rattle.std.specs.Prelude.{◌≡◌, ℕ, ◌<◌, ◌≤◌, List, Option, length, None, IsErrOf, OnOk, vec_capacity};
+ghost use Rattle.std.specs.Prelude.{◌≡◌, ℕ, ◌<◌, ◌≤◌, List, length, None, IsErrOf, OnOk, vec_capacity};
 ghost use Rattle.pg_base.specs.Decode.{Decodes};
 ghost use Rattle.pg_base.specs.declared.error.Error.TheVariants.{OutOfMemory};
 ghost use Rattle.pg_receive.specs.DataRow.CellEnd.{cells_from, first_cell, EndsRise};
 ghost use Rattle.pg_format.specs.Format.{Means, IsFaultOf};
+ghost use Rattle.pg_format.specs.Format.Parts.{be_u16};
 ghost use Rattle.pg_format.specs.Messages.{data_row};
 ghost use Rattle.pg_receive.specs.DataRow.{RowNeedsNoMemory};
 
@@ -48,8 +49,8 @@ impl RowIndex {
     pub fn read<'a>(&'a mut self, body: &'a [u8]) -> Result<Row<'a>, Error>
         requires { length body.now ≤ MAX_BODY }
         ensures answer { Decodes (Means data_row) (IsFaultOf data_row) RowNeedsNoMemory (λ row. row) None body.now result }
-        // Memory runs out only on a row of more cells than there is room for.
-        ensures memory { IsErrOf result OutOfMemory → (cells : List (Option (List ℕ))) → Means data_row body.now cells → self.old < length cells }
+        // Memory runs out only where the body counts more cells than there is room for.
+        ensures memory { IsErrOf result OutOfMemory → (count : ℕ) (rest : List ℕ) → be_u16.Reads body.now count rest → self.old < count }
     {
         read_ends(body, &mut self.ends)?;
         Ok(Row::new(body, self.ends.as_slice()))
@@ -61,7 +62,7 @@ pub(super) fn read_ends(body: &[u8], ends: &mut Vec<CellEnd>) -> Result<(), Erro
     requires { length body.now ≤ MAX_BODY }
     ensures answer { Decodes (Means data_row) (IsFaultOf data_row) RowNeedsNoMemory (λ _. cells_from body.now first_cell ends.new.items) None body.now result }
     ensures rise { OnOk result (EndsRise first_cell ends.new.items (length body.now)) }
-    ensures memory { IsErrOf result OutOfMemory → (cells : List (Option (List ℕ))) → Means data_row body.now cells → vec_capacity ends.old < length cells }
+    ensures memory { IsErrOf result OutOfMemory → (count : ℕ) (rest : List ℕ) → be_u16.Reads body.now count rest → vec_capacity ends.old < count }
 {
     let count = usize::from(u16_at(body, 0)?);
     bytes_at(body, FIRST_CELL, CELL_LENGTH * count)?;

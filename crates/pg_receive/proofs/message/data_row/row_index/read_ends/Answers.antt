@@ -19,10 +19,9 @@ returns-in_err-reserve_exact-clause-answer c =
     rw (p.1, p.2) (asks_for_memory 4 0 c.args.body.now n c.in_ok-u16_at.ensures.found (omega (arith, c.from-count.ensures, c.in_ok-bytes_at.ensures.found.0)) some_are_there)
 
 pub returns-in_err-reserve_exact-clause-memory : goal.returns-in_err-reserve_exact-clause-memory
-returns-in_err-reserve_exact-clause-memory c = λ ran_out cells means.
-    let v = means.1 in
-    let counts = one_number 2 c.args.body.now c.in_ok-u16_at.field-0 v.0.0 (drop 2 c.args.body.now) v.1.mid c.in_ok-u16_at.ensures.found v.1.first in
-    omega (arith, counts.0, v.1.second.0, ap length v.2, c.in_err-reserve_exact.ensures.full, c.clear.ensures.capacity, c.clear.ensures.len, c.from-count.ensures)
+returns-in_err-reserve_exact-clause-memory c = λ ran_out count rest read.
+    let counts = one_number 2 c.args.body.now c.in_ok-u16_at.field-0 count (drop 2 c.args.body.now) rest c.in_ok-u16_at.ensures.found read in
+    omega (arith, counts.0, c.in_err-reserve_exact.ensures.full, c.clear.ensures.capacity, c.clear.ensures.len, c.from-count.ensures)
 
 pub loop-index-init : goal.loop-index-init
 loop-index-init c =
