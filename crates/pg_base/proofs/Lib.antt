@@ -1,6 +1,7 @@
 pub mod AtoiLemmas
 pub mod BufMutLemmas
 pub mod CuttingLemmas
+pub mod ErrorLemmas
 pub mod IdLemmas
 pub mod NumbersLemmas
 pub mod ReadingLemmas

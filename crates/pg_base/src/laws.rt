@@ -26,6 +26,13 @@ pub fn errors_are_equal_by_value()
     ensures kinds { (a b : ErrorKind) → Decides (⟦<ErrorKind as PartialEq>⟧.eq a b) (a ≡ b) }
 {}
 
+/// The id of a type that is none: 0, as the catalog has it.
+pub fn default_type() -> Oid
+    ensures { result.0 ≡ 0 }
+{
+    Oid::default()
+}
+
 /// Types and formats of values, and kinds of message, are equal where they are the same.
 pub fn formats_are_equal_by_value()
     ensures types { (a b : Oid) → Decides (⟦<Oid as PartialEq>⟧.eq a b) (a ≡ b) }

@@ -1,7 +1,7 @@
 //! What follows of streams from what a stream is, for whoever proves more: the contract of each
 //! function is a law. Those of clones call the clone; the others do nothing.
 
-ghost use Rattle.std.specs.Prelude.{◌≡◌, ◌++◌, ℕ, List, Result, Some, Ok};
+ghost use Rattle.std.specs.Prelude.{◌≡◌, ◌++◌, ℕ, List, Result, Some, Ok, Decides};
 ghost use Rattle.pg_base.specs.declared.error.ProtocolFault.{ProtocolFault};
 ghost use Rattle.pg_frames.specs.declared.pieces.StreamEnd.{StreamEnd};
 ghost use Rattle.pg_frames.specs.Pieces.{IsRead};
@@ -47,6 +47,11 @@ pub fn a_fault_stays()
 pub fn values_are_those_of_the_stream<T: BackendMessage>()
     ensures values { (bytes : List ℕ) (xs ys : List (ℕ × List ℕ)) (d e : StreamEnd) (vs ws : List T.Shown) → IsRead bytes xs d → IsRead bytes ys e → EachHas (Means T.format) (bodies_of (backend_tag T.FORMAT) xs) vs → EachHas (Means T.format) (bodies_of (backend_tag T.FORMAT) ys) ws → vs ≡ ws }
     ensures answers { (bytes : List ℕ) (xs ys : List (ℕ × List ℕ)) (d e : StreamEnd) (rs ss : List (Result T Error)) → IsRead bytes xs d → IsRead bytes ys e → EachHas (λ body. Decodes (Means T.format) (IsFaultOf T.format) T.NeedsNoMemory T.shown (Some T.FORMAT) body) (bodies_of (backend_tag T.FORMAT) xs) rs → EachHas (λ body. Decodes (Means T.format) (IsFaultOf T.format) T.NeedsNoMemory T.shown (Some T.FORMAT) body) (bodies_of (backend_tag T.FORMAT) ys) ss → EachAgree T.shown rs ss }
+{}
+
+/// Ends are equal where they are the same.
+pub fn ends_are_equal_by_value()
+    ensures { (a b : StreamEnd) → Decides (⟦<StreamEnd as PartialEq>⟧.eq a b) (a ≡ b) }
 {}
 
 /// A clone of an end is that end.
