@@ -43,6 +43,10 @@ class Crate:
         """The library that a run of `rt ci`, of `rt lib` or of `build` left."""
         return self.folder / "out/rlib" / f"{self.name}.rlib"
 
+    def kept(self):
+        """Where its checks keep what they proved."""
+        return self.folder / "out/incremental"
+
     def is_older(self, made):
         """Whether a file that was made of the crate is missing, or some source is not older than it."""
         if not made.exists():
@@ -154,6 +158,22 @@ def build_one(crate, jobs):
     crate.built().parent.mkdir(parents=True)
     run = crate.run("build", "--statements", "--jobs", str(jobs), "-o", crate.built())
     return run.stdout if run.returncode else ""
+
+
+def archive(crate):
+    """The static library of a crate, proved and built where that is not done; what was proved stays beside it."""
+    build([crate])
+    made = crate.folder / "out" / f"lib{crate.name}.a"
+    with locked([crate]):
+        if crate.is_older(made):
+            # What fails must leave no library of older sources.
+            made.unlink(missing_ok=True)
+            made.parent.mkdir(exist_ok=True)
+            flags = ["--incremental", crate.kept(), "--jobs", str(processors())]
+            run = crate.run("build", *flags, "--toolchain", kit() / "toolchain", "-o", made)
+            if run.returncode:
+                raise SystemExit(f"{run.stdout[-3000:]}{crate.name}: is not proved")
+    return made
 
 
 @functools.lru_cache(maxsize=None)

@@ -1,5 +1,6 @@
 """Tries wrong bodies, many in a check, and judges each by the function that it changes."""
 
+import shutil
 import tempfile
 import time
 from concurrent.futures import ThreadPoolExecutor
@@ -45,10 +46,17 @@ class Trial:
             else:
                 left.append(edit)
         with tempfile.TemporaryDirectory(prefix="edits-") as self.kept:
+            self.begin()
             while left:
                 batch = batch_of(left)
                 again = self.together(batch) if len(batch) > 1 else self.alone(batch[0])
                 left = [edit for edit in left if edit not in batch] + again
+
+    def begin(self):
+        """Begins a static library's trial with what its build proved."""
+        if self.crate.is_static:
+            crates.archive(self.crate)
+            shutil.copytree(self.crate.kept(), self.kept, dirs_exist_ok=True)
 
     def check(self, edits):
         """The report of a check of the functions that these edits change."""
