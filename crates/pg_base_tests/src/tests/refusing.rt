@@ -14,21 +14,39 @@ pub const MANY: usize = 100;
 
 /// Has the nth request from here on refused, and no other.
 pub fn refuse_nth(alloc: Global, nth: usize) {
-    let _ = Vec::<u8>::with_capacity(alloc, REFUSE_NTH.saturating_add(nth));
+    let _ = is_granted(alloc, REFUSE_NTH.saturating_add(nth));
 }
 
 /// Whether a request was refused since [`refuse_nth`], which this ends. Calls ask for no memory
 /// where the first request was to be refused and none was.
 pub fn was_refused(alloc: Global) -> bool {
-    Vec::<u8>::with_capacity(alloc, REFUSE_NTH).is_ok()
+    is_granted(alloc, REFUSE_NTH)
 }
 
-/// The answer of a call, or the end of the test where memory ran out.
-pub fn unless_out_of_memory(answer: Result<(), Error>) -> Result<Result<(), Error>, AllocError> {
+fn is_granted(alloc: Global, bytes: usize) -> bool {
+    Vec::<u8>::with_capacity(alloc, bytes).is_ok()
+}
+
+/// Whether memory ran out.
+pub fn ran_out(answer: Result<(), Error>) -> bool {
     match answer {
-        Err(Error::OutOfMemory) => Err(AllocError),
-        other => Ok(other),
+        Err(Error::OutOfMemory) => true,
+        _ => false,
     }
+}
+
+/// The call was accepted, or memory ran out, which ends the test.
+pub fn assert_accepted(rt: &impl Abort, answer: Result<(), Error>) -> Result<(), AllocError> {
+    if ran_out(answer) {
+        return Err(AllocError);
+    }
+    assert!(rt; answer.is_ok());
+    Ok(())
+}
+
+/// The bytes are the old ones and then the text.
+pub fn assert_added(rt: &impl Abort, bytes: &[u8], old: &[u8], text: &[u8]) {
+    assert!(rt; bytes.strip_prefix(old) == Some(text));
 }
 
 /// A call that adds a text to a buffer, or nothing.
@@ -43,12 +61,20 @@ pub fn assert_adds<C: Adds>(
     call: &C,
     text: &[u8],
 ) -> Result<(), AllocError> {
-    for old in [b"".as_slice(), b"\xaa".as_slice()] {
-        let mut buf = Vec::from_slice(alloc, old)?;
-        let answer = call.add(&mut buf);
-        assert!(rt; unless_out_of_memory(answer)? == Ok(()));
-        assert!(rt; buf.as_slice().strip_prefix(old) == Some(text));
-    }
+    assert_adds_after(rt, alloc, call, b"", text)?;
+    assert_adds_after(rt, alloc, call, b"\xaa", text)
+}
+
+fn assert_adds_after<C: Adds>(
+    rt: &impl Abort,
+    alloc: Global,
+    call: &C,
+    old: &[u8],
+    text: &[u8],
+) -> Result<(), AllocError> {
+    let mut buf = Vec::from_slice(alloc, old)?;
+    assert_accepted(rt, call.add(&mut buf))?;
+    assert_added(rt, buf.as_slice(), old, text);
     Ok(())
 }
 
@@ -75,13 +101,12 @@ fn refuse_in_turn<C: Adds>(
         let mut buf = Vec::from_slice(alloc, old)?;
         refuse_nth(alloc, nth);
         let answer = call.add(&mut buf);
-        let was_refused = was_refused(alloc);
-        if !was_refused {
-            assert!(rt; answer == Ok(()));
-            assert!(rt; buf.as_slice().strip_prefix(old) == Some(text));
+        if !was_refused(alloc) {
+            assert!(rt; answer.is_ok());
+            assert_added(rt, buf.as_slice(), old, text);
             return Ok(());
         }
-        assert!(rt; answer == Err(Error::OutOfMemory));
+        assert!(rt; ran_out(answer));
         assert!(rt; buf.as_slice() == old);
     }
     panic!(rt; "requests without end")

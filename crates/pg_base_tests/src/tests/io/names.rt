@@ -4,15 +4,26 @@ use crate::tests::display::assert_prints;
 use crate::tests::refusing::{Adds, assert_adds, assert_all_or_nothing, refuse_nth, was_refused};
 use pg_base::Error;
 use pg_base::io::{PgBufMutExt, PortalId, StatementId};
-use std::alloc::AllocError;
+use std::alloc::{AllocError, Global};
+use std::process::Abort;
 
-// Numbers with the texts of their names after the prefix.
-const NUMBERS: [(u32, &str); 5] = [
-    (1, "1"),
-    (9, "9"),
-    (10, "10"),
-    (1234567890, "1234567890"),
-    (u32::MAX, "4294967295"),
+// Numbers with their digits, and the names of a statement and a portal, each with a NUL.
+const NUMBERS: &[(u32, &str, &[u8], &[u8])] = &[
+    (1, "1", b"sqlx_s_1\0", b"sqlx_p_1\0"),
+    (9, "9", b"sqlx_s_9\0", b"sqlx_p_9\0"),
+    (10, "10", b"sqlx_s_10\0", b"sqlx_p_10\0"),
+    (
+        1234567890,
+        "1234567890",
+        b"sqlx_s_1234567890\0",
+        b"sqlx_p_1234567890\0",
+    ),
+    (
+        u32::MAX,
+        "4294967295",
+        b"sqlx_s_4294967295\0",
+        b"sqlx_p_4294967295\0",
+    ),
 ];
 
 // Each call that writes a name and a NUL.
@@ -54,25 +65,14 @@ impl Adds for PortalByBuffer {
 
 #[test]
 fn names_are_added_to_a_buffer(rt: HostRuntime) -> Result<(), AllocError> {
-    for (number, digits) in NUMBERS {
-        let statement = StatementId::from_number(number);
-        let name = format!(in rt.alloc(); "sqlx_s_{digits}\0")?;
-        assert_adds(
-            &rt,
-            rt.alloc(),
-            &NameOfStatement(statement),
-            name.as_bytes(),
-        )?;
-        assert_adds(
-            &rt,
-            rt.alloc(),
-            &StatementByBuffer(statement),
-            name.as_bytes(),
-        )?;
-        let portal = PortalId::from_number(number);
-        let name = format!(in rt.alloc(); "sqlx_p_{digits}\0")?;
-        assert_adds(&rt, rt.alloc(), &NameOfPortal(portal), name.as_bytes())?;
-        assert_adds(&rt, rt.alloc(), &PortalByBuffer(portal), name.as_bytes())?;
+    let alloc = rt.alloc();
+    for (number, _, of_statement, of_portal) in NUMBERS {
+        let statement = StatementId::from_number(*number);
+        assert_adds(&rt, alloc, &NameOfStatement(statement), of_statement)?;
+        assert_adds(&rt, alloc, &StatementByBuffer(statement), of_statement)?;
+        let portal = PortalId::from_number(*number);
+        assert_adds(&rt, alloc, &NameOfPortal(portal), of_portal)?;
+        assert_adds(&rt, alloc, &PortalByBuffer(portal), of_portal)?;
     }
     Ok(())
 }
@@ -104,36 +104,76 @@ fn a_name_out_of_memory_leaves_the_bytes(rt: HostRuntime) -> Result<(), AllocErr
 
 #[test]
 fn a_name_in_its_room_needs_no_memory(rt: HostRuntime) -> Result<(), AllocError> {
-    for (number, digits) in NUMBERS {
-        let statement = StatementId::from_number(number);
-        let portal = PortalId::from_number(number);
-        let mut statements = Vec::with_capacity(rt.alloc(), statement.name_len())?;
-        let mut portals = Vec::with_capacity(rt.alloc(), portal.name_len())?;
-        let mut last = Vec::with_capacity(rt.alloc(), portal.name_len())?;
-        refuse_nth(rt.alloc(), 1);
-        statement.push_name_reserved(&mut statements);
-        portal.push_name_reserved(&mut portals);
-        let answer = portal.put_name_with_nul(&mut last);
-        assert!(rt; !was_refused(rt.alloc()));
-        assert!(rt; answer == Ok(()));
-        let names = (statements.as_slice(), portals.as_slice(), last.as_slice());
-        let statement = format!(in rt.alloc(); "sqlx_s_{digits}\0")?;
-        let portal = format!(in rt.alloc(); "sqlx_p_{digits}\0")?;
-        assert!(rt; names.0 == statement.as_bytes());
-        assert!(rt; names.1 == portal.as_bytes());
-        assert!(rt; names.2 == portal.as_bytes());
+    for (number, _, of_statement, of_portal) in NUMBERS {
+        let statement = StatementId::from_number(*number);
+        assert_statement_in_its_room(&rt, rt.alloc(), statement, of_statement)?;
+        let portal = PortalId::from_number(*number);
+        assert_portal_in_its_room(&rt, rt.alloc(), portal, of_portal)?;
+        assert_put_in_its_room(&rt, rt.alloc(), portal, of_portal)?;
     }
+    Ok(())
+}
+
+fn assert_statement_in_its_room(
+    rt: &impl Abort,
+    alloc: Global,
+    id: StatementId,
+    name: &[u8],
+) -> Result<(), AllocError> {
+    let mut buf = Vec::with_capacity(alloc, id.name_len())?;
+    refuse_nth(alloc, 1);
+    id.push_name_reserved(&mut buf);
+    assert!(rt; !was_refused(alloc));
+    assert!(rt; buf.as_slice() == name);
+    Ok(())
+}
+
+fn assert_portal_in_its_room(
+    rt: &impl Abort,
+    alloc: Global,
+    id: PortalId,
+    name: &[u8],
+) -> Result<(), AllocError> {
+    let mut buf = Vec::with_capacity(alloc, id.name_len())?;
+    refuse_nth(alloc, 1);
+    id.push_name_reserved(&mut buf);
+    assert!(rt; !was_refused(alloc));
+    assert!(rt; buf.as_slice() == name);
+    Ok(())
+}
+
+fn assert_put_in_its_room(
+    rt: &impl Abort,
+    alloc: Global,
+    id: PortalId,
+    name: &[u8],
+) -> Result<(), AllocError> {
+    let mut buf = Vec::with_capacity(alloc, id.name_len())?;
+    refuse_nth(alloc, 1);
+    let answer = id.put_name_with_nul(&mut buf);
+    assert!(rt; !was_refused(alloc));
+    assert!(rt; answer.is_ok());
+    assert!(rt; buf.as_slice() == name);
     Ok(())
 }
 
 #[test]
 fn names_are_printed(rt: HostRuntime) -> Result<(), AllocError> {
-    for (number, digits) in NUMBERS {
-        let Some(name) = StatementId::from_number(number).display() else {
-            panic!(rt; "a named statement")
-        };
-        assert_prints(&rt, rt.alloc(), &name, "sqlx_s_", digits)?;
+    for (number, digits, _, _) in NUMBERS {
+        assert_name_prints(&rt, rt.alloc(), StatementId::from_number(*number), digits)?;
     }
     assert!(rt; StatementId::UNNAMED.display().is_none());
     Ok(())
+}
+
+fn assert_name_prints(
+    rt: &impl Abort,
+    alloc: Global,
+    id: StatementId,
+    digits: &str,
+) -> Result<(), AllocError> {
+    let Some(name) = id.display() else {
+        panic!(rt; "a named statement")
+    };
+    assert_prints(rt, alloc, &name, "sqlx_s_", digits)
 }
