@@ -1,12 +1,13 @@
 //! The kinds of message: tags, names and numbers. Documentation: "Message Formats".
 
-use super::display::assert_prints;
+use super::display::assert_prints_name;
 use super::refusing::{refuse_nth, was_refused};
 use pg_base::{BackendMessageFormat, Error, FrontendMessageFormat, ProtocolFault};
-use std::alloc::AllocError;
+use std::alloc::{AllocError, Global};
+use std::process::Abort;
 
 // The kinds that a server sends, each by its number, with its tag and its name.
-const KINDS: [(BackendMessageFormat, u8, &str); 21] = [
+const KINDS: &[(BackendMessageFormat, u8, &str)] = &[
     (BackendMessageFormat::Authentication, b'R', "Authentication"),
     (BackendMessageFormat::BackendKeyData, b'K', "BackendKeyData"),
     (BackendMessageFormat::BindComplete, b'2', "BindComplete"),
@@ -74,7 +75,7 @@ fn tags_name_their_kinds(rt: HostRuntime) {
 #[test]
 fn other_tags_are_unknown(rt: HostRuntime) {
     for tag in 0..=u8::MAX {
-        if KINDS.iter().any(|kind| kind.1 == tag) {
+        if is_of_a_kind(tag) {
             continue;
         }
         let unknown = ProtocolFault::UnknownMessageType(tag);
@@ -83,48 +84,66 @@ fn other_tags_are_unknown(rt: HostRuntime) {
     }
 }
 
+fn is_of_a_kind(tag: u8) -> bool {
+    for kind in KINDS {
+        if kind.1 == tag {
+            return true;
+        }
+    }
+    false
+}
+
 #[test]
 fn errors_name_the_kind_that_was_read(rt: HostRuntime) -> Result<(), AllocError> {
     for (format, _, name) in KINDS {
-        let error = Error::Protocol {
-            reading: Some(format),
-            fault: ProtocolFault::NotUtf8,
-        };
-        let words = format!(in rt.alloc(); "{name}): text is not UTF-8")?;
-        let beginning = "Postgres protocol error (reading ";
-        assert_prints(&rt, rt.alloc(), &error, beginning, words.as_str())?;
-        let other_kind = ProtocolFault::WrongFormat {
-            expected: format,
-            got: BackendMessageFormat::NoData,
-        };
-        let words = format!(in rt.alloc(); "{name}, got NoData")?;
-        let beginning = "Postgres protocol error: expected ";
-        assert_prints(&rt, rt.alloc(), &other_kind, beginning, words.as_str())?;
+        assert_named(&rt, rt.alloc(), *format, name)?;
     }
     Ok(())
 }
 
+fn assert_named(
+    rt: &impl Abort,
+    alloc: Global,
+    format: BackendMessageFormat,
+    name: &str,
+) -> Result<(), AllocError> {
+    let error = Error::Protocol {
+        reading: Some(format),
+        fault: ProtocolFault::NotUtf8,
+    };
+    let beginning = "Postgres protocol error (reading ";
+    assert_prints_name(rt, alloc, &error, beginning, name, "): text is not UTF-8")?;
+    let other_kind = ProtocolFault::WrongFormat {
+        expected: format,
+        got: BackendMessageFormat::NoData,
+    };
+    let beginning = "Postgres protocol error: expected ";
+    assert_prints_name(rt, alloc, &other_kind, beginning, name, ", got NoData")
+}
+
+// The kinds that a client sends, by their tags.
+const TAGS: &[(FrontendMessageFormat, u8)] = &[
+    (FrontendMessageFormat::Bind, b'B'),
+    (FrontendMessageFormat::Close, b'C'),
+    (FrontendMessageFormat::Describe, b'D'),
+    (FrontendMessageFormat::Execute, b'E'),
+    (FrontendMessageFormat::Flush, b'H'),
+    (FrontendMessageFormat::Parse, b'P'),
+    (FrontendMessageFormat::Query, b'Q'),
+    (FrontendMessageFormat::Sync, b'S'),
+    (FrontendMessageFormat::Terminate, b'X'),
+    (FrontendMessageFormat::CopyDone, b'c'),
+    (FrontendMessageFormat::CopyData, b'd'),
+    (FrontendMessageFormat::CopyFail, b'f'),
+    (FrontendMessageFormat::PasswordPolymorphic, b'p'),
+];
+
 #[test]
 fn kinds_to_the_server_are_numbered_by_their_tags(rt: HostRuntime) {
-    let tags = [
-        (FrontendMessageFormat::Bind, b'B'),
-        (FrontendMessageFormat::Close, b'C'),
-        (FrontendMessageFormat::Describe, b'D'),
-        (FrontendMessageFormat::Execute, b'E'),
-        (FrontendMessageFormat::Flush, b'H'),
-        (FrontendMessageFormat::Parse, b'P'),
-        (FrontendMessageFormat::Query, b'Q'),
-        (FrontendMessageFormat::Sync, b'S'),
-        (FrontendMessageFormat::Terminate, b'X'),
-        (FrontendMessageFormat::CopyDone, b'c'),
-        (FrontendMessageFormat::CopyData, b'd'),
-        (FrontendMessageFormat::CopyFail, b'f'),
-        (FrontendMessageFormat::PasswordPolymorphic, b'p'),
-    ];
-    for (format, tag) in tags {
-        assert!(rt; format as u8 == tag);
-    }
-    for (first, second) in tags.iter().zip(tags.iter().skip(1)) {
-        assert!(rt; first.0 < second.0);
+    let mut last = None;
+    for (format, tag) in TAGS {
+        assert!(rt; *format as u8 == *tag);
+        assert!(rt; last < Some(*format));
+        last = Some(*format);
     }
 }
