@@ -1,9 +1,9 @@
 //! Each call that adds a message or its body, for each kind: into an empty buffer and after old
 //! bytes, and with each request for memory refused.
 
-use super::kinds::{Check, Expected, LETTERS_AND_BODIES, check_each_kind, frame_of, tagged_kinds};
+use super::kinds::{Check, Expected, check_each_kind, tagged_kinds};
 use super::refusing::{
-    Adds, assert_adds, assert_all_or_nothing, refuse_nth, unless_out_of_memory, was_refused,
+    Adds, assert_added_or_refused, assert_adds, assert_all_or_nothing, refuse_nth, was_refused,
 };
 use pg_base::Error;
 use pg_base::io::ProtocolEncode;
@@ -45,92 +45,97 @@ impl Adds for TaggedMessage<'_> {
 }
 
 #[derive(Drop)]
-struct AddsItsBody<'a, R> {
-    rt: &'a R,
-    alloc: Global,
-}
+struct AddsItsBody;
 
-impl<R: Abort> Check for AddsItsBody<'_, R> {
-    fn check<M: FrontendMessage>(&self, message: M, expected: Expected) -> Result<(), AllocError> {
-        assert_adds(self.rt, self.alloc, &ByBody(&message), expected.body)?;
-        assert_all_or_nothing(self.rt, self.alloc, &ByBody(&message), expected.body)
+impl Check for AddsItsBody {
+    fn check<R: Abort, M: FrontendMessage>(
+        &self,
+        rt: &R,
+        alloc: Global,
+        message: M,
+        expected: Expected,
+    ) -> Result<(), AllocError> {
+        let by_body = ByBody(&message);
+        assert_adds(rt, alloc, &by_body, expected.body())?;
+        assert_all_or_nothing(rt, alloc, &by_body, expected.body())
     }
 }
 
 #[test]
 fn encode_body_adds_the_body(rt: HostRuntime) -> Result<(), AllocError> {
-    let check = AddsItsBody {
-        rt: &rt,
-        alloc: rt.alloc(),
-    };
-    check_each_kind(rt.alloc(), &check)
+    check_each_kind(&rt, rt.alloc(), &AddsItsBody)
 }
 
 #[derive(Drop)]
-struct AddsItsFrame<'a, R> {
-    rt: &'a R,
-    alloc: Global,
-}
+struct AddsItsFrame;
 
-impl<R: Abort> Check for AddsItsFrame<'_, R> {
-    fn check<M: FrontendMessage>(&self, message: M, expected: Expected) -> Result<(), AllocError> {
-        let frame = frame_of(self.alloc, expected.tag, expected.body)?;
-        assert_adds(self.rt, self.alloc, &ByFrame(&message), frame.as_slice())?;
-        assert_all_or_nothing(self.rt, self.alloc, &ByFrame(&message), frame.as_slice())?;
+impl Check for AddsItsFrame {
+    fn check<R: Abort, M: FrontendMessage>(
+        &self,
+        rt: &R,
+        alloc: Global,
+        message: M,
+        expected: Expected,
+    ) -> Result<(), AllocError> {
+        let by_frame = ByFrame(&message);
+        assert_adds(rt, alloc, &by_frame, expected.frame)?;
+        assert_all_or_nothing(rt, alloc, &by_frame, expected.frame)?;
         let encoded = EncodeMessage(message);
-        assert_adds(self.rt, self.alloc, &encoded, frame.as_slice())?;
-        assert_all_or_nothing(self.rt, self.alloc, &encoded, frame.as_slice())
+        assert_adds(rt, alloc, &encoded, expected.frame)?;
+        assert_all_or_nothing(rt, alloc, &encoded, expected.frame)
     }
 }
 
 #[test]
 fn encode_frame_adds_the_frame(rt: HostRuntime) -> Result<(), AllocError> {
-    let check = AddsItsFrame {
-        rt: &rt,
-        alloc: rt.alloc(),
-    };
-    check_each_kind(rt.alloc(), &check)
+    check_each_kind(&rt, rt.alloc(), &AddsItsFrame)
 }
 
 // The message is consumed, so each is made anew for each request that is refused.
 #[derive(Drop)]
-struct AddsItsFrameOnce<'a, R> {
-    rt: &'a R,
-    alloc: Global,
+struct AddsItsFrameOnce {
     old: &'static [u8],
     nth: usize,
 }
 
-impl<R: Abort> Check for AddsItsFrameOnce<'_, R> {
-    fn check<M: FrontendMessage>(&self, message: M, expected: Expected) -> Result<(), AllocError> {
-        let rt = self.rt;
-        let frame = frame_of(self.alloc, expected.tag, expected.body)?;
-        let mut buf = Vec::from_slice(self.alloc, self.old)?;
-        refuse_nth(self.alloc, self.nth);
+impl Check for AddsItsFrameOnce {
+    fn check<R: Abort, M: FrontendMessage>(
+        &self,
+        rt: &R,
+        alloc: Global,
+        message: M,
+        expected: Expected,
+    ) -> Result<(), AllocError> {
+        let mut buf = Vec::from_slice(alloc, self.old)?;
+        refuse_nth(alloc, self.nth);
         let answer = message.encode_msg(&mut buf);
-        if was_refused(self.alloc) {
-            assert!(rt; answer == Err(Error::OutOfMemory));
-            assert!(rt; buf.as_slice() == self.old);
-            return Ok(());
-        }
-        assert!(rt; unless_out_of_memory(answer)? == Ok(()));
-        assert!(rt; buf.as_slice().strip_prefix(self.old) == Some(frame.as_slice()));
-        Ok(())
+        let refused = was_refused(alloc);
+        assert_added_or_refused(
+            rt,
+            answer,
+            refused,
+            buf.as_slice(),
+            self.old,
+            expected.frame,
+        )
     }
 }
 
 #[test]
 fn encode_msg_adds_the_frame(rt: HostRuntime) -> Result<(), AllocError> {
-    for (old, nth) in [(b"".as_slice(), 1), (b"", 2), (b"\xaa", 1), (b"\xaa", 2)] {
-        let check = AddsItsFrameOnce {
-            rt: &rt,
-            alloc: rt.alloc(),
-            old,
-            nth,
-        };
-        check_each_kind(rt.alloc(), &check)?;
-    }
-    Ok(())
+    refuse_nth_of_each_kind(&rt, rt.alloc(), b"", 1)?;
+    refuse_nth_of_each_kind(&rt, rt.alloc(), b"", 2)?;
+    refuse_nth_of_each_kind(&rt, rt.alloc(), b"\xaa", 1)?;
+    refuse_nth_of_each_kind(&rt, rt.alloc(), b"\xaa", 2)
+}
+
+fn refuse_nth_of_each_kind(
+    rt: &impl Abort,
+    alloc: Global,
+    old: &'static [u8],
+    nth: usize,
+) -> Result<(), AllocError> {
+    check_each_kind(rt, alloc, &AddsItsFrameOnce { old, nth })
 }
 
 #[test]
@@ -143,12 +148,11 @@ fn a_tagged_message_adds_the_frame(rt: HostRuntime) -> Result<(), AllocError> {
 fn assert_each_adds(
     rt: &impl Abort,
     alloc: Global,
-    messages: &[TaggedMessage<'_>],
+    kinds: &[(TaggedMessage<'_>, &'static [u8])],
 ) -> Result<(), AllocError> {
-    for (message, (tag, body)) in messages.iter().zip(LETTERS_AND_BODIES) {
-        let frame = frame_of(alloc, *tag, body)?;
-        assert_adds(rt, alloc, message, frame.as_slice())?;
-        assert_all_or_nothing(rt, alloc, message, frame.as_slice())?;
+    for (message, frame) in kinds {
+        assert_adds(rt, alloc, message, frame)?;
+        assert_all_or_nothing(rt, alloc, message, frame)?;
     }
     Ok(())
 }

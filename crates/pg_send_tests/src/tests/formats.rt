@@ -2,24 +2,27 @@
 
 use super::kinds::{Check, Expected, check_each_kind};
 use pg_send::message::FrontendMessage;
-use std::alloc::AllocError;
+use std::alloc::{AllocError, Global};
 use std::process::Abort;
 
 #[derive(Drop)]
-struct FormatIsTheLetter<'a, R> {
-    rt: &'a R,
-}
+struct FormatIsTheLetter;
 
-impl<R: Abort> Check for FormatIsTheLetter<'_, R> {
-    fn check<M: FrontendMessage>(&self, message: M, expected: Expected) -> Result<(), AllocError> {
-        let rt = self.rt;
-        assert!(rt; M::FORMAT as u8 == expected.tag);
-        assert!(rt; message.tag() == expected.tag);
+impl Check for FormatIsTheLetter {
+    fn check<R: Abort, M: FrontendMessage>(
+        &self,
+        rt: &R,
+        _alloc: Global,
+        message: M,
+        expected: Expected,
+    ) -> Result<(), AllocError> {
+        assert!(rt; M::FORMAT as u8 == expected.tag());
+        assert!(rt; message.tag() == expected.tag());
         Ok(())
     }
 }
 
 #[test]
 fn format_and_tag_are_the_letter_of_each_kind(rt: HostRuntime) -> Result<(), AllocError> {
-    check_each_kind(rt.alloc(), &FormatIsTheLetter { rt: &rt })
+    check_each_kind(&rt, rt.alloc(), &FormatIsTheLetter)
 }

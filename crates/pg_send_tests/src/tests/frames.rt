@@ -1,7 +1,7 @@
 //! Frames as the documentation lays them out. Documentation: "Message Formats".
 
 use super::ID;
-use super::refusing::unless_out_of_memory;
+use super::refusing::{assert_accepted, assert_all_accepted};
 use pg_base::io::{Oid, PgValueFormat, PortalId, StatementId};
 use pg_send::message::*;
 use std::alloc::{AllocError, Global};
@@ -17,9 +17,7 @@ fn assert_frames(
     let Ok(answers) = encode_all(alloc, messages, &mut buf) else {
         return Err(AllocError);
     };
-    for answer in answers {
-        assert!(rt; unless_out_of_memory(answer)? == Ok(()));
-    }
+    assert_all_accepted(rt, answers.as_slice())?;
     assert!(rt; buf.as_slice() == frames);
     Ok(())
 }
@@ -31,50 +29,62 @@ fn assert_msg<M: FrontendMessage>(
     frame: &[u8],
 ) -> Result<(), AllocError> {
     let mut buf = Vec::new(alloc);
-    let answer = message.encode_msg(&mut buf);
-    assert!(rt; unless_out_of_memory(answer)? == Ok(()));
+    assert_accepted(rt, message.encode_msg(&mut buf))?;
     assert!(rt; buf.as_slice() == frame);
     Ok(())
 }
 
-#[test]
-fn queries(rt: HostRuntime) -> Result<(), AllocError> {
-    let queries = [
+const QUERIES: &[u8] = b"Q\0\0\0\x0dSELECT 1\0Q\0\0\0\x08a\0b\0";
+
+fn two_queries() -> [TaggedMessage<'static>; 2] {
+    [
         TaggedMessage::Query(Query("SELECT 1")),
         TaggedMessage::Query(Query("a\0b")),
-    ];
-    let frames = b"Q\x00\x00\x00\x0dSELECT 1\x00Q\x00\x00\x00\x08a\x00b\x00";
-    assert_frames(&rt, rt.alloc(), &queries, frames)
+    ]
+}
+
+#[test]
+fn queries(rt: HostRuntime) -> Result<(), AllocError> {
+    assert_frames(&rt, rt.alloc(), &two_queries(), QUERIES)
+}
+
+const DESCRIPTIONS: &[u8] =
+    b"D\0\0\0\x17Ssqlx_s_1234567890\0D\0\0\0\x06S\0D\0\0\0\x17Psqlx_p_1234567890\0";
+
+fn three_descriptions() -> [TaggedMessage<'static>; 3] {
+    let statement = StatementId::from_number(ID);
+    let portal = PortalId::from_number(ID);
+    [
+        TaggedMessage::Describe(Describe::Statement(statement)),
+        TaggedMessage::Describe(Describe::Statement(StatementId::UNNAMED)),
+        TaggedMessage::Describe(Describe::Portal(portal)),
+    ]
 }
 
 #[test]
 fn descriptions(rt: HostRuntime) -> Result<(), AllocError> {
-    let statement = StatementId::from_number(ID);
-    let portal = PortalId::from_number(ID);
-    let descriptions = [
-        TaggedMessage::Describe(Describe::Statement(statement)),
-        TaggedMessage::Describe(Describe::Statement(StatementId::UNNAMED)),
-        TaggedMessage::Describe(Describe::Portal(portal)),
-    ];
-    let frames =
-        b"D\x00\x00\x00\x17Ssqlx_s_1234567890\x00D\x00\x00\x00\x06S\x00D\x00\x00\x00\x17Psqlx_p_1234567890\x00";
-    assert_frames(&rt, rt.alloc(), &descriptions, frames)?;
+    assert_frames(&rt, rt.alloc(), &three_descriptions(), DESCRIPTIONS)?;
     let unnamed = Describe::Portal(PortalId::UNNAMED);
-    assert_msg(&rt, rt.alloc(), unnamed, b"D\x00\x00\x00\x06P\x00")
+    assert_msg(&rt, rt.alloc(), unnamed, b"D\0\0\0\x06P\0")
+}
+
+const CLOSINGS: &[u8] = b"C\0\0\0\x0ePsqlx_p_7\0C\0\0\0\x0eSsqlx_s_7\0";
+
+fn two_closings() -> [TaggedMessage<'static>; 2] {
+    [
+        TaggedMessage::Close(Close::Portal(PortalId::from_number(7))),
+        TaggedMessage::Close(Close::Statement(StatementId::from_number(7))),
+    ]
 }
 
 #[test]
 fn closings(rt: HostRuntime) -> Result<(), AllocError> {
-    let closings = [
-        TaggedMessage::Close(Close::Portal(PortalId::from_number(7))),
-        TaggedMessage::Close(Close::Statement(StatementId::from_number(7))),
-    ];
-    let frames = b"C\x00\x00\x00\x0ePsqlx_p_7\x00C\x00\x00\x00\x0eSsqlx_s_7\x00";
-    assert_frames(&rt, rt.alloc(), &closings, frames)
+    assert_frames(&rt, rt.alloc(), &two_closings(), CLOSINGS)
 }
 
-#[test]
-fn executions(rt: HostRuntime) -> Result<(), AllocError> {
+const EXECUTIONS: &[u8] = b"E\0\0\0\x1asqlx_p_1234567890\0\0\0\0\x02E\0\0\0\x09\0\x49\x96\x02\xd2";
+
+fn two_executions() -> [TaggedMessage<'static>; 2] {
     let named = Execute {
         portal: PortalId::from_number(ID),
         limit: 2,
@@ -83,39 +93,46 @@ fn executions(rt: HostRuntime) -> Result<(), AllocError> {
         portal: PortalId::UNNAMED,
         limit: ID,
     };
-    let executions = [
+    [
         TaggedMessage::Execute(named),
         TaggedMessage::Execute(unnamed),
-    ];
-    let frames =
-        b"E\x00\x00\x00\x1asqlx_p_1234567890\x00\x00\x00\x00\x02E\x00\x00\x00\x09\x00\x49\x96\x02\xd2";
-    assert_frames(&rt, rt.alloc(), &executions, frames)
+    ]
+}
+
+#[test]
+fn executions(rt: HostRuntime) -> Result<(), AllocError> {
+    assert_frames(&rt, rt.alloc(), &two_executions(), EXECUTIONS)
+}
+
+const TYPE: &[Oid] = &[Oid(25)];
+
+const TYPES: &[Oid] = &[Oid(25), Oid(0)];
+
+const NAMED: &[u8] = b"P\0\0\0\x26sqlx_s_1234567890\0SELECT $1\0\0\x01\0\0\0\x19";
+
+const UNNAMED: &[u8] = b"P\0\0\0\x15\0SELECT $1\0\0\x01\0\0\0\x19";
+
+const TWO_TYPES: &[u8] = b"P\0\0\0\x21sqlx_s_1\0SELECT $1\0\0\x02\0\0\0\x19\0\0\0\0";
+
+fn parse_of(statement: StatementId, param_types: &[Oid]) -> Parse<'_> {
+    Parse {
+        statement,
+        query: "SELECT $1",
+        param_types,
+    }
+}
+
+fn parse_of_two_types() -> [TaggedMessage<'static>; 1] {
+    [TaggedMessage::Parse(parse_of(StatementId::NAMED_START, TYPES))]
 }
 
 #[test]
 fn parses(rt: HostRuntime) -> Result<(), AllocError> {
-    let named = Parse {
-        statement: StatementId::from_number(ID),
-        query: "SELECT $1",
-        param_types: &[Oid(25)],
-    };
-    let frame = b"P\x00\x00\x00\x26sqlx_s_1234567890\x00SELECT $1\x00\x00\x01\x00\x00\x00\x19";
-    assert_msg(&rt, rt.alloc(), named, frame)?;
-    let unnamed = Parse {
-        statement: StatementId::UNNAMED,
-        query: "SELECT $1",
-        param_types: &[Oid(25)],
-    };
-    let frame = b"P\x00\x00\x00\x15\x00SELECT $1\x00\x00\x01\x00\x00\x00\x19";
-    assert_msg(&rt, rt.alloc(), unnamed, frame)?;
-    let two_types = Parse {
-        statement: StatementId::NAMED_START,
-        query: "SELECT $1",
-        param_types: &[Oid(25), Oid(0)],
-    };
-    let frame =
-        b"P\x00\x00\x00\x21sqlx_s_1\x00SELECT $1\x00\x00\x02\x00\x00\x00\x19\x00\x00\x00\x00";
-    assert_frames(&rt, rt.alloc(), &[TaggedMessage::Parse(two_types)], frame)
+    let named = parse_of(StatementId::from_number(ID), TYPE);
+    assert_msg(&rt, rt.alloc(), named, NAMED)?;
+    let unnamed = parse_of(StatementId::UNNAMED, TYPE);
+    assert_msg(&rt, rt.alloc(), unnamed, UNNAMED)?;
+    assert_frames(&rt, rt.alloc(), &parse_of_two_types(), TWO_TYPES)
 }
 
 // Of the unnamed portal and statement, without a count of parameters.
@@ -134,83 +151,102 @@ pub fn bind_of<'a>(
     }
 }
 
-#[test]
-fn binds(rt: HostRuntime) -> Result<(), AllocError> {
-    let binary = bind_of(&[], b"", &[PgValueFormat::Binary]);
-    let frame = b"B\x00\x00\x00\x0e\x00\x00\x00\x00\x00\x00\x00\x01\x00\x01";
-    assert_msg(&rt, rt.alloc(), binary, frame)?;
-    // Two messages of one frame: bytes that are not so many values aren't read back.
-    let stray = bind_of(&[], b"\x00\x01", &[]);
-    let frame = b"B\x00\x00\x00\x0e\x00\x00\x00\x00\x00\x00\x00\x01\x00\x00";
-    assert_msg(&rt, rt.alloc(), stray, frame)?;
-    let text = bind_of(&[], b"", &[PgValueFormat::Text]);
-    assert_msg(&rt, rt.alloc(), text, frame)?;
-    let value = Bind {
+const TEXT: &[PgValueFormat] = &[PgValueFormat::Text];
+
+const BINARY: &[PgValueFormat] = &[PgValueFormat::Binary];
+
+const BINARY_RESULT: &[u8] = b"B\0\0\0\x0e\0\0\0\0\0\0\0\x01\0\x01";
+
+const TEXT_RESULT: &[u8] = b"B\0\0\0\x0e\0\0\0\0\0\0\0\x01\0\0";
+
+const VALUE: &[u8] = b"B\0\0\0\x1c\0sqlx_s_1\0\0\x01\0\x01\0\x01\0\0\0\x02\xab\xcd\0\0";
+
+fn bind_of_a_value() -> [TaggedMessage<'static>; 1] {
+    [TaggedMessage::Bind(Bind {
         portal: PortalId::UNNAMED,
         statement: StatementId::NAMED_START,
-        formats: &[PgValueFormat::Binary],
+        formats: BINARY,
         num_params: 1,
-        params: b"\x00\x00\x00\x02\xab\xcd",
+        params: b"\0\0\0\x02\xab\xcd",
         result_formats: &[],
-    };
-    let frame =
-        b"B\x00\x00\x00\x1c\x00sqlx_s_1\x00\x00\x01\x00\x01\x00\x01\x00\x00\x00\x02\xab\xcd\x00\x00";
-    assert_frames(&rt, rt.alloc(), &[TaggedMessage::Bind(value)], frame)
+    })]
+}
+
+#[test]
+fn binds(rt: HostRuntime) -> Result<(), AllocError> {
+    assert_msg(&rt, rt.alloc(), bind_of(&[], b"", BINARY), BINARY_RESULT)?;
+    // Two messages of one frame: bytes that are not so many values aren't read back.
+    assert_msg(&rt, rt.alloc(), bind_of(&[], b"\0\x01", &[]), TEXT_RESULT)?;
+    assert_msg(&rt, rt.alloc(), bind_of(&[], b"", TEXT), TEXT_RESULT)?;
+    assert_frames(&rt, rt.alloc(), &bind_of_a_value(), VALUE)
+}
+
+const MD5: &[u8] = b"p\0\0\0\x28md53e2c9d99d49b201ef867a36f3f9ed62c\0";
+
+fn password_of_a_digest() -> [TaggedMessage<'static>; 1] {
+    let digest = *b"\x3e\x2c\x9d\x99\xd4\x9b\x20\x1e\xf8\x67\xa3\x6f\x3f\x9e\xd6\x2c";
+    [TaggedMessage::Password(Password::Md5 { digest })]
 }
 
 #[test]
 fn passwords(rt: HostRuntime) -> Result<(), AllocError> {
     let cleartext = Password::Cleartext("password");
-    assert_msg(&rt, rt.alloc(), cleartext, b"p\x00\x00\x00\x0dpassword\x00")?;
-    let digest = *b"\x3e\x2c\x9d\x99\xd4\x9b\x20\x1e\xf8\x67\xa3\x6f\x3f\x9e\xd6\x2c";
-    let md5 = [TaggedMessage::Password(Password::Md5 { digest })];
-    let frame = b"p\x00\x00\x00\x28md53e2c9d99d49b201ef867a36f3f9ed62c\x00";
-    assert_frames(&rt, rt.alloc(), &md5, frame)?;
+    assert_msg(&rt, rt.alloc(), cleartext, b"p\0\0\0\x0dpassword\0")?;
+    assert_frames(&rt, rt.alloc(), &password_of_a_digest(), MD5)?;
     let same_text = Password::Cleartext("md53e2c9d99d49b201ef867a36f3f9ed62c");
-    assert_msg(&rt, rt.alloc(), same_text, frame)
+    assert_msg(&rt, rt.alloc(), same_text, MD5)
+}
+
+const INITIAL: &[u8] = b"p\0\0\0\x21SCRAM-SHA-256\0\0\0\0\x0bn,,n=,r=abc";
+
+const RESPONSES: &[u8] = b"p\0\0\0\x1cSCRAM-SHA-256-PLUS\0\0\0\0\x01xp\0\0\0\x04";
+
+fn initial_of(response: &str, plus: bool) -> SaslInitialResponse<'_> {
+    SaslInitialResponse { response, plus }
+}
+
+fn two_responses() -> [TaggedMessage<'static>; 2] {
+    [
+        TaggedMessage::SaslInitialResponse(initial_of("x", true)),
+        TaggedMessage::SaslResponse(SaslResponse("")),
+    ]
 }
 
 #[test]
 fn sasl_responses(rt: HostRuntime) -> Result<(), AllocError> {
-    let first = SaslInitialResponse {
-        response: "n,,n=,r=abc",
-        plus: false,
-    };
-    let frame = b"p\x00\x00\x00\x21SCRAM-SHA-256\x00\x00\x00\x00\x0bn,,n=,r=abc";
-    assert_msg(&rt, rt.alloc(), first, frame)?;
-    let plus = SaslInitialResponse {
-        response: "x",
-        plus: true,
-    };
-    let responses = [
-        TaggedMessage::SaslInitialResponse(plus),
-        TaggedMessage::SaslResponse(SaslResponse("")),
-    ];
-    let frames = b"p\x00\x00\x00\x1cSCRAM-SHA-256-PLUS\x00\x00\x00\x00\x01xp\x00\x00\x00\x04";
-    assert_frames(&rt, rt.alloc(), &responses, frames)
+    assert_msg(&rt, rt.alloc(), initial_of("n,,n=,r=abc", false), INITIAL)?;
+    assert_frames(&rt, rt.alloc(), &two_responses(), RESPONSES)
+}
+
+const COPIES: &[u8] = b"d\0\0\0\x09Q\0\0\0\x04f\0\0\0\x07no\0c\0\0\0\x04";
+
+fn three_copies(fail: &CopyFail) -> [TaggedMessage<'_>; 3] {
+    [
+        TaggedMessage::CopyData(CopyData(b"Q\0\0\0\x04")),
+        TaggedMessage::CopyFail(fail),
+        TaggedMessage::CopyDone(CopyDone),
+    ]
 }
 
 #[test]
 fn copies(rt: HostRuntime) -> Result<(), AllocError> {
     let owned = CopyData(Vec::from_slice(rt.alloc(), b"ab")?);
-    assert_msg(&rt, rt.alloc(), owned, b"d\x00\x00\x00\x06ab")?;
-    let why = CopyFail::new(String::from_str(rt.alloc(), "no")?);
-    let copies = [
-        TaggedMessage::CopyData(CopyData(b"Q\x00\x00\x00\x04")),
-        TaggedMessage::CopyFail(&why),
-        TaggedMessage::CopyDone(CopyDone),
-    ];
-    let frames = b"d\x00\x00\x00\x09Q\x00\x00\x00\x04f\x00\x00\x00\x07no\x00c\x00\x00\x00\x04";
-    assert_frames(&rt, rt.alloc(), &copies, frames)
+    assert_msg(&rt, rt.alloc(), owned, b"d\0\0\0\x06ab")?;
+    let fail = CopyFail::new(String::from_str(rt.alloc(), "no")?);
+    assert_frames(&rt, rt.alloc(), &three_copies(&fail), COPIES)
+}
+
+const WITHOUT_A_BODY: &[u8] = b"H\0\0\0\x04S\0\0\0\x04X\0\0\0\x04";
+
+fn three_without_a_body() -> [TaggedMessage<'static>; 3] {
+    [
+        TaggedMessage::Flush(Flush),
+        TaggedMessage::Sync(Sync),
+        TaggedMessage::Terminate(Terminate),
+    ]
 }
 
 #[test]
 fn messages_without_a_body(rt: HostRuntime) -> Result<(), AllocError> {
-    let messages = [
-        TaggedMessage::Flush(Flush),
-        TaggedMessage::Sync(Sync),
-        TaggedMessage::Terminate(Terminate),
-    ];
-    let frames = b"H\x00\x00\x00\x04S\x00\x00\x00\x04X\x00\x00\x00\x04";
-    assert_frames(&rt, rt.alloc(), &messages, frames)
+    assert_frames(&rt, rt.alloc(), &three_without_a_body(), WITHOUT_A_BODY)
 }

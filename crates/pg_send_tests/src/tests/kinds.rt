@@ -5,6 +5,7 @@ use super::ID;
 use pg_base::io::{Oid, PgValueFormat, PortalId, StatementId};
 use pg_send::message::*;
 use std::alloc::{AllocError, Global};
+use std::process::Abort;
 
 const FORMATS: &[PgValueFormat] = &[PgValueFormat::Text, PgValueFormat::Binary];
 
@@ -14,126 +15,163 @@ const DIGEST: [u8; 16] = [
     0x3e, 0x2c, 0x9d, 0x99, 0xd4, 0x9b, 0x20, 0x1e, 0xf8, 0x67, 0xa3, 0x6f, 0x3f, 0x9e, 0xd6, 0x2c,
 ];
 
-/// The letter of a message, its body, and the room that it asks for the body, in bytes.
+/// The frame of a message, and the room that it asks for the body, in bytes.
 #[derive(Clone, Copy, Drop)]
 pub struct Expected {
-    pub tag: u8,
-    pub body: &'static [u8],
+    pub frame: &'static [u8],
     pub hint: usize,
 }
 
+impl Expected {
+    /// The letter.
+    pub fn tag(&self) -> u8 {
+        match self.frame {
+            [tag, ..] => *tag,
+            [] => 0,
+        }
+    }
+
+    /// What follows the letter and the length.
+    pub fn body(&self) -> &'static [u8] {
+        self.frame.get(5..).unwrap_or(b"")
+    }
+}
+
 /// A message whose hint is the length of its body.
-fn exact(tag: u8, body: &'static [u8]) -> Expected {
+fn exact(frame: &'static [u8]) -> Expected {
     Expected {
-        tag,
-        body,
-        hint: body.len(),
+        frame,
+        hint: frame.len().saturating_sub(5),
     }
 }
 
 /// What a test does with a message of any kind.
 pub trait Check {
-    fn check<M: FrontendMessage>(&self, message: M, expected: Expected) -> Result<(), AllocError>;
+    fn check<R: Abort, M: FrontendMessage>(
+        &self,
+        rt: &R,
+        alloc: Global,
+        message: M,
+        expected: Expected,
+    ) -> Result<(), AllocError>;
 }
 
 /// Checks a message of each kind.
-pub fn check_each_kind<C: Check>(alloc: Global, check: &C) -> Result<(), AllocError> {
-    check_extended_query(check)?;
-    check_credentials(check)?;
-    check_copy(alloc, check)?;
-    check.check(Query("SELECT 1"), exact(b'Q', b"SELECT 1\0"))?;
-    check.check(Flush, exact(b'H', b""))?;
-    check.check(Sync, exact(b'S', b""))?;
-    check.check(Terminate, exact(b'X', b""))
+pub fn check_each_kind<C: Check>(
+    rt: &impl Abort,
+    alloc: Global,
+    check: &C,
+) -> Result<(), AllocError> {
+    check_extended_query(rt, alloc, check)?;
+    check_credentials(rt, alloc, check)?;
+    check_copy(rt, alloc, check)?;
+    check.check(rt, alloc, Query("SELECT 1"), exact(QUERY))?;
+    check.check(rt, alloc, Flush, exact(FLUSH))?;
+    check.check(rt, alloc, Sync, exact(SYNC))?;
+    check.check(rt, alloc, Terminate, exact(TERMINATE))
 }
 
-fn check_extended_query<C: Check>(check: &C) -> Result<(), AllocError> {
-    check.check(bind(), exact(b'B', BIND))?;
-    check.check(close(), exact(b'C', b"Ssqlx_s_7\0"))?;
-    check.check(describe(), exact(b'D', b"Psqlx_p_1234567890\0"))?;
-    check.check(execute(), exact(b'E', b"sqlx_p_1234567890\0\0\0\0\x02"))?;
-    check.check(parse(), exact(b'P', PARSE))
+fn check_extended_query<C: Check>(
+    rt: &impl Abort,
+    alloc: Global,
+    check: &C,
+) -> Result<(), AllocError> {
+    check.check(rt, alloc, bind(), exact(BIND))?;
+    check.check(rt, alloc, close(), exact(CLOSE))?;
+    check.check(rt, alloc, describe(), exact(DESCRIBE))?;
+    check.check(rt, alloc, execute(), exact(EXECUTE))?;
+    check.check(rt, alloc, parse(), exact(PARSE))
 }
 
-fn check_credentials<C: Check>(check: &C) -> Result<(), AllocError> {
+fn check_credentials<C: Check>(
+    rt: &impl Abort,
+    alloc: Global,
+    check: &C,
+) -> Result<(), AllocError> {
     // The least power of two that holds the body.
     let cleartext = Expected {
-        tag: b'p',
-        body: b"password\0",
+        frame: CLEARTEXT,
         hint: 16,
     };
-    check.check(Password::Cleartext("password"), cleartext)?;
-    check.check(Password::Md5 { digest: DIGEST }, exact(b'p', MD5))?;
-    check.check(sasl_initial(), exact(b'p', SASL_INITIAL))?;
-    check.check(SaslResponse("c=biws"), exact(b'p', b"c=biws"))
+    check.check(rt, alloc, Password::Cleartext("password"), cleartext)?;
+    check.check(rt, alloc, Password::Md5 { digest: DIGEST }, exact(MD5))?;
+    check.check(rt, alloc, sasl_initial(), exact(SASL_INITIAL))?;
+    check.check(rt, alloc, SaslResponse("c=biws"), exact(SASL_RESPONSE))
 }
 
-fn check_copy<C: Check>(alloc: Global, check: &C) -> Result<(), AllocError> {
-    check.check(CopyData(b"abc".as_slice()), exact(b'd', b"abc"))?;
-    check.check(CopyDone, exact(b'c', b""))?;
+fn check_copy<C: Check>(rt: &impl Abort, alloc: Global, check: &C) -> Result<(), AllocError> {
+    check.check(rt, alloc, CopyData(b"abc".as_slice()), exact(COPY_DATA))?;
+    check.check(rt, alloc, CopyDone, exact(COPY_DONE))?;
     let why = String::from_str(alloc, "no")?;
-    check.check(CopyFail::new(why), exact(b'f', b"no\0"))
+    check.check(rt, alloc, CopyFail::new(why), exact(COPY_FAIL))
 }
 
-/// The same messages in one list.
-pub fn tagged_kinds(fail: &CopyFail) -> [TaggedMessage<'_>; 16] {
+/// The same messages in one list, each with its frame.
+pub fn tagged_kinds(fail: &CopyFail) -> [(TaggedMessage<'_>, &'static [u8]); 16] {
     [
-        TaggedMessage::Bind(bind()),
-        TaggedMessage::Close(close()),
-        TaggedMessage::CopyData(CopyData(b"abc")),
-        TaggedMessage::CopyDone(CopyDone),
-        TaggedMessage::CopyFail(fail),
-        TaggedMessage::Describe(describe()),
-        TaggedMessage::Execute(execute()),
-        TaggedMessage::Flush(Flush),
-        TaggedMessage::Parse(parse()),
-        TaggedMessage::Password(Password::Cleartext("password")),
-        TaggedMessage::Password(Password::Md5 { digest: DIGEST }),
-        TaggedMessage::Query(Query("SELECT 1")),
-        TaggedMessage::SaslInitialResponse(sasl_initial()),
-        TaggedMessage::SaslResponse(SaslResponse("c=biws")),
-        TaggedMessage::Sync(Sync),
-        TaggedMessage::Terminate(Terminate),
+        (TaggedMessage::Bind(bind()), BIND),
+        (TaggedMessage::Close(close()), CLOSE),
+        (TaggedMessage::CopyData(CopyData(b"abc")), COPY_DATA),
+        (TaggedMessage::CopyDone(CopyDone), COPY_DONE),
+        (TaggedMessage::CopyFail(fail), COPY_FAIL),
+        (TaggedMessage::Describe(describe()), DESCRIBE),
+        (TaggedMessage::Execute(execute()), EXECUTE),
+        (TaggedMessage::Flush(Flush), FLUSH),
+        (TaggedMessage::Parse(parse()), PARSE),
+        (
+            TaggedMessage::Password(Password::Cleartext("password")),
+            CLEARTEXT,
+        ),
+        (
+            TaggedMessage::Password(Password::Md5 { digest: DIGEST }),
+            MD5,
+        ),
+        (TaggedMessage::Query(Query("SELECT 1")), QUERY),
+        (
+            TaggedMessage::SaslInitialResponse(sasl_initial()),
+            SASL_INITIAL,
+        ),
+        (
+            TaggedMessage::SaslResponse(SaslResponse("c=biws")),
+            SASL_RESPONSE,
+        ),
+        (TaggedMessage::Sync(Sync), SYNC),
+        (TaggedMessage::Terminate(Terminate), TERMINATE),
     ]
 }
 
-/// The letters and bodies of that list.
-pub const LETTERS_AND_BODIES: &[(u8, &[u8])] = &[
-    (b'B', BIND),
-    (b'C', b"Ssqlx_s_7\0"),
-    (b'd', b"abc"),
-    (b'c', b""),
-    (b'f', b"no\0"),
-    (b'D', b"Psqlx_p_1234567890\0"),
-    (b'E', b"sqlx_p_1234567890\0\0\0\0\x02"),
-    (b'H', b""),
-    (b'P', PARSE),
-    (b'p', b"password\0"),
-    (b'p', MD5),
-    (b'Q', b"SELECT 1\0"),
-    (b'p', SASL_INITIAL),
-    (b'p', b"c=biws"),
-    (b'S', b""),
-    (b'X', b""),
-];
-
-/// A letter, a length that counts itself and the body, and the body.
-pub fn frame_of(alloc: Global, tag: u8, body: &[u8]) -> Result<Vec<u8>, AllocError> {
-    let length = body.len().saturating_add(4).to_be_bytes();
-    let mut frame = Vec::from_slice(alloc, &[tag])?;
-    frame.extend_from_slice(&length[4..])?;
-    frame.extend_from_slice(body)?;
-    Ok(frame)
-}
-
 const BIND: &[u8] =
-    b"sqlx_p_1234567890\0sqlx_s_1234567890\0\0\x02\0\0\0\x01\0\x01\xff\xff\xff\xff\0\x02\0\0\0\x01";
+    b"B\0\0\0\x3asqlx_p_1234567890\0sqlx_s_1234567890\0\0\x02\0\0\0\x01\0\x01\xff\xff\xff\xff\0\x02\0\0\0\x01";
 
-const PARSE: &[u8] = b"sqlx_s_1234567890\0SELECT $1\0\0\x02\0\0\0\x19\0\0\0\0";
+const CLOSE: &[u8] = b"C\0\0\0\x0eSsqlx_s_7\0";
 
-const MD5: &[u8] = b"md53e2c9d99d49b201ef867a36f3f9ed62c\0";
+const COPY_DATA: &[u8] = b"d\0\0\0\x07abc";
 
-const SASL_INITIAL: &[u8] = b"SCRAM-SHA-256-PLUS\0\0\0\0\x0bn,,n=,r=abc";
+const COPY_DONE: &[u8] = b"c\0\0\0\x04";
+
+const COPY_FAIL: &[u8] = b"f\0\0\0\x07no\0";
+
+const DESCRIBE: &[u8] = b"D\0\0\0\x17Psqlx_p_1234567890\0";
+
+const EXECUTE: &[u8] = b"E\0\0\0\x1asqlx_p_1234567890\0\0\0\0\x02";
+
+const FLUSH: &[u8] = b"H\0\0\0\x04";
+
+const PARSE: &[u8] = b"P\0\0\0\x2asqlx_s_1234567890\0SELECT $1\0\0\x02\0\0\0\x19\0\0\0\0";
+
+const CLEARTEXT: &[u8] = b"p\0\0\0\x0dpassword\0";
+
+const MD5: &[u8] = b"p\0\0\0\x28md53e2c9d99d49b201ef867a36f3f9ed62c\0";
+
+const QUERY: &[u8] = b"Q\0\0\0\x0dSELECT 1\0";
+
+const SASL_INITIAL: &[u8] = b"p\0\0\0\x26SCRAM-SHA-256-PLUS\0\0\0\0\x0bn,,n=,r=abc";
+
+const SASL_RESPONSE: &[u8] = b"p\0\0\0\x0ac=biws";
+
+const SYNC: &[u8] = b"S\0\0\0\x04";
+
+const TERMINATE: &[u8] = b"X\0\0\0\x04";
 
 fn bind() -> Bind<'static> {
     Bind {

@@ -1,7 +1,7 @@
 //! A run asks once for its answers and once for what its accepted messages add. Where the second
 //! request is refused, each message asks for its own, and no answer changes.
 
-use super::refusing::{MANY, refuse_from, refuse_nth, unless_out_of_memory, was_refused};
+use super::refusing::{MANY, assert_accepted, assert_fault, refuse_from, refuse_nth, was_refused};
 use pg_base::io::{Oid, StatementId};
 use pg_base::{Error, ProtocolFault};
 use pg_send::message::{Parse, Query, Sync, TaggedMessage, encode_all};
@@ -93,19 +93,22 @@ fn assert_answers(
     answers: &[Result<(), Error>],
     added: Option<&[u8]>,
 ) -> Result<(), AllocError> {
-    assert!(rt; answers.len() == 3);
-    let fault = ProtocolFault::TooManyParamTypes(65536);
-    assert!(rt; answers[1] == Err(fault.into()));
-    let frames = match (answers[0].is_ok(), answers[2].is_ok()) {
+    let [first, second, third] = answers else {
+        panic!(rt; "an answer for each message")
+    };
+    assert_fault(rt, *second, ProtocolFault::TooManyParamTypes(65536));
+    assert!(rt; added == Some(frames_of(first.is_ok(), third.is_ok())));
+    assert_accepted(rt, *first)?;
+    assert_accepted(rt, *third)
+}
+
+fn frames_of(query: bool, sync: bool) -> &'static [u8] {
+    match (query, sync) {
         (true, true) => QUERY_AND_SYNC,
         (true, false) => QUERY,
         (false, true) => SYNC,
         (false, false) => b"",
-    };
-    assert!(rt; added == Some(frames));
-    assert!(rt; unless_out_of_memory(answers[0])? == Ok(()));
-    assert!(rt; unless_out_of_memory(answers[2])? == Ok(()));
-    Ok(())
+    }
 }
 
 #[test]

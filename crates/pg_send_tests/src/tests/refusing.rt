@@ -1,7 +1,7 @@
 //! Calls that have their requests for memory refused, as tests/refused/README.md says. Under
 //! `rt test` no request is refused.
 
-use pg_base::Error;
+use pg_base::{Error, ProtocolFault};
 use std::alloc::{AllocError, Global};
 use std::process::Abort;
 
@@ -17,26 +17,80 @@ pub const MANY: usize = 100;
 
 /// Has the nth request from here on refused, and no other.
 pub fn refuse_nth(alloc: Global, nth: usize) {
-    let _ = Vec::<u8>::with_capacity(alloc, REFUSE_NTH.saturating_add(nth));
+    let _ = is_granted(alloc, REFUSE_NTH.saturating_add(nth));
 }
 
 /// Has the nth request from here on refused, and each later one.
 pub fn refuse_from(alloc: Global, nth: usize) {
-    let _ = Vec::<u8>::with_capacity(alloc, REFUSE_FROM.saturating_add(nth));
+    let _ = is_granted(alloc, REFUSE_FROM.saturating_add(nth));
 }
 
 /// Whether a request was refused since [`refuse_nth`] or [`refuse_from`], which this ends. Calls
 /// ask for no memory where the first request was to be refused and none was.
 pub fn was_refused(alloc: Global) -> bool {
-    Vec::<u8>::with_capacity(alloc, REFUSE_NTH).is_ok()
+    is_granted(alloc, REFUSE_NTH)
 }
 
-/// The answer of a call, or the end of the test where memory ran out.
-pub fn unless_out_of_memory(answer: Result<(), Error>) -> Result<Result<(), Error>, AllocError> {
+fn is_granted(alloc: Global, bytes: usize) -> bool {
+    Vec::<u8>::with_capacity(alloc, bytes).is_ok()
+}
+
+/// Whether memory ran out.
+pub fn ran_out(answer: Result<(), Error>) -> bool {
     match answer {
-        Err(Error::OutOfMemory) => Err(AllocError),
-        other => Ok(other),
+        Err(Error::OutOfMemory) => true,
+        _ => false,
     }
+}
+
+/// The call was accepted, or memory ran out, which ends the test.
+pub fn assert_accepted(rt: &impl Abort, answer: Result<(), Error>) -> Result<(), AllocError> {
+    if ran_out(answer) {
+        return Err(AllocError);
+    }
+    assert!(rt; answer.is_ok());
+    Ok(())
+}
+
+/// Each call was accepted, or memory ran out, which ends the test.
+pub fn assert_all_accepted(
+    rt: &impl Abort,
+    answers: &[Result<(), Error>],
+) -> Result<(), AllocError> {
+    for answer in answers {
+        assert_accepted(rt, *answer)?;
+    }
+    Ok(())
+}
+
+/// The call was refused for this fault.
+pub fn assert_fault(rt: &impl Abort, answer: Result<(), Error>, fault: ProtocolFault) {
+    assert!(rt; answer == Err(Error::from(fault)));
+}
+
+/// The bytes are the old ones and then the text.
+pub fn assert_added(rt: &impl Abort, bytes: &[u8], old: &[u8], text: &[u8]) {
+    assert!(rt; bytes.strip_prefix(old) == Some(text));
+}
+
+/// The text was added after the old bytes, or a request was refused, and the call says so and
+/// leaves the old bytes alone.
+pub fn assert_added_or_refused(
+    rt: &impl Abort,
+    answer: Result<(), Error>,
+    refused: bool,
+    bytes: &[u8],
+    old: &[u8],
+    text: &[u8],
+) -> Result<(), AllocError> {
+    if refused {
+        assert!(rt; ran_out(answer));
+        assert!(rt; bytes == old);
+        return Ok(());
+    }
+    assert_accepted(rt, answer)?;
+    assert_added(rt, bytes, old, text);
+    Ok(())
 }
 
 /// A call that adds a text to a buffer.
@@ -51,12 +105,20 @@ pub fn assert_adds<C: Adds>(
     call: &C,
     text: &[u8],
 ) -> Result<(), AllocError> {
-    for old in [b"".as_slice(), b"\xaa".as_slice()] {
-        let mut buf = Vec::from_slice(alloc, old)?;
-        let answer = call.add(&mut buf);
-        assert!(rt; unless_out_of_memory(answer)? == Ok(()));
-        assert!(rt; buf.as_slice().strip_prefix(old) == Some(text));
-    }
+    assert_adds_after(rt, alloc, call, b"", text)?;
+    assert_adds_after(rt, alloc, call, b"\xaa", text)
+}
+
+fn assert_adds_after<C: Adds>(
+    rt: &impl Abort,
+    alloc: Global,
+    call: &C,
+    old: &[u8],
+    text: &[u8],
+) -> Result<(), AllocError> {
+    let mut buf = Vec::from_slice(alloc, old)?;
+    assert_accepted(rt, call.add(&mut buf))?;
+    assert_added(rt, buf.as_slice(), old, text);
     Ok(())
 }
 
@@ -83,13 +145,12 @@ fn refuse_in_turn<C: Adds>(
         let mut buf = Vec::from_slice(alloc, old)?;
         refuse_nth(alloc, nth);
         let answer = call.add(&mut buf);
-        let was_refused = was_refused(alloc);
-        if !was_refused {
-            assert!(rt; answer == Ok(()));
-            assert!(rt; buf.as_slice().strip_prefix(old) == Some(text));
+        if !was_refused(alloc) {
+            assert!(rt; answer.is_ok());
+            assert_added(rt, buf.as_slice(), old, text);
             return Ok(());
         }
-        assert!(rt; answer == Err(Error::OutOfMemory));
+        assert!(rt; ran_out(answer));
         assert!(rt; buf.as_slice() == old);
     }
     panic!(rt; "requests without end")

@@ -1,12 +1,12 @@
 //! Runs of none, one and a thousand messages: into an empty buffer and after old bytes, with each
 //! request for memory refused in turn. A message is accepted where one request alone is refused.
 
-use super::kinds::{LETTERS_AND_BODIES, frame_of, tagged_kinds};
-use super::refusing::{MANY, refuse_nth, unless_out_of_memory, was_refused};
-use pg_base::Error;
+use super::kinds::tagged_kinds;
+use super::refusing::{MANY, assert_added, assert_all_accepted, refuse_nth, was_refused};
 use pg_send::message::{CopyFail, Query, TaggedMessage, encode_all};
 use std::alloc::{AllocError, Global};
 use std::process::Abort;
+use std::slice::from_ref;
 
 // The run of messages within the limits adds the frames.
 fn assert_run(
@@ -38,19 +38,12 @@ fn refuse_in_turn(
         };
         assert!(rt; answers.len() == messages.len());
         assert_all_accepted(rt, answers.as_slice())?;
-        assert!(rt; buf.as_slice().strip_prefix(old) == Some(frames));
+        assert_added(rt, buf.as_slice(), old, frames);
         if !was_refused {
             return Ok(());
         }
     }
     panic!(rt; "requests without end")
-}
-
-fn assert_all_accepted(rt: &impl Abort, answers: &[Result<(), Error>]) -> Result<(), AllocError> {
-    for answer in answers {
-        assert!(rt; unless_out_of_memory(*answer)? == Ok(()));
-    }
-    Ok(())
 }
 
 #[test]
@@ -68,11 +61,10 @@ fn a_run_of_one_of_each_kind(rt: HostRuntime) -> Result<(), AllocError> {
 fn assert_each_run(
     rt: &impl Abort,
     alloc: Global,
-    messages: &[TaggedMessage<'_>],
+    kinds: &[(TaggedMessage<'_>, &'static [u8])],
 ) -> Result<(), AllocError> {
-    for (message, (tag, body)) in messages.chunks(1).zip(LETTERS_AND_BODIES) {
-        let frame = frame_of(alloc, *tag, body)?;
-        assert_run(rt, alloc, message, frame.as_slice())?;
+    for (message, frame) in kinds {
+        assert_run(rt, alloc, from_ref(message), frame)?;
     }
     Ok(())
 }
@@ -85,10 +77,15 @@ fn query_of<'a>(text: &&'a str) -> TaggedMessage<'a> {
 fn a_run_of_a_thousand(rt: HostRuntime) -> Result<(), AllocError> {
     let texts = vec![in rt.alloc(); "SELECT 1"; 1000]?;
     let messages: Vec<TaggedMessage<'_>> = texts.iter().map(query_of).collect(rt.alloc())?;
-    let mut frames = Vec::new(rt.alloc());
+    let frames = thousand_frames(rt.alloc())?;
+    assert!(rt; messages.len() == 1000);
+    assert_run(&rt, rt.alloc(), messages.as_slice(), frames.as_slice())
+}
+
+fn thousand_frames(alloc: Global) -> Result<Vec<u8>, AllocError> {
+    let mut frames = Vec::new(alloc);
     for _ in 0..1000 {
         frames.extend_from_slice(b"Q\x00\x00\x00\x0dSELECT 1\x00")?;
     }
-    assert!(rt; messages.len() == 1000);
-    assert_run(&rt, rt.alloc(), messages.as_slice(), frames.as_slice())
+    Ok(frames)
 }

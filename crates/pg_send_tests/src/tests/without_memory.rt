@@ -1,64 +1,75 @@
 //! Calls that ask for no memory.
 
-use super::kinds::{Check, Expected, LETTERS_AND_BODIES, check_each_kind, tagged_kinds};
+use super::kinds::{Check, Expected, check_each_kind, tagged_kinds};
 use super::refusing::{refuse_nth, was_refused};
+use pg_base::{Error, ProtocolFault};
 use pg_send::message::{CopyFail, FrontendMessage, Password, TaggedMessage};
 use std::alloc::{AllocError, Global};
 use std::process::Abort;
 
 #[derive(Drop)]
-struct LengthsNeedNoMemory<'a, R> {
-    rt: &'a R,
-    alloc: Global,
-}
+struct LengthsNeedNoMemory;
 
-impl<R: Abort> Check for LengthsNeedNoMemory<'_, R> {
-    fn check<M: FrontendMessage>(&self, message: M, expected: Expected) -> Result<(), AllocError> {
-        let rt = self.rt;
-        refuse_nth(self.alloc, 1);
+impl Check for LengthsNeedNoMemory {
+    fn check<R: Abort, M: FrontendMessage>(
+        &self,
+        rt: &R,
+        alloc: Global,
+        message: M,
+        expected: Expected,
+    ) -> Result<(), AllocError> {
+        refuse_nth(alloc, 1);
         let len = message.body_len();
         let checked = message.checked_body_len();
-        let count_fault = message.count_fault();
+        let fault = message.count_fault();
         let hint = message.body_size_hint();
         let room = message.frame_room();
-        assert!(rt; !was_refused(self.alloc));
-        assert!(rt; len == expected.body.len());
-        assert!(rt; checked == Ok(expected.body.len()));
-        assert!(rt; count_fault == None);
-        assert!(rt; hint == expected.hint);
-        assert!(rt; room == Ok(expected.hint.saturating_add(5)));
+        assert!(rt; !was_refused(alloc));
+        assert_lengths(rt, len, checked, fault, expected.body().len());
+        assert_room(rt, hint, room, expected.hint);
         Ok(())
     }
+}
+
+fn assert_lengths(
+    rt: &impl Abort,
+    len: usize,
+    checked: Result<usize, Error>,
+    fault: Option<ProtocolFault>,
+    expected: usize,
+) {
+    assert!(rt; len == expected);
+    assert!(rt; checked.ok() == Some(expected));
+    assert!(rt; fault.is_none());
+}
+
+fn assert_room(rt: &impl Abort, hint: usize, room: Result<usize, Error>, expected: usize) {
+    assert!(rt; hint == expected);
+    assert!(rt; room.ok() == Some(expected.saturating_add(5)));
 }
 
 #[test]
 fn lengths_and_hints(rt: HostRuntime) -> Result<(), AllocError> {
-    let check = LengthsNeedNoMemory {
-        rt: &rt,
-        alloc: rt.alloc(),
-    };
-    check_each_kind(rt.alloc(), &check)
+    check_each_kind(&rt, rt.alloc(), &LengthsNeedNoMemory)
 }
 
 #[derive(Drop)]
-struct FramesInTheirRoom<'a, R> {
-    rt: &'a R,
-    alloc: Global,
-}
+struct FramesInTheirRoom;
 
-impl<R: Abort> Check for FramesInTheirRoom<'_, R> {
-    fn check<M: FrontendMessage>(&self, message: M, expected: Expected) -> Result<(), AllocError> {
-        let frame = put_in_its_room(self.rt, self.alloc, &message)?;
-        assert_frame(self.rt, frame.as_slice(), expected.tag, expected.body);
-        let body = body_in_its_room(self.rt, self.alloc, &message, expected.body.len())?;
-        assert_eq!(self.rt; body.as_slice(), expected.body);
+impl Check for FramesInTheirRoom {
+    fn check<R: Abort, M: FrontendMessage>(
+        &self,
+        rt: &R,
+        alloc: Global,
+        message: M,
+        expected: Expected,
+    ) -> Result<(), AllocError> {
+        let frame = put_in_its_room(rt, alloc, &message)?;
+        assert!(rt; frame.as_slice() == expected.frame);
+        let body = body_in_its_room(rt, alloc, &message, expected.body().len())?;
+        assert!(rt; body.as_slice() == expected.body());
         Ok(())
     }
-}
-
-fn assert_frame(rt: &impl Abort, frame: &[u8], tag: u8, body: &[u8]) {
-    assert!(rt; frame.first() == Some(&tag));
-    assert!(rt; frame.get(5..) == Some(body));
 }
 
 fn put_in_its_room<M: FrontendMessage>(
@@ -88,17 +99,13 @@ fn body_in_its_room<M: FrontendMessage>(
     refuse_nth(alloc, 1);
     let answer = message.encode_body(&mut body);
     assert!(rt; !was_refused(alloc));
-    assert!(rt; answer == Ok(()));
+    assert!(rt; answer.is_ok());
     Ok(body)
 }
 
 #[test]
 fn frames_and_bodies_in_their_room(rt: HostRuntime) -> Result<(), AllocError> {
-    let check = FramesInTheirRoom {
-        rt: &rt,
-        alloc: rt.alloc(),
-    };
-    check_each_kind(rt.alloc(), &check)
+    check_each_kind(&rt, rt.alloc(), &FramesInTheirRoom)
 }
 
 // The frame of a message within the limits, in the room that it asks for.
@@ -129,11 +136,11 @@ fn tagged_frames_in_their_room(rt: HostRuntime) -> Result<(), AllocError> {
 fn assert_each_in_its_room(
     rt: &impl Abort,
     alloc: Global,
-    messages: &[TaggedMessage<'_>],
+    kinds: &[(TaggedMessage<'_>, &'static [u8])],
 ) -> Result<(), AllocError> {
-    for (message, (tag, body)) in messages.iter().zip(LETTERS_AND_BODIES) {
-        let frame = frame_in_its_room(rt, alloc, message)?;
-        assert_frame(rt, frame.as_slice(), *tag, body);
+    for (message, frame) in kinds {
+        let found = frame_in_its_room(rt, alloc, message)?;
+        assert!(rt; found.as_slice() == *frame);
     }
     Ok(())
 }
@@ -150,18 +157,10 @@ fn a_failure_of_a_copy_takes_its_text(rt: HostRuntime) -> Result<(), AllocError>
 
 #[test]
 fn hints_of_cleartext_passwords(rt: HostRuntime) {
-    let texts = [
-        ("", 1),
-        ("1234567", 8),
-        ("12345678", 16),
-        ("1234567890123456", 32),
-    ];
-    for (text, hint) in texts {
-        assert!(rt;
-            Password::Cleartext(text).body_size_hint() == hint,
-            "at {text}"
-        );
-    }
+    assert!(rt; Password::Cleartext("").body_size_hint() == 1);
+    assert!(rt; Password::Cleartext("1234567").body_size_hint() == 8);
+    assert!(rt; Password::Cleartext("12345678").body_size_hint() == 16);
+    assert!(rt; Password::Cleartext("1234567890123456").body_size_hint() == 32);
     let digest = [0; 16];
     assert!(rt; Password::Md5 { digest }.body_size_hint() == 36);
 }
