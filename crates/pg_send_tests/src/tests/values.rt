@@ -4,75 +4,83 @@ use super::refusing::{MANY, refuse_nth, was_refused};
 use pg_base::Error;
 use pg_base::io::{PortalId, StatementId};
 use pg_send::message::*;
-use std::alloc::{AllocError, Global};
+use std::alloc::Global;
 use std::process::Abort;
 
 const VALUES: &[u8] = b"\0\0\0\x02ab\xff\xff\xff\xff\0\0\0\0";
 
 // A value of two bytes, a NULL and an empty value.
 fn three_values(values: &mut BindValues) -> Result<(), Error> {
-    for value in [Some(b"ab".as_slice()), None, Some(b"".as_slice())] {
-        if values.is_full() {
-            return Ok(());
-        }
-        match value {
-            Some(value) => values.push(value)?,
-            None => values.push_null()?,
-        }
+    push_if_room(values, Some(b"ab"))?;
+    push_if_room(values, None)?;
+    push_if_room(values, Some(b""))
+}
+
+fn push_if_room(values: &mut BindValues, value: Option<&[u8]>) -> Result<(), Error> {
+    if values.is_full() {
+        return Ok(());
     }
-    Ok(())
+    match value {
+        Some(value) => values.push(value),
+        None => values.push_null(),
+    }
 }
 
 #[test]
 fn values_and_nulls(rt: HostRuntime) -> Result<(), Error> {
     let mut values = BindValues::new(rt.alloc());
-    assert!(rt; values.count() == 0);
-    assert!(rt; values.bytes() == b"".as_slice());
+    assert_holds(&rt, &values, 0, b"");
     three_values(&mut values)?;
-    assert!(rt; values.count() == 3);
-    assert!(rt; values.bytes() == VALUES);
+    assert_holds(&rt, &values, 3, VALUES);
+    assert_round_trip(&rt, values.count(), values.bytes());
+    Ok(())
+}
+
+fn assert_holds(rt: &impl Abort, values: &BindValues, count: u16, bytes: &[u8]) {
+    assert!(rt; values.count() == count);
+    assert!(rt; values.bytes() == bytes);
+}
+
+// A server gets back a Bind of these values.
+fn assert_round_trip(rt: &impl Abort, num_params: u16, params: &[u8]) {
     let bind = Bind {
         portal: PortalId::UNNAMED,
         statement: StatementId::UNNAMED,
         formats: &[],
-        num_params: values.count(),
-        params: values.bytes(),
+        num_params,
+        params,
         result_formats: &[],
     };
-    assert!(rt; bind.check_round_trip() == Ok(()));
-    Ok(())
+    assert!(rt; bind.check_round_trip().is_ok());
 }
 
 // Out of memory leaves the values as they were.
-fn assert_kept(rt: &impl Abort, alloc: Global, nth: usize) -> Result<bool, AllocError> {
+fn assert_kept(rt: &impl Abort, alloc: Global, nth: usize) -> bool {
     let mut values = BindValues::new(alloc);
-    if values.is_full() {
-        return Ok(false);
-    }
     refuse_nth(alloc, nth);
-    let first = values.push(b"ab");
-    let second = if values.is_full() {
-        Ok(())
-    } else {
-        values.push_null()
-    };
+    let first = push_if_room(&mut values, Some(b"ab"));
+    let second = push_if_room(&mut values, None);
     let refused = was_refused(alloc);
-    let expected: &[u8] = match (first, second) {
-        (Ok(()), Ok(())) => b"\0\0\0\x02ab\xff\xff\xff\xff",
-        (Ok(()), Err(_)) => b"\0\0\0\x02ab",
-        (Err(_), Ok(())) => b"\xff\xff\xff\xff",
-        (Err(_), Err(_)) => b"",
-    };
-    assert!(rt; values.bytes() == expected);
+    assert!(rt; values.bytes() == bytes_of(first.is_ok(), second.is_ok()));
     assert!(rt; (first.is_err() || second.is_err()) == refused);
-    Ok(refused)
+    refused
+}
+
+// The bytes of a value of two bytes and a NULL, each where it was taken.
+fn bytes_of(first: bool, second: bool) -> &'static [u8] {
+    match (first, second) {
+        (true, true) => b"\0\0\0\x02ab\xff\xff\xff\xff",
+        (true, false) => b"\0\0\0\x02ab",
+        (false, true) => b"\xff\xff\xff\xff",
+        (false, false) => b"",
+    }
 }
 
 #[test]
-fn values_without_memory(rt: HostRuntime) -> Result<(), AllocError> {
+fn values_without_memory(rt: HostRuntime) {
     for nth in 1..MANY {
-        if !assert_kept(&rt, rt.alloc(), nth)? {
-            return Ok(());
+        if !assert_kept(&rt, rt.alloc(), nth) {
+            return;
         }
     }
     panic!(&rt; "requests without end")
@@ -82,9 +90,7 @@ fn values_without_memory(rt: HostRuntime) -> Result<(), AllocError> {
 fn as_many_as_a_bind_can_count(rt: HostRuntime) -> Result<(), Error> {
     let mut values = BindValues::new(rt.alloc());
     for _ in 0..65535 {
-        if !values.is_full() {
-            values.push_null()?;
-        }
+        push_if_room(&mut values, None)?;
     }
     assert!(rt; values.count() == 65535);
     assert!(rt; values.is_full());
