@@ -13,8 +13,17 @@ type Shown<'a> = (BackendMessageFormat, &'a [u8]);
 // What was found is what must be, one by one.
 fn assert_shown(rt: &impl Abort, found: &[ReceivedMessage], due: &[Shown<'_>]) {
     assert!(rt; found.len() == due.len());
-    for (message, (format, body)) in found.iter().zip(due) {
-        assert!(rt; message.format == *format);
-        assert!(rt; message.contents.as_slice() == *body);
+    for index in 0..found.len() {
+        assert_message(rt, &found[index], due[index].0, due[index].1);
     }
+}
+
+fn assert_message(
+    rt: &impl Abort,
+    message: &ReceivedMessage,
+    format: BackendMessageFormat,
+    body: &[u8],
+) {
+    assert!(rt; message.format == format);
+    assert!(rt; message.contents.as_slice() == body);
 }

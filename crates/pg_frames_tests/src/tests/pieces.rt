@@ -1,7 +1,7 @@
 //! Streams cut at each place, and in pieces of each length.
 
 use super::{Shown, assert_shown};
-use pg_base::{BackendMessageFormat, ProtocolFault};
+use pg_base::{BackendMessageFormat, Error, ProtocolFault};
 use pg_frames::{StreamEnd, read_pieces};
 use std::alloc::Global;
 use std::process::Abort;
@@ -17,6 +17,27 @@ const READY: Shown<'static> = (BackendMessageFormat::ReadyForQuery, b"I");
 
 const COMPLETE: Shown<'static> = (BackendMessageFormat::CommandComplete, b"BEGIN\0");
 
+const BOTH: &[Shown<'static>] = &[READY, COMPLETE];
+
+const PARSE: Shown<'static> = (BackendMessageFormat::ParseComplete, b"");
+
+const UNKNOWN_END: StreamEnd = StreamEnd::Fault(ProtocolFault::UnknownMessageType(118));
+
+/// Streams, the messages that each has, and how it ends.
+const STREAMS: [(&[u8], &[Shown<'static>], StreamEnd); 7] = [
+    (MESSAGES, BOTH, StreamEnd::Rest(3)),
+    (b"1\0\0\0\x04", &[PARSE], StreamEnd::Rest(0)),
+    (b"1\0\0\0", &[], StreamEnd::Rest(4)),
+    (
+        b"1\xff\xff\xff\xff",
+        &[],
+        StreamEnd::Fault(ProtocolFault::BadLength(-1)),
+    ),
+    (UNKNOWN, &[READY], UNKNOWN_END),
+    (b"D\x7f\xff\xff\xff\0", &[], StreamEnd::Rest(6)),
+    (b"", &[], StreamEnd::Rest(0)),
+];
+
 // Reads the pieces, and compares what comes of them with what must.
 fn expect(
     rt: &impl Abort,
@@ -24,48 +45,32 @@ fn expect(
     pieces: &[&[u8]],
     messages: &[Shown<'_>],
     end: StreamEnd,
-) -> Result<(), Fail> {
+) -> Result<(), Error> {
     let (found, found_end) = read_pieces(alloc, pieces)?;
     assert_shown(rt, found.as_slice(), messages);
-    assert!(rt; found_end == end, "in {pieces:?}");
+    assert_end(rt, pieces, found_end, end);
     Ok(())
+}
+
+fn assert_end(rt: &impl Abort, pieces: &[&[u8]], found: StreamEnd, end: StreamEnd) {
+    assert!(rt; found == end, "in {pieces:?}");
 }
 
 #[test]
 fn streams_in_one_piece(rt: HostRuntime) -> Result<(), Fail> {
-    let parse = (BackendMessageFormat::ParseComplete, b"".as_slice());
-    let unknown = ProtocolFault::UnknownMessageType(118);
-    let cases = [
-        (MESSAGES, [READY, COMPLETE].as_slice(), StreamEnd::Rest(3)),
-        (b"1\0\0\0\x04", &[parse], StreamEnd::Rest(0)),
-        (b"1\0\0\0", &[], StreamEnd::Rest(4)),
-        (
-            b"1\xff\xff\xff\xff",
-            &[],
-            StreamEnd::Fault(ProtocolFault::BadLength(-1)),
-        ),
-        (UNKNOWN, &[READY], StreamEnd::Fault(unknown)),
-        (b"D\x7f\xff\xff\xff\0", &[], StreamEnd::Rest(6)),
-        (b"", &[], StreamEnd::Rest(0)),
-    ];
-    for (stream, messages, end) in cases {
-        expect(&rt, rt.alloc(), &[stream], messages, end)?;
+    for (stream, messages, end) in STREAMS.iter() {
+        expect(&rt, rt.alloc(), &[*stream], messages, *end)?;
     }
-    expect(&rt, rt.alloc(), &[], &[], StreamEnd::Rest(0))
+    expect(&rt, rt.alloc(), &[], &[], StreamEnd::Rest(0))?;
+    Ok(())
 }
 
 #[test]
 fn messages_cut_in_two(rt: HostRuntime) -> Result<(), Fail> {
     for at in 0..=MESSAGES.len() {
         let (front, rest) = MESSAGES.split_at(at);
-        let messages = [READY, COMPLETE];
-        expect(
-            &rt,
-            rt.alloc(),
-            &[front, rest],
-            &messages,
-            StreamEnd::Rest(3),
-        )?;
+        let pieces = [front, rest];
+        expect(&rt, rt.alloc(), &pieces, BOTH, StreamEnd::Rest(3))?;
     }
     Ok(())
 }
@@ -74,24 +79,16 @@ fn messages_cut_in_two(rt: HostRuntime) -> Result<(), Fail> {
 fn messages_in_pieces_of_a_length(rt: HostRuntime) -> Result<(), Fail> {
     for length in [1, 2, 3, 5, 8] {
         let pieces = MESSAGES.chunks(length).collect::<Vec<&[u8]>>(rt.alloc())?;
-        let messages = [READY, COMPLETE];
-        expect(
-            &rt,
-            rt.alloc(),
-            pieces.as_slice(),
-            &messages,
-            StreamEnd::Rest(3),
-        )?;
+        expect(&rt, rt.alloc(), pieces.as_slice(), BOTH, StreamEnd::Rest(3))?;
     }
     Ok(())
 }
 
 #[test]
 fn a_fault_cut_in_two(rt: HostRuntime) -> Result<(), Fail> {
-    let end = StreamEnd::Fault(ProtocolFault::UnknownMessageType(118));
     for at in 0..=UNKNOWN.len() {
         let (front, rest) = UNKNOWN.split_at(at);
-        expect(&rt, rt.alloc(), &[front, rest], &[READY], end)?;
+        expect(&rt, rt.alloc(), &[front, rest], &[READY], UNKNOWN_END)?;
     }
     Ok(())
 }

@@ -15,13 +15,12 @@ use std::test::Fail;
 // The calls of a reader, repeated once where memory ran out: that leaves the reader as it was. Under
 // `tests/refused` each request for memory is refused in turn.
 
-fn feed(rt: &impl Abort, reader: &mut FrameReader, bytes: &[u8]) -> Result<(), AllocError> {
+fn feed(rt: &impl Abort, reader: &mut FrameReader, bytes: &[u8]) {
     let before = reader.len();
     if reader.feed(bytes).is_err() {
         assert!(rt; reader.len() == before);
-        assert!(rt; reader.feed(bytes) == Ok(()), "memory is there again");
+        assert!(rt; reader.feed(bytes).is_ok(), "memory is there again");
     }
-    Ok(())
 }
 
 fn next(
@@ -32,19 +31,40 @@ fn next(
     match reader.next_message() {
         Err(Error::OutOfMemory) => {
             assert!(rt; reader.len() == before);
-            match reader.next_message() {
-                Err(Error::OutOfMemory) => panic!(rt; "memory is there again"),
-                Err(Error::Protocol { .. }) => panic!(rt; "a fault after a whole message"),
-                Ok(message) => Ok(message),
-            }
+            Ok(next_again(rt, reader))
         }
         Err(Error::Protocol { reading, fault }) => {
-            assert!(rt; reading == None);
+            assert!(rt; reading.is_none());
             assert!(rt; reader.len() == before);
             Err(fault)
         }
         Ok(message) => Ok(message),
     }
+}
+
+fn next_again(rt: &impl Abort, reader: &mut FrameReader) -> Option<ReceivedMessage> {
+    match reader.next_message() {
+        Err(Error::OutOfMemory) => panic!(rt; "memory is there again"),
+        Err(Error::Protocol { .. }) => panic!(rt; "a fault after a whole message"),
+        Ok(message) => message,
+    }
+}
+
+// Takes the messages that are whole, up to one more than are due.
+fn take_all(
+    rt: &impl Abort,
+    reader: &mut FrameReader,
+    due: usize,
+    found: &mut Vec<ReceivedMessage>,
+) -> Result<(), AllocError> {
+    for _ in 0..=due {
+        match next(rt, reader) {
+            Ok(Some(message)) => found.push(message)?,
+            Ok(None) => break,
+            Err(_) => panic!(rt; "a fault where a message is due"),
+        }
+    }
+    Ok(())
 }
 
 // Feeds a piece, and compares the messages that are then whole with what must come.
@@ -54,15 +74,10 @@ fn expect(
     piece: &[u8],
     due: &[Shown<'_>],
     found: &mut Vec<ReceivedMessage>,
-) -> Result<(), Fail> {
+) -> Result<(), AllocError> {
     let before = found.len();
-    feed(rt, reader, piece)?;
-    for _ in 0..=due.len() {
-        match next(rt, reader)? {
-            Some(message) => found.push(message)?,
-            None => break,
-        }
-    }
+    feed(rt, reader, piece);
+    take_all(rt, reader, due.len(), found)?;
     assert_shown(rt, found.as_slice().get(before..).unwrap_or_default(), due);
     Ok(())
 }
@@ -72,60 +87,72 @@ fn a_message_comes_with_its_last_byte(rt: HostRuntime) -> Result<(), Fail> {
     let mut reader = FrameReader::new(rt.alloc());
     let mut found = Vec::new(rt.alloc());
     assert!(rt; reader.is_empty());
-    for byte in [b'Z', 0, 0, 0, 5] {
-        expect(&rt, &mut reader, &[byte], &[], &mut found)?;
-    }
-    assert!(rt; reader.len() == 5);
-    expect(&rt, &mut reader, b"I", &[(ReadyForQuery, b"I")], &mut found)?;
+    expect_ready(&rt, &mut reader, &mut found)?;
     assert!(rt; reader.is_empty());
     Ok(())
 }
 
-#[test]
-fn a_fault_comes_again(rt: HostRuntime) -> Result<(), Fail> {
-    let cases = [
-        (b"Z\0\0\0\x03", ProtocolFault::BadLength(3)),
-        (b"v\0\0\0\x03", ProtocolFault::UnknownMessageType(118)),
-        (b"1\xff\xff\xff\xff", ProtocolFault::BadLength(-1)),
-        (b"Z\x80\0\0\0", ProtocolFault::BadLength(i32::MIN)),
-    ];
-    for (bytes, fault) in cases {
-        let mut reader = FrameReader::new(rt.alloc());
-        feed(&rt, &mut reader, &bytes[..4])?;
-        assert!(rt; next(&rt, &mut reader)?.is_none());
-        feed(&rt, &mut reader, &bytes[4..])?;
-        assert!(rt; next(&rt, &mut reader).err() == Some(fault));
-        feed(&rt, &mut reader, b"1\0\0\0\x04")?;
-        assert!(rt; next(&rt, &mut reader).err() == Some(fault));
-        assert!(rt; reader.len() == 10);
+fn expect_ready(
+    rt: &impl Abort,
+    reader: &mut FrameReader,
+    found: &mut Vec<ReceivedMessage>,
+) -> Result<(), AllocError> {
+    for byte in b"Z\0\0\0\x05" {
+        expect(rt, reader, &[*byte], &[], found)?;
     }
-    Ok(())
+    assert!(rt; reader.len() == 5);
+    expect(rt, reader, b"I", &[(ReadyForQuery, b"I")], found)
 }
+
+/// The first five bytes of a stream, and the fault that they are.
+const FAULTS: [(&[u8; 5], ProtocolFault); 4] = [
+    (b"Z\0\0\0\x03", ProtocolFault::BadLength(3)),
+    (b"v\0\0\0\x03", ProtocolFault::UnknownMessageType(118)),
+    (b"1\xff\xff\xff\xff", ProtocolFault::BadLength(-1)),
+    (b"Z\x80\0\0\0", ProtocolFault::BadLength(i32::MIN)),
+];
+
+#[test]
+fn a_fault_comes_again(rt: HostRuntime) {
+    for (bytes, fault) in FAULTS.iter() {
+        let mut reader = FrameReader::new(rt.alloc());
+        assert_fault(&rt, &mut reader, bytes, *fault);
+    }
+}
+
+fn assert_fault(rt: &impl Abort, reader: &mut FrameReader, bytes: &[u8; 5], fault: ProtocolFault) {
+    feed(rt, reader, &bytes[..4]);
+    assert!(rt; matches!(next(rt, reader), Ok(None)));
+    feed(rt, reader, &bytes[4..]);
+    assert_next_fault(rt, reader, fault);
+    feed(rt, reader, b"1\0\0\0\x04");
+    assert_next_fault(rt, reader, fault);
+    assert!(rt; reader.len() == 10);
+}
+
+fn assert_next_fault(rt: &impl Abort, reader: &mut FrameReader, fault: ProtocolFault) {
+    assert!(rt; next(rt, reader).err() == Some(fault));
+}
+
+/// Two messages, which come with the first piece, and a third, which comes with the second.
+const COPIED: &[Shown<'static>] = &[(CopyData, b"ab"), (CopyDone, b""), (CopyData, b"xyz")];
 
 #[test]
 fn bodies_stay_when_more_is_fed(rt: HostRuntime) -> Result<(), Fail> {
     let mut reader = FrameReader::new(rt.alloc());
     let mut found = Vec::new(rt.alloc());
-    let first = [(CopyData, b"ab".as_slice()), (CopyDone, b"")];
-    expect(
-        &rt,
-        &mut reader,
-        b"d\0\0\0\x06abc\0\0\0\x04d\0\0",
-        &first,
-        &mut found,
-    )?;
-    expect(
-        &rt,
-        &mut reader,
-        b"\0\x07xyz",
-        &[(CopyData, b"xyz")],
-        &mut found,
-    )?;
+    expect_copied(&rt, &mut reader, &mut found)?;
     assert!(rt; reader.is_empty());
-    assert_shown(
-        &rt,
-        found.as_slice(),
-        &[first[0], first[1], (CopyData, b"xyz")],
-    );
+    assert_shown(&rt, found.as_slice(), COPIED);
     Ok(())
+}
+
+fn expect_copied(
+    rt: &impl Abort,
+    reader: &mut FrameReader,
+    found: &mut Vec<ReceivedMessage>,
+) -> Result<(), AllocError> {
+    let (first, second) = COPIED.split_at(2);
+    expect(rt, reader, b"d\0\0\0\x06abc\0\0\0\x04d\0\0", first, found)?;
+    expect(rt, reader, b"\0\x07xyz", second, found)
 }
