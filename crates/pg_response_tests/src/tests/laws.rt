@@ -3,28 +3,49 @@
 use pg_response::error::PgErrorPosition;
 use pg_response::laws;
 use pg_response::message::PgSeverity;
+use std::process::Abort;
 use std::test::Fail;
 
 #[test]
 fn numbers_and_codes(rt: HostRuntime) {
     assert!(rt; laws::number_of_severity(PgSeverity::Panic) == 0);
     assert!(rt; laws::number_of_severity(PgSeverity::Log) == 7);
-    assert!(rt; laws::unique_violation() == "23505");
-    assert!(rt; laws::foreign_key_violation() == "23503");
-    assert!(rt; laws::not_null_violation() == "23502");
-    assert!(rt; laws::check_violation() == "23514");
-    assert!(rt; laws::exclusion_violation() == "23P01");
+    assert_code(&rt, laws::unique_violation(), "23505");
+    assert_code(&rt, laws::foreign_key_violation(), "23503");
+    assert_code(&rt, laws::not_null_violation(), "23502");
+    assert_code(&rt, laws::check_violation(), "23514");
+    assert_code(&rt, laws::exclusion_violation(), "23P01");
 }
+
+fn assert_code(rt: &impl Abort, found: &str, due: &str) {
+    assert!(rt; found == due);
+}
+
+const SEVEN: PgErrorPosition<'static> = PgErrorPosition::Original(7);
+
+const EIGHT: PgErrorPosition<'static> = PgErrorPosition::Original(8);
+
+const SEVEN_OF_A: PgErrorPosition<'static> = PgErrorPosition::Internal {
+    position: 7,
+    query: "a",
+};
+
+const SEVEN_OF_B: PgErrorPosition<'static> = PgErrorPosition::Internal {
+    position: 7,
+    query: "b",
+};
 
 #[test]
 fn equality_and_clones(rt: HostRuntime) -> Result<(), Fail> {
-    let seven = PgErrorPosition::Original(7);
-    let internal = |query| PgErrorPosition::Internal { position: 7, query };
-    assert!(rt; laws::positions_are_equal(&seven, &PgErrorPosition::Original(7)));
-    assert!(rt; !laws::positions_are_equal(&seven, &PgErrorPosition::Original(8)));
-    assert!(rt; !laws::positions_are_equal(&seven, &internal("a")));
-    assert!(rt; laws::positions_are_equal(&internal("a"), &internal("a")));
-    assert!(rt; !laws::positions_are_equal(&internal("a"), &internal("b")));
+    assert_equal(&rt, &SEVEN, &SEVEN, true);
+    assert_equal(&rt, &SEVEN, &EIGHT, false);
+    assert_equal(&rt, &SEVEN, &SEVEN_OF_A, false);
+    assert_equal(&rt, &SEVEN_OF_A, &SEVEN_OF_A, true);
+    assert_equal(&rt, &SEVEN_OF_A, &SEVEN_OF_B, false);
     assert!(rt; laws::clone_of_severity(&PgSeverity::Info)? == PgSeverity::Info);
     Ok(())
+}
+
+fn assert_equal(rt: &impl Abort, a: &PgErrorPosition<'_>, b: &PgErrorPosition<'_>, due: bool) {
+    assert!(rt; laws::positions_are_equal(a, b) == due);
 }

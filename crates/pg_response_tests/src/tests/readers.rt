@@ -1,11 +1,10 @@
 //! Single fields, texts and numbers, as who reads bodies in place takes them.
 
-ghost use Rattle.std.specs.Prelude.{◌≤◌, length};
-
 use pg_base::ProtocolFault;
 use pg_response::message::{
     leading_u32, leading_u64, leading_usize, split_field, split_text, str_at, text_at, utf8_text,
 };
+use std::process::Abort;
 
 #[test]
 fn a_field_at_the_front(rt: HostRuntime) {
@@ -16,23 +15,67 @@ fn a_field_at_the_front(rt: HostRuntime) {
 
 #[test]
 fn texts(rt: HostRuntime) {
-    assert!(rt; split_text(b"ab\0c") == Some((b"ab".as_slice(), b"c".as_slice())));
-    assert!(rt; split_text(b"ab") == None);
-    assert!(rt; utf8_text(b"a\xC3\xA9") == Some("a\u{e9}"));
-    assert!(rt; utf8_text(b"\xFF") == None);
-    assert!(rt; text_at(b"xab\0", 1) == Ok((b"ab".as_slice(), 4)));
-    assert!(rt; text_at(b"xab", 1) == Err(ProtocolFault::MissingNul { at: 1 }));
-    assert!(rt; str_at(b"xab\0", 1) == Ok(("ab", 4)));
-    assert!(rt; str_at(b"\xFF\0", 0) == Err(ProtocolFault::NotUtf8));
+    assert_split(&rt, b"ab\0c", Some((b"ab", b"c")));
+    assert_split(&rt, b"ab", None);
+    assert_utf8(&rt, b"a\xC3\xA9", Some("a\u{e9}"));
+    assert_utf8(&rt, b"\xFF", None);
+    assert_text_at(&rt, b"xab\0", 1, Ok((b"ab", 4)));
+    assert_text_at(&rt, b"xab", 1, Err(ProtocolFault::MissingNul { at: 1 }));
+    assert_str_at(&rt, b"xab\0", 1, Ok(("ab", 4)));
+    assert_str_at(&rt, b"\xFF\0", 0, Err(ProtocolFault::NotUtf8));
+}
+
+fn assert_split(rt: &impl Abort, bytes: &[u8], due: Option<(&[u8], &[u8])>) {
+    assert!(rt; split_text(bytes) == due);
+}
+
+fn assert_utf8(rt: &impl Abort, bytes: &[u8], due: Option<&str>) {
+    assert!(rt; utf8_text(bytes) == due);
+}
+
+fn assert_text_at(
+    rt: &impl Abort,
+    body: &[u8],
+    at: usize,
+    due: Result<(&[u8], usize), ProtocolFault>,
+) {
+    assert!(rt; at <= body.len());
+    assert!(rt; text_at(body, at) == due);
+}
+
+fn assert_str_at(
+    rt: &impl Abort,
+    body: &[u8],
+    at: usize,
+    due: Result<(&str, usize), ProtocolFault>,
+) {
+    assert!(rt; at <= body.len());
+    assert!(rt; str_at(body, at) == due);
 }
 
 #[test]
 fn numbers_at_the_front(rt: HostRuntime) {
-    assert!(rt; leading_u32(b"4294967295") == Some(4294967295));
-    assert!(rt; leading_u32(b"4294967296") == None);
-    assert!(rt; leading_u64(b"18446744073709551615 rows") == Some(18446744073709551615));
-    assert!(rt; leading_u64(b"18446744073709551616") == None);
-    assert!(rt; leading_usize(b"+12x") == Some(12));
-    assert!(rt; leading_usize(b"-1") == None);
-    assert!(rt; leading_usize(b"x12") == None);
+    assert_u32(&rt, b"4294967295", Some(4294967295));
+    assert_u32(&rt, b"4294967296", None);
+    assert_u64(
+        &rt,
+        b"18446744073709551615 rows",
+        Some(18446744073709551615),
+    );
+    assert_u64(&rt, b"18446744073709551616", None);
+    assert_usize(&rt, b"+12x", Some(12));
+    assert_usize(&rt, b"-1", None);
+    assert_usize(&rt, b"x12", None);
+}
+
+fn assert_u32(rt: &impl Abort, bytes: &[u8], due: Option<u32>) {
+    assert!(rt; leading_u32(bytes) == due);
+}
+
+fn assert_u64(rt: &impl Abort, bytes: &[u8], due: Option<u64>) {
+    assert!(rt; leading_u64(bytes) == due);
+}
+
+fn assert_usize(rt: &impl Abort, bytes: &[u8], due: Option<usize>) {
+    assert!(rt; leading_usize(bytes) == due);
 }
