@@ -6,7 +6,6 @@ use pg_response::error::{PgDatabaseError, PgErrorPosition, error_codes};
 use pg_response::message::{BackendMessage, PgSeverity};
 use std::alloc::{AllocError, Global};
 use std::process::Abort;
-use std::test::Fail;
 
 fn error_of(rt: &impl Abort, alloc: Global, body: &'static [u8]) -> Result<PgDatabaseError, Error> {
     assert!(rt; body.len() < 300);
@@ -37,65 +36,65 @@ const EVERY_FIELD: &[u8] =
     b"SERROR\0VERROR\0C23505\0Mboom\0Ddetail\0Hhint\0P7\0Wwhere\0sschema\0ttable\0ccolumn\0dtype\0nconstraint\0Ffile.c\0L12\0Rroutine\0\0";
 
 #[test]
-fn what_went_wrong(rt: HostRuntime) -> Result<(), Fail> {
-    let error = error_of(&rt, rt.alloc(), EVERY_FIELD)?;
-    assert_what(&rt, &error);
-    Ok(())
+fn what_went_wrong(rt: HostRuntime) -> Result<(), Error> {
+    assert_what(&rt, rt.alloc())
 }
 
-fn assert_what(rt: &impl Abort, error: &PgDatabaseError) {
+fn assert_what(rt: &impl Abort, alloc: Global) -> Result<(), Error> {
+    let error = error_of(rt, alloc, EVERY_FIELD)?;
     assert!(rt; error.severity() == PgSeverity::Error);
     assert_text(rt, error.code(), error_codes::UNIQUE_VIOLATION);
     assert_text(rt, error.message(), "boom");
     assert_some(rt, error.detail(), "detail");
     assert_some(rt, error.hint(), "hint");
-    assert_position(rt, error, &Some(PgErrorPosition::Original(7)));
-}
-
-#[test]
-fn where_it_was_found(rt: HostRuntime) -> Result<(), Fail> {
-    let error = error_of(&rt, rt.alloc(), EVERY_FIELD)?;
-    assert_where(&rt, &error);
+    assert_position(rt, &error, &Some(PgErrorPosition::Original(7)));
     Ok(())
 }
 
-fn assert_where(rt: &impl Abort, error: &PgDatabaseError) {
+#[test]
+fn where_it_was_found(rt: HostRuntime) -> Result<(), Error> {
+    assert_where(&rt, rt.alloc())
+}
+
+fn assert_where(rt: &impl Abort, alloc: Global) -> Result<(), Error> {
+    let error = error_of(rt, alloc, EVERY_FIELD)?;
     assert_some(rt, error.where_(), "where");
     assert_some(rt, error.file(), "file.c");
     assert_some(rt, error.routine(), "routine");
-    assert_line(rt, error, 12);
-}
-
-#[test]
-fn what_it_is_about(rt: HostRuntime) -> Result<(), Fail> {
-    let error = error_of(&rt, rt.alloc(), EVERY_FIELD)?;
-    assert_about(&rt, &error);
+    assert_line(rt, &error, 12);
     Ok(())
 }
 
-fn assert_about(rt: &impl Abort, error: &PgDatabaseError) {
+#[test]
+fn what_it_is_about(rt: HostRuntime) -> Result<(), Error> {
+    assert_about(&rt, rt.alloc())
+}
+
+fn assert_about(rt: &impl Abort, alloc: Global) -> Result<(), Error> {
+    let error = error_of(rt, alloc, EVERY_FIELD)?;
     assert_some(rt, error.schema(), "schema");
     assert_some(rt, error.table(), "table");
     assert_some(rt, error.column(), "column");
     assert_some(rt, error.data_type(), "type");
     assert_some(rt, error.constraint(), "constraint");
-}
-
-#[test]
-fn an_extension_that_exists(rt: HostRuntime) -> Result<(), Fail> {
-    let error = error_of(
-        &rt,
-        rt.alloc(),
-        b"SNOTICE\0VNOTICE\0C42710\0Mextension \"uuid-ossp\" already exists, skipping\0Fextension.c\0L1656\0RCreateExtension\0\0",
-    )?;
-    assert_extension(&rt, &error);
     Ok(())
 }
 
-fn assert_extension(rt: &impl Abort, error: &PgDatabaseError) {
+#[test]
+fn an_extension_that_exists(rt: HostRuntime) -> Result<(), Error> {
+    assert_extension(&rt, rt.alloc())
+}
+
+fn assert_extension(rt: &impl Abort, alloc: Global) -> Result<(), Error> {
+    let error = error_of(
+        rt,
+        alloc,
+        b"SNOTICE\0VNOTICE\0C42710\0Mextension \"uuid-ossp\" already exists, skipping\0Fextension.c\0L1656\0RCreateExtension\0\0",
+    )?;
     assert_some(rt, error.file(), "extension.c");
-    assert_line(rt, error, 1656);
+    assert_line(rt, &error, 1656);
     assert_some(rt, error.routine(), "CreateExtension");
+    Ok(())
 }
 
 /// Bodies, and the positions that they name.
@@ -113,11 +112,21 @@ const POSITIONS: [(&[u8], Option<PgErrorPosition<'static>>); 4] = [
 ];
 
 #[test]
-fn positions(rt: HostRuntime) -> Result<(), Fail> {
+fn positions(rt: HostRuntime) -> Result<(), Error> {
     for (body, position) in POSITIONS.iter() {
-        let error = error_of(&rt, rt.alloc(), body)?;
-        assert_position(&rt, &error, position);
+        assert_position_in(&rt, rt.alloc(), body, position)?;
     }
+    Ok(())
+}
+
+fn assert_position_in(
+    rt: &impl Abort,
+    alloc: Global,
+    body: &'static [u8],
+    position: &Option<PgErrorPosition<'_>>,
+) -> Result<(), Error> {
+    let error = error_of(rt, alloc, body)?;
+    assert_position(rt, &error, position);
     Ok(())
 }
 
@@ -148,19 +157,19 @@ fn printed(alloc: Global, error: &PgDatabaseError) -> Result<String, AllocError>
 fn assert_words(
     rt: &impl Abort,
     alloc: Global,
-    error: &PgDatabaseError,
+    body: &'static [u8],
     words: &str,
-) -> Result<(), AllocError> {
-    let text = printed(alloc, error)?;
+) -> Result<(), Error> {
+    let error = error_of(rt, alloc, body)?;
+    let text = printed(alloc, &error)?;
     assert_text(rt, text.as_str(), words);
     Ok(())
 }
 
 #[test]
-fn words_with_lines(rt: HostRuntime) -> Result<(), Fail> {
+fn words_with_lines(rt: HostRuntime) -> Result<(), Error> {
     for (body, words) in WORDS.iter() {
-        let error = error_of(&rt, rt.alloc(), body)?;
-        assert_words(&rt, rt.alloc(), &error, words)?;
+        assert_words(&rt, rt.alloc(), body, words)?;
     }
     Ok(())
 }
@@ -178,18 +187,25 @@ const KINDS: [(&[u8], ErrorKind, bool); 8] = [
 ];
 
 #[test]
-fn kinds_by_code(rt: HostRuntime) -> Result<(), Fail> {
+fn kinds_by_code(rt: HostRuntime) -> Result<(), Error> {
     for (body, kind, transient) in KINDS.iter() {
-        let error = error_of(&rt, rt.alloc(), body)?;
-        assert_kind(&rt, &error, *kind, *transient);
+        assert_kind(&rt, rt.alloc(), body, *kind, *transient)?;
     }
     Ok(())
 }
 
-fn assert_kind(rt: &impl Abort, error: &PgDatabaseError, kind: ErrorKind, transient: bool) {
+fn assert_kind(
+    rt: &impl Abort,
+    alloc: Global,
+    body: &'static [u8],
+    kind: ErrorKind,
+    transient: bool,
+) -> Result<(), Error> {
+    let error = error_of(rt, alloc, body)?;
     assert!(rt; error.kind() == kind, "due: {kind:?}");
     assert!(rt;
         error.is_transient_in_connect_phase() == transient,
         "at {kind:?}"
     );
+    Ok(())
 }

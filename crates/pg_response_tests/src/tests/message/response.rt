@@ -6,7 +6,6 @@ use pg_base::{Error, ProtocolFault};
 use pg_response::message::{Fields, Notice, PgSeverity};
 use std::alloc::Global;
 use std::process::Abort;
-use std::test::Fail;
 
 fn notice_of(rt: &impl Abort, alloc: Global, body: &'static [u8]) -> Result<Notice, Error> {
     assert!(rt; body.len() < 200);
@@ -31,6 +30,19 @@ fn assert_parts(rt: &impl Abort, notice: &Notice, severity: PgSeverity, message:
     assert_text(rt, notice.code(), code);
 }
 
+fn assert_notice(
+    rt: &impl Abort,
+    alloc: Global,
+    body: &'static [u8],
+    severity: PgSeverity,
+    message: &str,
+    code: &str,
+) -> Result<(), Error> {
+    let notice = notice_of(rt, alloc, body)?;
+    assert_parts(rt, &notice, severity, message, code);
+    Ok(())
+}
+
 /// Bodies, with the severity, the message and the code of each.
 const NOTICES: [(&[u8], PgSeverity, &str, &str); 9] = [
     (b"Mfoo\0Mbar\0C1\0VERROR\0\0", PgSeverity::Log, "bar", "1"),
@@ -50,52 +62,63 @@ const NOTICES: [(&[u8], PgSeverity, &str, &str); 9] = [
 ];
 
 #[test]
-fn what_is_read(rt: HostRuntime) -> Result<(), Fail> {
+fn what_is_read(rt: HostRuntime) -> Result<(), Error> {
     for (body, severity, message, code) in NOTICES.iter() {
-        let notice = notice_of(&rt, rt.alloc(), body)?;
-        assert_parts(&rt, &notice, *severity, message, code);
+        assert_notice(&rt, rt.alloc(), body, *severity, message, code)?;
     }
     Ok(())
 }
 
 #[test]
-fn texts_of_a_letter(rt: HostRuntime) -> Result<(), Fail> {
-    let notice = notice_of(&rt, rt.alloc(), b"Mfoo\0Mbar\0C1\0VERROR\0\0")?;
-    assert_get(&rt, &notice, b'M', Some("foo"));
-    assert_get(&rt, &notice, b'V', Some("ERROR"));
-    assert_get(&rt, &notice, b'D', None);
+fn texts_of_a_letter(rt: HostRuntime) -> Result<(), Error> {
+    assert_texts(&rt, rt.alloc())
+}
+
+fn assert_texts(rt: &impl Abort, alloc: Global) -> Result<(), Error> {
+    let notice = notice_of(rt, alloc, b"Mfoo\0Mbar\0C1\0VERROR\0\0")?;
+    assert_get(rt, &notice, b'M', Some("foo"));
+    assert_get(rt, &notice, b'V', Some("ERROR"));
+    assert_get(rt, &notice, b'D', None);
     Ok(())
 }
 
 #[test]
-fn message_after_a_first_field(rt: HostRuntime) -> Result<(), Fail> {
-    let notice = notice_of(&rt, rt.alloc(), b"Mfoo\0M\0C1\0Mbar\0\0")?;
-    assert_text(&rt, notice.message(), "bar");
-    assert_get(&rt, &notice, b'M', Some("foo"));
+fn message_after_a_first_field(rt: HostRuntime) -> Result<(), Error> {
+    assert_message(&rt, rt.alloc())
+}
+
+fn assert_message(rt: &impl Abort, alloc: Global) -> Result<(), Error> {
+    let notice = notice_of(rt, alloc, b"Mfoo\0M\0C1\0Mbar\0\0")?;
+    assert_text(rt, notice.message(), "bar");
+    assert_get(rt, &notice, b'M', Some("foo"));
     Ok(())
 }
 
 #[test]
-fn bytes_that_are_no_text(rt: HostRuntime) -> Result<(), Fail> {
-    let notice = notice_of(&rt, rt.alloc(), b"X\xFF\0Xa\0\0")?;
-    assert_get_raw(&rt, &notice, b'X', Some(b"\xFF"));
-    assert_get(&rt, &notice, b'X', None);
+fn bytes_that_are_no_text(rt: HostRuntime) -> Result<(), Error> {
+    assert_no_text(&rt, rt.alloc())
+}
+
+fn assert_no_text(rt: &impl Abort, alloc: Global) -> Result<(), Error> {
+    let notice = notice_of(rt, alloc, b"X\xFF\0Xa\0\0")?;
+    assert_get_raw(rt, &notice, b'X', Some(b"\xFF"));
+    assert_get(rt, &notice, b'X', None);
     Ok(())
 }
 
 #[test]
-fn fields_in_their_order(rt: HostRuntime) -> Result<(), Fail> {
-    let notice = notice_of(&rt, rt.alloc(), b"X\xFF\0Xa\0\0")?;
-    assert_two_fields(&rt, &notice);
-    Ok(())
+fn fields_in_their_order(rt: HostRuntime) -> Result<(), Error> {
+    assert_two_fields(&rt, rt.alloc())
 }
 
-fn assert_two_fields(rt: &impl Abort, notice: &Notice) {
+fn assert_two_fields(rt: &impl Abort, alloc: Global) -> Result<(), Error> {
+    let notice = notice_of(rt, alloc, b"X\xFF\0Xa\0\0")?;
     let mut fields = notice.fields();
     assert_next(rt, &mut fields, Some((b'X', b"\xFF")));
     assert_next(rt, &mut fields, Some((b'X', b"a")));
     assert_next(rt, &mut fields, None);
     assert_next(rt, &mut fields, None);
+    Ok(())
 }
 
 fn assert_next(rt: &impl Abort, fields: &mut Fields<'_>, due: Option<(u8, &[u8])>) {
@@ -104,32 +127,36 @@ fn assert_next(rt: &impl Abort, fields: &mut Fields<'_>, due: Option<(u8, &[u8])
 
 // The lengths of sixteen fields are kept.
 #[test]
-fn fields_after_the_sixteenth(rt: HostRuntime) -> Result<(), Fail> {
+fn fields_after_the_sixteenth(rt: HostRuntime) -> Result<(), Error> {
+    assert_eighteen_fields(&rt, rt.alloc())
+}
+
+fn assert_eighteen_fields(rt: &impl Abort, alloc: Global) -> Result<(), Error> {
     let notice = notice_of(
-        &rt,
-        rt.alloc(),
+        rt,
+        alloc,
         b"a0\0b1\0c2\0d3\0e4\0f5\0g6\0h7\0i8\0j9\0k10\0l11\0m12\0n13\0o14\0p15\0q16\0r\xFF\0\0sno\0\0",
     )?;
-    assert_eighteen_fields(&rt, &notice);
+    assert_get(rt, &notice, b'a', Some("0"));
+    assert_get(rt, &notice, b'p', Some("15"));
+    assert_get(rt, &notice, b'q', Some("16"));
+    assert_get(rt, &notice, b'r', None);
+    assert_get_raw(rt, &notice, b'r', Some(b"\xFF"));
+    assert_get_raw(rt, &notice, b's', None);
+    assert_get_raw(rt, &notice, 0, None);
     Ok(())
 }
 
-fn assert_eighteen_fields(rt: &impl Abort, notice: &Notice) {
-    assert_get(rt, notice, b'a', Some("0"));
-    assert_get(rt, notice, b'p', Some("15"));
-    assert_get(rt, notice, b'q', Some("16"));
-    assert_get(rt, notice, b'r', None);
-    assert_get_raw(rt, notice, b'r', Some(b"\xFF"));
-    assert_get_raw(rt, notice, b's', None);
-    assert_get_raw(rt, notice, 0, None);
+#[test]
+fn a_letter_nul_ends_the_fields(rt: HostRuntime) -> Result<(), Error> {
+    assert_end(&rt, rt.alloc())
 }
 
-#[test]
-fn a_letter_nul_ends_the_fields(rt: HostRuntime) -> Result<(), Fail> {
-    let notice = notice_of(&rt, rt.alloc(), b"Da\0\0Hb\0\0")?;
-    assert_get(&rt, &notice, b'D', Some("a"));
-    assert_get(&rt, &notice, b'H', None);
-    assert_get_raw(&rt, &notice, 0, None);
+fn assert_end(rt: &impl Abort, alloc: Global) -> Result<(), Error> {
+    let notice = notice_of(rt, alloc, b"Da\0\0Hb\0\0")?;
+    assert_get(rt, &notice, b'D', Some("a"));
+    assert_get(rt, &notice, b'H', None);
+    assert_get_raw(rt, &notice, 0, None);
     Ok(())
 }
 
@@ -145,15 +172,20 @@ fn assert_refused(rt: &impl Abort, alloc: Global, body: &'static [u8], fault: Pr
 }
 
 #[test]
-fn words_of_severities(rt: HostRuntime) -> Result<(), Fail> {
+fn words_of_severities(rt: HostRuntime) -> Result<(), Error> {
     let words = [
         "PANIC", "FATAL", "ERROR", "WARNING", "NOTICE", "DEBUG", "INFO", "LOG",
     ];
     for (number, word) in words.iter().enumerate() {
-        let severity = PgSeverity::try_from(*word)?;
-        assert!(rt; severity as usize == number, "at {word}");
-        assert!(rt; severity.is_error() == (number < 3), "at {word}");
+        assert_word(&rt, word, number)?;
     }
+    Ok(())
+}
+
+fn assert_word(rt: &impl Abort, word: &str, number: usize) -> Result<(), Error> {
+    let severity = PgSeverity::try_from(word)?;
+    assert!(rt; severity as usize == number, "at {word}");
+    assert!(rt; severity.is_error() == (number < 3), "at {word}");
     Ok(())
 }
 
@@ -163,7 +195,9 @@ fn a_word_in_lower_case_is_no_severity(rt: HostRuntime) {
     assert!(rt; refused == Err(ProtocolFault::UnknownSeverity.into()));
 }
 
-/// Ranges of lengths of a body's fronts, with the message and the code of each front.
+const BODY: &[u8] = b"Mfoo\0Mbar\0C1\0VERROR\0\0";
+
+/// Ranges of lengths of the body's fronts, with the message and the code of each front.
 const FRONTS: [(usize, usize, &str, &str); 4] = [
     (0, 4, "", ""),
     (5, 9, "foo", ""),
@@ -172,13 +206,22 @@ const FRONTS: [(usize, usize, &str, &str); 4] = [
 ];
 
 #[test]
-fn messages_and_codes(rt: HostRuntime) -> Result<(), Fail> {
+fn messages_and_codes(rt: HostRuntime) -> Result<(), Error> {
     for (first, last, message, code) in FRONTS.iter() {
         for len in *first..=*last {
-            let front = b"Mfoo\0Mbar\0C1\0VERROR\0\0".get(..len).ok_or("a front")?;
-            let notice = notice_of(&rt, rt.alloc(), front)?;
-            assert_parts(&rt, &notice, PgSeverity::Log, message, code);
+            assert_front(&rt, rt.alloc(), len, message, code)?;
         }
     }
     Ok(())
+}
+
+fn assert_front(
+    rt: &impl Abort,
+    alloc: Global,
+    len: usize,
+    message: &str,
+    code: &str,
+) -> Result<(), Error> {
+    assert!(rt; len <= BODY.len());
+    assert_notice(rt, alloc, &BODY[..len], PgSeverity::Log, message, code)
 }
