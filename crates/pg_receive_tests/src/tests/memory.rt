@@ -1,8 +1,6 @@
 //! Decoding where every request for memory is refused. Without `tests/refused` no request is, and the
 //! usual answers are tested.
 
-ghost use Rattle.std.specs.Prelude.{◌<◌, length};
-
 use super::fault_in;
 use bytes::Bytes;
 use pg_base::io::ProtocolDecode;
@@ -10,7 +8,6 @@ use pg_base::{Error, ProtocolFault};
 use pg_receive::message::*;
 use std::alloc::Global;
 use std::process::Abort;
-use std::test::Fail;
 
 // A request of this size tells `tests/refused` to refuse all that follow, or to stop that.
 const SWITCH: usize = 0x5245_4655_5345;
@@ -27,19 +24,21 @@ fn assert_fault<T: BackendMessage + Drop>(
     alloc: Global,
     body: &'static [u8],
     fault: ProtocolFault,
-)
-    requires { length body.now < 100 }
-{
+) {
+    assert!(rt; body.len() < 100);
     switch(alloc);
     let answer = T::decode_body(alloc, Bytes::from_static(body));
     switch(alloc);
     assert!(rt; answer.err() == Some(Error::from(fault)), "at {body:?}");
 }
 
+fn short(at: usize, needed: usize, got: usize) -> ProtocolFault {
+    ProtocolFault::Short { at, needed, got }
+}
+
 #[test]
 fn counts_that_a_body_cannot_hold(rt: HostRuntime) {
     let alloc = rt.alloc();
-    let short = |at, needed, got| ProtocolFault::Short { at, needed, got };
     assert_fault::<DataRow>(&rt, alloc, b"\xFF\xFF", short(2, 262140, 0));
     assert_fault::<ParameterDescription>(&rt, alloc, b"\xFF\xFF", short(2, 262140, 0));
     assert_fault::<RowDescription>(&rt, alloc, b"\xFF\xFF", short(2, 1245165, 0));
@@ -77,9 +76,8 @@ fn assert_body<T: BackendMessage + Drop>(
     alloc: Global,
     needs: Needs,
     body: &'static [u8],
-)
-    requires { length body.now < 100 }
-{
+) {
+    assert!(rt; body.len() < 100);
     let is_refused = switch(alloc);
     let answer = T::decode_body(alloc, Bytes::from_static(body));
     switch(alloc);
@@ -126,32 +124,46 @@ fn bodies_that_need_none(rt: HostRuntime) {
 
 #[test]
 fn sasl_data(rt: HostRuntime) {
-    let alloc = rt.alloc();
+    assert_sasl(&rt, rt.alloc());
+}
+
+fn assert_sasl(rt: &impl Abort, alloc: Global) {
     let is_refused = switch(alloc);
     let challenge = AuthenticationSaslContinue::decode(alloc, Bytes::from_static(b"r=a,s=QUJD"));
     let verifier = AuthenticationSaslFinal::decode(alloc, Bytes::from_static(b"v=QUI="));
     switch(alloc);
-    assert_read(&rt, Needs::Memory, is_refused, challenge, "a challenge");
-    assert_read(&rt, Needs::Memory, is_refused, verifier, "a verifier");
+    assert_read(rt, Needs::Memory, is_refused, challenge, "a challenge");
+    assert_read(rt, Needs::Memory, is_refused, verifier, "a verifier");
 }
 
 // A clone has the same parts, or is out of memory.
 #[test]
-fn clone_of_a_notification(rt: HostRuntime) -> Result<(), Fail> {
-    let alloc = rt.alloc();
+fn clone_of_a_notification(rt: HostRuntime) -> Result<(), Error> {
+    assert_clone(&rt, rt.alloc())
+}
+
+fn assert_clone(rt: &impl Abort, alloc: Global) -> Result<(), Error> {
+    let other = clone_of(rt, alloc)?;
+    assert_notification(rt, &other);
+    Ok(())
+}
+
+// A clone that was made after one that was refused, and that outlives the first.
+fn clone_of(rt: &impl Abort, alloc: Global) -> Result<Notification, Error> {
     let body = Bytes::copy_from_slice(alloc, b"\0\0\0\x07news\0 of today\0")?;
     assert!(rt; body.len() < 100);
     let first = Notification::decode_body(alloc, body)?;
+    assert_refused(rt, alloc, &first);
+    Ok(first.clone()?)
+}
+
+fn assert_refused(rt: &impl Abort, alloc: Global, notification: &Notification) {
     switch(alloc);
-    let refused = first.clone().err();
+    let refused = notification.clone().err();
     switch(alloc);
     if let Some(error) = refused {
         assert!(rt; error == Error::OutOfMemory);
     }
-    let other = first.clone()?;
-    drop(first);
-    assert_notification(&rt, &other);
-    Ok(())
 }
 
 fn assert_notification(rt: &impl Abort, notification: &Notification) {

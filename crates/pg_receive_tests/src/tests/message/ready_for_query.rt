@@ -1,21 +1,28 @@
 //! The status of a transaction.
 
 use bytes::Bytes;
+use pg_base::Error;
 use pg_receive::message::{BackendMessage, ReadyForQuery, TransactionStatus};
-use std::test::Fail;
+use std::alloc::Global;
+use std::process::Abort;
 
 #[test]
-fn letters_of_statuses(rt: HostRuntime) -> Result<(), Fail> {
-    let table: [(&'static [u8], TransactionStatus, u8); 3] = [
-        (b"E", TransactionStatus::Error, b'E'),
-        (b"T", TransactionStatus::Transaction, b'T'),
-        (b"I\0", TransactionStatus::Idle, b'I'),
-    ];
-    for (body, status, letter) in table {
-        assert!(rt; body.len() < 200);
-        let ready = ReadyForQuery::decode_body(rt.alloc(), Bytes::from_static(body))?;
-        assert!(rt; ready.transaction_status == status, "at {body:?}");
-        assert!(rt; ready.transaction_status as u8 == letter, "at {body:?}");
-    }
+fn letters_of_statuses(rt: HostRuntime) -> Result<(), Error> {
+    assert_status(&rt, rt.alloc(), b"E", TransactionStatus::Error, b'E')?;
+    assert_status(&rt, rt.alloc(), b"T", TransactionStatus::Transaction, b'T')?;
+    assert_status(&rt, rt.alloc(), b"I\0", TransactionStatus::Idle, b'I')
+}
+
+fn assert_status(
+    rt: &impl Abort,
+    alloc: Global,
+    body: &'static [u8],
+    status: TransactionStatus,
+    letter: u8,
+) -> Result<(), Error> {
+    assert!(rt; body.len() < 200);
+    let ready = ReadyForQuery::decode_body(alloc, Bytes::from_static(body))?;
+    assert!(rt; ready.transaction_status == status, "at {body:?}");
+    assert!(rt; ready.transaction_status as u8 == letter, "at {body:?}");
     Ok(())
 }

@@ -1,8 +1,10 @@
 //! A received message read as one type.
 
 use bytes::Bytes;
-use pg_base::BackendMessageFormat;
+use pg_base::{BackendMessageFormat, Error};
 use pg_receive::message::{BackendKeyData, DataRow, ReadyForQuery, ReceivedMessage};
+use std::alloc::{AllocError, Global};
+use std::process::Abort;
 use std::test::Fail;
 
 fn status(body: &'static [u8]) -> ReceivedMessage {
@@ -13,27 +15,42 @@ fn status(body: &'static [u8]) -> ReceivedMessage {
 }
 
 #[test]
-fn words_of_refusals(rt: HostRuntime) -> Result<(), Fail> {
-    let Err(error) = status(b"I").decode::<DataRow>(rt.alloc()) else {
-        panic!(rt; "a status is read as a row");
+fn words_of_refusals(rt: HostRuntime) -> Result<(), AllocError> {
+    let refused = status(b"I").decode::<DataRow>(rt.alloc()).err();
+    assert_words(
+        &rt,
+        rt.alloc(),
+        refused,
+        "Postgres protocol error: expected DataRow, got ReadyForQuery",
+    )?;
+    let refused = status(b"I").decode::<BackendKeyData>(rt.alloc()).err();
+    assert_words(
+        &rt,
+        rt.alloc(),
+        refused,
+        "Postgres protocol error: expected BackendKeyData, got ReadyForQuery",
+    )?;
+    let refused = status(b"Q").decode::<ReadyForQuery>(rt.alloc()).err();
+    assert_words(
+        &rt,
+        rt.alloc(),
+        refused,
+        "Postgres protocol error (reading ReadyForQuery): unknown transaction status: 81",
+    )
+}
+
+// The words of an error that there is.
+fn assert_words(
+    rt: &impl Abort,
+    alloc: Global,
+    error: Option<Error>,
+    due: &str,
+) -> Result<(), AllocError> {
+    let Some(error) = error else {
+        panic!(rt; "no error: {due}");
     };
-    let words = format!(in rt.alloc(); "{error}")?;
-    assert!(rt; words.as_str() == "Postgres protocol error: expected DataRow, got ReadyForQuery");
-    let Err(error) = status(b"I").decode::<BackendKeyData>(rt.alloc()) else {
-        panic!(rt; "a status is read as a key");
-    };
-    let words = format!(in rt.alloc(); "{error}")?;
-    assert!(rt;
-        words.as_str() == "Postgres protocol error: expected BackendKeyData, got ReadyForQuery"
-    );
-    let Err(error) = status(b"Q").decode::<ReadyForQuery>(rt.alloc()) else {
-        panic!(rt; "Q is no status");
-    };
-    let words = format!(in rt.alloc(); "{error}")?;
-    assert!(rt;
-        words.as_str()
-            == "Postgres protocol error (reading ReadyForQuery): unknown transaction status: 81"
-    );
+    let words = format!(in alloc; "{error}")?;
+    assert!(rt; words.as_str() == due);
     Ok(())
 }
 

@@ -2,36 +2,48 @@
 
 use pg_base::ProtocolFault;
 use pg_receive::message::RowReader;
-use std::test::Fail;
+use std::process::Abort;
+
+// What a call for the next cell gives.
+type Next<'a> = Result<Option<Option<&'a [u8]>>, ProtocolFault>;
 
 // A value of two bytes, NULL, and a value that is cut short.
 const THREE: &[u8] = b"\0\x03\0\0\0\x02ab\xFF\xFF\xFF\xFF\0\0\0\x02c";
 
-#[test]
-fn cells_until_one_is_broken(rt: HostRuntime) -> Result<(), Fail> {
-    assert!(rt; THREE.len() < 100);
-    let mut reader = RowReader::new(THREE)?;
-    assert!(rt; reader.len() == 3);
-    assert!(rt; reader.next_cell()? == Some(Some(b"ab".as_slice())));
-    assert!(rt; reader.next_cell()? == Some(None));
-    assert!(rt; reader.len() == 1);
-    let fault = ProtocolFault::Short {
-        at: 16,
-        needed: 2,
-        got: 1,
-    };
-    assert!(rt; reader.next_cell() == Err(fault));
-    assert!(rt; reader.next_cell() == Err(fault));
-    assert!(rt; reader.len() == 1);
-    Ok(())
+const CUT_SHORT: Next<'static> = Err(ProtocolFault::Short {
+    at: 16,
+    needed: 2,
+    got: 1,
+});
+
+fn assert_next(rt: &impl Abort, reader: &mut RowReader<'_>, due: Next<'_>) {
+    assert!(rt; reader.next_cell() == due);
 }
 
 #[test]
-fn a_row_without_cells(rt: HostRuntime) -> Result<(), Fail> {
+fn cells_until_one_is_broken(rt: HostRuntime) -> Result<(), ProtocolFault> {
+    assert!(rt; THREE.len() < 100);
+    let mut reader = RowReader::new(THREE)?;
+    assert_three(&rt, &mut reader);
+    Ok(())
+}
+
+fn assert_three(rt: &impl Abort, reader: &mut RowReader<'_>) {
+    assert!(rt; reader.len() == 3);
+    assert_next(rt, reader, Ok(Some(Some(b"ab"))));
+    assert_next(rt, reader, Ok(Some(None)));
+    assert!(rt; reader.len() == 1);
+    assert_next(rt, reader, CUT_SHORT);
+    assert_next(rt, reader, CUT_SHORT);
+    assert!(rt; reader.len() == 1);
+}
+
+#[test]
+fn a_row_without_cells(rt: HostRuntime) -> Result<(), ProtocolFault> {
     let mut reader = RowReader::new(&[0, 0, 1])?;
     assert!(rt; reader.len() == 0);
-    assert!(rt; reader.next_cell()? == None);
-    assert!(rt; reader.next_cell()? == None);
+    assert_next(&rt, &mut reader, Ok(None));
+    assert_next(&rt, &mut reader, Ok(None));
     Ok(())
 }
 
