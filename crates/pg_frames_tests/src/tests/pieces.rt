@@ -5,7 +5,6 @@ use pg_base::{BackendMessageFormat, Error, ProtocolFault};
 use pg_frames::{StreamEnd, read_pieces};
 use std::alloc::Global;
 use std::process::Abort;
-use std::test::Fail;
 
 /// Two messages and three bytes of a third.
 const MESSAGES: &[u8] = b"Z\0\0\0\x05IC\0\0\0\x0ABEGIN\x001\0\0";
@@ -57,38 +56,61 @@ fn assert_end(rt: &impl Abort, pieces: &[&[u8]], found: StreamEnd, end: StreamEn
 }
 
 #[test]
-fn streams_in_one_piece(rt: HostRuntime) -> Result<(), Fail> {
+fn streams_in_one_piece(rt: HostRuntime) -> Result<(), Error> {
     for (stream, messages, end) in STREAMS.iter() {
-        expect(&rt, rt.alloc(), &[*stream], messages, *end)?;
+        expect_whole(&rt, rt.alloc(), stream, messages, *end)?;
     }
-    expect(&rt, rt.alloc(), &[], &[], StreamEnd::Rest(0))?;
-    Ok(())
+    expect(&rt, rt.alloc(), &[], &[], StreamEnd::Rest(0))
+}
+
+fn expect_whole(
+    rt: &impl Abort,
+    alloc: Global,
+    stream: &[u8],
+    messages: &[Shown<'_>],
+    end: StreamEnd,
+) -> Result<(), Error> {
+    expect(rt, alloc, &[stream], messages, end)
 }
 
 #[test]
-fn messages_cut_in_two(rt: HostRuntime) -> Result<(), Fail> {
+fn messages_cut_in_two(rt: HostRuntime) -> Result<(), Error> {
     for at in 0..=MESSAGES.len() {
-        let (front, rest) = MESSAGES.split_at(at);
-        let pieces = [front, rest];
-        expect(&rt, rt.alloc(), &pieces, BOTH, StreamEnd::Rest(3))?;
+        expect_cut(&rt, rt.alloc(), MESSAGES, at, BOTH, StreamEnd::Rest(3))?;
     }
     Ok(())
 }
 
+fn expect_cut(
+    rt: &impl Abort,
+    alloc: Global,
+    stream: &[u8],
+    at: usize,
+    messages: &[Shown<'_>],
+    end: StreamEnd,
+) -> Result<(), Error> {
+    assert!(rt; at <= stream.len());
+    expect(rt, alloc, &[&stream[..at], &stream[at..]], messages, end)
+}
+
 #[test]
-fn messages_in_pieces_of_a_length(rt: HostRuntime) -> Result<(), Fail> {
+fn messages_in_pieces_of_a_length(rt: HostRuntime) -> Result<(), Error> {
     for length in [1, 2, 3, 5, 8] {
-        let pieces = MESSAGES.chunks(length).collect::<Vec<&[u8]>>(rt.alloc())?;
-        expect(&rt, rt.alloc(), pieces.as_slice(), BOTH, StreamEnd::Rest(3))?;
+        expect_pieces(&rt, rt.alloc(), length)?;
     }
     Ok(())
 }
 
+fn expect_pieces(rt: &impl Abort, alloc: Global, length: usize) -> Result<(), Error> {
+    assert!(rt; length > 0);
+    let pieces = MESSAGES.chunks(length).collect::<Vec<&[u8]>>(alloc)?;
+    expect(rt, alloc, pieces.as_slice(), BOTH, StreamEnd::Rest(3))
+}
+
 #[test]
-fn a_fault_cut_in_two(rt: HostRuntime) -> Result<(), Fail> {
+fn a_fault_cut_in_two(rt: HostRuntime) -> Result<(), Error> {
     for at in 0..=UNKNOWN.len() {
-        let (front, rest) = UNKNOWN.split_at(at);
-        expect(&rt, rt.alloc(), &[front, rest], &[READY], UNKNOWN_END)?;
+        expect_cut(&rt, rt.alloc(), UNKNOWN, at, &[READY], UNKNOWN_END)?;
     }
     Ok(())
 }

@@ -3,14 +3,13 @@
 
 mod memory;
 
-use super::{Shown, assert_shown};
+use super::{Shown, assert_message, assert_shown};
 use pg_base::BackendMessageFormat::{CopyData, CopyDone, ReadyForQuery};
 use pg_base::{Error, ProtocolFault};
 use pg_frames::FrameReader;
 use pg_response::message::ReceivedMessage;
-use std::alloc::AllocError;
+use std::alloc::{AllocError, Global};
 use std::process::Abort;
-use std::test::Fail;
 
 // The calls of a reader, repeated once where memory ran out: that leaves the reader as it was. Under
 // `tests/refused` each request for memory is refused in turn.
@@ -50,21 +49,22 @@ fn next_again(rt: &impl Abort, reader: &mut FrameReader) -> Option<ReceivedMessa
     }
 }
 
-// Takes the messages that are whole, up to one more than are due.
-fn take_all(
+// Takes the next message, which is this one, and keeps it.
+fn expect_one(
     rt: &impl Abort,
     reader: &mut FrameReader,
-    due: usize,
+    due: &Shown<'_>,
     found: &mut Vec<ReceivedMessage>,
 ) -> Result<(), AllocError> {
-    for _ in 0..=due {
-        match next(rt, reader) {
-            Ok(Some(message)) => found.push(message)?,
-            Ok(None) => break,
-            Err(_) => panic!(rt; "a fault where a message is due"),
+    match next(rt, reader) {
+        Ok(Some(message)) => {
+            assert_message(rt, &message, due.0, due.1);
+            found.push(message)?;
+            Ok(())
         }
+        Ok(None) => panic!(rt; "no message where one is due"),
+        Err(_) => panic!(rt; "a fault where a message is due"),
     }
-    Ok(())
 }
 
 // Feeds a piece, and compares the messages that are then whole with what must come.
@@ -75,24 +75,33 @@ fn expect(
     due: &[Shown<'_>],
     found: &mut Vec<ReceivedMessage>,
 ) -> Result<(), AllocError> {
-    let before = found.len();
     feed(rt, reader, piece);
-    take_all(rt, reader, due.len(), found)?;
-    assert_shown(rt, found.as_slice().get(before..).unwrap_or_default(), due);
+    for message in due {
+        expect_one(rt, reader, message, found)?;
+    }
+    assert_partial(rt, reader);
     Ok(())
+}
+
+fn assert_partial(rt: &impl Abort, reader: &mut FrameReader) {
+    assert!(rt; matches!(next(rt, reader), Ok(None)));
 }
 
 #[test]
-fn a_message_comes_with_its_last_byte(rt: HostRuntime) -> Result<(), Fail> {
-    let mut reader = FrameReader::new(rt.alloc());
-    let mut found = Vec::new(rt.alloc());
+fn a_message_comes_with_its_last_byte(rt: HostRuntime) -> Result<(), AllocError> {
+    expect_ready(&rt, rt.alloc())
+}
+
+fn expect_ready(rt: &impl Abort, alloc: Global) -> Result<(), AllocError> {
+    let mut reader = FrameReader::new(alloc);
+    let mut found = Vec::new(alloc);
     assert!(rt; reader.is_empty());
-    expect_ready(&rt, &mut reader, &mut found)?;
+    expect_byte_by_byte(rt, &mut reader, &mut found)?;
     assert!(rt; reader.is_empty());
     Ok(())
 }
 
-fn expect_ready(
+fn expect_byte_by_byte(
     rt: &impl Abort,
     reader: &mut FrameReader,
     found: &mut Vec<ReceivedMessage>,
@@ -122,7 +131,7 @@ fn a_fault_comes_again(rt: HostRuntime) {
 
 fn assert_fault(rt: &impl Abort, reader: &mut FrameReader, bytes: &[u8; 5], fault: ProtocolFault) {
     feed(rt, reader, &bytes[..4]);
-    assert!(rt; matches!(next(rt, reader), Ok(None)));
+    assert_partial(rt, reader);
     feed(rt, reader, &bytes[4..]);
     assert_next_fault(rt, reader, fault);
     feed(rt, reader, b"1\0\0\0\x04");
@@ -134,25 +143,32 @@ fn assert_next_fault(rt: &impl Abort, reader: &mut FrameReader, fault: ProtocolF
     assert!(rt; next(rt, reader).err() == Some(fault));
 }
 
-/// Two messages, which come with the first piece, and a third, which comes with the second.
-const COPIED: &[Shown<'static>] = &[(CopyData, b"ab"), (CopyDone, b""), (CopyData, b"xyz")];
+const FIRST: Shown<'static> = (CopyData, b"ab");
+
+const SECOND: Shown<'static> = (CopyDone, b"");
+
+const THIRD: Shown<'static> = (CopyData, b"xyz");
 
 #[test]
-fn bodies_stay_when_more_is_fed(rt: HostRuntime) -> Result<(), Fail> {
-    let mut reader = FrameReader::new(rt.alloc());
-    let mut found = Vec::new(rt.alloc());
-    expect_copied(&rt, &mut reader, &mut found)?;
+fn bodies_stay_when_more_is_fed(rt: HostRuntime) -> Result<(), AllocError> {
+    expect_bodies(&rt, rt.alloc())
+}
+
+fn expect_bodies(rt: &impl Abort, alloc: Global) -> Result<(), AllocError> {
+    let mut reader = FrameReader::new(alloc);
+    let mut found = Vec::new(alloc);
+    expect_three(rt, &mut reader, &mut found)?;
     assert!(rt; reader.is_empty());
-    assert_shown(&rt, found.as_slice(), COPIED);
+    assert_shown(rt, found.as_slice(), &[FIRST, SECOND, THIRD]);
     Ok(())
 }
 
-fn expect_copied(
+fn expect_three(
     rt: &impl Abort,
     reader: &mut FrameReader,
     found: &mut Vec<ReceivedMessage>,
 ) -> Result<(), AllocError> {
-    let (first, second) = COPIED.split_at(2);
-    expect(rt, reader, b"d\0\0\0\x06abc\0\0\0\x04d\0\0", first, found)?;
-    expect(rt, reader, b"\0\x07xyz", second, found)
+    let piece = b"d\0\0\0\x06abc\0\0\0\x04d\0\0";
+    expect(rt, reader, piece, &[FIRST, SECOND], found)?;
+    expect(rt, reader, b"\0\x07xyz", &[THIRD], found)
 }

@@ -21,13 +21,23 @@ fn bytes_of(rt: &HostRuntime, line: &str) -> Result<usize, Fail> {
 }
 
 fn kib_of(status: &str, line: &str) -> Result<usize, Fail> {
-    for text in status.lines() {
-        if text.starts_with(line) {
-            let number = text.split_whitespace().nth(1).ok_or("a number")?;
-            return Ok(number.parse::<usize>()?.saturating_mul(KIB));
+    let (_, rest) = status.split_once(line).ok_or("a line of the status")?;
+    Ok(number_in(rest.as_bytes()).saturating_mul(KIB))
+}
+
+// The number on the first of these lines, all of whose digits it has.
+fn number_in(lines: &[u8]) -> usize {
+    let mut number = 0usize;
+    for byte in lines {
+        match *byte {
+            b'\n' => break,
+            b'0'..=b'9' => number = number
+                .saturating_mul(10)
+                .saturating_add(usize::from(*byte & 0xF)),
+            _ => (),
         }
     }
-    Err("a line of the status".into())
+    number
 }
 
 // Memory that ran out in a read, as any other.
@@ -61,16 +71,26 @@ fn stream_of(alloc: Global) -> Result<Vec<u8>, AllocError> {
     Ok(stream)
 }
 
-// Takes the messages that are whole, counts them, and holds each until the next one comes.
+// Takes a message if one is whole, and holds it until the next one comes.
+fn take_one(reader: &mut FrameReader, held: &mut Option<ReceivedMessage>) -> Result<bool, Error> {
+    match reader.next_message()? {
+        Some(message) => {
+            *held = Some(message);
+            Ok(true)
+        }
+        None => Ok(false),
+    }
+}
+
+// Takes the messages that are whole, and counts them.
 fn take_all(
     reader: &mut FrameReader,
     held: &mut Option<ReceivedMessage>,
     count: &mut usize,
 ) -> Result<(), Error> {
     for _ in 0..PIECE {
-        match reader.next_message()? {
-            Some(message) => *held = Some(message),
-            None => break,
+        if !take_one(reader, held)? {
+            break;
         }
         *count = count.saturating_add(1);
     }
@@ -106,9 +126,14 @@ fn feed_a_front(rt: &impl Abort, reader: &mut FrameReader) -> Result<(), Error> 
     let piece = [0; STEP];
     reader.feed(b"D\x40\0\0\0")?;
     for _ in 0..256 {
-        assert!(rt; reader.next_message()?.is_none());
+        assert_partial(rt, reader)?;
         reader.feed(&piece)?;
     }
+    Ok(())
+}
+
+fn assert_partial(rt: &impl Abort, reader: &mut FrameReader) -> Result<(), Error> {
+    assert!(rt; reader.next_message()?.is_none());
     Ok(())
 }
 
@@ -133,7 +158,7 @@ fn feed_a_large_message(reader: &mut FrameReader) -> Result<(), Error> {
 }
 
 // Takes the only message, whose body has this length, and drops it.
-fn take_one(rt: &impl Abort, reader: &mut FrameReader, length: usize) -> Result<(), Error> {
+fn assert_only(rt: &impl Abort, reader: &mut FrameReader, length: usize) -> Result<(), Error> {
     match reader.next_message()? {
         Some(message) => assert!(rt; message.contents.len() == length),
         None => panic!(rt; "no whole message"),
@@ -148,10 +173,10 @@ fn a_large_block_is_given_back(rt: HostRuntime) -> Result<(), Fail> {
     let before = size(&rt)?;
     feed_a_large_message(&mut reader)?;
     assert!(rt; before.saturating_add(16 * MIB) < size(&rt)?);
-    take_one(&rt, &mut reader, 16 * MIB)?;
+    assert_only(&rt, &mut reader, 16 * MIB)?;
     // the next message needs no large block
     reader.feed(b"Z\0\0\0\x05I")?;
-    take_one(&rt, &mut reader, 1)?;
+    assert_only(&rt, &mut reader, 1)?;
     // a sanitizer keeps what is given back, and takes terabytes of addresses
     let is_sanitized = before >> 40 > 0;
     assert!(rt; is_sanitized || size(&rt)? < before.saturating_add(MIB));
