@@ -22,7 +22,11 @@ fn bytes_of(rt: &HostRuntime, line: &str) -> Result<usize, Fail> {
 
 fn kib_of(status: &str, line: &str) -> Result<usize, Fail> {
     let (_, rest) = status.split_once(line).ok_or("a line of the status")?;
-    Ok(number_in(rest.as_bytes()).saturating_mul(KIB))
+    let kib = number_in(rest.as_bytes());
+    if kib == 0 {
+        return Err("a number in the line".into());
+    }
+    Ok(kib.saturating_mul(KIB))
 }
 
 // The number on the first of these lines, all of whose digits it has.
