@@ -3,6 +3,8 @@ pub mod CountedLemmas
 pub mod ExecuteLemmas
 pub mod FrameLemmas
 pub mod MessageLemmas
+pub mod PageLemmas
+pub mod PagePartsLemmas
 pub mod ParseLemmas
 pub mod PasswordLemmas
 pub mod PowerLemmas

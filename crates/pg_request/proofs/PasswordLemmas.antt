@@ -1,8 +1,9 @@
 -- A password's digest makes the round trip.
 use Rattle.std.specs.Prelude.{slice_index}
-use Rattle.std.proofs.Common.{◌≡◌, inl, inr, ℕ, zero, suc, ◌/◌, ◌%◌, ◌<◌, All, List, [], ◌∷◌, ◌++◌, length, refl, sym, ◌∙◌, arith}
+use Rattle.std.proofs.Common.{◌≡◌, ◌≢◌, inl, inr, ℕ, zero, suc, ◌/◌, ◌%◌, ◌<◌, All, List, [], ◌∷◌, ◌++◌, length, refl, sym, ◌∙◌, arith}
 use Rattle.std.proofs.lemmas.List.Elements.{All-head, All-tail}
 use Rattle.hex.specs.Hex.{lower_digits, encode_with, encode_lower}
+use Rattle.pg_base.specs.Reading.{HoldsNo}
 use Rattle.pg_request.specs.Password.{IsDigest, md5_body, IsWorth, HexBytes, ReadsMd5}
 use Rattle.pg_request.proofs.BindLemmas.{same_front}
 
@@ -44,6 +45,38 @@ read_hex (b ∷ bytes) small =
       },
       read_hex bytes (All-tail (λ x. x < 256) b bytes small),
     )
+
+one_digit : (a b worth : ℕ) → IsWorth a worth → IsWorth b worth → a ≡ b
+one_digit a b worth p q =
+    elim p [
+      | inl x ↦ elim q [ inl y ↦ omega (arith, x, y) | inr y ↦ absurd (omega (arith, x, y)) ]
+      | inr x ↦ elim q [ inl y ↦ absurd (omega (arith, x, y)) | inr y ↦ omega (arith, x, y) ]
+    ]
+
+worth_small : (digit worth : ℕ) → IsWorth digit worth → worth < 16
+worth_small digit worth (inl x) = omega (arith, x)
+worth_small digit worth (inr x) = omega (arith, x)
+
+-- a byte has one pair of digits
+digit_is : (digit worth : ℕ) → IsWorth digit worth → digit ≡ slice_index lower_digits worth
+digit_is digit worth p = one_digit digit (slice_index lower_digits worth) worth p (is_worth worth (worth_small digit worth p))
+
+pub hex_is : (digits bytes : List ℕ) → HexBytes digits bytes → digits ≡ encode_lower bytes
+unfolding encode_with
+hex_is digits [] p = p
+hex_is digits (b ∷ bytes) p =
+    let high : b / 16 ≡ p.1.high_worth = omega (arith, p.1.is, worth_small p.1.low p.1.low_worth p.1.low_is) in
+    let low : b % 16 ≡ p.1.low_worth = omega (arith, p.1.is, worth_small p.1.low p.1.low_worth p.1.low_is) in
+    p.1.parts ∙ rw (high, low) (λ i. digit_is p.1.high p.1.high_worth p.1.high_is i ∷ digit_is p.1.low p.1.low_worth p.1.low_is i ∷ hex_is p.0 bytes p.2 i)
+
+digit_not_0 : (digit worth : ℕ) → IsWorth digit worth → digit ≢ 0
+digit_not_0 digit worth (inl x) e = omega (arith, x, e)
+digit_not_0 digit worth (inr x) e = omega (arith, x, e)
+
+pub hex_holds_no_0 : (digits bytes : List ℕ) → HexBytes digits bytes → HoldsNo 0 digits
+hex_holds_no_0 digits [] p = rw p tt
+hex_holds_no_0 digits (b ∷ bytes) p =
+    rw (p.1.parts) (digit_not_0 p.1.high p.1.high_worth p.1.high_is, (digit_not_0 p.1.low p.1.low_worth p.1.low_is, hex_holds_no_0 p.0 bytes p.2))
 
 pub read_md5 : (digest : List ℕ) → IsDigest digest → ReadsMd5 (md5_body digest) digest
 read_md5 digest h = record { digits = encode_lower digest; long = h.long; spelled = read_hex digest h.bytes; parts = refl }

@@ -2,8 +2,9 @@
 use Rattle.std.specs.Prelude.{ℕ, ◌^◌, ◌<◌, ◌≤◌, List, [], ◌++◌, None}
 use Rattle.pg_base.specs.declared.format.FrontendMessageFormat.TheVariants as formats
 use Rattle.pg_base.specs.Numbers.{be32}
-use Rattle.pg_base.specs.Id.{named, portal_prefix, max_id}
+use Rattle.pg_base.specs.Id.{name, named, portal_prefix, max_id}
 use Rattle.pg_base.specs.Reading.{Text, PortalName, Number}
+use Rattle.pg_format.specs.Messages as page
 use Rattle.pg_request.specs.declared.message.execute.Execute.{Execute}
 use Rattle.pg_request.specs.Frame.{Law, saturated}
 use Rattle.pg_request.specs.Kind as kinds
@@ -11,6 +12,10 @@ use Rattle.pg_request.specs.Kind as kinds
 pub record ExecuteFields : Type 0 where
   pub portal : ℕ
   pub limit : ℕ
+
+-- what the page means by it
+abbrev pub execute_value : ExecuteFields → page.Execute
+execute_value e = record { portal = name portal_prefix e.portal; limit = e.limit }
 
 -- the portal's name and the limit
 abbrev pub execute_body : ExecuteFields → List ℕ

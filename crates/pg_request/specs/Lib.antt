@@ -11,6 +11,7 @@ pub mod Flush
 pub mod Frame
 pub mod Kind
 pub mod Message
+pub mod Page
 pub mod Parse
 pub mod Password
 pub mod Query

@@ -3,10 +3,11 @@ use Rattle.std.specs.Prelude.{ℕ, ◌^◌, ◌<◌, ◌≤◌, List, [], ◌++�
 use Rattle.pg_base.specs.declared.format.FrontendMessageFormat.TheVariants as formats
 use Rattle.pg_base.specs.declared.error.ProtocolFault.{ProtocolFault}
 use Rattle.pg_base.specs.declared.error.ProtocolFault.TheVariants.{TooManyParamTypes, TextHoldsNul}
-use Rattle.pg_base.specs.Id.{named, statement_prefix, max_id}
+use Rattle.pg_base.specs.Id.{name, named, statement_prefix, max_id}
 use Rattle.pg_base.specs.Reading.{HoldsNo, Text, StatementName, Counted}
 use Rattle.pg_base.specs.Numbers.{numbers_of}
 use Rattle.pg_base.specs.Text.{ended}
+use Rattle.pg_format.specs.Messages as page
 use Rattle.pg_request.specs.declared.message.parse.Parse.{Parse}
 use Rattle.pg_request.specs.Counted.{too_many, counted32}
 use Rattle.pg_request.specs.Frame.{Law, saturated}
@@ -20,6 +21,10 @@ pub record ParseFields : Type 0 where
 -- it may have more types than it can count
 abbrev pub parse_count_fault : ParseFields → Option ProtocolFault
 parse_count_fault p = too_many TooManyParamTypes (length p.param_types)
+
+-- what the page means by it
+abbrev pub parse_value : ParseFields → page.Parse
+parse_value p = record { statement = name statement_prefix p.statement; query = p.query; types = p.param_types }
 
 -- the statement's name, the query and a NUL, and the types after their count
 abbrev pub parse_body : ParseFields → List ℕ

@@ -9,7 +9,11 @@ use Rattle.pg_request.specs.Kind as kinds
 use Rattle.pg_request.specs.Shapes.{text_law}
 pub mod Laws
 
--- the letters md5, each byte of the digest as two lower hexadecimal digits, and a NUL
+-- the letters md5, and each byte of the digest as two lower hexadecimal digits
+abbrev pub md5_value : List ℕ → List ℕ
+md5_value digest = codes "md5" ++ encode_lower digest
+
+-- the same and a NUL
 abbrev pub md5_body : List ℕ → List ℕ
 md5_body digest = codes "md5" ++ ended (encode_lower digest)
 

@@ -1,10 +1,11 @@
 -- SaslInitialResponse: chooses a mechanism of authentication, and begins it. Documentation: "Message
 -- Formats", SASLInitialResponse (F).
-use Rattle.std.specs.Prelude.{◌≡◌, ℕ, pos, Bool, true, false, List, ◌++◌, length, codes, None, if◌then◌else◌}
+use Rattle.std.specs.Prelude.{◌≡◌, ℕ, pos, Bool, true, false, List, ◌++◌, length, codes, Some, None, if◌then◌else◌}
 use Rattle.pg_base.specs.declared.format.FrontendMessageFormat.TheVariants as formats
 use Rattle.pg_base.specs.Numbers.{be32}
 use Rattle.pg_base.specs.Reading.{Text, Signed}
 use Rattle.pg_base.specs.Text.{ended}
+use Rattle.pg_format.specs.Messages as page
 use Rattle.pg_request.specs.declared.message.sasl.SaslInitialResponse.{SaslInitialResponse}
 use Rattle.pg_request.specs.Frame.{Law, saturated}
 use Rattle.pg_request.specs.Kind as kinds
@@ -16,6 +17,10 @@ pub record SaslInitialFields : Type 0 where
 -- the name of the mechanism, with channel binding or without
 abbrev pub mechanism : Bool → List ℕ
 mechanism plus = if plus then codes "SCRAM-SHA-256-PLUS" else codes "SCRAM-SHA-256"
+
+-- what the page means by it
+abbrev pub sasl_initial_value : SaslInitialFields → page.SaslInitial
+sasl_initial_value s = record { mechanism = mechanism s.plus; response = Some s.response }
 
 -- the mechanism and a NUL, and the response after its length
 abbrev pub sasl_initial_body : SaslInitialFields → List ℕ

@@ -1,14 +1,20 @@
 -- What a Describe or a Close names: a prepared statement or a portal.
 use Rattle.std.specs.Prelude.{◌≡◌, ◌≤◌, ℕ, List, [], ◌∷◌, None}
 use Rattle.pg_base.specs.declared.format.FrontendMessageFormat.{FrontendMessageFormat}
-use Rattle.pg_base.specs.Id.{named, statement_prefix, portal_prefix, max_id}
+use Rattle.pg_base.specs.Id.{name, named, statement_prefix, portal_prefix, max_id}
 use Rattle.pg_base.specs.Reading.{Text, StatementName, PortalName}
+use Rattle.pg_format.specs.Messages as page
 use Rattle.pg_request.specs.Frame.{Law, saturated}
 use Rattle.pg_request.specs.Kind.{Kind}
 
 pub data Target : Type 0 where
   Statement : ℕ → Target
   Portal : ℕ → Target
+
+-- what the page means by it
+abbrev pub target_value : Target → page.Targeted
+target_value (Statement id) = record { target = page.statement; name = name statement_prefix id }
+target_value (Portal id) = record { target = page.portal; name = name portal_prefix id }
 
 -- its letter, S or P, and its name
 abbrev pub target_body : Target → List ℕ
