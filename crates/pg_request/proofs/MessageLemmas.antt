@@ -54,7 +54,7 @@ reads_itself (message.Parse p) f r k =
 reads_itself (message.Query text) f r k = read_text text k
 reads_itself (message.SaslInitialResponse s) f r k =
     let fits = len_fits None (length (body (message.SaslInitialResponse s))) f in
-    read_sasl_initial s (omega (arith, fits, length-append (ended (mechanism s.plus) ++ be32 (length s.response)) s.response))
+    read_sasl_initial s (omega (arith, fits, length-append (ended (mechanism s.plus)) (be32 (length s.response) ++ s.response), length-append (be32 (length s.response)) s.response))
 reads_itself (message.SaslResponse bytes) f r k = refl
 reads_itself message.Sync f r k = refl
 reads_itself message.Terminate f r k = refl

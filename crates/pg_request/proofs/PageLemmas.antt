@@ -3,7 +3,7 @@ use Rattle.std.proofs.Common.{◌≡◌, ◌↔◌, ℕ, ◌^◌, ◌<◌, Bool,
 use Rattle.std.specs.List.{flat_map}
 use Rattle.std.proofs.lemmas.List.{append-nil}
 use Rattle.pg_base.specs.Id.{name, named, statement_prefix, portal_prefix}
-use Rattle.pg_base.specs.Numbers.{be16, be32}
+use Rattle.pg_base.specs.Numbers.{be16}
 use Rattle.pg_base.specs.Reading.{Text}
 use Rattle.pg_base.specs.Text.{ended}
 use Rattle.pg_format.specs.Format.{Format, Lawful, Canonical, AreBytes, Means}
@@ -15,7 +15,7 @@ use Rattle.pg_format.proofs.FormatLaws.Nullable.{lawful_value, canonical_value}
 use Rattle.pg_format.proofs.FormatLaws.FromClient as client
 use Rattle.pg_format.proofs.FormatLaws.Kinds.{canonical_client}
 use Rattle.pg_request.specs.Bind.{BindFields, bind_body, IsBindInRange, ReadsBind}
-use Rattle.pg_request.specs.Counted.{counted16, counted32}
+use Rattle.pg_request.specs.Counted.{counted16}
 use Rattle.pg_request.specs.Execute.{ExecuteFields, execute_value, ReadsExecute}
 use Rattle.pg_request.specs.Message as message
 use Rattle.pg_request.specs.Message.{Message, law_of, kind_of, body, fault, IsInRange, CanRoundTrip, Reads}
@@ -23,7 +23,7 @@ use Rattle.pg_request.specs.Page.{IsWritten, line, MeantByBind, Meant}
 use Rattle.pg_request.specs.Parse.{ParseFields, parse_value, parse_body, IsParseInRange, ReadsParse}
 use Rattle.pg_request.specs.Password.{md5_value, ReadsMd5}
 use Rattle.pg_request.specs.SaslInitialResponse.{SaslInitialFields, mechanism, sasl_initial_value, sasl_initial_body, ReadsMechanism, ReadsSaslInitial}
-use Rattle.pg_request.specs.Target.{Target, Statement, Portal, target_value, target_body, ReadsTarget}
+use Rattle.pg_request.specs.Target.{Target, Statement, Portal, target_value, ReadsTarget}
 use Rattle.pg_request.proofs.BindLemmas.{read_bind, same_front}
 use Rattle.pg_request.proofs.ExecuteLemmas.{read_execute}
 use Rattle.pg_request.proofs.MessageLemmas.{reads_itself}
@@ -114,10 +114,6 @@ target_means : (bytes : List ℕ) (target : Target) → ReadsTarget bytes target
 target_means bytes (Statement id) p = (record { mid = p.after; first = (83, p.begins, refl); second = text_of_id statement_prefix p.after p.name [] id p.text p.is }, refl)
 target_means bytes (Portal id) p = (record { mid = p.after; first = (80, p.begins, refl); second = text_of_id portal_prefix p.after p.name [] id p.text p.is }, refl)
 
-target_written : (target : Target) → target_body target ≡ page.targeted.Writes (target_value target)
-target_written (Statement id) = refl
-target_written (Portal id) = refl
-
 execute_means : (bytes : List ℕ) (e : ExecuteFields) → ReadsExecute bytes e → Means page.execute bytes (execute_value e)
 execute_means bytes e p = (record { mid = p.after_name; first = text_of_id portal_prefix bytes p.name p.after_name e.portal p.first p.portal; second = p.limit }, refl)
 
@@ -130,9 +126,6 @@ parse_means bytes s p = (
   },
   refl,
 )
-
-parse_written : (p : ParseFields) → parse_body p ≡ page.parse.Writes (parse_value p)
-parse_written p = append_assoc (named statement_prefix p.statement) (ended p.query) (counted32 p.param_types)
 
 mechanism_is : (text : List ℕ) (plus : Bool) → ReadsMechanism text plus → text ≡ mechanism plus
 mechanism_is text true p = p
@@ -200,10 +193,6 @@ canonical m = canonical_client (law_of m).format
 -- the body is what is written of what is meant
 is_written : (m : Message) (v : (line m).Value) → Meant m v → body m ≡ (line m).format.Writes v
 is_written (message.Bind b) v p = bind_written b v p
-is_written (message.Close target) v p = target_written target ∙ ap page.targeted.Writes (sym p)
-is_written (message.SaslInitialResponse s) v p = append_assoc (ended (mechanism s.plus)) (be32 (length s.response)) s.response ∙ ap page.sasl_initial_response.Writes (sym p)
-is_written (message.Parse s) v p = parse_written s ∙ ap page.parse.Writes (sym p)
-is_written (message.Describe target) v p = target_written target ∙ ap page.targeted.Writes (sym p)
 is_written m v p = ap (line m).format.Writes (sym p)
 
 -- and is read where that fits

@@ -12,7 +12,7 @@ use Rattle.pg_request.proofs.CountedLemmas.{length-counted32, read_counted32}
 pub length-parse_body : (p : ParseFields) → length (parse_body p) ≡ length (name statement_prefix p.statement) + length p.query + length p.param_types * 4 + 4
 length-parse_body p =
     let statement = named statement_prefix p.statement in
-    omega (arith, length-append (statement ++ (p.query ++ 0 ∷ [])) (counted32 p.param_types), length-append statement (p.query ++ 0 ∷ []), length-append p.query (0 ∷ []), length-append (name statement_prefix p.statement) (0 ∷ []), length-counted32 p.param_types)
+    omega (arith, length-append statement (p.query ++ 0 ∷ [] ++ counted32 p.param_types), length-append (p.query ++ 0 ∷ []) (counted32 p.param_types), length-append p.query (0 ∷ []), length-append (name statement_prefix p.statement) (0 ∷ []), length-counted32 p.param_types)
 
 pub read_parse : (p : ParseFields) → IsParseInRange p → length p.param_types < 2 ^ 16 → HoldsNo 0 p.query → ReadsParse (parse_body p) p
 read_parse p h few clean =

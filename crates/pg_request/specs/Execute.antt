@@ -1,8 +1,7 @@
 -- Execute: runs a portal. Documentation: "Message Formats", Execute (F).
-use Rattle.std.specs.Prelude.{ℕ, ◌^◌, ◌<◌, ◌≤◌, List, [], ◌++◌, None}
+use Rattle.std.specs.Prelude.{ℕ, ◌^◌, ◌<◌, ◌≤◌, List, [], None}
 use Rattle.pg_base.specs.declared.format.FrontendMessageFormat.TheVariants as formats
-use Rattle.pg_base.specs.Numbers.{be32}
-use Rattle.pg_base.specs.Id.{name, named, portal_prefix, max_id}
+use Rattle.pg_base.specs.Id.{name, portal_prefix, max_id}
 use Rattle.pg_base.specs.Reading.{Text, PortalName, Number}
 use Rattle.pg_format.specs.Messages as page
 use Rattle.pg_request.specs.declared.message.execute.Execute.{Execute}
@@ -19,7 +18,7 @@ execute_value e = record { portal = name portal_prefix e.portal; limit = e.limit
 
 -- the portal's name and the limit
 abbrev pub execute_body : ExecuteFields → List ℕ
-execute_body e = named portal_prefix e.portal ++ be32 e.limit
+execute_body e = page.execute.Writes (execute_value e)
 
 -- both numbers are in their ranges
 pub record IsExecuteInRange (e : ExecuteFields) : Type 0 where

@@ -1,15 +1,14 @@
 -- Parse: prepares a statement. Documentation: "Message Formats", Parse (F).
-use Rattle.std.specs.Prelude.{ℕ, ◌^◌, ◌<◌, ◌≤◌, List, [], ◌++◌, length, All, Option, Some}
+use Rattle.std.specs.Prelude.{ℕ, ◌^◌, ◌<◌, ◌≤◌, List, [], length, All, Option, Some}
 use Rattle.pg_base.specs.declared.format.FrontendMessageFormat.TheVariants as formats
 use Rattle.pg_base.specs.declared.error.ProtocolFault.{ProtocolFault}
 use Rattle.pg_base.specs.declared.error.ProtocolFault.TheVariants.{TooManyParamTypes, TextHoldsNul}
-use Rattle.pg_base.specs.Id.{name, named, statement_prefix, max_id}
+use Rattle.pg_base.specs.Id.{name, statement_prefix, max_id}
 use Rattle.pg_base.specs.Reading.{HoldsNo, Text, StatementName, Counted}
 use Rattle.pg_base.specs.Numbers.{numbers_of}
-use Rattle.pg_base.specs.Text.{ended}
 use Rattle.pg_format.specs.Messages as page
 use Rattle.pg_request.specs.declared.message.parse.Parse.{Parse}
-use Rattle.pg_request.specs.Counted.{too_many, counted32}
+use Rattle.pg_request.specs.Counted.{too_many}
 use Rattle.pg_request.specs.Frame.{Law, saturated}
 use Rattle.pg_request.specs.Kind as kinds
 
@@ -28,7 +27,7 @@ parse_value p = record { statement = name statement_prefix p.statement; query = 
 
 -- the statement's name, the query and a NUL, and the types after their count
 abbrev pub parse_body : ParseFields → List ℕ
-parse_body p = named statement_prefix p.statement ++ ended p.query ++ counted32 p.param_types
+parse_body p = page.parse.Writes (parse_value p)
 
 -- its numbers are in their ranges
 pub record IsParseInRange (p : ParseFields) : Type 0 where

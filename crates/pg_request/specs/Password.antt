@@ -3,7 +3,7 @@
 use Rattle.std.specs.Prelude.{◌≤◌, ◌*◌, ◌⊎◌, ◌≡◌, ℕ, zero, suc, ◌+◌, ◌-◌, ◌^◌, ◌<◌, List, [], ◌∷◌, ◌++◌, length, codes, All, None, nat_le, if◌then◌else◌}
 use Rattle.hex.specs.Hex.{encode_lower}
 use Rattle.pg_base.specs.declared.format.FrontendMessageFormat.TheVariants as formats
-use Rattle.pg_base.specs.Text.{ended}
+use Rattle.pg_format.specs.Messages as page
 use Rattle.pg_request.specs.Frame.{Law, saturated}
 use Rattle.pg_request.specs.Kind as kinds
 use Rattle.pg_request.specs.Shapes.{text_law}
@@ -15,7 +15,7 @@ md5_value digest = codes "md5" ++ encode_lower digest
 
 -- the same and a NUL
 abbrev pub md5_body : List ℕ → List ℕ
-md5_body digest = codes "md5" ++ ended (encode_lower digest)
+md5_body digest = page.text.Writes (md5_value digest)
 
 -- sixteen bytes
 pub record IsDigest (digest : List ℕ) : Type 0 where

@@ -1,10 +1,8 @@
 -- SaslInitialResponse: chooses a mechanism of authentication, and begins it. Documentation: "Message
 -- Formats", SASLInitialResponse (F).
-use Rattle.std.specs.Prelude.{◌≡◌, ℕ, pos, Bool, true, false, List, ◌++◌, length, codes, Some, None, if◌then◌else◌}
+use Rattle.std.specs.Prelude.{◌≡◌, ℕ, pos, Bool, true, false, List, length, codes, Some, None, if◌then◌else◌}
 use Rattle.pg_base.specs.declared.format.FrontendMessageFormat.TheVariants as formats
-use Rattle.pg_base.specs.Numbers.{be32}
 use Rattle.pg_base.specs.Reading.{Text, Signed}
-use Rattle.pg_base.specs.Text.{ended}
 use Rattle.pg_format.specs.Messages as page
 use Rattle.pg_request.specs.declared.message.sasl.SaslInitialResponse.{SaslInitialResponse}
 use Rattle.pg_request.specs.Frame.{Law, saturated}
@@ -24,7 +22,7 @@ sasl_initial_value s = record { mechanism = mechanism s.plus; response = Some s.
 
 -- the mechanism and a NUL, and the response after its length
 abbrev pub sasl_initial_body : SaslInitialFields → List ℕ
-sasl_initial_body s = ended (mechanism s.plus) ++ be32 (length s.response) ++ s.response
+sasl_initial_body s = page.sasl_initial_response.Writes (sasl_initial_value s)
 
 -- a reader knows two names of mechanisms
 abbrev pub ReadsMechanism : List ℕ → Bool → Type 0

@@ -3,7 +3,8 @@ use Rattle.std.specs.Prelude.{◌≡◌, ℕ, List, [], Some, None}
 use Rattle.pg_base.specs.declared.format.FrontendMessageFormat.{FrontendMessageFormat}
 use Rattle.pg_base.specs.declared.error.ProtocolFault.TheVariants.{TextHoldsNul}
 use Rattle.pg_base.specs.Reading.{HoldsNo, Text}
-use Rattle.pg_base.specs.Text.{ended}
+use Rattle.pg_format.specs.Format.Parts.{remaining}
+use Rattle.pg_format.specs.Messages as page
 use Rattle.pg_request.specs.Frame.{Law, saturated}
 use Rattle.pg_request.specs.Kind.{Kind}
 
@@ -12,7 +13,7 @@ abbrev pub empty_law : Kind → FrontendMessageFormat → Law
 empty_law kind format = record {
   kind = kind;
   format = format;
-  body = [];
+  body = page.empty.Writes tt;
   count_fault = None;
   room_for = saturated;
   IsInRange = Unit {0};
@@ -26,7 +27,7 @@ abbrev pub bytes_law : Kind → FrontendMessageFormat → List ℕ → Law
 bytes_law kind format sent = record {
   kind = kind;
   format = format;
-  body = sent;
+  body = remaining.Writes sent;
   count_fault = None;
   room_for = saturated;
   IsInRange = Unit {0};
@@ -40,7 +41,7 @@ abbrev pub text_law : Kind → FrontendMessageFormat → (ℕ → ℕ) → List 
 text_law kind format room_for text = record {
   kind = kind;
   format = format;
-  body = ended text;
+  body = page.text.Writes text;
   count_fault = None;
   room_for = room_for;
   IsInRange = Unit {0};

@@ -1,7 +1,7 @@
 -- What a Describe or a Close names: a prepared statement or a portal.
 use Rattle.std.specs.Prelude.{◌≡◌, ◌≤◌, ℕ, List, [], ◌∷◌, None}
 use Rattle.pg_base.specs.declared.format.FrontendMessageFormat.{FrontendMessageFormat}
-use Rattle.pg_base.specs.Id.{name, named, statement_prefix, portal_prefix, max_id}
+use Rattle.pg_base.specs.Id.{name, statement_prefix, portal_prefix, max_id}
 use Rattle.pg_base.specs.Reading.{Text, StatementName, PortalName}
 use Rattle.pg_format.specs.Messages as page
 use Rattle.pg_request.specs.Frame.{Law, saturated}
@@ -18,8 +18,7 @@ target_value (Portal id) = record { target = page.portal; name = name portal_pre
 
 -- its letter, S or P, and its name
 abbrev pub target_body : Target → List ℕ
-target_body (Statement id) = 83 ∷ named statement_prefix id
-target_body (Portal id) = 80 ∷ named portal_prefix id
+target_body target = page.targeted.Writes (target_value target)
 
 -- the id is in its range
 abbrev pub IsTargetInRange : Target → Type 0
