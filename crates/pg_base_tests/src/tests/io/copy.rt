@@ -9,14 +9,14 @@ use std::process::Abort;
 #[test]
 fn bytes_of_each_owner(rt: HostRuntime) -> Result<(), AllocError> {
     let vec = Vec::from_slice(rt.alloc(), b"abc")?;
-    assert_lends(&rt, rt.alloc(), &vec);
-    assert_lends(&rt, rt.alloc(), &vec.as_slice());
+    assert_bytes(&rt, rt.alloc(), &vec);
+    assert_bytes(&rt, rt.alloc(), &vec.as_slice());
     let shared = Bytes::copy_from_slice(rt.alloc(), b"abc")?;
-    assert_lends(&rt, rt.alloc(), &shared);
+    assert_bytes(&rt, rt.alloc(), &shared);
     Ok(())
 }
 
-fn assert_lends<B: LendBytes>(rt: &impl Abort, alloc: Global, owner: &B) {
+fn assert_bytes<B: LendBytes>(rt: &impl Abort, alloc: Global, owner: &B) {
     refuse_nth(alloc, 1);
     let bytes = owner.bytes();
     assert!(rt; !was_refused(alloc));
