@@ -23,6 +23,8 @@ test_install() {
     same 'install: the symbols of the static library' "$(foreign_symbols -g "$prefix/lib/libpg_message.a")" ''
     same 'install: a page for each call' "$(find "$prefix/share/man/man3" -name 'pgmsg_*.3' | wc -l)" \
         "$(grep -c '^[a-z].*pgmsg_[a-z0-9_]*(' "$prefix/include/pg_message.h")"
+    try cc -std=c11 "-I$prefix/include" -c -o "$work/abi.o" c/tests/abi.c
+    expect 'install: the numbers, sizes and offsets of the ABI' 0
     try cc -std=c11 "-I$prefix/include" -o "$program" c/tests/installed.c "$prefix/lib/libpg_message.a"
     expect 'install: a program with the static library is built' 0
     try "$program"

@@ -1,0 +1,94 @@
+/* The ABI of the library on a system of 64 bits: a change of a number, a size or an offset doesn't compile. */
+#include <pg_message.h>
+
+#define SAME(found, due) _Static_assert((found) == (due), #found)
+
+SAME(PGMSG_OUT_OF_MEMORY, -1);
+SAME(PGMSG_TOO_MANY_PARAM_FORMATS, -2);
+SAME(PGMSG_TOO_MANY_RESULT_FORMATS, -3);
+SAME(PGMSG_TOO_MANY_PARAM_TYPES, -4);
+SAME(PGMSG_MESSAGE_TOO_LONG, -5);
+SAME(PGMSG_WRONG_FORMAT, -6);
+SAME(PGMSG_BODY_TOO_LONG, -7);
+SAME(PGMSG_UNKNOWN_MESSAGE_TYPE, -8);
+SAME(PGMSG_UNKNOWN_AUTHENTICATION, -9);
+SAME(PGMSG_UNKNOWN_STATUS, -10);
+SAME(PGMSG_UNKNOWN_SEVERITY, -11);
+SAME(PGMSG_SHORT, -12);
+SAME(PGMSG_MISSING_NUL, -13);
+SAME(PGMSG_NOT_UTF8, -14);
+SAME(PGMSG_NOTICE_NOT_UTF8, -15);
+SAME(PGMSG_SHORT_SASL_ITEM, -16);
+SAME(PGMSG_BASE64, -17);
+SAME(PGMSG_BAD_LENGTH, -18);
+SAME(PGMSG_TEXT_HOLDS_NUL, -19);
+SAME(PGMSG_BAD_PARAMS, -20);
+
+SAME(sizeof(pgmsg_fault), 280);
+SAME(offsetof(pgmsg_fault, number), 0);
+SAME(offsetof(pgmsg_fault, at), 8);
+SAME(offsetof(pgmsg_fault, words_len), 16);
+SAME(offsetof(pgmsg_fault, words), 24);
+
+SAME(sizeof(pgmsg_span), 16);
+SAME(offsetof(pgmsg_span, at), 0);
+SAME(offsetof(pgmsg_span, len), 8);
+
+SAME(sizeof(pgmsg_setting), 32);
+SAME(offsetof(pgmsg_setting, name), 0);
+SAME(offsetof(pgmsg_setting, name_len), 8);
+SAME(offsetof(pgmsg_setting, value), 16);
+SAME(offsetof(pgmsg_setting, value_len), 24);
+
+SAME(sizeof(pgmsg_value), 24);
+SAME(offsetof(pgmsg_value, bytes), 0);
+SAME(offsetof(pgmsg_value, bytes_len), 8);
+SAME(offsetof(pgmsg_value, is_null), 16);
+
+SAME(sizeof(pgmsg_frame), 32);
+SAME(offsetof(pgmsg_frame, tag), 0);
+SAME(offsetof(pgmsg_frame, body), 8);
+SAME(offsetof(pgmsg_frame, length), 24);
+
+SAME(sizeof(pgmsg_cell), 8);
+SAME(offsetof(pgmsg_cell, at), 0);
+SAME(offsetof(pgmsg_cell, len), 4);
+
+SAME(sizeof(pgmsg_column), 40);
+SAME(offsetof(pgmsg_column, name), 0);
+SAME(offsetof(pgmsg_column, table), 16);
+SAME(offsetof(pgmsg_column, attribute), 20);
+SAME(offsetof(pgmsg_column, type_id), 24);
+SAME(offsetof(pgmsg_column, type_size), 28);
+SAME(offsetof(pgmsg_column, type_modifier), 32);
+SAME(offsetof(pgmsg_column, format), 36);
+
+SAME(sizeof(pgmsg_field), 24);
+SAME(offsetof(pgmsg_field, letter), 0);
+SAME(offsetof(pgmsg_field, value), 8);
+
+SAME(sizeof(pgmsg_notification), 40);
+SAME(offsetof(pgmsg_notification, process_id), 0);
+SAME(offsetof(pgmsg_notification, channel), 8);
+SAME(offsetof(pgmsg_notification, payload), 24);
+
+SAME(sizeof(pgmsg_parameter_status), 32);
+SAME(offsetof(pgmsg_parameter_status, name), 0);
+SAME(offsetof(pgmsg_parameter_status, value), 16);
+
+SAME(sizeof(pgmsg_key_data), 8);
+SAME(offsetof(pgmsg_key_data, process_id), 0);
+SAME(offsetof(pgmsg_key_data, secret_key), 4);
+
+SAME(sizeof(pgmsg_copy_response), 4);
+SAME(offsetof(pgmsg_copy_response, format), 0);
+SAME(offsetof(pgmsg_copy_response, columns), 2);
+
+SAME(sizeof(pgmsg_authentication), 8);
+SAME(offsetof(pgmsg_authentication, method), 0);
+SAME(offsetof(pgmsg_authentication, salt), 4);
+
+SAME(sizeof(pgmsg_challenge), 24);
+SAME(offsetof(pgmsg_challenge, iterations), 0);
+SAME(offsetof(pgmsg_challenge, salt_len), 8);
+SAME(offsetof(pgmsg_challenge, nonce_len), 16);
