@@ -10,7 +10,7 @@
 //! | `CommandComplete` | [`rows_affected`] |
 //! | `CopyData` | none: the body is the data |
 //! | `CopyInResponse`, `CopyOutResponse` | [`copy_response`] |
-//! | `DataRow` | [`RowReader::read`] |
+//! | `DataRow` | [`RowIndex::read`] |
 //! | `ErrorResponse`, `NoticeResponse` | [`fields`], [`severity`] |
 //! | `NotificationResponse` | [`notification`] |
 //! | `ParameterDescription` | [`parameter_types`] |
@@ -35,7 +35,7 @@ pub use copy::{copy_response, CopyResponse};
 pub use fields::{fields, severity, Field, FieldKind, Fields, Severity};
 pub use frame::{next_frame, Frame, Next};
 pub use kind::Kind;
-pub use row::{Cells, Row, RowReader};
+pub use row::{Cells, Row, RowIndex};
 pub use status::{
     key_data, notification, parameter_status, ready, rows_affected, KeyData, Notification,
     ParameterStatus, TransactionStatus,

@@ -44,7 +44,7 @@ fn assert_within(bytes: &[u8], part: &[u8]) {
 }
 
 /// Passes a body to every reader.
-fn read_all(reader: &mut RowReader, body: &[u8]) {
+fn read_all(reader: &mut RowIndex, body: &[u8]) {
     read_lists(reader, body);
     read_texts(body);
     checked(body, key_data(body));
@@ -65,7 +65,7 @@ fn read_all(reader: &mut RowReader, body: &[u8]) {
     }
 }
 
-fn read_lists(reader: &mut RowReader, body: &[u8]) {
+fn read_lists(reader: &mut RowIndex, body: &[u8]) {
     if let Some(row) = checked(body, reader.read(body)) {
         assert_eq!(row.iter().count(), row.len());
         row.iter()
@@ -115,7 +115,7 @@ fn read_stream(mut stream: &[u8]) {
 
 #[test]
 fn every_truncation_of_every_body() {
-    let mut reader = RowReader::new();
+    let mut reader = RowIndex::new();
     for body in BODIES {
         for len in 0..=body.len() {
             read_all(&mut reader, &body[..len]);
@@ -125,7 +125,7 @@ fn every_truncation_of_every_body() {
 
 #[test]
 fn every_byte_of_every_body_replaced() {
-    let mut reader = RowReader::new();
+    let mut reader = RowIndex::new();
     for body in BODIES {
         for at in 0..body.len() {
             let mut broken = body.to_vec();
@@ -140,7 +140,7 @@ fn every_byte_of_every_body_replaced() {
 #[test]
 fn random_bodies() {
     let mut numbers = Numbers::new(0x9e37_79b9_7f4a_7c15);
-    let mut reader = RowReader::new();
+    let mut reader = RowIndex::new();
     for _ in 0..20_000 {
         let len = numbers.below(64);
         let mut body = numbers.bytes(len);
@@ -176,7 +176,7 @@ fn a_body_beyond_the_limit_is_refused() {
     let too_long = Refusal::BodyTooLong;
     let refusal = |fault: Fault| fault.refusal;
     assert_eq!(
-        RowReader::new().read(&body).map(|_| ()).map_err(refusal),
+        RowIndex::new().read(&body).map(|_| ()).map_err(refusal),
         Err(too_long)
     );
     assert_eq!(columns(&body).map_err(refusal), Err(too_long));
@@ -191,7 +191,7 @@ fn threads_read_at_once() {
     thread::scope(|scope| {
         for _ in 0..4 {
             scope.spawn(|| {
-                let mut reader = RowReader::new();
+                let mut reader = RowIndex::new();
                 for body in BODIES.repeat(500) {
                     read_all(&mut reader, body);
                 }

@@ -9,14 +9,14 @@ use pg_message_client::{Fault, Format, Refusal};
 
 /// The cells of a row.
 fn cells(body: &[u8]) -> Result<Vec<Option<&[u8]>>, Fault> {
-    let mut reader = RowReader::new();
+    let mut reader = RowIndex::new();
     reader.read(body).map(|row| row.iter().collect())
 }
 
 #[test]
 fn rows() {
     let body = b"\0\x03\0\0\0\x02ab\xff\xff\xff\xff\0\0\0\0";
-    let mut reader = RowReader::new();
+    let mut reader = RowIndex::new();
     let row = reader.read(body).expect("the row is complete");
     assert_eq!(row.len(), 3);
     assert!(!row.is_empty());
@@ -35,7 +35,7 @@ fn rows() {
 
 #[test]
 fn a_reader_is_used_again() {
-    let mut reader = RowReader::new();
+    let mut reader = RowIndex::new();
     let wide = b"\0\x02\0\0\0\x01a\0\0\0\x01b";
     let values: Vec<_> = reader
         .read(wide)

@@ -13,21 +13,21 @@ const NULL: i32 = -1;
 /// Reads rows, and keeps the room for the places of their cells from one row to the next.
 ///
 /// ```
-/// # use pg_message_client::read::RowReader;
-/// let mut reader = RowReader::new();
-/// let row = reader.read(b"\0\x02\0\0\0\x015\xff\xff\xff\xff")?;
+/// # use pg_message_client::read::RowIndex;
+/// let mut index = RowIndex::new();
+/// let row = index.read(b"\0\x02\0\0\0\x015\xff\xff\xff\xff")?;
 /// assert!(row.iter().eq([Some(&b"5"[..]), None]));
 /// # Ok::<(), pg_message_client::Fault>(())
 /// ```
 #[derive(Clone, Debug, Default)]
-pub struct RowReader {
+pub struct RowIndex {
     cells: Vec<sys::Cell>,
 }
 
-impl RowReader {
+impl RowIndex {
     /// A reader that has allocated nothing yet.
-    pub const fn new() -> RowReader {
-        RowReader { cells: Vec::new() }
+    pub const fn new() -> RowIndex {
+        RowIndex { cells: Vec::new() }
     }
 
     /// Reads the body of a DataRow.
