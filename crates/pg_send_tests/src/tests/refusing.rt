@@ -1,6 +1,7 @@
 //! Calls that have their requests for memory refused, as tests/refused/README.md says. Under
 //! `rt test` no request is refused.
 
+use super::sizes::{assert_parts, length_of};
 use pg_base::{Error, ProtocolFault};
 use std::alloc::{AllocError, Global};
 use std::process::Abort;
@@ -154,4 +155,75 @@ fn refuse_in_turn<C: Adds>(
         assert!(rt; buf.as_slice() == old);
     }
     panic!(rt; "requests without end")
+}
+
+/// The call adds the parts to an empty buffer; after a byte, where there is just the room, without
+/// a request; and after two, where a byte of it is missing. Each refused request leaves the buffer.
+pub fn assert_in_each_room<C: Adds>(
+    rt: &impl Abort,
+    alloc: Global,
+    call: &C,
+    parts: &[&[u8]],
+    room: usize,
+) -> Result<(), AllocError> {
+    let mut buf = Vec::new(alloc);
+    refuse_until_added(rt, alloc, call, &mut buf, b"", parts)?;
+    let mut buf = Vec::with_capacity(alloc, room.saturating_add(1))?;
+    buf.push(0xaa)?;
+    assert_without_request(rt, alloc, call, &mut buf, b"\xaa", parts);
+    buf.clear();
+    buf.extend_from_slice(b"\xaa\xbb")?;
+    refuse_until_added(rt, alloc, call, &mut buf, b"\xaa\xbb", parts)
+}
+
+/// The call adds the parts after the old bytes in room that is there.
+pub fn assert_without_request<C: Adds>(
+    rt: &impl Abort,
+    alloc: Global,
+    call: &C,
+    buf: &mut Vec<u8>,
+    old: &[u8],
+    parts: &[&[u8]],
+) {
+    let capacity = buf.capacity();
+    refuse_nth(alloc, 1);
+    let answer = call.add(buf);
+    assert!(rt; !was_refused(alloc));
+    assert_all_added(rt, answer, buf.as_slice(), old, parts);
+    assert!(rt; buf.capacity() == capacity);
+}
+
+fn refuse_until_added<C: Adds>(
+    rt: &impl Abort,
+    alloc: Global,
+    call: &C,
+    buf: &mut Vec<u8>,
+    old: &[u8],
+    parts: &[&[u8]],
+) -> Result<(), AllocError> {
+    for nth in 1..MANY {
+        refuse_nth(alloc, nth);
+        let answer = call.add(buf);
+        if !was_refused(alloc) {
+            assert_all_added(rt, answer, buf.as_slice(), old, parts);
+            return Ok(());
+        }
+        assert!(rt; ran_out(answer));
+        assert!(rt; buf.as_slice() == old, "at {}", length_of(parts));
+    }
+    panic!(rt; "requests without end")
+}
+
+fn assert_all_added(
+    rt: &impl Abort,
+    answer: Result<(), Error>,
+    bytes: &[u8],
+    old: &[u8],
+    parts: &[&[u8]],
+) {
+    assert!(rt; answer.is_ok(), "at {}", length_of(parts));
+    match bytes.strip_prefix(old) {
+        Some(added) => assert_parts(rt, added, parts),
+        None => panic!(rt; "other bytes than the old ones"),
+    }
 }

@@ -69,7 +69,8 @@ fn assert_each_run(
     Ok(())
 }
 
-fn query_of<'a>(text: &&'a str) -> TaggedMessage<'a> {
+/// A query of the text.
+pub fn query_of<'a>(text: &&'a str) -> TaggedMessage<'a> {
     TaggedMessage::Query(Query(text))
 }
 

@@ -16,7 +16,8 @@ fn three_values(values: &mut BindValues) -> Result<(), Error> {
     push_if_room(values, Some(b""))
 }
 
-fn push_if_room(values: &mut BindValues, value: Option<&[u8]>) -> Result<(), Error> {
+/// Adds the value, or a NULL where there is none, unless there are as many as can be counted.
+pub fn push_if_room(values: &mut BindValues, value: Option<&[u8]>) -> Result<(), Error> {
     if values.is_full() {
         return Ok(());
     }
