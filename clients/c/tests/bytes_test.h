@@ -3,23 +3,17 @@
 #define BYTES_TEST_H
 
 #include "pg_message.h"
+#include "tally.h"
 
-/* How many checks held, and how many didn't. */
-struct tally {
-    unsigned passed;
-    unsigned failed;
+/* A message that a call writes, with its bytes. */
+struct sample {
+    ptrdiff_t (*put)(uint8_t *out, size_t out_len);
+    const char *bytes;
+    size_t len;
 };
 
-/* Counts a check, and says on standard error where one doesn't hold. */
-void check(struct tally *tally, bool holds, const char *words, const char *file, int line);
-
-#define CHECK(tally, condition) check((tally), (condition), #condition, __FILE__, __LINE__)
-
-/* The bytes of a literal, without its NUL, as two arguments. */
-#define BYTES(literal) (const uint8_t *)(literal), sizeof(literal) - 1
-
-/* Whether some bytes are those of a text. */
-bool are_bytes(const uint8_t *bytes, size_t len, const char *text, size_t text_len);
+/* A message of each call that writes one. */
+const struct sample *put_samples(size_t *count);
 
 void test_put(struct tally *tally);
 void test_refusals(struct tally *tally);

@@ -61,12 +61,6 @@ MESSAGE(empty_copy_data, pgmsg_put_copy_data(BYTES(""), out, out_len))
 MESSAGE(copy_done, pgmsg_put_copy_done(out, out_len))
 MESSAGE(copy_fail, pgmsg_put_copy_fail(BYTES("no"), out, out_len))
 
-struct sample {
-    ptrdiff_t (*put)(uint8_t *out, size_t out_len);
-    const char *bytes;
-    size_t len;
-};
-
 #define SAMPLE(put, literal) {put, literal, sizeof(literal) - 1}
 
 static const struct sample samples[] = {
@@ -101,6 +95,12 @@ static const struct sample samples[] = {
     SAMPLE(copy_done, "c\0\0\0\4"),
     SAMPLE(copy_fail, "f\0\0\0\7" "no\0"),
 };
+
+const struct sample *put_samples(size_t *count)
+{
+    *count = sizeof samples / sizeof *samples;
+    return samples;
+}
 
 /* Whether the bytes from an offset on are as they were. */
 static bool is_untouched(const uint8_t *out, size_t from)

@@ -1,0 +1,28 @@
+/* Tests the message layer with each of its requests for memory refused in turn, at each size that may take
+ * another path: a call that writes then leaves `out`, one that reads its answer, and a call that needs no memory
+ * does its work with none. */
+#include "memory_test.h"
+
+uint8_t letters[LONG];
+
+size_t list_sizes(size_t sizes[MOST_SIZES])
+{
+    size_t count = 0;
+    sizes[count++] = 0;
+    for (size_t power = 1; power <= 65536; power *= 2)
+        for (size_t size = power - (power > 4); size <= power + (power > 1); size++)
+            sizes[count++] = size;
+    sizes[count++] = LONG;
+    return count;
+}
+
+int main(void)
+{
+    struct tally tally = {0};
+    for (size_t i = 0; i < LONG; i++)
+        letters[i] = (uint8_t)('a' + i % 23);
+    test_memory_put(&tally);
+    test_memory_read(&tally);
+    test_memory_none(&tally);
+    return report(&tally);
+}

@@ -1,0 +1,20 @@
+/* What the tests with refused requests for memory share. */
+#ifndef MEMORY_TEST_H
+#define MEMORY_TEST_H
+
+#include "pg_message.h"
+#include "tally.h"
+
+enum { UNTOUCHED = 0xaa, MOST_ITEMS = 65535, LONG = 1048577, MOST_SIZES = 64 };
+
+/* The powers of two up to 65536, the numbers beside each, and one number above 1 MiB: how many they are. */
+size_t list_sizes(size_t sizes[MOST_SIZES]);
+
+/* Bytes of texts, LONG of them, no two in a row alike. */
+extern uint8_t letters[LONG];
+
+void test_memory_put(struct tally *tally);
+void test_memory_read(struct tally *tally);
+void test_memory_none(struct tally *tally);
+
+#endif

@@ -1,0 +1,96 @@
+/* Calls that ask for no memory, where each request is refused. */
+#include "memory_test.h"
+#include "refusing.h"
+
+#include <string.h>
+
+/* Checks that a call answers without a request. */
+#define NEEDS_NONE(tally, call)         \
+    do {                                \
+        refuse_all();                   \
+        bool holds = (call);            \
+        CHECK((tally), !was_refused()); \
+        CHECK((tally), holds && #call); \
+    } while (0)
+
+static uint8_t body[2 * LONG];
+
+static void put_number(uint8_t *to, uint32_t number)
+{
+    for (int i = 0; i < 4; i++)
+        to[i] = (uint8_t)(number >> (24 - 8 * i));
+}
+
+static void test_small(struct tally *tally)
+{
+    uint8_t head[5];
+    pgmsg_fault fault;
+    pgmsg_frame frame;
+    pgmsg_column column;
+    pgmsg_key_data key;
+    pgmsg_field field;
+    pgmsg_span span;
+    static const char columns[] = "\0\1" "id\0" "\0\0\100\1" "\0\1" "\0\0\0\27" "\0\4" "\377\377\377\377" "\0\0";
+    NEEDS_NONE(tally, pgmsg_put_copy_head(4096, head) == 0 && are_bytes(head, 5, "d\0\0\x10\4", 5));
+    NEEDS_NONE(tally, pgmsg_put_copy_head(SIZE_MAX, head) == PGMSG_MESSAGE_TOO_LONG);
+    NEEDS_NONE(tally, pgmsg_next_frame(BYTES("Z\0\0\0\5I"), &frame, &fault) == 1 && frame.length == 6);
+    NEEDS_NONE(tally, pgmsg_next_frame(BYTES("D\0"), &frame, &fault) == 0 && frame.length == 5);
+    NEEDS_NONE(tally, pgmsg_read_columns(BYTES(columns), &column, 1, &fault) == 1 && column.type_id == 23);
+    NEEDS_NONE(tally, pgmsg_read_key_data(BYTES("\0\0\0\1\0\0\0\2"), &key, &fault) == 0 && key.secret_key == 2);
+    NEEDS_NONE(tally, pgmsg_read_ready(BYTES("T"), &fault) == 'T');
+    NEEDS_NONE(tally, pgmsg_read_rows_affected(BYTES("SELECT 12\0")) == 12);
+    NEEDS_NONE(tally, pgmsg_read_fields(BYTES("SERROR\0\0"), &field, 1) == 1 && field.letter == 'S');
+    NEEDS_NONE(tally, pgmsg_read_mechanisms(BYTES("\0\0\0\12" "A\0" "B\0" "\0"), &span, 1) == 2 && span.at == 4);
+}
+
+/* Bodies with a part of n bytes. */
+static void test_lengths(struct tally *tally, size_t n)
+{
+    pgmsg_fault fault;
+    pgmsg_frame frame;
+    pgmsg_cell cell;
+    pgmsg_notification notification;
+    pgmsg_parameter_status status;
+    memset(body, 0, n + 16);
+    body[1] = 1;
+    put_number(body + 2, (uint32_t)n);
+    memcpy(body + 6, letters, n);
+    NEEDS_NONE(tally, pgmsg_read_row(body, n + 6, &cell, 1, &fault) == 1 && cell.len == (int32_t)n);
+    memcpy(body, "\0\0\0\1a", 6);
+    NEEDS_NONE(tally, pgmsg_read_notification(body, n + 7, &notification, &fault) == 0);
+    CHECK(tally, notification.payload.len == n);
+    NEEDS_NONE(tally, pgmsg_read_parameter_status(body + 4, n + 3, &status, &fault) == 0);
+    CHECK(tally, status.value.len == n);
+    body[1] = 'd';
+    put_number(body + 2, (uint32_t)n + 4);
+    NEEDS_NONE(tally, pgmsg_next_frame(body + 1, n + 5, &frame, &fault) == 1 && frame.body.len == n);
+}
+
+/* Lists of n items, of which each is zero. */
+static void test_counts(struct tally *tally, size_t n)
+{
+    pgmsg_fault fault;
+    pgmsg_cell cell;
+    pgmsg_copy_response response;
+    uint32_t type;
+    int16_t code;
+    memset(body, 0, 4 * n + 16);
+    put_number(body, (uint32_t)n << 16);
+    NEEDS_NONE(tally, pgmsg_read_row(body, 4 * n + 2, &cell, 1, &fault) == (ptrdiff_t)n);
+    NEEDS_NONE(tally, pgmsg_read_parameter_types(body, 4 * n + 2, &type, 1, &fault) == (ptrdiff_t)n);
+    put_number(body, (uint32_t)n << 8);
+    if (n <= INT16_MAX)
+        NEEDS_NONE(tally, pgmsg_read_copy_response(body, 2 * n + 3, &response, &code, 1, &fault) == (ptrdiff_t)n);
+}
+
+void test_memory_none(struct tally *tally)
+{
+    size_t sizes[MOST_SIZES];
+    size_t sizes_count = list_sizes(sizes);
+    test_small(tally);
+    for (size_t i = 0; i < sizes_count; i++) {
+        test_lengths(tally, sizes[i]);
+        if (sizes[i] <= MOST_ITEMS)
+            test_counts(tally, sizes[i]);
+    }
+}

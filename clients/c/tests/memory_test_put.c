@@ -1,0 +1,262 @@
+/* Messages to the server, with each request for memory refused in turn. */
+#include "bytes_test.h"
+#include "memory_test.h"
+#include "refusing.h"
+
+#include <stdio.h>
+#include <string.h>
+
+enum { ROOM = 5 << 20 };
+
+static uint8_t out[ROOM], untouched[ROOM], expected[ROOM];
+static uint8_t formats[MOST_ITEMS];
+static uint32_t types[MOST_ITEMS];
+static pgmsg_value values[MOST_ITEMS];
+static pgmsg_setting settings[MOST_ITEMS];
+
+/* Bytes by hand, each call of which gives where they end. */
+static uint8_t *add(uint8_t *to, const void *bytes, size_t len)
+{
+    memcpy(to, bytes, len);
+    return to + len;
+}
+
+static uint8_t *add_u16(uint8_t *to, size_t number)
+{
+    to[0] = (uint8_t)(number >> 8);
+    to[1] = (uint8_t)number;
+    return to + 2;
+}
+
+static uint8_t *add_u32(uint8_t *to, size_t number)
+{
+    return add_u16(add_u16(to, number >> 16), number);
+}
+
+/* Ends a message that begins with a tag, by its length. */
+static uint8_t *end(uint8_t *from, uint8_t *to)
+{
+    add_u32(from + 1, (size_t)(to - from) - 1);
+    return to;
+}
+
+/* A message of a tag, some bytes, letters, and some bytes. */
+static uint8_t *add_text(uint8_t *to, char tag, const void *before, size_t before_len, size_t n, size_t zeros)
+{
+    uint8_t *from = to;
+    *to = (uint8_t)tag;
+    to = add(to + 5, before, before_len);
+    to = add(to, letters, n);
+    memset(to, 0, zeros);
+    return end(from, to + zeros);
+}
+
+static uint8_t *add_value(uint8_t *to, const pgmsg_value *value)
+{
+    if (value->is_null)
+        return add_u32(to, UINT32_MAX);
+    return add(add_u32(to, value->bytes_len), value->bytes, value->bytes_len);
+}
+
+/* A Bind of the first of the values and the formats. */
+static uint8_t *add_bind(uint8_t *to, size_t formats_len, const pgmsg_value *bound, size_t values_len,
+                         size_t results_len)
+{
+    uint8_t *from = to;
+    *to = 'B';
+    to = add(to + 5, "\0", 2);
+    to = add_u16(to, formats_len);
+    for (size_t i = 0; i < formats_len; i++)
+        to = add_u16(to, formats[i]);
+    to = add_u16(to, values_len);
+    for (size_t i = 0; i < values_len; i++)
+        to = add_value(to, &bound[i]);
+    to = add_u16(to, results_len);
+    for (size_t i = 0; i < results_len; i++)
+        to = add_u16(to, formats[i]);
+    return end(from, to);
+}
+
+static uint8_t *add_rest_of_batch(uint8_t *to)
+{
+    return add(to, "D\0\0\0\6P\0E\0\0\0\11\0\0\0\0\0S\0\0\0\4", 22);
+}
+
+static uint8_t *add_settings(uint8_t *to, const pgmsg_setting *named, size_t count)
+{
+    uint8_t *from = to;
+    to = add(to + 4, "\0\3\0\0", 4);
+    for (size_t i = 0; i < count; i++) {
+        to = add(add(to, named[i].name, named[i].name_len), "", 1);
+        to = add(add(to, named[i].value, named[i].value_len), "", 1);
+    }
+    *to++ = 0;
+    add_u32(from, (size_t)(to - from));
+    return to;
+}
+
+/* A value, and a setting, of so many letters. */
+static pgmsg_value value_of(size_t n)
+{
+    return (pgmsg_value){letters, n, false};
+}
+
+static pgmsg_setting setting_of(size_t n)
+{
+    return (pgmsg_setting){(const uint8_t *)"user", 4, letters, n};
+}
+
+/* A message of each size: the call, and its bytes. */
+#define MESSAGE(name, call, bytes)                                \
+    static ptrdiff_t put_##name(size_t n, size_t out_len)         \
+    {                                                             \
+        pgmsg_value value = value_of(n);                          \
+        pgmsg_setting setting = setting_of(n);                    \
+        (void)value, (void)setting;                               \
+        return call;                                              \
+    }                                                             \
+    static uint8_t *spell_##name(size_t n, uint8_t *to)           \
+    {                                                             \
+        pgmsg_value value = value_of(n);                          \
+        pgmsg_setting setting = setting_of(n);                    \
+        (void)value, (void)setting;                               \
+        return bytes;                                             \
+    }
+
+MESSAGE(query, pgmsg_put_query(letters, n, out, out_len), add_text(to, 'Q', "", 0, n, 1))
+MESSAGE(copy_data, pgmsg_put_copy_data(letters, n, out, out_len), add_text(to, 'd', "", 0, n, 0))
+MESSAGE(copy_fail, pgmsg_put_copy_fail(letters, n, out, out_len), add_text(to, 'f', "", 0, n, 1))
+MESSAGE(password, pgmsg_put_password(letters, n, out, out_len), add_text(to, 'p', "", 0, n, 1))
+MESSAGE(response, pgmsg_put_sasl_response(letters, n, out, out_len), add_text(to, 'p', "", 0, n, 0))
+MESSAGE(parse, pgmsg_put_parse(0, letters, n, types, 0, out, out_len), add_text(to, 'P', "", 1, n, 3))
+MESSAGE(setting, pgmsg_put_startup(&setting, 1, out, out_len), add_settings(to, &setting, 1))
+MESSAGE(settings, pgmsg_put_startup(settings, n, out, out_len), add_settings(to, settings, n))
+MESSAGE(value, pgmsg_put_bind(0, 0, formats, 0, &value, 1, formats, 0, out, out_len), add_bind(to, 0, &value, 1, 0))
+MESSAGE(values, pgmsg_put_bind(0, 0, formats, 0, values, n, formats, 0, out, out_len), add_bind(to, 0, values, n, 0))
+MESSAGE(formats, pgmsg_put_bind(0, 0, formats, n, values, 0, formats, n, out, out_len), add_bind(to, n, values, 0, n))
+MESSAGE(batch_query, pgmsg_put_batch(letters, n, formats, 0, values, 0, formats, 0, out, out_len),
+        add_rest_of_batch(add_bind(add_text(to, 'P', "", 1, n, 3), 0, values, 0, 0)))
+MESSAGE(batch_value, pgmsg_put_batch(letters, 1, formats, 0, &value, 1, formats, 0, out, out_len),
+        add_rest_of_batch(add_bind(add_text(to, 'P', "", 1, 1, 3), 0, &value, 1, 0)))
+MESSAGE(batch_items, pgmsg_put_batch(letters, 1, formats, n, values, n, formats, n, out, out_len),
+        add_rest_of_batch(add_bind(add_text(to, 'P', "", 1, 1, 3), n, values, n, n)))
+
+static ptrdiff_t put_initial(size_t n, size_t out_len)
+{
+    return pgmsg_put_sasl_initial(letters, n, true, out, out_len);
+}
+
+static uint8_t *spell_initial(size_t n, uint8_t *to)
+{
+    uint8_t before[23] = "SCRAM-SHA-256-PLUS";
+    add_u32(before + 19, n);
+    return add_text(to, 'p', before, sizeof before, n, 0);
+}
+
+static ptrdiff_t put_types(size_t n, size_t out_len)
+{
+    return pgmsg_put_parse(0, letters, 1, types, n, out, out_len);
+}
+
+static uint8_t *spell_types(size_t n, uint8_t *to)
+{
+    uint8_t *from = to;
+    to = add_u16(add_text(to, 'P', "", 1, 1, 1), n);
+    for (size_t i = 0; i < n; i++)
+        to = add_u32(to, types[i]);
+    return end(from, to);
+}
+
+struct message {
+    const char *name;
+    ptrdiff_t (*put)(size_t n, size_t out_len);
+    uint8_t *(*spell)(size_t n, uint8_t *to);
+    size_t most;
+};
+
+#define ROW(name, most) {#name, put_##name, spell_##name, most}
+
+static const struct message messages[] = {
+    ROW(query, LONG), ROW(copy_data, LONG), ROW(copy_fail, LONG), ROW(password, LONG),
+    ROW(response, LONG), ROW(initial, LONG), ROW(parse, LONG), ROW(types, MOST_ITEMS),
+    ROW(setting, LONG), ROW(settings, MOST_ITEMS), ROW(value, LONG), ROW(values, MOST_ITEMS),
+    ROW(formats, MOST_ITEMS), ROW(batch_query, LONG), ROW(batch_value, LONG), ROW(batch_items, MOST_ITEMS),
+};
+
+/* Whether the front of `out` is untouched; it is made so again. */
+static bool was_untouched(size_t len)
+{
+    bool was = memcmp(out, untouched, len) == 0;
+    memset(out, UNTOUCHED, len);
+    return was;
+}
+
+/* Puts a message with each request refused in turn, then with none, and then into a byte too few. */
+static void test_message(struct tally *tally, const struct message *message, size_t n)
+{
+    size_t len = (size_t)(message->spell(n, expected) - expected);
+    unsigned failed = tally->failed;
+    size_t nth = 1;
+    for (; nth < MANY_REQUESTS; nth++) {
+        refuse_nth(nth);
+        ptrdiff_t answer = message->put(n, len);
+        if (!was_refused()) {
+            CHECK(tally, answer == (ptrdiff_t)len);
+            break;
+        }
+        CHECK(tally, answer == PGMSG_OUT_OF_MEMORY);
+        CHECK(tally, was_untouched(len + 1));
+    }
+    CHECK(tally, nth > 1 && nth < MANY_REQUESTS);
+    CHECK(tally, memcmp(out, expected, len) == 0 && out[len] == UNTOUCHED);
+    memset(out, UNTOUCHED, len);
+    CHECK(tally, message->put(n, len - 1) == (ptrdiff_t)len);
+    CHECK(tally, was_untouched(len + 1));
+    if (tally->failed > failed)
+        fprintf(stderr, "%s of size %zu, at request %zu\n", message->name, n, nth);
+}
+
+/* The same of a message that has one size. */
+static void test_sample(struct tally *tally, const struct sample *sample)
+{
+    size_t nth = 1;
+    for (; nth < MANY_REQUESTS; nth++) {
+        refuse_nth(nth);
+        ptrdiff_t answer = sample->put(out, sample->len);
+        if (!was_refused()) {
+            CHECK(tally, answer == (ptrdiff_t)sample->len);
+            break;
+        }
+        CHECK(tally, answer == PGMSG_OUT_OF_MEMORY);
+        CHECK(tally, was_untouched(sample->len + 1));
+    }
+    CHECK(tally, nth > 1 && nth < MANY_REQUESTS);
+    CHECK(tally, are_bytes(out, sample->len, sample->bytes, sample->len));
+    memset(out, UNTOUCHED, sample->len);
+}
+
+static void make_parts(void)
+{
+    memset(untouched, UNTOUCHED, sizeof untouched);
+    memset(out, UNTOUCHED, sizeof out);
+    for (size_t i = 0; i < MOST_ITEMS; i++) {
+        formats[i] = i % 3 == 1;
+        types[i] = (uint32_t)i * 65539;
+        values[i] = (pgmsg_value){letters + i % 23, i % 5, i % 7 == 6};
+        settings[i] = (pgmsg_setting){letters + i % 23, 1 + i % 3, letters + i % 5, i % 4};
+    }
+}
+
+void test_memory_put(struct tally *tally)
+{
+    size_t sizes[MOST_SIZES], samples_count;
+    size_t sizes_count = list_sizes(sizes);
+    make_parts();
+    for (size_t i = 0; i < sizeof messages / sizeof *messages; i++)
+        for (size_t j = 0; j < sizes_count; j++)
+            if (sizes[j] <= messages[i].most)
+                test_message(tally, &messages[i], sizes[j]);
+    const struct sample *samples = put_samples(&samples_count);
+    for (size_t i = 0; i < samples_count; i++)
+        test_sample(tally, &samples[i]);
+}
