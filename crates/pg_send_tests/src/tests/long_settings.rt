@@ -1,7 +1,7 @@
 //! The opening of a session with settings of each length that may take another path, and with as many.
 
 use super::refusing::assert_in_each_room;
-use super::sizes::{LONG, MOST, SIZES, front_of, length_of, letters, text_of};
+use super::sizes::{LONG, MOST, SIZES, four_bytes, front_of, length_of, letters, text_of};
 use pg_send::message::Startup;
 use std::alloc::{AllocError, Global};
 use std::process::Abort;
@@ -14,7 +14,7 @@ fn assert_startup(
     settings: [&[u8]; 9],
 ) -> Result<(), AllocError> {
     let len = length_of(&settings).saturating_add(8);
-    let length = (len as u32).to_be_bytes();
+    let length = four_bytes(len);
     let [a, b, c, d, e, f, g, h, i] = settings;
     let parts = [&length, b"\0\x03\0\0".as_slice(), a, b, c, d, e, f, g, h, i];
     assert_in_each_room(rt, alloc, startup, &parts, len)

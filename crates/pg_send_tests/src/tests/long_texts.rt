@@ -1,7 +1,9 @@
 //! Messages of one text or of data, of each length that may take another path.
 
 use super::refusing::{Adds, assert_in_each_room, assert_without_request};
-use super::sizes::{LONG, MOST, SIZES, five_parts, front_of, head_of, letters, text_of};
+use super::sizes::{
+    LONG, MOST, SIZES, five_parts, four_bytes, front_of, head_of, letters, text_of,
+};
 use pg_base::Error;
 use pg_base::io::{ProtocolEncode, StatementId};
 use pg_send::message::*;
@@ -123,7 +125,7 @@ fn assert_message(
 ) -> Result<(), AllocError> {
     let body = layout.beside().saturating_add(text.len());
     let head = head_of(layout.tag, body);
-    let count = (text.len() as u32).to_be_bytes();
+    let count = four_bytes(text.len());
     let counted = front_of(rt, count.as_slice(), layout.count);
     let parts = five_parts(&head, layout.before, counted, text, layout.after);
     assert_in_each_room(rt, alloc, message, &parts, layout.room(body))

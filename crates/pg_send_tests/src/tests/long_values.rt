@@ -2,7 +2,9 @@
 //! refused in turn.
 
 use super::refusing::{MANY, assert_in_each_room, ran_out, refuse_nth, was_refused};
-use super::sizes::{LONG, MOST, SIZES, assert_parts, front_of, head_of, length_of, letters};
+use super::sizes::{
+    LONG, MOST, SIZES, assert_parts, four_bytes, front_of, head_of, length_of, letters,
+};
 use super::values::push_if_room;
 use pg_base::Error;
 use pg_base::io::{PortalId, StatementId};
@@ -47,7 +49,7 @@ fn assert_after(rt: &impl Abort, bytes: &[u8], len: usize, spelled: &[&[u8]]) {
 
 // A value, a NULL and the value again, and then a Bind of them.
 fn assert_value(rt: &impl Abort, alloc: Global, value: &[u8]) -> Result<(), AllocError> {
-    let length = (value.len() as u32).to_be_bytes();
+    let length = four_bytes(value.len());
     let mut values = BindValues::new(alloc);
     let spelled = [length.as_slice(), value];
     refuse_until_pushed(rt, alloc, &mut values, Some(value), &spelled)?;

@@ -2,7 +2,7 @@
 
 use super::frames::bind_of;
 use super::refusing::assert_in_each_room;
-use super::sizes::{SIZES, front_of, head_of, length_of};
+use super::sizes::{SIZES, front_of, head_of, length_of, two_bytes};
 use pg_base::io::{Oid, PgValueFormat, StatementId};
 use pg_send::message::{Parse, TaggedMessage};
 use std::alloc::{AllocError, Global};
@@ -54,7 +54,7 @@ fn assert_types(
         query: "SELECT 1",
         param_types: types,
     });
-    let count = (types.len() as u16).to_be_bytes();
+    let count = two_bytes(types.len());
     let query = b"\0SELECT 1\0";
     assert_message(rt, alloc, &parse, b'P', [query, &count, bytes, b"", b""])
 }
@@ -115,7 +115,7 @@ fn assert_formats(
     formats: &[PgValueFormat],
     bytes: &[u8],
 ) -> Result<(), AllocError> {
-    let count = (formats.len() as u16).to_be_bytes();
+    let count = two_bytes(formats.len());
     let of_params = TaggedMessage::Bind(bind_of(formats, b"", &[]));
     let parts: [&[u8]; 5] = [b"\0\0", &count, bytes, b"\0\0", b"\0\0"];
     assert_message(rt, alloc, &of_params, b'B', parts)?;

@@ -45,9 +45,19 @@ pub fn text_of<'a>(rt: &impl Abort, letters: &'a [u8], len: usize) -> &'a str {
     }
 }
 
+/// A length in four bytes, highest byte first.
+pub fn four_bytes(len: usize) -> [u8; 4] {
+    u32::try_from(len).unwrap_or(u32::MAX).to_be_bytes()
+}
+
+/// A count in two bytes, highest byte first.
+pub fn two_bytes(count: usize) -> [u8; 2] {
+    u16::try_from(count).unwrap_or(u16::MAX).to_be_bytes()
+}
+
 /// The letter and the length of a message with a body of so many bytes.
 pub fn head_of(tag: u8, body: usize) -> [u8; 5] {
-    let [a, b, c, d] = (body as u32).wrapping_add(4).to_be_bytes();
+    let [a, b, c, d] = four_bytes(body.saturating_add(4));
     [tag, a, b, c, d]
 }
 
