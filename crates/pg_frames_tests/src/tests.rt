@@ -2,6 +2,8 @@
 
 mod pieces;
 mod reader;
+mod refused;
+mod refusing;
 
 use pg_base::BackendMessageFormat;
 use pg_response::message::ReceivedMessage;
