@@ -1,11 +1,14 @@
 //! What received bodies answer, through the public calls alone.
 
+mod counts;
 mod fronts;
 mod kinds;
 mod laws;
+mod lengths;
 mod memory;
 mod message;
 mod readers;
+mod refusing;
 mod rows;
 mod short_bodies;
 
