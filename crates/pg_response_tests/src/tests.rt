@@ -2,5 +2,7 @@
 
 mod error;
 mod laws;
+mod lengths;
 mod message;
 mod readers;
+mod refusing;
