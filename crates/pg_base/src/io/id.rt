@@ -76,7 +76,7 @@ impl StatementId {
     }
 
     /// Adds the name and a NUL to the buffer, in room that is there.
-    #[inline]
+    #[inline(always)]
     pub fn push_name_reserved(&self, buf: &mut Vec<u8>)
         requires { vec_len buf.old + length (named statement_prefix self.now) ≤ vec_capacity buf.old }
         ensures items { buf.new.items ≡ buf.old.items ++ named statement_prefix self.now }
@@ -163,7 +163,7 @@ impl PortalId {
     }
 
     /// Adds the name and a NUL to the buffer, in room that is there.
-    #[inline]
+    #[inline(always)]
     pub fn push_name_reserved(&self, buf: &mut Vec<u8>)
         requires { vec_len buf.old + length (named portal_prefix self.now) ≤ vec_capacity buf.old }
         ensures items { buf.new.items ≡ buf.old.items ++ named portal_prefix self.now }
@@ -234,29 +234,30 @@ fn put_name_with_nul(prefix: &str, number: u32, buf: &mut Vec<u8>) -> Result<(),
     Ok(())
 }
 
-#[inline]
+// Inlined, so that the prefix is known where it is copied.
+#[inline(always)]
 fn push_name_reserved(prefix: &str, number: u32, buf: &mut Vec<u8>)
     requires { vec_len buf.old + length (named prefix.now number) ≤ vec_capacity buf.old }
     ensures items { buf.new.items ≡ buf.old.items ++ named prefix.now number }
     ensures capacity { vec_capacity buf.old ≤ vec_capacity buf.new }
 {
     if number != 0 {
-        push_prefixed(prefix, number, buf);
+        let added = buf.extend_from_slice(prefix.as_bytes());
+        prove!(added.is_ok());
+        push_digits(number, buf);
     }
     buf.push_reserved(0);
 }
 
-// The prefix and the digits of a number.
+// The digits of a number.
 #[inline(never)]
-fn push_prefixed(prefix: &str, number: u32, buf: &mut Vec<u8>)
-    requires { vec_len buf.old + length (prefix.now ++ decimal number) ≤ vec_capacity buf.old }
-    ensures items { buf.new.items ≡ buf.old.items ++ (prefix.now ++ decimal number) }
+fn push_digits(number: u32, buf: &mut Vec<u8>)
+    requires { vec_len buf.old + length (decimal number) ≤ vec_capacity buf.old }
+    ensures items { buf.new.items ≡ buf.old.items ++ decimal number }
     ensures capacity { vec_capacity buf.old ≤ vec_capacity buf.new }
 {
     let mut digits = Buffer::new();
     let digits = digits.format(number);
-    let added = buf.extend_from_slice(prefix.as_bytes());
-    prove!(added.is_ok());
     // One by one, since a copy of several waits for digits that were just written.
     for digit in digits.as_bytes() {
         buf.push_reserved(*digit);
