@@ -3,3 +3,4 @@ pub mod Keyed
 pub mod Messages
 pub mod Notices
 pub mod Sasl
+pub mod Tables

@@ -1,6 +1,6 @@
 -- Every message of both directions, in the order of the documentation's "Message Formats": (B) is sent by
 -- the server, (F) by the client. A format is of the body, which follows the tag and the length.
-use Rattle.std.specs.Prelude.{◌≡◌, ◌≢◌, ℕ, zero, ◌*◌, ◌==◌, ℤ, pos, negsuc, List, [], ◌∷◌, Option, Some, None, IsUtf8, if◌then◌else◌}
+use Rattle.std.specs.Prelude.{◌≡◌, ◌≢◌, ℕ, ◌*◌, ◌==◌, ℤ, pos, negsuc, List, [], ◌∷◌, Option, IsUtf8}
 use Rattle.pg_base.specs.declared.format.BackendMessageFormat.{BackendMessageFormat}
 use Rattle.pg_base.specs.declared.format.BackendMessageFormat.TheVariants as backend
 use Rattle.pg_base.specs.declared.format.FrontendMessageFormat.{FrontendMessageFormat}
@@ -14,42 +14,11 @@ use Rattle.pg_format.specs.Format.Ends.{exactly, loosely}
 use Rattle.pg_format.specs.Format.Lists.{times, counted, counted_least, many}
 use Rattle.pg_format.specs.Format.Nullable.{cell, value}
 use Rattle.pg_format.specs.Notices.{Field, notice_fault}
+pub use Rattle.pg_format.specs.Tables.{Authentication, ok, cleartext_password, md5_password, sasl, sasl_continue, sasl_final, method_number, salt_of, mechanisms_of, continued, finished}
+pub use Rattle.pg_format.specs.Tables.{Target, statement, portal, target_of, target_letter, Status, idle, transaction, error, status_of, status_letter, table, table_number, attribute, attribute_number}
 use Rattle.pg_format.specs.Sasl.{first_message_fault, final_message_fault}
 
--- AuthenticationOk (B) and the requests after it: the number of a method, and what it asks
-pub data Authentication : Type 0 where
-  ok : Authentication
-  cleartext_password : Authentication
-  md5_password : List ℕ → Authentication
-  sasl : List (List ℕ) → Authentication
-  sasl_continue : List ℕ → Authentication
-  sasl_final : List ℕ → Authentication
-
-abbrev pub method_number : Authentication → ℕ
-method_number ok = 0
-method_number cleartext_password = 3
-method_number (md5_password salt) = 5
-method_number (sasl mechanisms) = 10
-method_number (sasl_continue message) = 11
-method_number (sasl_final message) = 12
-
-abbrev pub salt_of : Authentication → Option (List ℕ)
-salt_of (md5_password salt) = Some salt
-salt_of other = None
-
-abbrev pub mechanisms_of : Authentication → Option (List (List ℕ))
-mechanisms_of (sasl names) = Some names
-mechanisms_of other = None
-
-abbrev pub continued : Authentication → Option (List ℕ)
-continued (sasl_continue message) = Some message
-continued other = None
-
-abbrev pub finished : Authentication → Option (List ℕ)
-finished (sasl_final message) = Some message
-finished other = None
-
--- names up to the first that is empty or no text
+-- AuthenticationOk (B) and the requests after it: mechanisms are names up to the first that is empty or no text
 abbrev pub mechanism_names : Format (List (List ℕ))
 mechanism_names = many (0 ∷ []) (only (λ name. (name ≢ []) × IsUtf8 name) until_nul)
 
@@ -101,17 +70,6 @@ abbrev pub empty : Format (Unit {0})
 empty = exactly (success tt)
 
 -- Close (F) and Describe (F)
-pub data Target : Type 0 where
-  statement : Target
-  portal : Target
-
-abbrev pub target_of : ℕ → Option Target
-target_of letter = if letter == 83 then Some statement else (if letter == 80 then Some portal else None)
-
-abbrev pub target_letter : Target → ℕ
-target_letter statement = 83
-target_letter portal = 80
-
 pub record Targeted : Type 0 where
   pub target : Target
   pub name : List ℕ
@@ -198,23 +156,10 @@ abbrev pub text : Format (List ℕ)
 text = exactly until_nul
 
 -- ReadyForQuery (B)
-pub data Status : Type 0 where
-  idle : Status
-  transaction : Status
-  error : Status
-
-abbrev pub status_of : ℕ → Option Status
-status_of letter = if letter == 73 then Some idle else (if letter == 84 then Some transaction else (if letter == 69 then Some error else None))
-
-abbrev pub status_letter : Status → ℕ
-status_letter idle = 73
-status_letter transaction = 84
-status_letter error = 69
-
 abbrev pub ready_for_query : Format Status
 ready_for_query = loosely (one_of status_of status_letter UnknownStatus)
 
--- RowDescription (B): 0 is the number of no table, and of no attribute of one
+-- RowDescription (B)
 pub record Column : Type 0 where
   pub name : List ℕ
   pub relation_id : Option ℕ
@@ -223,21 +168,6 @@ pub record Column : Type 0 where
   pub data_type_size : ℤ
   pub type_modifier : ℤ
   pub format : ℤ
-
-abbrev pub table : ℕ → Option ℕ
-table n = if n == 0 then None else Some n
-
-abbrev pub table_number : Option ℕ → ℕ
-table_number None = 0
-table_number (Some n) = n
-
-abbrev pub attribute : ℤ → Option ℤ
-attribute (pos zero) = None
-attribute other = Some other
-
-abbrev pub attribute_number : Option ℤ → ℤ
-attribute_number None = pos 0
-attribute_number (Some z) = z
 
 -- the six numbers of a column, which follow its name
 abbrev pub Numbers : Type 0
