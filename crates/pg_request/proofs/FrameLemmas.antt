@@ -1,10 +1,10 @@
 -- What is within the limits has a length that its field can say.
-use Rattle.std.proofs.Common.{◌≡◌, ℕ, ◌+◌, ◌≤◌, Bool, true, false, cond, List, [], ◌∷◌, length, Option, Some, None, Ok, refl, arith, leb}
-use Rattle.std.proofs.lemmas.Bool.{leb-true}
+use Rattle.std.proofs.Common.{◌≡◌, ℕ, ◌+◌, ◌≤◌, Bool, true, false, cond, List, [], ◌∷◌, ◌++◌, length, Option, Some, None, Ok, refl, arith, rules, leb, Vec, Global, vec_capacity}
+use Rattle.std.proofs.lemmas.Bool.{leb-true, le-leb}
 use Rattle.std.proofs.lemmas.List.{append-nil}
 use Rattle.pg_base.specs.declared.error.ProtocolFault.{ProtocolFault}
 use Rattle.pg_base.specs.declared.error.ProtocolFault.TheVariants.{MessageTooLong}
-use Rattle.pg_base.specs.Encode.{IsAnswer}
+use Rattle.pg_base.specs.Encode.{IsAnswer, EncodesFrame}
 use Rattle.pg_base.specs.Cutting.{max_length, frame, IsCutInto}
 use Rattle.pg_base.proofs.CuttingLemmas.{cut_frame, is_cut_into}
 use Rattle.pg_request.specs.Frame.{saturated, first_fault, checked_len}
@@ -27,6 +27,14 @@ pub frame_is_cut : (fault : Option ProtocolFault) (tag : ℕ) (body : List ℕ) 
 frame_is_cut fault tag body len e =
     let fits = len_fits fault (length body) (no_fault (first_fault fault (length body)) (length body) len e) in
     is_cut_into (frame tag body) ((tag, body) ∷ []) (rw append-nil at (cut_frame tag body [] [] fits refl))
+
+-- a message within the limits that was added in room that was there
+pub put_within : (fault : Option ProtocolFault) (tag hint : ℕ) (body : List ℕ) (old new : Vec ℕ Global) → fault ≡ None → 4 + length body ≤ max_length → new.items ≡ old.items ++ frame tag body → vec_capacity old ≤ vec_capacity new
+    → EncodesFrame tag body (first_fault fault (length body)) hint old new (Ok tt)
+put_within (Some fault) tag hint body old new e fits adds grows = absurd (let clash : Some fault ≡ None = e in cc)
+put_within None tag hint body old new e fits adds grows =
+    rw (le-leb (length body + 4) max_length (omega (arith, fits)))
+    (record { encodes = search rules; cut = is_cut_into (frame tag body) ((tag, body) ∷ []) (rw append-nil at (cut_frame tag body [] [] fits refl)) })
 
 -- an accepted message breaks no limit
 pub accepted_fits : (o : Option ProtocolFault) (u : Unit {0}) → IsAnswer o (Ok u) → o ≡ None

@@ -34,6 +34,7 @@ pub struct Bind<'a> {
 impl Bind<'_> {
     /// Whether a reader would get the message back: refused with `BadParams` where `params` is not
     /// `num_params` values.
+    #[inline(always)]
     pub fn check_round_trip(&self) -> Result<(), ProtocolFault>
         ensures ok { OnOk result (bind_law (bind_fields self.now)).CanRoundTrip }
         ensures fault { IfErr result (λ fault. ((bind_law (bind_fields self.now)).round_trip_fault ≡ Some fault) × ¬ (bind_law (bind_fields self.now)).CanRoundTrip) }
@@ -77,6 +78,7 @@ impl FrontendMessage for Bind<'_> {
         len
     }
 
+    #[inline(always)]
     fn put_body(&self, buf: &mut Vec<u8>) {
         self.portal.push_name_reserved(buf);
         self.statement.push_name_reserved(buf);

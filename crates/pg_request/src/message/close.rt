@@ -39,6 +39,7 @@ impl FrontendMessage for Close {
         len
     }
 
+    #[inline(always)]
     fn put_body(&self, buf: &mut Vec<u8>) {
         match self {
             Close::Statement(id) => put_statement(*id, buf),

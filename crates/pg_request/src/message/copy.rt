@@ -29,6 +29,7 @@ impl CopyFail {
 
 impl CopyFail {
     /// Whether a reader would get the message back: refused with `TextHoldsNul` where it holds a NUL.
+    #[inline(always)]
     pub fn check_round_trip(&self) -> Result<(), ProtocolFault>
         ensures ok { OnOk result (copy_fail_law (string_bytes self.now.message)).CanRoundTrip }
         ensures fault { IfErr result (λ fault. ((copy_fail_law (string_bytes self.now.message)).round_trip_fault ≡ Some fault) × ¬ (copy_fail_law (string_bytes self.now.message)).CanRoundTrip) }
@@ -58,6 +59,7 @@ impl<B: LendBytes> FrontendMessage for CopyData<B> {
         len
     }
 
+    #[inline(always)]
     fn put_body(&self, buf: &mut Vec<u8>) {
         put_slice(self.0.bytes(), buf);
     }
@@ -88,6 +90,7 @@ impl FrontendMessage for CopyFail {
         len
     }
 
+    #[inline(always)]
     fn put_body(&self, buf: &mut Vec<u8>) {
         put_text(self.message.as_str(), buf);
     }
@@ -118,6 +121,7 @@ impl FrontendMessage for CopyDone {
         len
     }
 
+    #[inline(always)]
     fn put_body(&self, _buf: &mut Vec<u8>) {}
 
     ghost use Rattle.std.proofs.Common.{arith};

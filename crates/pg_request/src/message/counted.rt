@@ -23,6 +23,7 @@ pub fn too_many(count: usize, fault: ProtocolFault) -> Option<ProtocolFault>
 }
 
 /// Adds the formats after their count, in room that is there.
+#[inline(always)]
 pub fn put_formats(formats: &[PgValueFormat], buf: &mut Vec<u8>)
     requires count { length formats.now ≤ max_count }
     requires room { vec_len buf.old + length (counted16 (format_codes formats.now)) ≤ vec_capacity buf.old }
@@ -36,6 +37,7 @@ pub fn put_formats(formats: &[PgValueFormat], buf: &mut Vec<u8>)
 }
 
 /// Adds the types after their count, in room that is there.
+#[inline(always)]
 pub fn put_types(types: &[Oid], buf: &mut Vec<u8>)
     requires count { length types.now ≤ max_count }
     requires room { vec_len buf.old + length (counted32 (numbers_of types.now)) ≤ vec_capacity buf.old }

@@ -39,6 +39,7 @@ impl FrontendMessage for Describe {
         len
     }
 
+    #[inline(always)]
     fn put_body(&self, buf: &mut Vec<u8>) {
         match self {
             Describe::Statement(id) => put_statement(*id, buf),

@@ -38,6 +38,7 @@ impl FrontendMessage for Execute {
         len
     }
 
+    #[inline(always)]
     fn put_body(&self, buf: &mut Vec<u8>) {
         self.portal.push_name_reserved(buf);
         put_u32(self.limit, buf);

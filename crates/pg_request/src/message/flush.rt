@@ -30,6 +30,7 @@ impl FrontendMessage for Flush {
         len
     }
 
+    #[inline(always)]
     fn put_body(&self, _buf: &mut Vec<u8>) {}
 
     ghost use Rattle.std.proofs.Common.{arith};

@@ -1,12 +1,13 @@
 //! The law of a message that is sent, and the frame round each.
 
-ghost use Rattle.std.specs.Prelude.{◌≡◌, ◌+◌, ◌≤◌, ◌<◌, ◌++◌, length, None, OnOk, OnErr, IsOkUnless, vec_len, vec_capacity};
+ghost use Rattle.std.specs.Prelude.{◌≡◌, ◌+◌, ◌≤◌, ◌<◌, ◌++◌, length, None, Ok, OnOk, OnErr, IsOkUnless, vec_len, vec_capacity};
+ghost use Rattle.std.specs.Bool.{OnTrue, OnFalse};
 ghost use Rattle.pg_base.specs.declared.error.Error.TheVariants.{OutOfMemory};
 ghost use Rattle.pg_base.specs.declared.error.ProtocolFault.{ProtocolFault};
 ghost use Rattle.pg_base.specs.Cutting.{IsCutInto};
 ghost use Rattle.pg_request.specs.Frame.{Law, tag, fault, hint, text, checked_len, room_or_fault, saturated, EncodesMessage};
 
-use crate::message::parts::put_u32;
+use crate::message::parts::put_slice;
 use pg_base::io::{MAX_BODY, ProtocolEncode};
 use pg_base::{Error, FrontendMessageFormat, ProtocolFault};
 
@@ -104,6 +105,7 @@ pub trait FrontendMessage: Sized + Drop {
 
     /// Adds tag, length and body of a message within the limits, in room that is there. `len` is
     /// the length of the body in bytes.
+    #[inline(always)]
     final fn put_frame(&self, len: usize, buf: &mut Vec<u8>)
         requires limits { fault (law self.now) ≡ None }
         requires len { len ≡ length (law self.now).body }
@@ -112,8 +114,8 @@ pub trait FrontendMessage: Sized + Drop {
         ensures capacity { vec_capacity buf.old ≤ vec_capacity buf.new }
         ensures range { (law self.now).IsInRange }
     {
-        buf.push_reserved(self.tag());
-        put_u32(len as u32 + 4, buf);
+        let [first, second, third, fourth] = (len as u32 + 4).to_be_bytes();
+        put_slice(&[self.tag(), first, second, third, fourth], buf);
         self.put_body(buf);
     }
 
@@ -131,9 +133,42 @@ pub trait FrontendMessage: Sized + Drop {
 /// Every refusal leaves the bytes of the buffer as they were: a broken limit, exactly where there
 /// is one and before memory is asked for, or `OutOfMemory`, only where the spare room is less than
 /// the hint and five.
+// Inlined, so that an answer without a fault isn't written to memory and read again.
+#[inline(always)]
+pub fn encode_frame<F: FrontendMessage>(message: &F, buf: &mut Vec<u8>) -> Result<(), Error>
+    ensures encodes { EncodesMessage (F.law message.now) buf.old buf.new result }
+    ensures range { OnOk result (F.law message.now).IsInRange }
+{
+    if put_if_fits(message, buf) {
+        return Ok(());
+    }
+    encode_or_refuse(message, buf)
+}
+
+/// Adds tag, length and body of a message within the limits where the spare room holds the hint
+/// and five, and says whether it did; else the buffer stays.
 // A function of its own for each type: inlined side by side they would pay for each other's locals.
 #[inline(never)]
-pub fn encode_frame<F: FrontendMessage>(message: &F, buf: &mut Vec<u8>) -> Result<(), Error>
+pub fn put_if_fits<F: FrontendMessage>(message: &F, buf: &mut Vec<u8>) -> bool
+    ensures encodes { OnTrue result (EncodesMessage (F.law message.now) buf.old buf.new (Ok tt)) }
+    ensures range { OnTrue result (F.law message.now).IsInRange }
+    ensures same { OnFalse result (buf.new ≡ buf.old) }
+{
+    let len = message.body_len();
+    if message.count_fault().is_some() || len > MAX_BODY {
+        return false;
+    }
+    if buf.capacity() - buf.len() < message.room_for(len).saturating_add(HEADER) {
+        return false;
+    }
+    message.put_frame(len, buf);
+    true
+}
+
+// What doesn't fit, or is refused.
+#[cold]
+#[inline(never)]
+fn encode_or_refuse<F: FrontendMessage>(message: &F, buf: &mut Vec<u8>) -> Result<(), Error>
     ensures encodes { EncodesMessage (F.law message.now) buf.old buf.new result }
     ensures range { OnOk result (F.law message.now).IsInRange }
 {

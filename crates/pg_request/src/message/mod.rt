@@ -28,7 +28,7 @@ pub use copy::CopyFail;
 pub use describe::Describe;
 pub use execute::Execute;
 pub use flush::Flush;
-pub use frame::{EncodeMessage, FrontendMessage, encode_frame};
+pub use frame::{EncodeMessage, FrontendMessage, encode_frame, put_if_fits};
 pub use parse::Parse;
 pub use password::Password;
 pub use pg_base::io::{CopyData, CopyDone};

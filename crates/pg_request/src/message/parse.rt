@@ -25,6 +25,7 @@ pub struct Parse<'a> {
 impl Parse<'_> {
     /// Whether a reader would get the message back: refused with `TextHoldsNul` where its query holds a
     /// NUL.
+    #[inline(always)]
     pub fn check_round_trip(&self) -> Result<(), ProtocolFault>
         ensures ok { OnOk result (parse_law (parse_fields self.now)).CanRoundTrip }
         ensures fault { IfErr result (λ fault. ((parse_law (parse_fields self.now)).round_trip_fault ≡ Some fault) × ¬ (parse_law (parse_fields self.now)).CanRoundTrip) }
@@ -59,6 +60,7 @@ impl FrontendMessage for Parse<'_> {
         len
     }
 
+    #[inline(always)]
     fn put_body(&self, buf: &mut Vec<u8>) {
         self.statement.push_name_reserved(buf);
         put_text(self.query, buf);

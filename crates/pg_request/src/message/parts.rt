@@ -6,6 +6,7 @@ ghost use Rattle.pg_base.specs.Text.{ended};
 ghost use Rattle.pg_request.specs.Frame.{saturated};
 
 /// Adds a number as two bytes, highest byte first.
+#[inline(always)]
 pub fn put_u16(number: u16, buf: &mut Vec<u8>)
     requires { vec_len buf.old + 2 ≤ vec_capacity buf.old }
     ensures items { buf.new.items ≡ buf.old.items ++ be16 number }
@@ -18,6 +19,7 @@ pub fn put_u16(number: u16, buf: &mut Vec<u8>)
 }
 
 /// Adds a number as four bytes, highest byte first.
+#[inline(always)]
 pub fn put_u32(number: u32, buf: &mut Vec<u8>)
     requires { vec_len buf.old + 4 ≤ vec_capacity buf.old }
     ensures items { buf.new.items ≡ buf.old.items ++ be32 number }
@@ -28,6 +30,7 @@ pub fn put_u32(number: u32, buf: &mut Vec<u8>)
 }
 
 /// Adds some bytes.
+#[inline(always)]
 pub fn put_slice(bytes: &[u8], buf: &mut Vec<u8>)
     requires { vec_len buf.old + length bytes.now ≤ vec_capacity buf.old }
     ensures items { buf.new.items ≡ buf.old.items ++ bytes.now }
@@ -45,6 +48,7 @@ pub fn text_len(text: &str) -> usize
 }
 
 /// Adds a text and a NUL.
+#[inline(always)]
 pub fn put_text(text: &str, buf: &mut Vec<u8>)
     requires { vec_len buf.old + length (ended text.now) ≤ vec_capacity buf.old }
     ensures items { buf.new.items ≡ buf.old.items ++ ended text.now }

@@ -25,6 +25,7 @@ impl Password<'_> {
 
     /// Whether a reader would get the message back: refused with `TextHoldsNul` where a password in
     /// clear holds a NUL.
+    #[inline(always)]
     pub fn check_round_trip(&self) -> Result<(), ProtocolFault>
         ensures ok { OnOk result (law_of (password_message self.now)).CanRoundTrip }
         ensures fault { IfErr result (λ fault. ((law_of (password_message self.now)).round_trip_fault ≡ Some fault) × ¬ (law_of (password_message self.now)).CanRoundTrip) }

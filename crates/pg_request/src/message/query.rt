@@ -14,6 +14,7 @@ pub struct Query<'a>(pub &'a str);
 
 impl Query<'_> {
     /// Whether a reader would get the message back: refused with `TextHoldsNul` where it holds a NUL.
+    #[inline(always)]
     pub fn check_round_trip(&self) -> Result<(), ProtocolFault>
         ensures ok { OnOk result (query_law self.now.0.now).CanRoundTrip }
         ensures fault { IfErr result (λ fault. ((query_law self.now.0.now).round_trip_fault ≡ Some fault) × ¬ (query_law self.now.0.now).CanRoundTrip) }
@@ -43,6 +44,7 @@ impl FrontendMessage for Query<'_> {
         len
     }
 
+    #[inline(always)]
     fn put_body(&self, buf: &mut Vec<u8>) {
         put_text(self.0, buf);
     }

@@ -12,6 +12,7 @@ use pg_base::io::i32_at;
 const NULL: i32 = -1;
 
 /// Refuses a text that holds a NUL with `TextHoldsNul`.
+#[inline(always)]
 pub fn check_text(text: &str) -> Result<(), ProtocolFault>
     ensures ok { OnOk result (HoldsNo 0 text.now) }
     ensures fault { IfErr result (λ fault. (fault ≡ TextHoldsNul) × ¬ (HoldsNo 0 text.now)) }
@@ -23,6 +24,7 @@ pub fn check_text(text: &str) -> Result<(), ProtocolFault>
 }
 
 /// Refuses bytes that are not just so many parameter values with `BadParams`.
+#[inline(always)]
 pub fn check_values(count: u16, params: &[u8]) -> Result<(), ProtocolFault>
     ensures ok { OnOk result (Values count params.now []) }
     ensures fault { IfErr result (λ fault. (fault ≡ BadParams) × ¬ (Values count params.now [])) }
@@ -42,6 +44,7 @@ pub fn check_values(count: u16, params: &[u8]) -> Result<(), ProtocolFault>
 }
 
 // What follows the value at the front.
+#[inline(always)]
 fn after_value(bytes: &[u8]) -> Option<&[u8]>
     ensures found { IfSome result (λ rest. Value bytes.now rest.now) }
     ensures none { IfNone result ((rest : List ℕ) → ¬ (Value bytes.now rest)) }

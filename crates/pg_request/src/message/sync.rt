@@ -31,6 +31,7 @@ impl FrontendMessage for Sync {
         len
     }
 
+    #[inline(always)]
     fn put_body(&self, _buf: &mut Vec<u8>) {}
 
     ghost use Rattle.std.proofs.Common.{arith};

@@ -1,7 +1,7 @@
 use Rattle.std.proofs.Common.{sym, ◌∙◌, rules}
 use Rattle.pg_request.specs.Frame.{tag}
 use Rattle.pg_request.proofs.FrameLemmas.{frame_is_cut}
-use Rattle.pg_request.proofs.message.frame.encode_frame.Goals as goal
+use Rattle.pg_request.proofs.message.frame.encode_or_refuse.Goals as goal
 
 pub returns-clause-encodes : goal.returns-clause-encodes
 returns-clause-encodes g c =
