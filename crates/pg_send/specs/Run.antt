@@ -1,5 +1,5 @@
 -- A run of messages into one buffer, each with its answer.
-use Rattle.std.specs.Prelude.{◌≡◌, ℕ, ◌+◌, ◌-◌, ◌^◌, ◌<◌, ◌≤◌, min, Vec, vec_len, vec_capacity, List, [], ◌∷◌, ◌++◌, length, Bool, true, false, Result, Ok, Err}
+use Rattle.std.specs.Prelude.{◌≡◌, ℕ, ◌+◌, ◌<◌, ◌≤◌, Vec, vec_len, vec_capacity, List, [], ◌∷◌, ◌++◌, length, Bool, true, false, Result, Ok, Err, OnOk, OnErr, IsErrOf}
 use Rattle.pg_base.specs.declared.error.Error.{Error}
 use Rattle.pg_base.specs.declared.error.Error.TheVariants.{Protocol, OutOfMemory}
 use Rattle.std.specs.declared.alloc.Global.{Global}
@@ -82,12 +82,6 @@ run_room (m ∷ ms) (Ok _ ∷ answers) = hint m + 5 + run_room ms answers
 run_room (m ∷ ms) (Err (Protocol _ _) ∷ answers) = run_room ms answers
 run_room (m ∷ ms) (Err OutOfMemory ∷ answers) = hint m + 5 + run_room ms answers
 
--- the room that one of them asks for
-abbrev pub room_by : Message → Answer → ℕ
-room_by m (Ok _) = hint m + 5
-room_by m (Err (Protocol _ _)) = 0
-room_by m (Err OutOfMemory) = hint m + 5
-
 -- no answer is out of memory
 abbrev pub NoneRanOut : List Answer → Type 0
 NoneRanOut [] = Unit {0}
@@ -95,14 +89,22 @@ NoneRanOut (Ok _ ∷ answers) = NoneRanOut answers
 NoneRanOut (Err (Protocol _ _) ∷ answers) = NoneRanOut answers
 NoneRanOut (Err OutOfMemory ∷ answers) = ⊥
 
--- one more answer is found, which isn't out of memory, with the room that its message asks for; it
--- saturates
-pub record PlansOne (IsAnswerTo : Message → Answer → Type 0) (m : Message) (old new : List Answer) (room : ℕ) : Type 0 where
-  pub answer : Answer
-  pub adds : new ≡ old ++ answer ∷ []
+-- what the answer to one message says of the buffer: it gains the text of an accepted message alone; a
+-- reader that is given the kind gets the message back where it can make the round trip; memory ran out
+-- only where the spare room is less than the hint and five; and no room is given back
+pub record EncodesOne (IsAnswerTo : Message → Answer → Type 0) (m : Message) (answer : Answer) (old new : Vec ℕ Global) : Type 0 where
+  pub ok : OnOk answer (new.items ≡ old.items ++ text m)
+  pub err : OnErr answer (new.items ≡ old.items)
   pub is : IsAnswerTo m answer
-  pub none_ran_out : NoneRanOut (answer ∷ [])
-  pub is_room : room ≡ min (room_by m answer) (2 ^ 64 - 1)
+  pub round_trip : OnOk answer (CanRoundTrip m → RoundTrips m)
+  pub memory : IsErrOf answer OutOfMemory → vec_capacity old < vec_len old + (hint m + 5)
+  pub capacity : vec_capacity old ≤ vec_capacity new
+
+-- one more answer is found
+pub record AnswersOne (IsAnswerTo : Message → Answer → Type 0) (m : Message) (answers more : List Answer) (old new : Vec ℕ Global) : Type 0 where
+  pub answer : Answer
+  pub adds : more ≡ answers ++ answer ∷ []
+  pub encodes : EncodesOne IsAnswerTo m answer old new
 
 -- What a run gives. The buffer gains the texts of exactly the accepted messages; each message has its
 -- answer; tags and lengths cut what was added into the accepted messages, and into no others; a reader

@@ -1,22 +1,22 @@
 //! Runs of messages into one buffer.
 
-ghost use Rattle.std.specs.Prelude.{◌≡◌, ◌+◌, ◌<◌, ◌≤◌, [], ◌∷◌, ◌++◌, length, None, OnOk, OnErr, IfOk, IsErrOf, IsOkUnless, vec_len, vec_capacity};
+ghost use Rattle.std.specs.Prelude.{◌≡◌, ◌+◌, ◌<◌, ◌≤◌, [], ◌∷◌, ◌++◌, length, Ok, OnOk, OnErr, IfOk, IsErrOf, IsOkUnless, vec_len, vec_capacity};
+ghost use Rattle.std.specs.Bool.{OnTrue, OnFalse};
 ghost use Rattle.pg_base.specs.declared.error.Error.TheVariants.{OutOfMemory};
-ghost use Rattle.pg_request.specs.Frame.{saturated};
-ghost use Rattle.pg_request.specs.Message.{body, fault, hint, text, CanRoundTrip, RoundTrips};
-ghost use Rattle.pg_send.specs.Run.{added, added_by, room_by, run_room, AreAnswers, IsLimitAnswer, IsStrictAnswer, IsAnswerOf, EachRoundTrips, AllRoundTrip, PlansOne, NoneRanOut, RanOutWhereShort, EncodesRun};
+ghost use Rattle.pg_request.specs.Message.{hint, text, CanRoundTrip, RoundTrips};
+ghost use Rattle.pg_send.specs.Run.{IsLimitAnswer, IsStrictAnswer, IsAnswerOf, EachRoundTrips, NoneRanOut, EncodesOne, AnswersOne, EncodesRun};
 ghost use Rattle.pg_send.specs.TaggedMessage.{message_of, messages_of};
 
 use crate::message::TaggedMessage;
 use pg_base::Error;
-use std::alloc::{AllocError, Global};
+use std::alloc::Global;
 
 /// Adds each message to the buffer in order, and gives one answer a message: that of
 /// [`TaggedMessage::encode`]. A refused message adds nothing and doesn't stop the rest.
 ///
-/// Memory is asked for once for the answers and once for all that is added; where the second is
-/// refused, each message asks for its own. Where room for the answers is refused, the call is
-/// `OutOfMemory` and changes nothing.
+/// Memory is asked for once for the answers, and once, at the first message that the spare room
+/// doesn't hold, for all that is left to add; where the second is refused, each message asks for its
+/// own. Where room for the answers is refused, the call is `OutOfMemory` and changes nothing.
 pub fn encode_all(
     alloc: Global,
     messages: &[TaggedMessage<'_>],
@@ -57,63 +57,134 @@ fn encode_run(
     ensures memory { IsOkUnless result OutOfMemory }
     ensures err { OnErr result (buf.new ≡ buf.old) }
 {
-    let mut run = plan_run(alloc, messages, strict)?;
-    write_run(messages, strict, &mut run, buf);
-    Ok(run.answers)
-}
-
-// The answers that the messages of a run get where memory doesn't run out, and the spare room that
-// the accepted ones ask for, in bytes; it saturates.
-#[derive(Drop)]
-struct Plan {
-    answers: Vec<Result<(), Error>>,
-    room: usize,
-}
-
-// Finds each message's answer, and adds up the room of the accepted ones.
-#[inline(always)]
-fn plan_run(alloc: Global, messages: &[TaggedMessage<'_>], strict: bool) -> Result<Plan, AllocError>
-    ensures answered { IfOk result (λ run. AreAnswers (IsAnswerOf strict) (messages_of messages.now) run.answers.items) }
-    ensures none_ran_out { IfOk result (λ run. NoneRanOut run.answers.items) }
-    ensures room { IfOk result (λ run. run.room ≡ saturated (run_room (messages_of messages.now) run.answers.items)) }
-    ensures capacity { IfOk result (λ run. length messages.now ≤ vec_capacity run.answers) }
-{
     let mut answers = Vec::with_capacity(alloc, messages.len())?;
-    let mut room: usize = 0;
-    for message in messages {
-        room = room.saturating_add(push_planned(message, strict, &mut answers));
-    }
-    Ok(Plan { answers, room })
+    encode_each(messages, strict, &mut answers, buf);
+    Ok(answers)
 }
 
-// Adds the answer to a message where memory doesn't run out, and gives the room that the message
-// asks for then. Each answer is written in its place, since a copy would wait for its parts.
+// Adds each message, and collects the answers. The first that is within the limits and doesn't fit
+// asks for the room of all that are left.
 #[inline(always)]
-fn push_planned(
-    message: &TaggedMessage<'_>,
+fn encode_each(
+    messages: &[TaggedMessage<'_>],
     strict: bool,
     answers: &mut Vec<Result<(), Error>>,
-) -> usize
+    buf: &mut Vec<u8>,
+)
+    requires empty { answers.old.items ≡ [] }
+    requires capacity { length messages.now ≤ vec_capacity answers.old }
+    ensures { EncodesRun (IsAnswerOf strict) (messages_of messages.now) answers.new.items buf.old buf.new }
+{
+    let mut asked = false;
+    for index in 0..messages.len() {
+        let message = &messages[index];
+        push_answer(
+            message,
+            &messages[index..],
+            strict,
+            &mut asked,
+            answers,
+            buf,
+        );
+    }
+}
+
+// Adds a message, and its answer. Each answer is written in its place, since a copy would wait for
+// its parts.
+#[inline(always)]
+fn push_answer(
+    message: &TaggedMessage<'_>,
+    rest: &[TaggedMessage<'_>],
+    strict: bool,
+    asked: &mut bool,
+    answers: &mut Vec<Result<(), Error>>,
+    buf: &mut Vec<u8>,
+)
     requires { vec_len answers.old < vec_capacity answers.old }
-    ensures plans { PlansOne (IsAnswerOf strict) (message_of message.now) answers.old.items answers.new.items result }
+    ensures one { AnswersOne (IsAnswerOf strict) (message_of message.now) answers.old.items answers.new.items buf.old buf.new }
     ensures len { vec_len answers.new ≡ vec_len answers.old + 1 }
     ensures capacity { vec_capacity answers.new ≡ vec_capacity answers.old }
 {
-    let room = match message.frame_room() {
-        Ok(room) => room,
-        Err(error) => {
-            answers.push_reserved(Err(error));
-            return 0;
-        }
-    };
+    if put_by_rule(message, strict, buf) {
+        answers.push_reserved(Ok(()));
+    } else {
+        push_unfit(message, rest, strict, asked, answers, buf);
+    }
+}
+
+// Adds a message that the rule accepts where the spare room holds it, and says whether it did.
+#[inline(always)]
+fn put_by_rule(message: &TaggedMessage<'_>, strict: bool, buf: &mut Vec<u8>) -> bool
+    ensures put { OnTrue result (EncodesOne (IsAnswerOf strict) (message_of message.now) (Ok tt) buf.old buf.new) }
+    ensures same { OnFalse result (buf.new ≡ buf.old) }
+{
     if strict {
-        if let Err(fault) = message.check_round_trip() {
-            answers.push_reserved(Err(fault.into()));
-            return 0;
+        if let Err(_) = message.check_round_trip() {
+            return false;
         }
     }
-    answers.push_reserved(Ok(()));
-    room
+    message.put_if_fits(buf)
+}
+
+// A message that is refused, or for which there was no room.
+#[cold]
+#[inline(never)]
+fn push_unfit(
+    message: &TaggedMessage<'_>,
+    rest: &[TaggedMessage<'_>],
+    strict: bool,
+    asked: &mut bool,
+    answers: &mut Vec<Result<(), Error>>,
+    buf: &mut Vec<u8>,
+)
+    requires { vec_len answers.old < vec_capacity answers.old }
+    ensures one { AnswersOne (IsAnswerOf strict) (message_of message.now) answers.old.items answers.new.items buf.old buf.new }
+    ensures len { vec_len answers.new ≡ vec_len answers.old + 1 }
+    ensures capacity { vec_capacity answers.new ≡ vec_capacity answers.old }
+{
+    answers.push_reserved(encode_by_rule(message, rest, strict, asked, buf));
+}
+
+fn encode_by_rule(
+    message: &TaggedMessage<'_>,
+    rest: &[TaggedMessage<'_>],
+    strict: bool,
+    asked: &mut bool,
+    buf: &mut Vec<u8>,
+) -> Result<(), Error>
+    ensures ok { OnOk result (buf.new.items ≡ buf.old.items ++ text (message_of message.now)) }
+    ensures err { OnErr result (buf.new.items ≡ buf.old.items) }
+    ensures answer { IsAnswerOf strict (message_of message.now) result }
+    ensures round_trip { OnOk result (CanRoundTrip (message_of message.now) → RoundTrips (message_of message.now)) }
+    ensures memory { IsErrOf result OutOfMemory → vec_capacity buf.old < vec_len buf.old + (hint (message_of message.now) + 5) }
+    ensures capacity { vec_capacity buf.old ≤ vec_capacity buf.new }
+{
+    refuse_by_rule(message, strict)?;
+    if !*asked {
+        *asked = true;
+        ask_for_all(rest, strict, buf);
+    }
+    message.encode(buf)
+}
+
+// Asks for the room of all messages that the rule accepts. Where it is refused, each asks for its own.
+fn ask_for_all(messages: &[TaggedMessage<'_>], strict: bool, buf: &mut Vec<u8>)
+    ensures items { buf.new.items ≡ buf.old.items }
+    ensures capacity { vec_capacity buf.old ≤ vec_capacity buf.new }
+{
+    let mut room: usize = 0;
+    for message in messages {
+        room = room.saturating_add(room_by_rule(message, strict));
+    }
+    let _ = buf.reserve(room);
+}
+
+// The spare room that a message asks for, or none where the rule refuses it.
+fn room_by_rule(message: &TaggedMessage<'_>, strict: bool) -> usize {
+    if strict && message.check_round_trip().is_err() {
+        return 0;
+    }
+    message.frame_room().unwrap_or(0)
 }
 
 // The refusal of a message where memory doesn't run out.
@@ -127,88 +198,4 @@ fn refuse_by_rule(message: &TaggedMessage<'_>, strict: bool) -> Result<(), Error
         message.check_round_trip()?;
     }
     Ok(())
-}
-
-// Adds the messages of a planned run: with one reservation, or where that is refused with one for
-// each, which may change answers.
-fn write_run(messages: &[TaggedMessage<'_>], strict: bool, run: &mut Plan, buf: &mut Vec<u8>)
-    requires answered { AreAnswers (IsAnswerOf strict) (messages_of messages.now) run.old.answers.items }
-    requires none_ran_out { NoneRanOut run.old.answers.items }
-    requires room { run.old.room ≡ saturated (run_room (messages_of messages.now) run.old.answers.items) }
-    requires capacity { length messages.now ≤ vec_capacity run.old.answers }
-    ensures { EncodesRun (IsAnswerOf strict) (messages_of messages.now) run.new.answers.items buf.old buf.new }
-{
-    if buf.reserve(run.room).is_ok() {
-        put_accepted(messages, strict, run.answers.as_slice(), buf);
-        return;
-    }
-    run.answers.clear();
-    encode_each(messages, strict, &mut run.answers, buf);
-}
-
-// Adds the accepted messages in room that is there for all of them.
-// `strict` is the rule by which the answers were found.
-fn put_accepted(
-    messages: &[TaggedMessage<'_>],
-    _strict: bool,
-    answers: &[Result<(), Error>],
-    buf: &mut Vec<u8>,
-)
-    requires answered { AreAnswers (IsAnswerOf _strict) (messages_of messages.now) answers.now }
-    requires one_each { length answers.now ≡ length messages.now }
-    requires room { vec_len buf.old + run_room (messages_of messages.now) answers.now ≤ vec_capacity buf.old }
-    ensures added { buf.new.items ≡ buf.old.items ++ added (messages_of messages.now) answers.now }
-    ensures round_trip { AllRoundTrip (messages_of messages.now) answers.now }
-    ensures capacity { vec_capacity buf.old ≤ vec_capacity buf.new }
-{
-    for index in 0..messages.len() {
-        put_if_accepted(&messages[index], &answers[index], buf);
-    }
-}
-
-#[inline(always)]
-fn put_if_accepted(message: &TaggedMessage<'_>, answer: &Result<(), Error>, buf: &mut Vec<u8>)
-    requires limits { OnOk answer.now (fault (message_of message.now) ≡ None) }
-    requires room { OnOk answer.now (vec_len buf.old + (length (body (message_of message.now)) + 5) ≤ vec_capacity buf.old) }
-    ensures added { buf.new.items ≡ buf.old.items ++ added_by (message_of message.now) answer.now }
-    ensures round_trip { OnOk answer.now (CanRoundTrip (message_of message.now) → RoundTrips (message_of message.now)) }
-    ensures capacity { vec_capacity buf.old ≤ vec_capacity buf.new }
-{
-    match answer {
-        Ok(()) => message.put_frame(buf),
-        Err(_) => {}
-    }
-}
-
-// Adds each message with a reservation of its own, and collects the answers.
-fn encode_each(
-    messages: &[TaggedMessage<'_>],
-    strict: bool,
-    answers: &mut Vec<Result<(), Error>>,
-    buf: &mut Vec<u8>,
-)
-    requires empty { answers.old.items ≡ [] }
-    requires capacity { length messages.now ≤ vec_capacity answers.old }
-    ensures added { buf.new.items ≡ buf.old.items ++ added (messages_of messages.now) answers.new.items }
-    ensures answered { AreAnswers (IsAnswerOf strict) (messages_of messages.now) answers.new.items }
-    ensures round_trip { AllRoundTrip (messages_of messages.now) answers.new.items }
-    ensures room { RanOutWhereShort (vec_capacity buf.old) (vec_len buf.old) (messages_of messages.now) answers.new.items }
-    ensures capacity { vec_capacity buf.old ≤ vec_capacity buf.new }
-{
-    for message in messages {
-        answers.push_reserved(encode_by_rule(message, strict, buf));
-    }
-}
-
-#[inline(always)]
-fn encode_by_rule(message: &TaggedMessage<'_>, strict: bool, buf: &mut Vec<u8>) -> Result<(), Error>
-    ensures ok { OnOk result (buf.new.items ≡ buf.old.items ++ text (message_of message.now)) }
-    ensures err { OnErr result (buf.new.items ≡ buf.old.items) }
-    ensures answer { IsAnswerOf strict (message_of message.now) result }
-    ensures round_trip { OnOk result (CanRoundTrip (message_of message.now) → RoundTrips (message_of message.now)) }
-    ensures memory { IsErrOf result OutOfMemory → vec_capacity buf.old < vec_len buf.old + (hint (message_of message.now) + 5) }
-    ensures capacity { vec_capacity buf.old ≤ vec_capacity buf.new }
-{
-    refuse_by_rule(message, strict)?;
-    message.encode(buf)
 }

@@ -1,13 +1,14 @@
 //! Any message that has a tag.
 
-ghost use Rattle.std.specs.Prelude.{◌≡◌, ◌+◌, ◌≤◌, ◌++◌, length, Some, None, OnOk, IfErr, vec_len, vec_capacity};
+ghost use Rattle.std.specs.Prelude.{◌≡◌, ◌+◌, ◌≤◌, ◌++◌, length, Some, None, Ok, OnOk, IfErr, vec_len, vec_capacity};
+ghost use Rattle.std.specs.Bool.{OnTrue, OnFalse};
 ghost use Rattle.pg_request.specs.Frame.{EncodesMessage, room_or_fault};
 ghost use Rattle.pg_request.specs.Message.{law_of, body, fault, hint, text, IsInRange, CanRoundTrip, round_trip_fault, RoundTrips};
 ghost use Rattle.pg_send.specs.TaggedMessage.{message_of};
 
 use crate::message::{
     Bind, Close, CopyData, CopyDone, CopyFail, Describe, Execute, Flush, FrontendMessage, Parse,
-    Password, Query, SaslInitialResponse, SaslResponse, Sync, Terminate, encode_frame,
+    Password, Query, SaslInitialResponse, SaslResponse, Sync, Terminate, encode_frame, put_if_fits,
 };
 use pg_base::{Error, ProtocolFault};
 
@@ -67,11 +68,26 @@ impl TaggedMessage<'_> {
         // A reader that is given the kind gets the message back from its body, and no other.
         ensures round_trip { OnOk result (CanRoundTrip (message_of self.now) → RoundTrips (message_of self.now)) }
     {
+        if self.put_if_fits(buf) {
+            return Ok(());
+        }
         self.encode_held(buf)
     }
 
-    // The frame of what it holds.
+    /// Adds the message within the limits where the spare room holds it: [`put_if_fits`] of what it
+    /// holds.
     #[inline(always)]
+    pub fn put_if_fits(&self, buf: &mut Vec<u8>) -> bool
+        ensures encodes { OnTrue result (EncodesMessage (law_of (message_of self.now)) buf.old buf.new (Ok tt)) }
+        ensures range { OnTrue result (IsInRange (message_of self.now)) }
+        ensures same { OnFalse result (buf.new ≡ buf.old) }
+    {
+        held!(self, message => put_if_fits(message, buf))
+    }
+
+    // The frame of what it holds.
+    #[cold]
+    #[inline(never)]
     fn encode_held(&self, buf: &mut Vec<u8>) -> Result<(), Error>
         ensures encodes { EncodesMessage (law_of (message_of self.now)) buf.old buf.new result }
         ensures range { OnOk result (IsInRange (message_of self.now)) }
@@ -92,6 +108,7 @@ impl TaggedMessage<'_> {
     /// Whether a reader would get the message back from its bytes: refused with `TextHoldsNul` for a
     /// Query, a CopyFail, a password in clear or the query of a Parse that holds a NUL, and with
     /// `BadParams` for a Bind whose parameters are not as many values as it says.
+    #[inline(always)]
     pub fn check_round_trip(&self) -> Result<(), ProtocolFault>
         ensures ok { OnOk result (CanRoundTrip (message_of self.now)) }
         ensures fault { IfErr result (λ fault. (round_trip_fault (message_of self.now) ≡ Some fault) × ¬ (CanRoundTrip (message_of self.now))) }

@@ -4,10 +4,10 @@ use Rattle.pg_send.specs.Run.{IsAnswerOf}
 use Rattle.pg_send.proofs.RunLemmas.{answers_fit, Ran}
 use Rattle.pg_send.proofs.message.run.encode_each.Given as goal
 
-abbrev pub invariant-loop-message : goal.invariant-loop-message
-invariant-loop-message l = record {
-  run : Ran (IsAnswerOf l.strict) (answers_fit l.strict) (messages_of (take l.message-index l.messages)) l.answers.items l.fn.buf.items l.buf.items (vec_capacity l.fn.buf) (vec_len l.fn.buf);
+abbrev pub invariant-loop-index : goal.invariant-loop-index
+invariant-loop-index l = record {
+  run : Ran (IsAnswerOf l.strict) (answers_fit l.strict) (messages_of (take l.index l.messages)) l.answers.items l.fn.buf.items l.buf.items (vec_capacity l.fn.buf) (vec_len l.fn.buf);
   grows : vec_capacity l.fn.buf ≤ vec_capacity l.buf;
-  one_each : vec_len l.answers ≡ l.message-index;
+  one_each : vec_len l.answers ≡ l.index;
   room : length l.messages ≤ vec_capacity l.answers;
 }
