@@ -5,7 +5,7 @@
 //! out, or `out` is too short.
 
 use crate::script::Script;
-use pg_message::message::{TaggedMessage, encode_all};
+use pg_message::message::{TaggedMessage, encode_all, encode_strict};
 use std::alloc::Global;
 
 /// Parses the script once, and encodes its messages one by one.
@@ -28,6 +28,17 @@ pub extern "C" fn tw_encode_all(
     out: &mut [u8],
 ) -> usize {
     give(all(alloc, script, times), out)
+}
+
+/// Parses the script once, and encodes its messages with one strict call per pass.
+#[unsafe(no_mangle)]
+pub extern "C" fn tw_encode_strict(
+    alloc: Global,
+    script: &[u8],
+    times: usize,
+    out: &mut [u8],
+) -> usize {
+    give(strict(alloc, script, times), out)
 }
 
 /// Parses the script in each pass, and encodes each message as it is parsed.
@@ -61,6 +72,20 @@ fn all(alloc: Global, script: &[u8], times: usize) -> Option<Vec<u8>> {
     for _ in 0..times {
         buf.clear();
         let answers = encode_all(alloc, messages.as_slice(), &mut buf).ok()?;
+        if !answers.iter().all(Result::is_ok) {
+            return None;
+        }
+    }
+    Some(buf)
+}
+
+fn strict(alloc: Global, script: &[u8], times: usize) -> Option<Vec<u8>> {
+    let mut messages = Vec::new(alloc);
+    read_messages(script, &mut messages)?;
+    let mut buf = Vec::new(alloc);
+    for _ in 0..times {
+        buf.clear();
+        let answers = encode_strict(alloc, messages.as_slice(), &mut buf).ok()?;
         if !answers.iter().all(Result::is_ok) {
             return None;
         }
