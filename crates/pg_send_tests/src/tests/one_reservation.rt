@@ -1,5 +1,6 @@
-//! A run asks once for its answers and once for what its accepted messages add. Where the second
-//! request is refused, each message asks for its own, and no answer changes.
+//! A run asks once for its answers, and once, where the spare room doesn't hold them, for what its
+//! accepted messages add. Where the second request is refused, each message asks for its own, and no
+//! answer changes.
 
 use super::refusing::{MANY, assert_accepted, assert_fault, refuse_from, refuse_nth, was_refused};
 use pg_base::io::{Oid, StatementId};
@@ -77,12 +78,14 @@ fn refuse_in_turn(
         };
         assert_answers(rt, answers.as_slice(), buf.as_slice().strip_prefix(old))?;
         if !was_refused {
-            assert!(rt; buf.capacity() == old.len().saturating_add(SUM));
+            let room = old.len().saturating_add(SUM);
+            assert!(rt; buf.capacity() >= room);
+            assert!(rt; 0 < spare && spare < SUM || buf.capacity() == room);
             return Ok(());
         }
-        // The first request is for the answers, and there is no third.
+        // The first request is for the answers, the second for what lacks, and there is no third.
         assert!(rt; nth == 2);
-        assert!(rt; spare == 0);
+        assert!(rt; spare < SUM);
     }
     panic!(rt; "requests without end")
 }
@@ -125,6 +128,14 @@ fn after_old_bytes(rt: HostRuntime) -> Result<(), AllocError> {
 fn where_the_spare_room_is_the_sum(rt: HostRuntime) -> Result<(), AllocError> {
     assert_row(&rt, rt.alloc(), b"", SUM)?;
     assert_row(&rt, rt.alloc(), b"\xaa", SUM)
+}
+
+#[test]
+fn at_each_spare_room(rt: HostRuntime) -> Result<(), AllocError> {
+    for spare in 0..SUM {
+        assert_row(&rt, rt.alloc(), b"\xaa", spare)?;
+    }
+    Ok(())
 }
 
 #[test]
