@@ -47,6 +47,10 @@ class Crate:
         """Where its checks keep what they proved."""
         return self.folder / "out/incremental"
 
+    def has_tests(self):
+        """Whether it has unit tests."""
+        return any("#[test]" in file.read_text() for file in (self.folder / "src").rglob("*.rt"))
+
     def is_older(self, made):
         """Whether a file that was made of the crate is missing, or some source is not older than it."""
         if not made.exists():

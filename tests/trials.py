@@ -53,9 +53,10 @@ class Trial:
                 left = [edit for edit in left if edit not in batch] + again
 
     def begin(self):
-        """Begins a static library's trial with what its build proved."""
+        """Begins with what earlier checks proved; of a static library, with what its build did."""
         if self.crate.is_static:
             crates.archive(self.crate)
+        if self.crate.kept().exists():
             shutil.copytree(self.crate.kept(), self.kept, dirs_exist_ok=True)
 
     def check(self, edits):
