@@ -34,4 +34,5 @@ same_faults faults.Base64 faults.Base64 e = refl
 same_faults (faults.BadLength n) (faults.BadLength m) e = search rules
 same_faults faults.TextHoldsNul faults.TextHoldsNul e = refl
 same_faults faults.BadParams faults.BadParams e = refl
+same_faults (faults.BadKeyLength n) (faults.BadKeyLength m) e = search rules
 same_faults a b e = absurd (let clash : false ≡ true = e in cc)

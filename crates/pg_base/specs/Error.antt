@@ -27,6 +27,7 @@ fault_words faults.Base64 = codes "SASL value is not base64"
 fault_words (faults.BadLength length) = codes "bad message length: " ++ signed_decimal length
 fault_words faults.TextHoldsNul = codes "text holds NUL"
 fault_words faults.BadParams = codes "params are not num_params values"
+fault_words (faults.BadKeyLength length) = codes "secret key length out of range for protocol: " ++ decimal length
 
 abbrev pub error_words : Error → List ℕ
 error_words (Protocol None fault) = fault_words fault

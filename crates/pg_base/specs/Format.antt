@@ -14,6 +14,7 @@ frontend_tag frontend.Bind = 66
 frontend_tag frontend.Close = 67
 frontend_tag frontend.Describe = 68
 frontend_tag frontend.Execute = 69
+frontend_tag frontend.FunctionCall = 70
 frontend_tag frontend.Flush = 72
 frontend_tag frontend.Parse = 80
 frontend_tag frontend.Query = 81

@@ -8,4 +8,5 @@ pub mod Format
 pub mod Id
 pub mod Numbers
 pub mod Reading
+pub mod Sink
 pub mod Text

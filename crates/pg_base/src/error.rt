@@ -65,6 +65,8 @@ pub enum ProtocolFault {
     TextHoldsNul,
     /// The parameters of a Bind are not as many values as it says.
     BadParams,
+    /// The secret key of a session has fewer than 4 bytes, or more than 256: its length.
+    BadKeyLength(usize),
 }
 
 impl fmt::Display for ProtocolFault {
@@ -117,6 +119,9 @@ impl fmt::Display for ProtocolFault {
             ProtocolFault::BadLength(length) => write!(f, "bad message length: {length}"),
             ProtocolFault::TextHoldsNul => write!(f, "text holds NUL"),
             ProtocolFault::BadParams => write!(f, "params are not num_params values"),
+            ProtocolFault::BadKeyLength(length) => {
+                write!(f, "secret key length out of range for protocol: {length}")
+            }
         }
     }
 }

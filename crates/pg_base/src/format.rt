@@ -15,6 +15,7 @@ pub enum FrontendMessageFormat {
     Close = b'C' as isize,
     Describe = b'D' as isize,
     Execute = b'E' as isize,
+    FunctionCall = b'F' as isize,
     Flush = b'H' as isize,
     Parse = b'P' as isize,
     Query = b'Q' as isize,

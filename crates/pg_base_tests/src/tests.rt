@@ -3,4 +3,5 @@
 pub mod display;
 mod formats;
 mod io;
+mod laws;
 pub mod refusing;

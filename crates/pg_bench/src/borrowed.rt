@@ -3,93 +3,101 @@
 //! The call returns what [`decode`](crate::decode) does for rows, columns, CommandComplete,
 //! ReadyForQuery and ParameterStatus, and 0 where the stream has another kind.
 
-use crate::sum::Sum;
+use crate::consumer::{Checksum, Consumer, Seen};
 use pg_message::message::{ColumnReader, RowReader, ServerMessageRef, next_frame, rows_affected};
 use std::alloc::Global;
 
 /// Each pass appends the stream to an empty buffer, and takes the frames off its front.
 #[unsafe(no_mangle)]
 pub extern "C" fn tw_decode_borrowed(alloc: Global, stream: &[u8], times: usize, full: u8) -> u64 {
-    borrowed(alloc, stream, times, full != 0).unwrap_or(0)
+    let value = match full {
+        0 => borrowed(alloc, stream, times, Seen(0)),
+        _ => borrowed(alloc, stream, times, Checksum(0)),
+    };
+    value.unwrap_or(0)
 }
 
-fn borrowed(alloc: Global, stream: &[u8], times: usize, full: bool) -> Option<u64> {
+fn borrowed<C: Consumer + Drop>(
+    alloc: Global,
+    stream: &[u8],
+    times: usize,
+    mut consumer: C,
+) -> Option<u64> {
     let mut buf = Vec::new(alloc);
-    let mut sum = Sum { value: 0, full };
     for _ in 0..times {
         buf.clear();
         buf.extend_from_slice(stream).ok()?;
-        add_frames(buf.as_slice(), &mut sum)?;
+        give_frames(buf.as_slice(), &mut consumer)?;
     }
-    Some(sum.value)
+    Some(consumer.value())
 }
 
-fn add_frames(stream: &[u8], sum: &mut Sum) -> Option<()> {
+fn give_frames<C: Consumer>(stream: &[u8], consumer: &mut C) -> Option<()> {
     let mut rest = stream;
     for _ in 0..stream.len() {
         let Some(frame) = next_frame(rest).ok()? else {
             break;
         };
         let message = ServerMessageRef::read(frame.format, frame.body).ok()?;
-        add(message, sum)?;
+        give(message, consumer)?;
         rest = frame.rest;
     }
     rest.is_empty().then_some(())
 }
 
-// Adds the tag and everything that the message's accessors return.
-fn add(message: ServerMessageRef<'_>, sum: &mut Sum) -> Option<()> {
+// Gives the tag and everything that the message's accessors return.
+fn give<C: Consumer>(message: ServerMessageRef<'_>, consumer: &mut C) -> Option<()> {
     match message {
-        ServerMessageRef::DataRow(row) => add_row(row, sum),
-        ServerMessageRef::RowDescription(columns) => add_columns(columns, sum),
+        ServerMessageRef::DataRow(row) => give_row(row, consumer),
+        ServerMessageRef::RowDescription(columns) => give_columns(columns, consumer),
         ServerMessageRef::CommandComplete(tag) => {
-            sum.mix(u64::from(b'C'));
-            sum.mix(rows_affected(tag));
+            consumer.number(u64::from(b'C'));
+            consumer.number(rows_affected(tag));
             Some(())
         }
         ServerMessageRef::ReadyForQuery(ready) => {
-            sum.mix(u64::from(b'Z'));
-            sum.mix(ready.transaction_status as u64);
+            consumer.number(u64::from(b'Z'));
+            consumer.number(ready.transaction_status as u64);
             Some(())
         }
         ServerMessageRef::ParameterStatus(status) => {
-            sum.mix(u64::from(b'S'));
-            sum.touch(status.name.as_bytes());
-            sum.touch(status.value.as_bytes());
+            consumer.number(u64::from(b'S'));
+            consumer.bytes(status.name.as_bytes());
+            consumer.bytes(status.value.as_bytes());
             Some(())
         }
         _ => None,
     }
 }
 
-fn add_row(mut row: RowReader<'_>, sum: &mut Sum) -> Option<()> {
-    sum.mix(u64::from(b'D'));
-    sum.mix(row.len() as u64);
+fn give_row<C: Consumer>(mut row: RowReader<'_>, consumer: &mut C) -> Option<()> {
+    consumer.number(u64::from(b'D'));
+    consumer.number(row.len() as u64);
     for _ in 0..row.len() {
         let Some(cell) = row.next_cell().ok()? else {
             break;
         };
-        sum.touch_option(cell);
+        consumer.bytes_or_nothing(cell);
     }
     Some(())
 }
 
-fn add_columns(mut columns: ColumnReader<'_>, sum: &mut Sum) -> Option<()> {
-    sum.mix(u64::from(b'T'));
+fn give_columns<C: Consumer>(mut columns: ColumnReader<'_>, consumer: &mut C) -> Option<()> {
+    consumer.number(u64::from(b'T'));
     let count = columns.len();
     for _ in 0..count {
         let Some(field) = columns.next_column().ok()? else {
             break;
         };
-        sum.touch(field.name.as_bytes());
-        sum.mix(field.relation_id.map_or(0, |oid| u64::from(oid.0)));
+        consumer.bytes(field.name.as_bytes());
+        consumer.number(field.relation_id.map_or(0, |oid| u64::from(oid.0)));
         let attribute = field.relation_attribute_no.unwrap_or(0);
-        sum.mix(u64::from(attribute.cast_unsigned()));
-        sum.mix(u64::from(field.data_type_id.0));
-        sum.mix(u64::from(field.data_type_size.cast_unsigned()));
-        sum.mix(u64::from(field.type_modifier.cast_unsigned()));
-        sum.mix(u64::from(field.format.cast_unsigned()));
+        consumer.number(u64::from(attribute.cast_unsigned()));
+        consumer.number(u64::from(field.data_type_id.0));
+        consumer.number(u64::from(field.data_type_size.cast_unsigned()));
+        consumer.number(u64::from(field.type_modifier.cast_unsigned()));
+        consumer.number(u64::from(field.format.cast_unsigned()));
     }
-    sum.mix(count as u64);
+    consumer.number(count as u64);
     Some(())
 }

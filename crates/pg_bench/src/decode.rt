@@ -1,9 +1,10 @@
 //! Decodes a stream of frames repeatedly and calls each accessor.
 //!
-//! Each call returns the sum of everything read in all passes, or 0 where the stream is truncated, a
-//! message is refused or is of another kind than the six of `AddTo`, or memory runs out.
+//! Each call returns what the consumer has of everything read in all passes, the checksum where `full`
+//! isn't 0, or 0 where the stream is truncated, a message is refused or is of another kind than the
+//! six of `GiveTo`, or memory runs out.
 
-use crate::sum::Sum;
+use crate::consumer::{Checksum, Consumer, Seen};
 use pg_message::error::{PgDatabaseError, PgErrorPosition};
 use pg_message::message::{
     DataRow, FrameReader, ReceivedMessage, RowDescription, ServerMessage, Visitor,
@@ -13,16 +14,42 @@ use std::alloc::Global;
 /// Reads the messages once; each pass decodes a clone of each.
 #[unsafe(no_mangle)]
 pub extern "C" fn tw_decode_prepared(alloc: Global, stream: &[u8], times: usize, full: u8) -> u64 {
-    prepared(alloc, stream, times, full != 0).unwrap_or(0)
+    let value = match full {
+        0 => prepared(alloc, stream, times, Seen(0)),
+        _ => prepared(alloc, stream, times, Checksum(0)),
+    };
+    value.unwrap_or(0)
 }
 
 /// Each pass feeds the stream to a reader, and decodes the messages that it hands out.
 #[unsafe(no_mangle)]
 pub extern "C" fn tw_decode_stream(alloc: Global, stream: &[u8], times: usize, full: u8) -> u64 {
-    streamed(alloc, stream, times, full != 0).unwrap_or(0)
+    tw_decode_pieces(alloc, stream, stream.len(), times, full)
 }
 
-fn prepared(alloc: Global, stream: &[u8], times: usize, full: bool) -> Option<u64> {
+/// Each pass feeds the stream to a reader in pieces of `piece` bytes, and after each decodes the
+/// messages that are complete.
+#[unsafe(no_mangle)]
+pub extern "C" fn tw_decode_pieces(
+    alloc: Global,
+    stream: &[u8],
+    piece: usize,
+    times: usize,
+    full: u8,
+) -> u64 {
+    let value = match full {
+        0 => streamed(alloc, stream, piece, times, Seen(0)),
+        _ => streamed(alloc, stream, piece, times, Checksum(0)),
+    };
+    value.unwrap_or(0)
+}
+
+fn prepared<C: Consumer + Drop>(
+    alloc: Global,
+    stream: &[u8],
+    times: usize,
+    mut consumer: C,
+) -> Option<u64> {
     let mut reader = FrameReader::new(alloc);
     reader.feed(stream).ok()?;
     let mut messages = Vec::new(alloc);
@@ -32,7 +59,6 @@ fn prepared(alloc: Global, stream: &[u8], times: usize, full: bool) -> Option<u6
         };
         messages.push(message).ok()?;
     }
-    let mut sum = Sum { value: 0, full };
     for _ in 0..times {
         for message in messages.iter() {
             let ReceivedMessage { format, contents } = message;
@@ -41,43 +67,57 @@ fn prepared(alloc: Global, stream: &[u8], times: usize, full: bool) -> Option<u6
                 format: *format,
                 contents,
             };
-            add(alloc, message, &mut sum)?;
+            give(alloc, message, &mut consumer)?;
         }
     }
-    reader.is_empty().then_some(sum.value)
+    reader.is_empty().then_some(consumer.value())
 }
 
-fn streamed(alloc: Global, stream: &[u8], times: usize, full: bool) -> Option<u64> {
-    let mut reader = FrameReader::new(alloc);
-    let mut sum = Sum { value: 0, full };
-    for _ in 0..times {
-        reader.feed(stream).ok()?;
-        add_messages(alloc, &mut reader, &mut sum)?;
+fn streamed<C: Consumer + Drop>(
+    alloc: Global,
+    stream: &[u8],
+    piece: usize,
+    times: usize,
+    mut consumer: C,
+) -> Option<u64> {
+    if piece == 0 {
+        return None;
     }
-    reader.is_empty().then_some(sum.value)
+    let mut reader = FrameReader::new(alloc);
+    for _ in 0..times {
+        for bytes in stream.chunks(piece) {
+            reader.feed(bytes).ok()?;
+            give_complete(alloc, &mut reader, &mut consumer)?;
+        }
+    }
+    reader.is_empty().then_some(consumer.value())
 }
 
-fn add_messages(alloc: Global, reader: &mut FrameReader, sum: &mut Sum) -> Option<()> {
+fn give_complete<C: Consumer>(
+    alloc: Global,
+    reader: &mut FrameReader,
+    consumer: &mut C,
+) -> Option<()> {
     for _ in 0..reader.len() {
         let Some(message) = reader.next_message().ok()? else {
             break;
         };
-        add(alloc, message, sum)?;
+        give(alloc, message, consumer)?;
     }
     Some(())
 }
 
-fn add(alloc: Global, message: ReceivedMessage, sum: &mut Sum) -> Option<()> {
-    ServerMessage::visit(alloc, message, AddTo { sum }).ok()?
+fn give<C: Consumer>(alloc: Global, message: ReceivedMessage, consumer: &mut C) -> Option<()> {
+    ServerMessage::visit(alloc, message, GiveTo { consumer }).ok()?
 }
 
-// Adds the tag of a message and everything that its accessors return.
+// Gives the consumer the tag of a message and everything that its accessors return.
 #[derive(Drop)]
-struct AddTo<'a> {
-    sum: &'a mut Sum,
+struct GiveTo<'a, C> {
+    consumer: &'a mut C,
 }
 
-impl<'a> Visitor for AddTo<'a> {
+impl<'a, C: Consumer> Visitor for GiveTo<'a, C> {
     type Output = Option<()>;
 
     ghost gives = { λ _ _ _. Unit {0} };
@@ -85,21 +125,21 @@ impl<'a> Visitor for AddTo<'a> {
     #[inline(always)]
     fn visit(self, message: ServerMessage) -> Option<()> {
         match &message {
-            ServerMessage::DataRow(row) => add_row(row, self.sum),
-            ServerMessage::RowDescription(description) => add_columns(description, self.sum),
+            ServerMessage::DataRow(row) => give_row(row, self.consumer),
+            ServerMessage::RowDescription(description) => give_columns(description, self.consumer),
             ServerMessage::CommandComplete(complete) => {
-                self.sum.mix(u64::from(b'C'));
-                self.sum.mix(complete.rows_affected());
+                self.consumer.number(u64::from(b'C'));
+                self.consumer.number(complete.rows_affected());
             }
             ServerMessage::ReadyForQuery(ready) => {
-                self.sum.mix(u64::from(b'Z'));
-                self.sum.mix(ready.transaction_status as u64);
+                self.consumer.number(u64::from(b'Z'));
+                self.consumer.number(ready.transaction_status as u64);
             }
-            ServerMessage::ErrorResponse(error) => add_error(error, self.sum),
+            ServerMessage::ErrorResponse(error) => give_error(error, self.consumer),
             ServerMessage::ParameterStatus(status) => {
-                self.sum.mix(u64::from(b'S'));
-                self.sum.touch(status.name.as_bytes());
-                self.sum.touch(status.value.as_bytes());
+                self.consumer.number(u64::from(b'S'));
+                self.consumer.bytes(status.name.as_bytes());
+                self.consumer.bytes(status.value.as_bytes());
             }
             _ => return None,
         }
@@ -108,62 +148,62 @@ impl<'a> Visitor for AddTo<'a> {
 }
 
 #[inline(always)]
-fn add_row(row: &DataRow, sum: &mut Sum) {
-    sum.mix(u64::from(b'D'));
-    sum.mix(row.len() as u64);
+fn give_row<C: Consumer>(row: &DataRow, consumer: &mut C) {
+    consumer.number(u64::from(b'D'));
+    consumer.number(row.len() as u64);
     for index in 0..row.len() {
-        sum.touch_option(row.get(index));
+        consumer.bytes_or_nothing(row.get(index));
     }
 }
 
-fn add_columns(description: &RowDescription, sum: &mut Sum) {
-    sum.mix(u64::from(b'T'));
+fn give_columns<C: Consumer>(description: &RowDescription, consumer: &mut C) {
+    consumer.number(u64::from(b'T'));
     for field in description.fields.iter() {
-        sum.touch(field.name.as_bytes());
-        sum.mix(field.relation_id.map_or(0, |oid| u64::from(oid.0)));
+        consumer.bytes(field.name.as_bytes());
+        consumer.number(field.relation_id.map_or(0, |oid| u64::from(oid.0)));
         let attribute = field.relation_attribute_no.unwrap_or(0);
-        sum.mix(u64::from(attribute.cast_unsigned()));
-        sum.mix(u64::from(field.data_type_id.0));
-        sum.mix(u64::from(field.data_type_size.cast_unsigned()));
-        sum.mix(u64::from(field.type_modifier.cast_unsigned()));
-        sum.mix(u64::from(field.format.cast_unsigned()));
+        consumer.number(u64::from(attribute.cast_unsigned()));
+        consumer.number(u64::from(field.data_type_id.0));
+        consumer.number(u64::from(field.data_type_size.cast_unsigned()));
+        consumer.number(u64::from(field.type_modifier.cast_unsigned()));
+        consumer.number(u64::from(field.format.cast_unsigned()));
     }
-    sum.mix(description.fields.len() as u64);
+    consumer.number(description.fields.len() as u64);
 }
 
-fn add_error(error: &PgDatabaseError, sum: &mut Sum) {
-    sum.mix(u64::from(b'E'));
-    sum.mix(error.severity() as u64);
-    sum.touch(error.code().as_bytes());
-    sum.touch(error.message().as_bytes());
-    sum.text(error.detail());
-    sum.text(error.hint());
-    add_position(error.position(), sum);
-    sum.text(error.where_());
-    sum.text(error.schema());
-    sum.text(error.table());
-    sum.text(error.column());
-    sum.text(error.data_type());
-    sum.text(error.constraint());
-    sum.text(error.file());
+fn give_error<C: Consumer>(error: &PgDatabaseError, consumer: &mut C) {
+    consumer.number(u64::from(b'E'));
+    consumer.number(error.severity() as u64);
+    consumer.bytes(error.code().as_bytes());
+    consumer.bytes(error.message().as_bytes());
+    consumer.text(error.detail());
+    consumer.text(error.hint());
+    give_position(error.position(), consumer);
+    consumer.text(error.where_());
+    consumer.text(error.schema());
+    consumer.text(error.table());
+    consumer.text(error.column());
+    consumer.text(error.data_type());
+    consumer.text(error.constraint());
+    consumer.text(error.file());
     match error.line() {
-        Some(line) => sum.mix(line as u64),
-        None => sum.nothing(),
+        Some(line) => consumer.number(line as u64),
+        None => consumer.nothing(),
     }
-    sum.text(error.routine());
+    consumer.text(error.routine());
 }
 
-fn add_position(position: Option<PgErrorPosition<'_>>, sum: &mut Sum) {
+fn give_position<C: Consumer>(position: Option<PgErrorPosition<'_>>, consumer: &mut C) {
     match position {
-        None => sum.nothing(),
+        None => consumer.nothing(),
         Some(PgErrorPosition::Original(position)) => {
-            sum.mix(0);
-            sum.mix(position as u64);
+            consumer.number(0);
+            consumer.number(position as u64);
         }
         Some(PgErrorPosition::Internal { position, query }) => {
-            sum.mix(1);
-            sum.mix(position as u64);
-            sum.touch(query.as_bytes());
+            consumer.number(1);
+            consumer.number(position as u64);
+            consumer.bytes(query.as_bytes());
         }
     }
 }

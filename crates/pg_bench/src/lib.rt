@@ -3,7 +3,7 @@
 #![tactic(auto)]
 
 pub mod borrowed;
+pub mod consumer;
 pub mod decode;
 pub mod encode;
 mod script;
-mod sum;

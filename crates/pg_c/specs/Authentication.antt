@@ -5,7 +5,7 @@ use Rattle.pg_base.specs.declared.error.ProtocolFault.TheVariants.{UnknownAuthen
 use Rattle.pg_format.specs.Format.{Means, IsFaultOf}
 use Rattle.pg_receive.specs.Authentication.{AuthenticationValue, accepted, cleartext_password, md5_password, sasl, sasl_continue, sasl_final, method_of, requests}
 use Rattle.pg_receive.specs.Authentication.SaslContinue.{ContinueValue}
-use Rattle.pg_c.specs.Put.{IsGiven}
+use Rattle.pg_base.specs.Sink.{IsGiven}
 use Rattle.pg_c.specs.Read.{IsBodyFault}
 use Rattle.pg_c.specs.declared.read.authentication.PgmsgAuthentication.{PgmsgAuthentication}
 use Rattle.pg_c.specs.declared.read.authentication.PgmsgChallenge.{PgmsgChallenge}

@@ -11,3 +11,4 @@ pub mod Refusal
 pub mod Row
 pub mod Session
 pub mod Status
+pub mod Words

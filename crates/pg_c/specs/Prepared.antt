@@ -1,5 +1,5 @@
 -- The values and formats of a Bind, as a C program passes them.
-use Rattle.std.specs.Prelude.{◌≡◌, ◌⊎◌, ◌||◌, ◌+◌, ℕ, ℤ, ◌==◌, Bool, List, [], ◌∷◌, ◌++◌, map, length, Option, Some, None, nat_le, if◌then◌else◌}
+use Rattle.std.specs.Prelude.{◌≡◌, ◌⊎◌, ◌||◌, ◌+◌, ℕ, ℤ, ◌==◌, Bool, false, List, [], ◌∷◌, ◌++◌, map, length, Option, Some, None, MatchOption, nat_le, if◌then◌else◌}
 use Rattle.std.specs.List.{flat_map, list_all}
 use Rattle.pg_base.specs.Cutting.{max_length}
 use Rattle.pg_base.specs.Numbers.{be32, max_count}
@@ -7,10 +7,14 @@ use Rattle.pg_request.specs.Bind.{BindFields}
 use Rattle.pg_request.specs.BindValues.{null_length}
 use Rattle.pg_request.specs.Message.{Message, Parse, Bind, Describe, Execute, Sync}
 use Rattle.pg_request.specs.Target.{Portal}
+use Rattle.pg_base.specs.declared.error.Error.{Error}
 use Rattle.pg_base.specs.declared.error.Error.TheVariants.{OutOfMemory}
 use Rattle.pg_base.specs.declared.error.ProtocolFault.TheVariants.{BadParams}
 use Rattle.pg_c.specs.Refusal.{fault_number, refusal_number, too_long_number}
 use Rattle.pg_c.specs.declared.put.prepared.PgmsgValue.{PgmsgValue}
+
+abbrev pub parse_of : ℕ → List ℕ → List ℕ → Message
+parse_of statement query types = Parse (record { statement = statement; query = query; param_types = types })
 
 -- 0 is text, and anything else binary
 abbrev pub format_of : ℕ → ℕ
@@ -51,7 +55,19 @@ bind_of portal statement formats values result_formats = record {
 abbrev pub MayRefuse : ℤ → List ℕ → List ℕ → ℤ → Type 0
 MayRefuse number old new result = (new ≡ old) × ((result ≡ number) ⊎ (result ≡ refusal_number OutOfMemory))
 
+-- what is answered where a Bind can have the values; else they are refused
+abbrev pub UnlessRefused : List PgmsgValue → Type 0 → List ℕ → List ℕ → ℤ → Type 0
+UnlessRefused values Puts old new result = MatchOption (values_refusal values) Puts (λ number. MayRefuse number old new result)
+
+-- why the values aren't held: no memory, or what refuses them
+abbrev pub IsValuesError : List PgmsgValue → Error → Type 0
+IsValuesError values error = (error ≡ OutOfMemory) ⊎ (values_refusal values ≡ Some (refusal_number error))
+
+-- the same of one value
+abbrev pub IsValueError : PgmsgValue → Error → Type 0
+IsValueError value error = (error ≡ OutOfMemory) ⊎ ((fits value ≡ false) × (refusal_number error ≡ too_long_number))
+
 -- the statement is prepared, bound, described and run, all without a name
 abbrev pub batch_of : List ℕ → BindFields → List Message
 batch_of query bind =
-    Parse (record { statement = 0; query = query; param_types = [] }) ∷ Bind bind ∷ Describe (Portal 0) ∷ Execute (record { portal = 0; limit = 0 }) ∷ Sync ∷ []
+    parse_of 0 query [] ∷ Bind bind ∷ Describe (Portal 0) ∷ Execute (record { portal = 0; limit = 0 }) ∷ Sync ∷ []

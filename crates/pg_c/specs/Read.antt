@@ -1,15 +1,22 @@
 -- What a call that reads items into an array of places answers.
-use Rattle.std.specs.Prelude.{◌≡◌, ◌<◌, ◌≤◌, ◌⊎◌, ℕ, ℤ, pos, List, Option, Some, map, take, drop, length, Result, Ok, Err}
+use Rattle.std.specs.Prelude.{◌≡◌, ◌<◌, ◌≤◌, ◌<ℤ◌, ◌⊎◌, ℕ, ℤ, pos, List, Option, Some, map, take, drop, length, Result, Ok, Err}
 use Rattle.pg_base.specs.declared.error.ProtocolFault.{ProtocolFault}
 use Rattle.pg_base.specs.declared.error.ProtocolFault.TheVariants.{BodyTooLong}
 use Rattle.pg_response.specs.Received.{max_body}
 use Rattle.pg_format.specs.Format.{Format, Means, IsFaultOf}
 use Rattle.pg_format.specs.Format.Lists.{times}
 use Rattle.pg_format.specs.Format.Places.{IsReadAt}
+use Rattle.pg_c.specs.Refusal.{Refuses}
+use Rattle.pg_c.specs.declared.refusal.PgmsgFault.{PgmsgFault}
 
 -- a body that is longer than any, or has a fault
 abbrev pub IsBodyFault : (List ℕ → ProtocolFault → Type 0) → List ℕ → ProtocolFault → Type 0
 IsBodyFault IsFault body fault = ((max_body < length body) × (fault ≡ BodyTooLong (length body))) ⊎ ((length body ≤ max_body) × IsFault body fault)
+
+-- a result below 0 refuses the body, for its fault
+abbrev pub RefusesBody : {V : Type 0} → Format V → List ℕ → Type 0 → PgmsgFault → PgmsgFault → ℤ → Type 0
+RefusesBody g body AsksForMemory old new result =
+    result <ℤ pos 0 → Refuses (IsBodyFault (IsFaultOf g) body) AsksForMemory old new result
 
 -- what is read of a body: a value that it means, or its fault
 abbrev pub ReadsBody : {A V : Type 0} → Format V → (A → V) → List ℕ → Result A ProtocolFault → Type 0

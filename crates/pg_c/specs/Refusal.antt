@@ -32,6 +32,7 @@ fault_number faults.Base64 = negsuc 16
 fault_number (faults.BadLength length) = negsuc 17
 fault_number faults.TextHoldsNul = negsuc 18
 fault_number faults.BadParams = negsuc 19
+fault_number (faults.BadKeyLength length) = negsuc 20
 
 abbrev pub refusal_number : Error → ℤ
 refusal_number (Protocol reading fault) = fault_number fault

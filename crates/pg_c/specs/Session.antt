@@ -1,8 +1,10 @@
 -- The settings that open a session.
-use Rattle.std.specs.Prelude.{◌⊎◌, ◌&&◌, ℕ, ℤ, Bool, List, [], map, length, Some, None, Err}
+use Rattle.std.specs.Prelude.{◌≡◌, ◌⊎◌, ◌&&◌, ℕ, ℤ, Bool, false, List, [], map, length, Some, None, Err}
+use Rattle.std.specs.List.{list_all}
 use Rattle.std.specs.Str.{is_utf8}
-use Rattle.pg_base.specs.declared.error.Error.TheVariants.{OutOfMemory}
-use Rattle.pg_base.specs.declared.error.ProtocolFault.TheVariants.{TextHoldsNul}
+use Rattle.pg_base.specs.declared.error.Error.{Error}
+use Rattle.pg_base.specs.declared.error.Error.TheVariants.{Protocol, OutOfMemory}
+use Rattle.pg_base.specs.declared.error.ProtocolFault.TheVariants.{NotUtf8, TextHoldsNul}
 use Rattle.pg_request.specs.Frame.{first_fault, IsStrictAnswerOf}
 use Rattle.pg_request.specs.Startup.{StartupFields, StartupCanRoundTrip, startup_body, startup_text}
 use Rattle.pg_c.specs.Put.{Answer, IsPut}
@@ -14,6 +16,10 @@ name_and_value setting = (setting.name.now, setting.value.now)
 -- name and value are UTF-8
 abbrev pub is_text : PgmsgSetting → Bool
 is_text setting = is_utf8 setting.name.now && is_utf8 setting.value.now
+
+-- why the settings aren't taken: no memory, or a text that isn't UTF-8
+abbrev pub IsSettingsError : List PgmsgSetting → Error → Type 0
+IsSettingsError settings error = (error ≡ OutOfMemory) ⊎ ((error ≡ Protocol None NotUtf8) × (list_all is_text settings ≡ false))
 
 abbrev pub startup_of : List PgmsgSetting → StartupFields
 startup_of settings = record { username = None; database = None; params = map name_and_value settings }

@@ -9,3 +9,4 @@ pub mod place;
 pub mod put;
 pub mod read;
 pub mod refusal;
+pub mod words;

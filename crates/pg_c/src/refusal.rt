@@ -66,6 +66,9 @@ pub const TEXT_HOLDS_NUL: i32 = -19;
 /// The values of a Bind can't be counted.
 pub const BAD_PARAMS: i32 = -20;
 
+/// A session's secret key has fewer than 4 or more than 256 bytes.
+pub const BAD_KEY_LENGTH: i32 = -21;
+
 /// What is wrong with bytes that were read. `number` is what the call returned. `at` is an offset
 /// in them, where the fault has one, else 0. `words` are `words_len` bytes of ASCII, none where
 /// there was no memory for them.
@@ -110,6 +113,7 @@ fn number_of_fault(fault: ProtocolFault) -> i32
         ProtocolFault::BadLength(_) => BAD_LENGTH,
         ProtocolFault::TextHoldsNul => TEXT_HOLDS_NUL,
         ProtocolFault::BadParams => BAD_PARAMS,
+        ProtocolFault::BadKeyLength(_) => BAD_KEY_LENGTH,
     }
 }
 

@@ -1,11 +1,12 @@
 -- Every message of both directions, in the order of the documentation's "Message Formats": (B) is sent by
 -- the server, (F) by the client. A format is of the body, which follows the tag and the length.
-use Rattle.std.specs.Prelude.{◌≡◌, ◌≢◌, ℕ, ◌*◌, ◌==◌, ℤ, pos, negsuc, List, [], ◌∷◌, Option, IsUtf8}
+use Rattle.std.specs.Prelude.{◌≡◌, ◌≢◌, ℕ, ◌*◌, ◌==◌, ◌&&◌, ℤ, pos, negsuc, List, [], ◌∷◌, length, Option, Some, None, IsUtf8, nat_le, if◌then◌else◌}
 use Rattle.pg_base.specs.declared.format.BackendMessageFormat.{BackendMessageFormat}
 use Rattle.pg_base.specs.declared.format.BackendMessageFormat.TheVariants as backend
 use Rattle.pg_base.specs.declared.format.FrontendMessageFormat.{FrontendMessageFormat}
 use Rattle.pg_base.specs.declared.format.FrontendMessageFormat.TheVariants as frontend
-use Rattle.pg_base.specs.declared.error.ProtocolFault.TheVariants.{UnknownStatus, UnknownMessageType, UnknownAuthentication}
+use Rattle.pg_base.specs.declared.error.ProtocolFault.{ProtocolFault}
+use Rattle.pg_base.specs.declared.error.ProtocolFault.TheVariants.{UnknownStatus, UnknownMessageType, UnknownAuthentication, BadKeyLength}
 use Rattle.pg_format.specs.Format.{Format}
 use Rattle.pg_format.specs.Format.Parts.{until_nul, be_u8, be_u16, be_u32, be_i8, be_i16, be_i32, bytes_of, remaining, one_of, success, fail}
 use Rattle.pg_format.specs.Format.Sequences.{dep_pair, ◌⨾◌, record_of, mapped, case_of, choose}
@@ -69,6 +70,18 @@ no_body = loosely (success tt)
 abbrev pub empty : Format (Unit {0})
 empty = exactly (success tt)
 
+-- CancelRequest (F), which has no tag: the number that no version has, and the session with its key
+pub record Cancel : Type 0 where
+  pub process_id : ℕ
+  pub secret_key : List ℕ
+
+-- a key has 4 bytes, or up to 256 of a server that speaks protocol 3.2
+abbrev pub key_fault : ℕ → Option ProtocolFault
+key_fault length = if nat_le 4 length && nat_le length 256 then None else Some (BadKeyLength length)
+
+abbrev pub cancel_request : Format (ℕ × Cancel)
+cancel_request = only (λ n. n ≡ 80877102) be_u32 ⨾ record_of (λ c. (c.process_id, c.secret_key)) (be_u32 ⨾ checked (λ key. key_fault (length key)) remaining)
+
 -- Close (F) and Describe (F)
 pub record Targeted : Type 0 where
   pub target : Target
@@ -120,6 +133,20 @@ pub record Execute : Type 0 where
 
 abbrev pub execute : Format Execute
 execute = exactly (record_of (λ e. (e.portal, e.limit)) (until_nul ⨾ be_u32))
+
+-- FunctionCall (F): a format code for all arguments, for each, or none for text
+pub record FunctionCall : Type 0 where
+  pub object_id : ℕ
+  pub formats : List ℕ
+  pub arguments : List (Option (List ℕ))
+  pub result_format : ℕ
+
+abbrev pub function_call : Format FunctionCall
+function_call = exactly (record_of (λ f. (f.object_id, (f.formats, (f.arguments, f.result_format)))) (be_u32 ⨾ format_codes ⨾ counted value ⨾ be_u16))
+
+-- GSSENCRequest (F), which has no tag: the number that no version has
+abbrev pub gss_enc_request : Format ℕ
+gss_enc_request = exactly (only (λ n. n ≡ 80877104) be_u32)
 
 -- NotificationResponse (B)
 pub record Notification : Type 0 where
@@ -245,6 +272,7 @@ from_client frontend.Close = means targeted
 from_client frontend.Describe = means targeted
 from_client frontend.Execute = means execute
 from_client frontend.Flush = means empty
+from_client frontend.FunctionCall = means function_call
 from_client frontend.Parse = means parse
 from_client frontend.Query = means text
 from_client frontend.Sync = means empty

@@ -3,7 +3,7 @@
 ghost use Rattle.pg_base.specs.declared.format.BackendMessageFormat.{BackendMessageFormat};
 ghost use Rattle.pg_base.specs.declared.format.FrontendMessageFormat.{FrontendMessageFormat};
 ghost use Rattle.pg_format.specs.Format.{Lawful, Canonical, Total};
-ghost use Rattle.pg_format.specs.Messages.{from_server, from_client, ssl_request, startup};
+ghost use Rattle.pg_format.specs.Messages.{from_server, from_client, cancel_request, gss_enc_request, ssl_request, startup};
 
 /// A body from a server means one value or has one fault, never both and never neither; and what is
 /// written of a value is read as it.
@@ -22,5 +22,7 @@ pub fn messages_from_a_client()
 /// A message without a tag means one value, and what is written of it is read.
 pub fn messages_without_a_tag()
     ensures startup { Lawful startup }
+    ensures cancel_request { Lawful cancel_request }
     ensures ssl_request { Lawful ssl_request }
+    ensures gss_enc_request { Lawful gss_enc_request }
 {}

@@ -1,5 +1,6 @@
 //! Streams in pieces, and the reader of one.
 
+mod laws;
 mod pieces;
 mod reader;
 

@@ -1,6 +1,13 @@
-//! Ids and their names, formats of values, limits, and what a message is written to and read from.
+//! Ids and their names, formats of values, limits, the parts of a body, and what a message is written to
+//! and read from.
 
+pub use bytes::Bytes;
 pub use pg_base::io::{
-    DisplayId, LendBytes, MAX_BODY, MAX_LENGTH, Oid, PgBufMutExt, PgValueFormat, PortalId,
-    ProtocolDecode, ProtocolEncode, StatementId, atoi_u32, atoi_u64, atoi_usize,
+    Cursor, DisplayId, LendBytes, MAX_BODY, MAX_LENGTH, Oid, PgBufMutExt, PgValueFormat, PortalId,
+    ProtocolDecode, ProtocolEncode, Sink, StatementId, Text, atoi_u32, atoi_u64, atoi_usize,
+    bytes_at, i8_at, i16_at, i32_at, u16_at, u32_at, write_text,
 };
+pub use pg_response::message::{
+    leading_u32, leading_u64, leading_usize, split_text, str_at, text_at, utf8_text,
+};
+pub use smallvec::SmallVec;

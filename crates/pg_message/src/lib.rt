@@ -5,10 +5,19 @@
 //! once by [`message::encode_all`]. To receive, feed a [`message::FrameReader`] what the socket gives, take
 //! each message that is complete, and read it by [`message::ServerMessage::decode`].
 //!
-//! Everything here stands in a crate below, where its contract and its laws are: `pg_base`,
-//! `pg_request`, `pg_send`, `pg_response`, `pg_receive`, `pg_server_message` and `pg_frames`.
+//! Everything here stands in a crate below, where its contract is: `pg_base`, `pg_format`, `pg_request`,
+//! `pg_send`, `pg_response`, `pg_receive`, `pg_server_message` and `pg_frames`. The words of the contracts
+//! of `pg_base` are named from here as `Rattle.pg_message.specs.pg_base`, and so are those of the others.
 #![tactic(auto)]
 
 pub mod error;
 pub mod io;
+pub mod laws;
 pub mod message;
+
+pub use error::{Error, ErrorKind, PgDatabaseError, ProtocolFault};
+pub use io::{Oid, PgValueFormat, PortalId, StatementId};
+pub use message::{
+    BackendMessage, BackendMessageFormat, FrameReader, FrontendMessage, FrontendMessageFormat,
+    ReceivedMessage, ServerMessage, ServerMessageRef, TaggedMessage, encode_all,
+};

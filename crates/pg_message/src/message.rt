@@ -9,11 +9,13 @@ pub use pg_receive::message::{
     CommandComplete, CopyInResponse, CopyOutResponse, CopyResponseData, DataRow, Field, FieldRef,
     Fields, Notice, Notification, NotificationRef, ParameterDescription, ParameterStatus,
     ParameterStatusRef, ReadyForQuery, ReceivedMessage, Row, RowDescription, RowIndex, RowReader,
-    SaslMechanisms, TransactionStatus, cell_at, column_at, rows_affected,
+    SaslMechanisms, TransactionStatus, cell_at, column_at, rows_affected, split_field, split_name,
 };
+pub use pg_request::message::put_if_fits;
 pub use pg_send::message::{
-    Bind, BindValues, Close, CopyFail, Describe, EncodeMessage, Execute, Flush, FrontendMessage,
-    Parse, Password, Query, SaslInitialResponse, SaslResponse, SslRequest, Startup, Sync,
-    TaggedMessage, Terminate, encode_all, encode_frame, encode_strict,
+    Bind, BindValues, CancelRequest, Close, CopyFail, Describe, EncodeMessage, Execute, Flush,
+    FrontendMessage, FunctionCall, GssEncRequest, Parse, Password, Query, RawBind, RawClose,
+    RawDescribe, RawExecute, RawParse, SaslInitial, SaslInitialResponse, SaslResponse, SslRequest,
+    Startup, Sync, TaggedMessage, Terminate, encode_all, encode_frame, encode_strict, write_frame,
 };
 pub use pg_server_message::message::{ServerMessage, ServerMessageRef, Visitor};

@@ -5,7 +5,6 @@ mod kinds;
 mod laws;
 mod memory;
 mod message;
-mod readers;
 mod rows;
 mod short_bodies;
 

@@ -42,6 +42,21 @@ module _ {X N : Type 0} (spell : N → List ℕ) (value : X → N) (xs : List X)
   all_more P all one =
       rw (take_more xs i d before, map_push value (take i xs) (get_or xs i d)) (All-push P (map value (take i xs)) (value (get_or xs i d)) all one)
 
+-- the same of a list that is written as it is
+module _ {N : Type 0} (spell : N → List ℕ) (ns : List N) (i : ℕ) (d : N) (before : i < length ns) where
+  pub one_more_number : (old count mid new : List ℕ) → mid ≡ old ++ (count ++ flat_map spell (take i ns)) → new ≡ mid ++ spell (get_or ns i d)
+      → new ≡ old ++ (count ++ flat_map spell (take (i + 1) ns))
+  one_more_number old count mid new is adds =
+      let there = is ∙ sym (append_assoc old count (flat_map spell (take i ns))) in
+      rw (take_more ns i d before)
+      (adds ∙ ap (λ (l : List ℕ). l ++ spell (get_or ns i d)) there ∙ flat_map_more spell (old ++ count) (take i ns) (get_or ns i d)
+      ∙ append_assoc old count (flat_map spell (take i ns ++ get_or ns i d ∷ [])))
+
+  pub room_for_one_number : (old count mid : List ℕ) (capacity : ℕ) → mid ≡ old ++ (count ++ flat_map spell (take i ns)) → length old + length (count ++ flat_map spell ns) ≤ capacity
+      → length mid + length (spell (get_or ns i d)) ≤ capacity
+  room_for_one_number old count mid capacity is room =
+      omega (arith, length-flat_map-take spell ns i d before, ap length is, length-append old (count ++ flat_map spell (take i ns)), length-append count (flat_map spell (take i ns)), length-append count (flat_map spell ns), room)
+
 -- the length of a list after its count
 each_long : (spell : ℕ → List ℕ) (width : ℕ) → ((n : ℕ) → length (spell n) ≡ width) → (ns : List ℕ) → length (flat_map spell ns) ≡ length ns * width
 each_long spell width long [] = omega arith

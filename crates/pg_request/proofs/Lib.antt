@@ -1,4 +1,5 @@
 pub mod BindLemmas
+pub mod CancelRequestLemmas
 pub mod CountedLemmas
 pub mod ExecuteLemmas
 pub mod FrameLemmas
@@ -8,6 +9,8 @@ pub mod PagePartsLemmas
 pub mod ParseLemmas
 pub mod PasswordLemmas
 pub mod PowerLemmas
+pub mod RawLemmas
 pub mod RoundTripLemmas
 pub mod SaslInitialResponseLemmas
 pub mod TargetLemmas
+pub mod ValuesLemmas

@@ -1,8 +1,6 @@
 -- Each message that is within the limits and can make the round trip makes it, and no other does.
-use Rattle.std.proofs.Common.{◌≡◌, ℕ, ◌+◌, ◌≤◌, List, [], ◌++◌, length, Option, Some, None, Result, Ok, Err, OnOk, refl, sym, ap, ◌∙◌, arith, length-append}
-use Rattle.std.specs.Option.{option_or}
+use Rattle.std.proofs.Common.{◌≡◌, ℕ, ◌+◌, ◌≤◌, List, [], ◌++◌, length, None, Result, Ok, Err, OnOk, refl, sym, ap, ◌∙◌, arith, length-append}
 use Rattle.pg_base.specs.declared.error.Error.{Error}
-use Rattle.pg_base.specs.declared.error.ProtocolFault.{ProtocolFault}
 use Rattle.pg_base.specs.declared.error.ProtocolFault.TheVariants.{TooManyParamFormats, TooManyResultFormats, TooManyParamTypes}
 use Rattle.pg_base.specs.Cutting.{frame}
 use Rattle.pg_base.specs.Encode.{IsAnswer}
@@ -11,6 +9,7 @@ use Rattle.pg_base.specs.Reading.{HoldsNo, Text}
 use Rattle.pg_base.specs.Text.{ended}
 use Rattle.pg_base.proofs.CuttingLemmas.{parts_at}
 use Rattle.pg_base.proofs.ReadingLemmas.{one_text}
+use Rattle.pg_format.proofs.FormatLaws.FromClient as client
 use Rattle.pg_request.specs.Bind.{bind_count_fault}
 use Rattle.pg_request.specs.Counted.{too_many}
 use Rattle.pg_request.specs.Message as message
@@ -24,15 +23,13 @@ use Rattle.pg_request.proofs.ExecuteLemmas.{read_execute, one_execute}
 use Rattle.pg_request.proofs.FrameLemmas.{len_fits, no_count_fault, accepted_fits}
 use Rattle.pg_request.proofs.ParseLemmas.{read_parse, one_parse}
 use Rattle.pg_request.proofs.PasswordLemmas.{read_md5, one_md5}
+use Rattle.pg_request.proofs.RawLemmas.{neither, read_raw_parse, read_raw_bind, read_function_call, read_raw_execute, read_raw_target, read_any_sasl}
 use Rattle.pg_request.proofs.SaslInitialResponseLemmas.{read_sasl_initial, one_sasl_initial}
 use Rattle.pg_request.proofs.TargetLemmas.{read_target, one_target}
+use Rattle.pg_request.proofs.ValuesLemmas.{one_meant}
 
 read_text : (text : List ℕ) → HoldsNo 0 text → Text (ended text) text []
 read_text text h = record { clean = h; parts = refl }
-
-neither : (x y : Option ProtocolFault) → option_or x y ≡ None → (x ≡ None) × (y ≡ None)
-neither None y e = (refl, e)
-neither (Some f) y e = absurd (let clash : Some f ≡ None = e in cc)
 
 -- ---- a line a message
 
@@ -48,10 +45,17 @@ reads_itself (message.CopyFail text) f r k = read_text text k
 reads_itself (message.Describe target) f r k = read_target target r
 reads_itself (message.Execute e) f r k = read_execute e r
 reads_itself message.Flush f r k = refl
+reads_itself (message.FunctionCall c) f r k = read_function_call c f r
 reads_itself (message.Md5Password digest) f r k = read_md5 digest r
 reads_itself (message.Parse p) f r k =
     read_parse p r (few TooManyParamTypes (length p.param_types) (no_count_fault (parse_count_fault p) (length (body (message.Parse p))) f)) k
 reads_itself (message.Query text) f r k = read_text text k
+reads_itself (message.RawBind b) f r k = read_raw_bind b f r k
+reads_itself (message.RawClose target) f r k = read_raw_target target k
+reads_itself (message.RawDescribe target) f r k = read_raw_target target k
+reads_itself (message.RawExecute e) f r k = read_raw_execute e r k
+reads_itself (message.RawParse p) f r k = read_raw_parse p f r k
+reads_itself (message.SaslInitial s) f r k = read_any_sasl s f k
 reads_itself (message.SaslInitialResponse s) f r k =
     let fits = len_fits None (length (body (message.SaslInitialResponse s))) f in
     read_sasl_initial s (omega (arith, fits, length-append (ended (mechanism s.plus)) (be32 (length s.response) ++ s.response), length-append (be32 (length s.response)) s.response))
@@ -73,9 +77,16 @@ one_message bytes (message.CopyFail t) (message.CopyFail u) e p q = ap message.C
 one_message bytes (message.Describe a) (message.Describe b) e p q = ap message.Describe (one_target bytes a b p q)
 one_message bytes (message.Execute a) (message.Execute b) e p q = ap message.Execute (one_execute bytes a b p q)
 one_message bytes message.Flush message.Flush e p q = refl
+one_message bytes (message.FunctionCall a) (message.FunctionCall b) e p q = ap message.FunctionCall (one_meant client.lawful_function_call bytes a b p q)
 one_message bytes (message.Md5Password a) (message.Md5Password b) e p q = ap message.Md5Password (one_md5 bytes a b p q)
 one_message bytes (message.Parse a) (message.Parse b) e p q = ap message.Parse (one_parse bytes a b p q)
 one_message bytes (message.Query t) (message.Query u) e p q = ap message.Query (one_text_alone bytes t u p q)
+one_message bytes (message.RawBind a) (message.RawBind b) e p q = ap message.RawBind (one_meant client.lawful_bind bytes a b p q)
+one_message bytes (message.RawClose a) (message.RawClose b) e p q = ap message.RawClose (one_meant client.lawful_targeted bytes a b p q)
+one_message bytes (message.RawDescribe a) (message.RawDescribe b) e p q = ap message.RawDescribe (one_meant client.lawful_targeted bytes a b p q)
+one_message bytes (message.RawExecute a) (message.RawExecute b) e p q = ap message.RawExecute (one_meant client.lawful_execute bytes a b p q)
+one_message bytes (message.RawParse a) (message.RawParse b) e p q = ap message.RawParse (one_meant client.lawful_parse bytes a b p q)
+one_message bytes (message.SaslInitial a) (message.SaslInitial b) e p q = ap message.SaslInitial (one_meant client.lawful_sasl_initial_response bytes a b p q)
 one_message bytes (message.SaslInitialResponse a) (message.SaslInitialResponse b) e p q = ap message.SaslInitialResponse (one_sasl_initial bytes a b p q)
 one_message bytes (message.SaslResponse a) (message.SaslResponse b) e p q = ap message.SaslResponse (sym p ∙ q)
 one_message bytes message.Sync message.Sync e p q = refl

@@ -32,6 +32,7 @@ use Rattle.pg_request.proofs.ParseLemmas.{read_parse}
 use Rattle.pg_request.proofs.PasswordLemmas.{read_md5, hex_is, hex_holds_no_0}
 use Rattle.pg_request.proofs.SaslInitialResponseLemmas.{read_sasl_initial}
 use Rattle.pg_request.proofs.TargetLemmas.{read_target}
+use Rattle.pg_request.proofs.ValuesLemmas.{itself}
 
 -- ---- a Bind
 
@@ -96,7 +97,7 @@ regroup : (p s c n v d : List ℕ) → p ++ s ++ c ++ n ++ v ++ d ≡ p ++ (s ++
 regroup p s c n v d =
     ap (λ (l : List ℕ). l ++ d) (append_assoc (p ++ s ++ c) n v) ∙ append_assoc (p ++ s ++ c) (n ++ v) d ∙ append_assoc (p ++ s) c ((n ++ v) ++ d) ∙ append_assoc p s (c ++ ((n ++ v) ++ d))
 
-bind_written : (b : BindFields) (v : page.Bind) → MeantByBind b v → bind_body b ≡ page.bind.Writes v
+pub bind_written : (b : BindFields) (v : page.Bind) → MeantByBind b v → bind_body b ≡ page.bind.Writes v
 bind_written b v p =
     let count : b.num_params ≡ length v.values = sym p.values.fits.0 in
     regroup (named portal_prefix b.portal) (named statement_prefix b.statement) (counted16 b.formats) (be16 b.num_params) b.params (counted16 b.result_formats)
@@ -175,9 +176,16 @@ means (message.CopyFail text) bytes h p = (text, refl, (p, refl))
 means (message.Describe target) bytes h p = (target_value target, refl, target_means bytes target p)
 means (message.Execute e) bytes h p = (execute_value e, refl, execute_means bytes e p)
 means message.Flush bytes h p = (tt, refl, ((refl, sym p), refl))
+means (message.FunctionCall f) bytes h p = (f, refl, p)
 means (message.Md5Password digest) bytes h p = (md5_value digest, refl, md5_means bytes digest p)
 means (message.Parse s) bytes h p = (parse_value s, refl, parse_means bytes s p)
 means (message.Query text) bytes h p = (text, refl, (p, refl))
+means (message.RawBind b) bytes h p = (b, refl, p)
+means (message.RawClose target) bytes h p = (target, refl, p)
+means (message.RawDescribe target) bytes h p = (target, refl, p)
+means (message.RawExecute e) bytes h p = (e, refl, p)
+means (message.RawParse s) bytes h p = (s, refl, p)
+means (message.SaslInitial s) bytes h p = (s, refl, p)
 means (message.SaslInitialResponse s) bytes h p = (sasl_initial_value s, refl, sasl_initial_means bytes s p)
 means (message.SaslResponse sent) bytes h p = (sent, refl, (sym p, refl))
 means message.Sync bytes h p = (tt, refl, ((refl, sym p), refl))
@@ -186,6 +194,7 @@ means message.Terminate bytes h p = (tt, refl, ((refl, sym p), refl))
 canonical : (m : Message) → Canonical (line m).format
 canonical (message.CleartextPassword text) = client.canonical_text
 canonical (message.Md5Password digest) = client.canonical_text
+canonical (message.SaslInitial s) = client.canonical_sasl_initial_response
 canonical (message.SaslInitialResponse s) = client.canonical_sasl_initial_response
 canonical (message.SaslResponse bytes) = canonical_remaining
 canonical m = canonical_client (law_of m).format
@@ -203,9 +212,16 @@ reads (message.Close target) v p fits r = read_target target r
 reads (message.CopyFail text) v p fits r = text_reads text v p fits
 reads (message.Describe target) v p fits r = read_target target r
 reads (message.Execute e) v p fits r = read_execute e r
+reads (message.FunctionCall f) v p fits r = itself client.lawful_function_call f (rw p at fits)
 reads (message.Md5Password digest) v p fits r = read_md5 digest r
 reads (message.Parse s) v p fits r = parse_reads s (rw p at fits) r
 reads (message.Query text) v p fits r = text_reads text v p fits
+reads (message.RawBind b) v p fits r = itself client.lawful_bind b (rw p at fits)
+reads (message.RawClose target) v p fits r = itself client.lawful_targeted target (rw p at fits)
+reads (message.RawDescribe target) v p fits r = itself client.lawful_targeted target (rw p at fits)
+reads (message.RawExecute e) v p fits r = itself client.lawful_execute e (rw p at fits)
+reads (message.RawParse s) v p fits r = itself client.lawful_parse s (rw p at fits)
+reads (message.SaslInitial s) v p fits r = itself client.lawful_sasl_initial_response s (rw p at fits)
 reads (message.SaslInitialResponse s) v p fits r = sasl_initial_reads s (rw p at fits)
 reads m v p fits r = refl
 

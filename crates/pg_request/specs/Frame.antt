@@ -58,6 +58,11 @@ hint law = law.room_for (length law.body)
 abbrev pub text : Law → List ℕ
 text law = frame (tag law) law.body
 
+-- the message breaks no limit, and its body is that long
+pub record IsMeasured (law : Law) (len : ℕ) : Type 0 where
+  pub limits : fault law ≡ None
+  pub long : len ≡ length law.body
+
 -- what a call answers that encodes the message
 abbrev pub EncodesMessage : Law → Vec ℕ Global → Vec ℕ Global → Result (Unit {0}) Error → Type 0
 EncodesMessage law old new result = EncodesFrame (tag law) law.body (fault law) (hint law) old new result

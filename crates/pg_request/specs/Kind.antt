@@ -9,9 +9,16 @@ pub data Kind : Type 0 where
   Describe : Kind
   Execute : Kind
   Flush : Kind
+  FunctionCall : Kind
   Md5Password : Kind
   Parse : Kind
   Query : Kind
+  RawBind : Kind
+  RawClose : Kind
+  RawDescribe : Kind
+  RawExecute : Kind
+  RawParse : Kind
+  SaslInitial : Kind
   SaslInitialResponse : Kind
   SaslResponse : Kind
   Sync : Kind

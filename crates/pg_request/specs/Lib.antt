@@ -1,5 +1,6 @@
 pub mod Bind
 pub mod BindValues
+pub mod CancelRequest
 pub mod Close
 pub mod CopyData
 pub mod CopyDone
@@ -9,12 +10,21 @@ pub mod Describe
 pub mod Execute
 pub mod Flush
 pub mod Frame
+pub mod FunctionCall
+pub mod GssEncRequest
 pub mod Kind
 pub mod Message
 pub mod Page
 pub mod Parse
 pub mod Password
 pub mod Query
+pub mod RawBind
+pub mod RawClose
+pub mod RawDescribe
+pub mod RawExecute
+pub mod RawParse
+pub mod RawTarget
+pub mod SaslInitial
 pub mod SaslInitialResponse
 pub mod SaslResponse
 pub mod Shapes
@@ -23,6 +33,7 @@ pub mod Startup
 pub mod Sync
 pub mod Target
 pub mod Terminate
+pub mod Values
 pub use Rattle.pg_base.specs.Cutting
 pub use Rattle.pg_base.specs.Encode
 pub use Rattle.pg_base.specs.Error

@@ -1,6 +1,7 @@
 -- Any tagged message to the server as a plain value, and what its law says of it.
 use Rattle.std.specs.Prelude.{◌≡◌, ℕ, List, Option}
 use Rattle.pg_base.specs.declared.error.ProtocolFault.{ProtocolFault}
+use Rattle.pg_format.specs.Messages as page
 use Rattle.pg_request.specs.declared.message.password.Password.{Password}
 use Rattle.pg_request.specs.declared.message.password.Password.TheVariants as password
 use Rattle.pg_request.specs.Bind.{BindFields, bind_law}
@@ -11,12 +12,19 @@ use Rattle.pg_request.specs.CopyFail.{copy_fail_law}
 use Rattle.pg_request.specs.Describe.{describe_law}
 use Rattle.pg_request.specs.Execute.{ExecuteFields, execute_law}
 use Rattle.pg_request.specs.Flush.{flush_law}
+use Rattle.pg_request.specs.FunctionCall.{function_call_law}
 use Rattle.pg_request.specs.Frame as law
 use Rattle.pg_request.specs.Frame.{Law}
 use Rattle.pg_request.specs.Kind.{Kind}
 use Rattle.pg_request.specs.Parse.{ParseFields, parse_law}
 use Rattle.pg_request.specs.Password.{cleartext_law, md5_law}
 use Rattle.pg_request.specs.Query.{query_law}
+use Rattle.pg_request.specs.RawBind.{raw_bind_law}
+use Rattle.pg_request.specs.RawClose.{raw_close_law}
+use Rattle.pg_request.specs.RawDescribe.{raw_describe_law}
+use Rattle.pg_request.specs.RawExecute.{raw_execute_law}
+use Rattle.pg_request.specs.RawParse.{raw_parse_law}
+use Rattle.pg_request.specs.SaslInitial.{any_sasl_law}
 use Rattle.pg_request.specs.SaslInitialResponse.{SaslInitialFields, sasl_initial_law}
 use Rattle.pg_request.specs.SaslResponse.{sasl_response_law}
 use Rattle.pg_request.specs.Sync.{sync_law}
@@ -33,9 +41,16 @@ pub data Message : Type 0 where
   Describe : Target → Message
   Execute : ExecuteFields → Message
   Flush : Message
+  FunctionCall : page.FunctionCall → Message
   Md5Password : List ℕ → Message
   Parse : ParseFields → Message
   Query : List ℕ → Message
+  RawBind : page.Bind → Message
+  RawClose : page.Targeted → Message
+  RawDescribe : page.Targeted → Message
+  RawExecute : page.Execute → Message
+  RawParse : page.Parse → Message
+  SaslInitial : page.SaslInitial → Message
   SaslInitialResponse : SaslInitialFields → Message
   SaslResponse : List ℕ → Message
   Sync : Message
@@ -44,6 +59,7 @@ pub data Message : Type 0 where
 -- the message of either form of a password
 abbrev pub password_message : Password → Message
 password_message (password.Cleartext text) = CleartextPassword text.now
+password_message (password.Bytes bytes) = CleartextPassword bytes.now
 password_message (password.Md5 digest) = Md5Password digest
 
 abbrev pub law_of : Message → Law
@@ -56,9 +72,16 @@ law_of (CopyFail text) = copy_fail_law text
 law_of (Describe target) = describe_law target
 law_of (Execute e) = execute_law e
 law_of Flush = flush_law
+law_of (FunctionCall f) = function_call_law f
 law_of (Md5Password digest) = md5_law digest
 law_of (Parse p) = parse_law p
 law_of (Query text) = query_law text
+law_of (RawBind b) = raw_bind_law b
+law_of (RawClose target) = raw_close_law target
+law_of (RawDescribe target) = raw_describe_law target
+law_of (RawExecute e) = raw_execute_law e
+law_of (RawParse p) = raw_parse_law p
+law_of (SaslInitial s) = any_sasl_law s
 law_of (SaslInitialResponse s) = sasl_initial_law s
 law_of (SaslResponse bytes) = sasl_response_law bytes
 law_of Sync = sync_law

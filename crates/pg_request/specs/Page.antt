@@ -24,6 +24,7 @@ pub record IsWritten {A : Type 0} (g : Format A) (bytes : List ℕ) (v : A) : Ty
 abbrev pub line : Message → Meaning
 line (message.CleartextPassword text) = means page.text
 line (message.Md5Password digest) = means page.text
+line (message.SaslInitial s) = means page.sasl_initial_response
 line (message.SaslInitialResponse s) = means page.sasl_initial_response
 line (message.SaslResponse bytes) = means page.sasl_response
 line m = from_client (law_of m).format
@@ -47,9 +48,16 @@ Meant (message.CopyFail text) v = v ≡ text
 Meant (message.Describe target) v = v ≡ target_value target
 Meant (message.Execute e) v = v ≡ execute_value e
 Meant message.Flush v = v ≡ tt
+Meant (message.FunctionCall f) v = v ≡ f
 Meant (message.Md5Password digest) v = v ≡ md5_value digest
 Meant (message.Parse p) v = v ≡ parse_value p
 Meant (message.Query text) v = v ≡ text
+Meant (message.RawBind b) v = v ≡ b
+Meant (message.RawClose target) v = v ≡ target
+Meant (message.RawDescribe target) v = v ≡ target
+Meant (message.RawExecute e) v = v ≡ e
+Meant (message.RawParse s) v = v ≡ s
+Meant (message.SaslInitial s) v = v ≡ s
 Meant (message.SaslInitialResponse s) v = v ≡ sasl_initial_value s
 Meant (message.SaslResponse bytes) v = v ≡ bytes
 Meant message.Sync v = v ≡ tt

@@ -7,6 +7,9 @@ use Rattle.pg_base.specs.Numbers.{be32}
 abbrev pub ssl_request_code : ℕ
 ssl_request_code = 80877103
 
--- the length of the whole, and the code
+-- the length of the whole, and a code
+abbrev pub code_text : ℕ → List ℕ
+code_text code = be32 8 ++ be32 code
+
 abbrev pub ssl_request_text : List ℕ
-ssl_request_text = be32 8 ++ be32 ssl_request_code
+ssl_request_text = code_text ssl_request_code

@@ -2,8 +2,8 @@ pub mod DecimalLemmas
 pub mod EndedTextsLemmas
 pub mod LastLemmas
 pub mod ResponseFieldsLemmas
+pub mod ResponseFirstPlacesLemmas
 pub mod ResponseLemmas
-pub mod ResponseLengthsLemmas
 pub mod ResponseOnlyFieldLemmas
 pub mod ResponseReadLemmas
 pub mod ResponseSeverityLemmas

@@ -88,19 +88,13 @@ left_past all left other message code severity localized h l =
     }
 
 -- where nothing is left to be read, all is read
-read_none : (all left : List Field) (message code : List ℕ) (severity localized : Option PgSeverity) → part_after message code left ≡ [] → Left all left message code severity localized
-    → Read all message code severity localized
-read_none all left message code severity localized none l = record {
-  clean = sym (rw none at l.faults);
-  messages = rw none at l.messages;
-  codes = rw none at l.codes;
-  severities = rw none at l.severities;
-  words = rw none at l.words;
-}
-
-pub read_full : (all left : List Field) (message code : List ℕ) (severity localized : Option PgSeverity) → is_full message code [] ≡ true → Left all left message code severity localized
-    → Read all message code severity localized
-read_full all left message code severity localized h l = read_none all left message code severity localized (part_full message code left h) l
-
 pub read_all : (all : List Field) (message code : List ℕ) (severity localized : Option PgSeverity) → Left all [] message code severity localized → Read all message code severity localized
-read_all all message code severity localized l = read_none all [] message code severity localized (part_end message code) l
+read_all all message code severity localized l =
+    let none = part_end message code in
+    record {
+      clean = sym (rw none at l.faults);
+      messages = rw none at l.messages;
+      codes = rw none at l.codes;
+      severities = rw none at l.severities;
+      words = rw none at l.words;
+    }

@@ -109,6 +109,13 @@ kept_more body rest letter value after start message code message' code' severit
           (left_more (fields_in body) (letter, value) (fields_in after) (bytes_in body message) (bytes_in body code) severity localized partial taken.clean (rw (fields_at rest letter value after field) at kept.left));
     }
 
+-- the value of the next field is at its place
+pub kept_place : (body rest : List ℕ) (letter : ℕ) (value after : List ℕ) (start : ℕ) (message code : Place) (severity localized : Option PgSeverity) → start ≡ length body - length rest + 1
+    → BeginsWithField rest letter value after → Kept body rest message code severity localized
+    → (bytes_in body (record { start = start; end = start + length value }) ≡ value) × (start + length value ≤ length body)
+kept_place body rest letter value after start message code severity localized start_is field kept =
+    value_at body rest kept.front letter value after start kept.parts field (omega (arith, ap length kept.parts, length-append kept.front rest))
+
 pub kept_past : (body rest : List ℕ) (letter : ℕ) (value after : List ℕ) (message code : Place) (severity localized : Option PgSeverity)
     → is_full (bytes_in body message) (bytes_in body code) [] ≡ true → BeginsWithField rest letter value after → Kept body rest message code severity localized → Kept body after message code severity localized
 kept_past body rest letter value after message code severity localized full field kept = record {

@@ -1,7 +1,7 @@
 -- What an error or a notice says. Documentation: "Message Formats", NoticeResponse (B), and "Error
 -- and Notice Message Fields".
 pub mod Fields
-pub mod Lengths
+pub mod FirstPlaces
 pub mod Letters
 pub mod Places
 pub mod Severity

@@ -3,4 +3,3 @@
 mod error;
 mod laws;
 mod message;
-mod readers;

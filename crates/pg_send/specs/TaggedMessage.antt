@@ -6,9 +6,16 @@ use Rattle.pg_request.specs.Bind.{bind_fields}
 use Rattle.pg_request.specs.Close.{close_target}
 use Rattle.pg_request.specs.Describe.{describe_target}
 use Rattle.pg_request.specs.Execute.{execute_fields}
+use Rattle.pg_request.specs.FunctionCall.{function_call_fields}
 use Rattle.pg_request.specs.Message as message
 use Rattle.pg_request.specs.Message.{Message, password_message}
 use Rattle.pg_request.specs.Parse.{parse_fields}
+use Rattle.pg_request.specs.RawBind.{raw_bind_fields}
+use Rattle.pg_request.specs.RawClose.{raw_close_target}
+use Rattle.pg_request.specs.RawDescribe.{raw_describe_target}
+use Rattle.pg_request.specs.RawExecute.{raw_execute_fields}
+use Rattle.pg_request.specs.RawParse.{raw_parse_fields}
+use Rattle.pg_request.specs.SaslInitial.{any_sasl_fields}
 use Rattle.pg_request.specs.SaslInitialResponse.{sasl_initial_fields}
 
 abbrev pub message_of : TaggedMessage → Message
@@ -20,9 +27,16 @@ message_of (tagged.CopyFail copy) = message.CopyFail (string_bytes copy.now.mess
 message_of (tagged.Describe describe) = message.Describe (describe_target describe)
 message_of (tagged.Execute execute) = message.Execute (execute_fields execute)
 message_of (tagged.Flush flush) = message.Flush
+message_of (tagged.FunctionCall call) = message.FunctionCall (function_call_fields call)
 message_of (tagged.Parse parse) = message.Parse (parse_fields parse)
 message_of (tagged.Password password) = password_message password
 message_of (tagged.Query query) = message.Query query.0.now
+message_of (tagged.RawBind bind) = message.RawBind (raw_bind_fields bind)
+message_of (tagged.RawClose close) = message.RawClose (raw_close_target close)
+message_of (tagged.RawDescribe describe) = message.RawDescribe (raw_describe_target describe)
+message_of (tagged.RawExecute execute) = message.RawExecute (raw_execute_fields execute)
+message_of (tagged.RawParse parse) = message.RawParse (raw_parse_fields parse)
+message_of (tagged.SaslInitial sasl) = message.SaslInitial (any_sasl_fields sasl)
 message_of (tagged.SaslInitialResponse sasl) = message.SaslInitialResponse (sasl_initial_fields sasl)
 message_of (tagged.SaslResponse sasl) = message.SaslResponse sasl.0.now
 message_of (tagged.Sync sync) = message.Sync

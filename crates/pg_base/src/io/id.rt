@@ -5,6 +5,7 @@ ghost use Rattle.pg_base.specs.declared.error.Error.TheVariants.{OutOfMemory};
 ghost use Rattle.pg_base.specs.Id.{name, next_id, named, statement_prefix, portal_prefix, max_id};
 
 use crate::error::Error;
+use crate::io::Sink;
 use itoa::Buffer;
 use std::alloc::AllocError;
 use std::fmt;
@@ -75,15 +76,16 @@ impl StatementId {
         Ok(())
     }
 
-    /// Adds the name and a NUL to the buffer, in room that is there.
+    /// Writes the name and a NUL, in room that is there.
     #[inline(always)]
-    pub fn push_name_reserved(&self, buf: &mut Vec<u8>)
-        requires { vec_len buf.old + length (named statement_prefix self.now) ≤ vec_capacity buf.old }
-        ensures items { buf.new.items ≡ buf.old.items ++ named statement_prefix self.now }
-        ensures capacity { vec_capacity buf.old ≤ vec_capacity buf.new }
+    pub fn put_name<S: Sink>(&self, sink: &mut S)
+        requires { length (S.written sink.old) + length (named statement_prefix self.now) ≤ S.capacity sink.old }
+        ensures written { S.written sink.new ≡ S.written sink.old ++ named statement_prefix self.now }
+        ensures capacity { S.capacity sink.old ≤ S.capacity sink.new }
+        ensures loan { S.loan sink.new ≡ S.loan sink.old }
         ensures range { self.now ≤ max_id }
     {
-        push_name_reserved(STATEMENT_PREFIX, self.0, buf)
+        put_name(STATEMENT_PREFIX, self.0, sink)
     }
 
     /// The name of a named statement, to be printed.
@@ -162,15 +164,16 @@ impl PortalId {
         Ok(())
     }
 
-    /// Adds the name and a NUL to the buffer, in room that is there.
+    /// Writes the name and a NUL, in room that is there.
     #[inline(always)]
-    pub fn push_name_reserved(&self, buf: &mut Vec<u8>)
-        requires { vec_len buf.old + length (named portal_prefix self.now) ≤ vec_capacity buf.old }
-        ensures items { buf.new.items ≡ buf.old.items ++ named portal_prefix self.now }
-        ensures capacity { vec_capacity buf.old ≤ vec_capacity buf.new }
+    pub fn put_name<S: Sink>(&self, sink: &mut S)
+        requires { length (S.written sink.old) + length (named portal_prefix self.now) ≤ S.capacity sink.old }
+        ensures written { S.written sink.new ≡ S.written sink.old ++ named portal_prefix self.now }
+        ensures capacity { S.capacity sink.old ≤ S.capacity sink.new }
+        ensures loan { S.loan sink.new ≡ S.loan sink.old }
         ensures range { self.now ≤ max_id }
     {
-        push_name_reserved(PORTAL_PREFIX, self.0, buf)
+        put_name(PORTAL_PREFIX, self.0, sink)
     }
 }
 
@@ -230,36 +233,37 @@ fn put_name_with_nul(prefix: &str, number: u32, buf: &mut Vec<u8>) -> Result<(),
     ensures capacity { vec_capacity buf.old ≤ vec_capacity buf.new }
 {
     buf.reserve(name_len(prefix, number))?;
-    push_name_reserved(prefix, number, buf);
+    put_name(prefix, number, buf);
     Ok(())
 }
 
 // Inlined, so that the prefix is known where it is copied.
 #[inline(always)]
-fn push_name_reserved(prefix: &str, number: u32, buf: &mut Vec<u8>)
-    requires { vec_len buf.old + length (named prefix.now number) ≤ vec_capacity buf.old }
-    ensures items { buf.new.items ≡ buf.old.items ++ named prefix.now number }
-    ensures capacity { vec_capacity buf.old ≤ vec_capacity buf.new }
+fn put_name<S: Sink>(prefix: &str, number: u32, sink: &mut S)
+    requires { length (S.written sink.old) + length (named prefix.now number) ≤ S.capacity sink.old }
+    ensures written { S.written sink.new ≡ S.written sink.old ++ named prefix.now number }
+    ensures capacity { S.capacity sink.old ≤ S.capacity sink.new }
+    ensures loan { S.loan sink.new ≡ S.loan sink.old }
 {
     if number != 0 {
-        let added = buf.extend_from_slice(prefix.as_bytes());
-        prove!(added.is_ok());
-        push_digits(number, buf);
+        sink.put_slice(prefix.as_bytes());
+        put_digits(number, sink);
     }
-    buf.push_reserved(0);
+    sink.put_u8(0);
 }
 
 // The digits of a number.
 #[inline(never)]
-fn push_digits(number: u32, buf: &mut Vec<u8>)
-    requires { vec_len buf.old + length (decimal number) ≤ vec_capacity buf.old }
-    ensures items { buf.new.items ≡ buf.old.items ++ decimal number }
-    ensures capacity { vec_capacity buf.old ≤ vec_capacity buf.new }
+fn put_digits<S: Sink>(number: u32, sink: &mut S)
+    requires { length (S.written sink.old) + length (decimal number) ≤ S.capacity sink.old }
+    ensures written { S.written sink.new ≡ S.written sink.old ++ decimal number }
+    ensures capacity { S.capacity sink.old ≤ S.capacity sink.new }
+    ensures loan { S.loan sink.new ≡ S.loan sink.old }
 {
     let mut digits = Buffer::new();
     let digits = digits.format(number);
     // One by one, since a copy of several waits for digits that were just written.
     for digit in digits.as_bytes() {
-        buf.push_reserved(*digit);
+        sink.put_u8(*digit);
     }
 }

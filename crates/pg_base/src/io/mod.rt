@@ -7,6 +7,7 @@ mod decode;
 mod encode;
 mod id;
 mod numbers;
+mod sink;
 
 pub use atoi::{atoi_u32, atoi_u64, atoi_usize};
 pub use buf_mut::PgBufMutExt;
@@ -15,6 +16,7 @@ pub use decode::ProtocolDecode;
 pub use encode::ProtocolEncode;
 pub use id::{DisplayId, PortalId, StatementId};
 pub use numbers::{bytes_at, i8_at, i16_at, i32_at, u16_at, u32_at};
+pub use sink::{Cursor, Sink, Text, write_text};
 
 /// The greatest length that a message's length field can say, in bytes: it is a signed number of
 /// four bytes. Documentation: "Message Data Types".

@@ -146,6 +146,10 @@ const LENGTHS: &[(ProtocolFault, &str)] = &[
         "message body out of range for protocol: 0",
     ),
     (
+        ProtocolFault::BadKeyLength(3),
+        "secret key length out of range for protocol: 3",
+    ),
+    (
         ProtocolFault::BodyTooLong(2147483644),
         "message body out of range for protocol: 2147483644",
     ),

@@ -127,6 +127,7 @@ const TAGS: &[(FrontendMessageFormat, u8)] = &[
     (FrontendMessageFormat::Close, b'C'),
     (FrontendMessageFormat::Describe, b'D'),
     (FrontendMessageFormat::Execute, b'E'),
+    (FrontendMessageFormat::FunctionCall, b'F'),
     (FrontendMessageFormat::Flush, b'H'),
     (FrontendMessageFormat::Parse, b'P'),
     (FrontendMessageFormat::Query, b'Q'),

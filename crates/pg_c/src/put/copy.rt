@@ -1,6 +1,6 @@
 //! The client's part of a COPY.
 
-ghost use Rattle.std.specs.Prelude.{◌≡◌, ◌≢◌, ◌+◌, ◌<◌, ◌≤◌, ◌≤ℤ◌, ◌++◌, ℕ, List, pos, length, true, false, Some};
+ghost use Rattle.std.specs.Prelude.{◌≡◌, ◌≢◌, ◌+◌, ◌<◌, ◌≤◌, ◌≤ℤ◌, ◌++◌, ℕ, List, pos, length, true, false};
 ghost use Rattle.std.specs.Str.{is_utf8};
 ghost use Rattle.pg_base.specs.declared.error.ProtocolFault.TheVariants.{NotUtf8};
 ghost use Rattle.pg_base.specs.Cutting.{max_length};
@@ -17,10 +17,10 @@ use std::alloc::Global;
 
 /// A part of the data of a COPY.
 #[unsafe(no_mangle)]
-pub extern "C" fn pgmsg_put_copy_data(alloc: Global, data: &[u8], out: &mut [u8]) -> isize
+pub extern "C" fn pgmsg_put_copy_data(data: &[u8], out: &mut [u8]) -> isize
     ensures { PutsMessage (message.CopyData «data».now) out.old out.new result }
 {
-    put(alloc, &CopyData(data), Ok(()), out)
+    put(&CopyData(data), Ok(()), out)
 }
 
 /// The five bytes before `len` bytes of the data of a COPY, which the caller sends after them. 0, or
@@ -28,9 +28,11 @@ pub extern "C" fn pgmsg_put_copy_data(alloc: Global, data: &[u8], out: &mut [u8]
 #[unsafe(no_mangle)]
 pub extern "C" fn pgmsg_put_copy_head(len: usize, head: &mut [u8; 5]) -> i32
     ensures result { result ≤ℤ pos 0 }
-    ensures head { (bytes : List ℕ) → length bytes ≡ len → result ≡ pos 0 → head.new ++ bytes ≡ text (message.CopyData bytes) }
+    ensures head { (bytes : List ℕ) → length bytes ≡ len → result ≡ pos 0
+        → head.new ++ bytes ≡ text (message.CopyData bytes) }
     ensures within { result ≡ pos 0 → len + 4 ≤ max_length }
-    ensures refused { result ≢ pos 0 → (max_length < len + 4) × (result ≡ too_long_number) × (head.new ≡ head.old) }
+    ensures refused { result ≢ pos 0
+        → (max_length < len + 4) × (result ≡ too_long_number) × (head.new ≡ head.old) }
 {
     if len > MAX_BODY {
         return MESSAGE_TOO_LONG;
@@ -42,16 +44,17 @@ pub extern "C" fn pgmsg_put_copy_head(len: usize, head: &mut [u8; 5]) -> i32
 
 /// The end of the data of a COPY.
 #[unsafe(no_mangle)]
-pub extern "C" fn pgmsg_put_copy_done(alloc: Global, out: &mut [u8]) -> isize
+pub extern "C" fn pgmsg_put_copy_done(out: &mut [u8]) -> isize
     ensures { PutsMessage message.CopyDone out.old out.new result }
 {
-    put(alloc, &CopyDone, Ok(()), out)
+    put(&CopyDone, Ok(()), out)
 }
 
 /// Fails a COPY, and says why, in UTF-8.
 #[unsafe(no_mangle)]
 pub extern "C" fn pgmsg_put_copy_fail(alloc: Global, reason: &[u8], out: &mut [u8]) -> isize
-    ensures utf8 { is_utf8 reason.now ≡ true → MayPut (message.CopyFail reason.now) out.old out.new result }
+    ensures utf8 { is_utf8 reason.now ≡ true
+        → MayPut (message.CopyFail reason.now) out.old out.new result }
     ensures not_utf8 { is_utf8 reason.now ≡ false → IsRefused NotUtf8 out.old out.new result }
 {
     let text = match text_of(reason) {
@@ -62,5 +65,5 @@ pub extern "C" fn pgmsg_put_copy_fail(alloc: Global, reason: &[u8], out: &mut [u
         return OUT_OF_MEMORY as isize;
     };
     let fail = CopyFail::new(message);
-    put(alloc, &fail, fail.check_round_trip(), out)
+    put(&fail, fail.check_round_trip(), out)
 }

@@ -1,16 +1,14 @@
 //! Prepared statements and their values.
 
-ghost use Rattle.std.specs.Prelude.{Some, ◌≡◌, ◌+◌, ◌<◌, ◌⊎◌, ◌++◌, OnOk, true, false, map, length, take, IfOk, IfErr, List, [], ◌∷◌, None, Ok, Err, MatchOption};
+ghost use Rattle.std.specs.Prelude.{◌≡◌, ◌+◌, ◌<◌, ◌++◌, OnOk, true, false, map, length, IfOk, IfErr, [], None, Ok, Err};
 ghost use Rattle.std.specs.Str.{is_utf8};
 ghost use Rattle.pg_base.specs.declared.error.ProtocolFault.TheVariants.{NotUtf8};
 ghost use Rattle.pg_base.specs.Format.{format_code, format_codes};
 ghost use Rattle.pg_base.specs.Numbers.{numbers_of};
 ghost use Rattle.pg_request.specs.Message as message;
-ghost use Rattle.pg_base.specs.declared.error.Error.TheVariants.{OutOfMemory};
-ghost use Rattle.pg_c.specs.Refusal.{refusal_number, too_long_number};
 ghost use Rattle.pg_request.specs.Bind.{bind_fields};
 ghost use Rattle.pg_c.specs.Put.{MayPut, MayPutBatch, PutsBatch, IsBatchAnswer, IsRefused, texts};
-ghost use Rattle.pg_c.specs.Prepared.{format_of, value_of, fits, spelled, values_spelled, values_refusal, bind_of, batch_of, MayRefuse};
+ghost use Rattle.pg_c.specs.Prepared.{format_of, value_of, fits, spelled, values_spelled, values_refusal, parse_of, bind_of, batch_of, UnlessRefused, IsValuesError, IsValueError};
 
 use crate::put::{add, give, put, text_of};
 use crate::refusal::number_of;
@@ -41,7 +39,8 @@ pub extern "C" fn pgmsg_put_parse(
     types: &[u32],
     out: &mut [u8],
 ) -> isize
-    ensures utf8 { is_utf8 query.now ≡ true → MayPut (message.Parse (record { statement = statement; query = query.now; param_types = types.now })) out.old out.new result }
+    ensures utf8 { is_utf8 query.now ≡ true
+        → MayPut (parse_of statement query.now types.now) out.old out.new result }
     ensures not_utf8 { is_utf8 query.now ≡ false → IsRefused NotUtf8 out.old out.new result }
 {
     let query = match text_of(query) {
@@ -55,7 +54,7 @@ pub extern "C" fn pgmsg_put_parse(
                 query,
                 param_types: param_types.as_slice(),
             };
-            put(alloc, &parse, parse.check_round_trip(), out)
+            put(&parse, parse.check_round_trip(), out)
         }
         Err(error) => number_of(error.into()) as isize,
     }
@@ -74,12 +73,15 @@ pub extern "C" fn pgmsg_put_bind(
     result_formats: &[u8],
     out: &mut [u8],
 ) -> isize
-    ensures { MatchOption (values_refusal values.now) (MayPut (message.Bind (bind_of portal statement formats.now values.now result_formats.now)) out.old out.new result) (λ number. MayRefuse number out.old out.new result) }
+    ensures { UnlessRefused values.now
+        (MayPut (message.Bind (bind_of portal statement formats.now values.now result_formats.now))
+        out.old out.new result)
+        out.old out.new result }
 {
     match bind_parts(alloc, formats, values, result_formats) {
         Ok(parts) => {
             let bind = parts.bind(portal, statement);
-            put(alloc, &bind, bind.check_round_trip(), out)
+            put(&bind, bind.check_round_trip(), out)
         }
         Err(error) => number_of(error) as isize,
     }
@@ -96,7 +98,10 @@ pub extern "C" fn pgmsg_put_batch(
     result_formats: &[u8],
     out: &mut [u8],
 ) -> isize
-    ensures utf8 { is_utf8 query.now ≡ true → MatchOption (values_refusal values.now) (MayPutBatch (batch_of query.now (bind_of 0 0 formats.now values.now result_formats.now)) out.old out.new result) (λ number. MayRefuse number out.old out.new result) }
+    ensures utf8 { is_utf8 query.now ≡ true → UnlessRefused values.now
+        (MayPutBatch (batch_of query.now (bind_of 0 0 formats.now values.now result_formats.now))
+        out.old out.new result)
+        out.old out.new result }
     ensures not_utf8 { is_utf8 query.now ≡ false → IsRefused NotUtf8 out.old out.new result }
 {
     let query = match text_of(query) {
@@ -119,8 +124,11 @@ fn put_batch(alloc: Global, query: &str, bind: &Bind<'_>, out: &mut [u8]) -> isi
 }
 
 fn batch_text(alloc: Global, query: &str, bind: &Bind<'_>) -> Result<Vec<u8>, Error>
-    ensures ok { IfOk result (λ buf. (buf.items ≡ texts (batch_of query.now (bind_fields bind.now))) × IsBatchAnswer (batch_of query.now (bind_fields bind.now)) (Ok tt)) }
-    ensures err { IfErr result (λ error. IsBatchAnswer (batch_of query.now (bind_fields bind.now)) (Err error)) }
+    ensures ok { IfOk result
+        (λ buf. (buf.items ≡ texts (batch_of query.now (bind_fields bind.now)))
+        × IsBatchAnswer (batch_of query.now (bind_fields bind.now)) (Ok tt)) }
+    ensures err { IfErr result
+        (λ error. IsBatchAnswer (batch_of query.now (bind_fields bind.now)) (Err error)) }
 {
     let mut buf = Vec::new(alloc);
     let parse = Parse {
@@ -150,7 +158,15 @@ struct BindParts {
 
 impl BindParts {
     fn bind(&self, portal: u32, statement: u32) -> Bind<'_>
-        ensures { bind_fields result ≡ record { portal = portal; statement = statement; formats = format_codes self.now.formats.items; num_params = self.now.values.count; params = self.now.values.bytes; result_formats = format_codes self.now.result_formats.items } }
+        ensures { bind_fields result
+            ≡ record {
+              portal = portal;
+              statement = statement;
+              formats = format_codes self.now.formats.items;
+              num_params = self.now.values.count;
+              params = self.now.values.bytes;
+              result_formats = format_codes self.now.result_formats.items;
+            } }
     {
         Bind {
             portal: PortalId::from_number(portal),
@@ -169,12 +185,14 @@ fn bind_parts(
     values: &[PgmsgValue<'_>],
     result_formats: &[u8],
 ) -> Result<BindParts, Error>
-    ensures formats { IfOk result (λ parts. format_codes parts.formats.items ≡ map format_of formats.now) }
+    ensures formats { IfOk result
+        (λ parts. format_codes parts.formats.items ≡ map format_of formats.now) }
     ensures count { IfOk result (λ parts. parts.values.count ≡ length values.now) }
     ensures values { IfOk result (λ parts. parts.values.bytes ≡ values_spelled values.now) }
     ensures none { IfOk result (λ _. values_refusal values.now ≡ None) }
-    ensures results { IfOk result (λ parts. format_codes parts.result_formats.items ≡ map format_of result_formats.now) }
-    ensures err { IfErr result (λ error. (error ≡ OutOfMemory) ⊎ (values_refusal values.now ≡ Some (refusal_number error))) }
+    ensures results { IfOk result
+        (λ parts. format_codes parts.result_formats.items ≡ map format_of result_formats.now) }
+    ensures err { IfErr result (IsValuesError values.now) }
 {
     Ok(BindParts {
         values: values_of(alloc, values)?,
@@ -188,7 +206,7 @@ fn values_of(alloc: Global, values: &[PgmsgValue<'_>]) -> Result<BindValues, Err
     ensures count { IfOk result (λ held. held.count ≡ length values.now) }
     ensures values { IfOk result (λ held. held.bytes ≡ values_spelled values.now) }
     ensures none { IfOk result (λ _. values_refusal values.now ≡ None) }
-    ensures err { IfErr result (λ error. (error ≡ OutOfMemory) ⊎ (values_refusal values.now ≡ Some (refusal_number error))) }
+    ensures err { IfErr result (IsValuesError values.now) }
 {
     if values.len() > MAX_VALUES {
         return Err(ProtocolFault::BadParams.into());
@@ -205,7 +223,7 @@ fn push(value: &PgmsgValue<'_>, held: &mut BindValues) -> Result<(), Error>
     ensures count { OnOk result (held.new.count ≡ held.old.count + 1) }
     ensures bytes { OnOk result (held.new.bytes ≡ held.old.bytes ++ spelled (value_of value.now)) }
     ensures fits { OnOk result (fits value.now ≡ true) }
-    ensures err { IfErr result (λ error. (error ≡ OutOfMemory) ⊎ ((fits value.now ≡ false) × (refusal_number error ≡ too_long_number))) }
+    ensures err { IfErr result (IsValueError value.now) }
 {
     if value.is_null {
         held.push_null()
@@ -234,7 +252,7 @@ fn format(number: u8) -> PgValueFormat
     }
 }
 
-fn oids_of(alloc: Global, types: &[u32]) -> Result<Vec<Oid>, AllocError>
+pub(crate) fn oids_of(alloc: Global, types: &[u32]) -> Result<Vec<Oid>, AllocError>
     ensures { IfOk result (λ oids. numbers_of oids.items ≡ types.now) }
 {
     let mut oids = Vec::new(alloc);

@@ -11,18 +11,18 @@ use crate::put::{put, text_of};
 use crate::refusal::number_of;
 use pg_base::io::{PortalId, StatementId};
 use pg_request::message::{Close, Describe, Execute, Flush, Query, Sync};
-use std::alloc::Global;
 
 /// Runs the statements of a text, in UTF-8.
 #[unsafe(no_mangle)]
-pub extern "C" fn pgmsg_put_query(alloc: Global, query: &[u8], out: &mut [u8]) -> isize
-    ensures utf8 { is_utf8 query.now ≡ true → PutsMessage (message.Query query.now) out.old out.new result }
+pub extern "C" fn pgmsg_put_query(query: &[u8], out: &mut [u8]) -> isize
+    ensures utf8 { is_utf8 query.now ≡ true
+        → PutsMessage (message.Query query.now) out.old out.new result }
     ensures not_utf8 { is_utf8 query.now ≡ false → IsRefused NotUtf8 out.old out.new result }
 {
     match text_of(query) {
         Ok(text) => {
             let query = Query(text);
-            put(alloc, &query, query.check_round_trip(), out)
+            put(&query, query.check_round_trip(), out)
         }
         Err(fault) => number_of(fault.into()) as isize,
     }
@@ -30,69 +30,66 @@ pub extern "C" fn pgmsg_put_query(alloc: Global, query: &[u8], out: &mut [u8]) -
 
 /// Describes the prepared statement `sqlx_s_N`, by its number N; 0 is the unnamed one.
 #[unsafe(no_mangle)]
-pub extern "C" fn pgmsg_put_describe_statement(
-    alloc: Global,
-    statement: u32,
-    out: &mut [u8],
-) -> isize
+pub extern "C" fn pgmsg_put_describe_statement(statement: u32, out: &mut [u8]) -> isize
     ensures { PutsMessage (message.Describe (Statement statement)) out.old out.new result }
 {
     let describe = Describe::Statement(StatementId::from_number(statement));
-    put(alloc, &describe, Ok(()), out)
+    put(&describe, Ok(()), out)
 }
 
 /// Describes the portal `sqlx_p_N`, by its number N; 0 is the unnamed one.
 #[unsafe(no_mangle)]
-pub extern "C" fn pgmsg_put_describe_portal(alloc: Global, portal: u32, out: &mut [u8]) -> isize
+pub extern "C" fn pgmsg_put_describe_portal(portal: u32, out: &mut [u8]) -> isize
     ensures { PutsMessage (message.Describe (Portal portal)) out.old out.new result }
 {
     let describe = Describe::Portal(PortalId::from_number(portal));
-    put(alloc, &describe, Ok(()), out)
+    put(&describe, Ok(()), out)
 }
 
 /// Closes the prepared statement `sqlx_s_N`, by its number N; 0 is the unnamed one.
 #[unsafe(no_mangle)]
-pub extern "C" fn pgmsg_put_close_statement(alloc: Global, statement: u32, out: &mut [u8]) -> isize
+pub extern "C" fn pgmsg_put_close_statement(statement: u32, out: &mut [u8]) -> isize
     ensures { PutsMessage (message.Close (Statement statement)) out.old out.new result }
 {
     let close = Close::Statement(StatementId::from_number(statement));
-    put(alloc, &close, Ok(()), out)
+    put(&close, Ok(()), out)
 }
 
 /// Closes the portal `sqlx_p_N`, by its number N; 0 is the unnamed one.
 #[unsafe(no_mangle)]
-pub extern "C" fn pgmsg_put_close_portal(alloc: Global, portal: u32, out: &mut [u8]) -> isize
+pub extern "C" fn pgmsg_put_close_portal(portal: u32, out: &mut [u8]) -> isize
     ensures { PutsMessage (message.Close (Portal portal)) out.old out.new result }
 {
     let close = Close::Portal(PortalId::from_number(portal));
-    put(alloc, &close, Ok(()), out)
+    put(&close, Ok(()), out)
 }
 
 /// Runs the portal `sqlx_p_N`, by its number N; 0 is the unnamed one. `limit` is the most rows to send
 /// back, 0 for all of them.
 #[unsafe(no_mangle)]
-pub extern "C" fn pgmsg_put_execute(alloc: Global, portal: u32, limit: u32, out: &mut [u8]) -> isize
-    ensures { PutsMessage (message.Execute (record { portal = portal; limit = limit })) out.old out.new result }
+pub extern "C" fn pgmsg_put_execute(portal: u32, limit: u32, out: &mut [u8]) -> isize
+    ensures { PutsMessage
+        (message.Execute (record { portal = portal; limit = limit })) out.old out.new result }
 {
     let execute = Execute {
         portal: PortalId::from_number(portal),
         limit,
     };
-    put(alloc, &execute, Ok(()), out)
+    put(&execute, Ok(()), out)
 }
 
 /// Asks for the answers that the server still has to send.
 #[unsafe(no_mangle)]
-pub extern "C" fn pgmsg_put_flush(alloc: Global, out: &mut [u8]) -> isize
+pub extern "C" fn pgmsg_put_flush(out: &mut [u8]) -> isize
     ensures { PutsMessage message.Flush out.old out.new result }
 {
-    put(alloc, &Flush, Ok(()), out)
+    put(&Flush, Ok(()), out)
 }
 
 /// Ends a run of messages: the server answers that it is ready.
 #[unsafe(no_mangle)]
-pub extern "C" fn pgmsg_put_sync(alloc: Global, out: &mut [u8]) -> isize
+pub extern "C" fn pgmsg_put_sync(out: &mut [u8]) -> isize
     ensures { PutsMessage message.Sync out.old out.new result }
 {
-    put(alloc, &Sync, Ok(()), out)
+    put(&Sync, Ok(()), out)
 }

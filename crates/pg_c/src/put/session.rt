@@ -3,14 +3,14 @@
 ghost use Rattle.std.specs.Prelude.{◌≡◌, ◌⊎◌, [], true, false, Some, None, Err, IfOk, IfErr, OnOk, IsErrOf, length, map};
 ghost use Rattle.std.specs.List.{list_all};
 ghost use Rattle.std.specs.Str.{is_utf8};
-ghost use Rattle.pg_base.specs.declared.error.Error.TheVariants.{Protocol, OutOfMemory};
+ghost use Rattle.pg_base.specs.declared.error.Error.TheVariants.{OutOfMemory};
 ghost use Rattle.pg_base.specs.declared.error.ProtocolFault.TheVariants.{NotUtf8, TextHoldsNul};
 ghost use Rattle.pg_request.specs.Frame.{first_fault, IsStrictAnswerOf};
 ghost use Rattle.pg_request.specs.Message as message;
 ghost use Rattle.pg_request.specs.SslRequest.{ssl_request_text};
 ghost use Rattle.pg_request.specs.Startup.{settings_of, startup_fields, startup_body, startup_text, StartupCanRoundTrip};
 ghost use Rattle.pg_c.specs.Put.{PutsMessage, PutsText, IsPut, IsRefused};
-ghost use Rattle.pg_c.specs.Session.{PutsSettings, PutsStartup, is_text, name_and_value};
+ghost use Rattle.pg_c.specs.Session.{IsSettingsError, PutsSettings, PutsStartup, is_text, name_and_value};
 
 use crate::put::{give, put, put_untagged, text_of};
 use crate::refusal::number_of;
@@ -38,8 +38,11 @@ pub extern "C" fn pgmsg_put_startup(
     settings: &[PgmsgSetting<'_>],
     out: &mut [u8],
 ) -> isize
-    ensures utf8 { list_all is_text settings.now ≡ true → PutsStartup settings.now out.old out.new result }
-    ensures not_utf8 { list_all is_text settings.now ≡ false → IsRefused NotUtf8 out.old out.new result ⊎ IsPut [] (Err OutOfMemory) out.old out.new result }
+    ensures utf8 { list_all is_text settings.now ≡ true
+        → PutsStartup settings.now out.old out.new result }
+    ensures not_utf8 { list_all is_text settings.now ≡ false
+        → IsRefused NotUtf8 out.old out.new result
+        ⊎ IsPut [] (Err OutOfMemory) out.old out.new result }
 {
     match params_of(alloc, settings) {
         Ok(params) => {
@@ -55,7 +58,8 @@ pub extern "C" fn pgmsg_put_startup(
 }
 
 fn put_startup(alloc: Global, startup: &Startup<'_>, out: &mut [u8]) -> isize
-    ensures { PutsSettings (startup_fields startup.now) out.old out.new result ⊎ IsPut [] (Err OutOfMemory) out.old out.new result }
+    ensures { PutsSettings (startup_fields startup.now) out.old out.new result
+        ⊎ IsPut [] (Err OutOfMemory) out.old out.new result }
 {
     let mut buf = Vec::new(alloc);
     match add_startup(startup, &mut buf) {
@@ -67,7 +71,9 @@ fn put_startup(alloc: Global, startup: &Startup<'_>, out: &mut [u8]) -> isize
 // Adds the message to an empty buffer. A refusal is for its length, then for the round trip.
 fn add_startup(startup: &Startup<'_>, buf: &mut Vec<u8>) -> Result<(), Error>
     requires { buf.old.items ≡ [] }
-    ensures answer { IsErrOf result OutOfMemory ⊎ IsStrictAnswerOf (first_fault None (length (startup_body (startup_fields startup.now)))) (StartupCanRoundTrip (startup_fields startup.now)) (Some TextHoldsNul) result }
+    ensures answer { IsErrOf result OutOfMemory
+        ⊎ IsStrictAnswerOf (first_fault None (length (startup_body (startup_fields startup.now))))
+        (StartupCanRoundTrip (startup_fields startup.now)) (Some TextHoldsNul) result }
     ensures text { OnOk result (buf.new.items ≡ startup_text (startup_fields startup.now)) }
 {
     startup.encode(buf)?;
@@ -80,8 +86,10 @@ fn params_of<'a>(
     alloc: Global,
     settings: &[PgmsgSetting<'a>],
 ) -> Result<Vec<(&'a str, &'a str)>, Error>
-    ensures ok { IfOk result (λ params. (settings_of params.items ≡ map name_and_value settings.now) × (list_all is_text settings.now ≡ true)) }
-    ensures err { IfErr result (λ error. (error ≡ OutOfMemory) ⊎ ((error ≡ Protocol None NotUtf8) × (list_all is_text settings.now ≡ false))) }
+    ensures ok { IfOk result
+        (λ params. (settings_of params.items ≡ map name_and_value settings.now)
+        × (list_all is_text settings.now ≡ true)) }
+    ensures err { IfErr result (IsSettingsError settings.now) }
 {
     let mut params = Vec::new(alloc);
     for setting in settings {
@@ -100,14 +108,15 @@ pub extern "C" fn pgmsg_put_ssl_request(alloc: Global, out: &mut [u8]) -> isize
 
 /// Answers a request for a password with the password, in UTF-8.
 #[unsafe(no_mangle)]
-pub extern "C" fn pgmsg_put_password(alloc: Global, password: &[u8], out: &mut [u8]) -> isize
-    ensures utf8 { is_utf8 password.now ≡ true → PutsMessage (message.CleartextPassword password.now) out.old out.new result }
+pub extern "C" fn pgmsg_put_password(password: &[u8], out: &mut [u8]) -> isize
+    ensures utf8 { is_utf8 password.now ≡ true
+        → PutsMessage (message.CleartextPassword password.now) out.old out.new result }
     ensures not_utf8 { is_utf8 password.now ≡ false → IsRefused NotUtf8 out.old out.new result }
 {
     match text_of(password) {
         Ok(text) => {
             let password = Password::Cleartext(text);
-            put(alloc, &password, password.check_round_trip(), out)
+            put(&password, password.check_round_trip(), out)
         }
         Err(fault) => number_of(fault.into()) as isize,
     }
@@ -116,28 +125,26 @@ pub extern "C" fn pgmsg_put_password(alloc: Global, password: &[u8], out: &mut [
 /// Answers a request for an MD5 digest with it: the digest of the salt after the digest, in
 /// hexadecimal, of the user's name after the password.
 #[unsafe(no_mangle)]
-pub extern "C" fn pgmsg_put_md5_password(alloc: Global, digest: &[u8; 16], out: &mut [u8]) -> isize
+pub extern "C" fn pgmsg_put_md5_password(digest: &[u8; 16], out: &mut [u8]) -> isize
     ensures { PutsMessage (message.Md5Password digest.now) out.old out.new result }
 {
     let password = Password::Md5 { digest: *digest };
-    put(alloc, &password, Ok(()), out)
+    put(&password, Ok(()), out)
 }
 
 /// Chooses SCRAM-SHA-256, or SCRAM-SHA-256-PLUS where `plus`, and begins it with `response`, in UTF-8.
 #[unsafe(no_mangle)]
-pub extern "C" fn pgmsg_put_sasl_initial(
-    alloc: Global,
-    response: &[u8],
-    plus: bool,
-    out: &mut [u8],
-) -> isize
-    ensures utf8 { is_utf8 response.now ≡ true → PutsMessage (message.SaslInitialResponse (record { response = response.now; plus = plus })) out.old out.new result }
+pub extern "C" fn pgmsg_put_sasl_initial(response: &[u8], plus: bool, out: &mut [u8]) -> isize
+    ensures utf8 { is_utf8 response.now ≡ true
+        → PutsMessage
+        (message.SaslInitialResponse (record { response = response.now; plus = plus }))
+        out.old out.new result }
     ensures not_utf8 { is_utf8 response.now ≡ false → IsRefused NotUtf8 out.old out.new result }
 {
     match text_of(response) {
         Ok(response) => {
             let sasl = SaslInitialResponse { response, plus };
-            put(alloc, &sasl, Ok(()), out)
+            put(&sasl, Ok(()), out)
         }
         Err(fault) => number_of(fault.into()) as isize,
     }
@@ -145,20 +152,21 @@ pub extern "C" fn pgmsg_put_sasl_initial(
 
 /// Answers a challenge of the SASL exchange, in UTF-8.
 #[unsafe(no_mangle)]
-pub extern "C" fn pgmsg_put_sasl_response(alloc: Global, response: &[u8], out: &mut [u8]) -> isize
-    ensures utf8 { is_utf8 response.now ≡ true → PutsMessage (message.SaslResponse response.now) out.old out.new result }
+pub extern "C" fn pgmsg_put_sasl_response(response: &[u8], out: &mut [u8]) -> isize
+    ensures utf8 { is_utf8 response.now ≡ true
+        → PutsMessage (message.SaslResponse response.now) out.old out.new result }
     ensures not_utf8 { is_utf8 response.now ≡ false → IsRefused NotUtf8 out.old out.new result }
 {
     match text_of(response) {
-        Ok(text) => put(alloc, &SaslResponse(text), Ok(()), out),
+        Ok(text) => put(&SaslResponse(text), Ok(()), out),
         Err(fault) => number_of(fault.into()) as isize,
     }
 }
 
 /// Ends the session.
 #[unsafe(no_mangle)]
-pub extern "C" fn pgmsg_put_terminate(alloc: Global, out: &mut [u8]) -> isize
+pub extern "C" fn pgmsg_put_terminate(out: &mut [u8]) -> isize
     ensures { PutsMessage message.Terminate out.old out.new result }
 {
-    put(alloc, &Terminate, Ok(()), out)
+    put(&Terminate, Ok(()), out)
 }

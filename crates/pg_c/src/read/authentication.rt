@@ -11,7 +11,7 @@ ghost use Rattle.pg_receive.specs.Authentication.Shown.{authentication_shown};
 ghost use Rattle.pg_response.specs.Received.{max_body};
 ghost use Rattle.pg_c.specs.Authentication.{ReadsAuthentication, ReadsChallenge, ReadsVerifier, IsAskedFault, salt_of};
 ghost use Rattle.pg_c.specs.Place.{part};
-ghost use Rattle.pg_c.specs.Read.{AreGiven, IsBodyFault};
+ghost use Rattle.pg_c.specs.Read.{AreGiven, IsBodyFault, RefusesBody};
 ghost use Rattle.pg_c.specs.Refusal.{Refuses, IsErrorOf};
 
 use crate::place::PgmsgSpan;
@@ -56,7 +56,7 @@ pub extern "C" fn pgmsg_read_authentication(
 ) -> i32
     ensures result { result ≤ℤ pos 0 }
     ensures value { result ≡ pos 0 → ReadsAuthentication body.now authentication.new }
-    ensures fault { result <ℤ pos 0 → Refuses (IsBodyFault (IsFaultOf requests) body.now) ⊤ fault.old fault.new result }
+    ensures fault { RefusesBody requests body.now ⊤ fault.old fault.new result }
     ensures within { pos 0 ≤ℤ result → length body.now ≤ max_body }
     ensures untouched { pos 0 ≤ℤ result → fault.new ≡ fault.old }
     ensures kept { result <ℤ pos 0 → authentication.new ≡ authentication.old }
@@ -100,7 +100,8 @@ fn shown(asked: &Authentication) -> PgmsgAuthentication
 #[unsafe(no_mangle)]
 pub extern "C" fn pgmsg_read_mechanisms(body: &[u8], mechanisms: &mut [PgmsgSpan]) -> usize
     ensures count { result ≡ length (mechanisms_in (drop 4 body.now)) }
-    ensures given { AreGiven (part body.now) (mechanisms_in (drop 4 body.now)) mechanisms.old mechanisms.new }
+    ensures given { AreGiven (part body.now) (mechanisms_in (drop 4 body.now))
+        mechanisms.old mechanisms.new }
 {
     if body.len() < METHOD_LENGTH {
         return 0;
@@ -134,11 +135,14 @@ pub extern "C" fn pgmsg_read_challenge(
     fault: &mut PgmsgFault,
 ) -> i32
     ensures result { result ≤ℤ pos 0 }
-    ensures value { result ≡ pos 0 → ReadsChallenge body.now challenge.new salt.old salt.new nonce.old nonce.new }
-    ensures fault { result <ℤ pos 0 → Refuses (IsAskedFault 11 body.now) ⊤ fault.old fault.new result }
+    ensures value { result ≡ pos 0
+        → ReadsChallenge body.now challenge.new salt.old salt.new nonce.old nonce.new }
+    ensures fault { result <ℤ pos 0
+        → Refuses (IsAskedFault 11 body.now) ⊤ fault.old fault.new result }
     ensures within { pos 0 ≤ℤ result → length body.now ≤ max_body }
     ensures untouched { pos 0 ≤ℤ result → fault.new ≡ fault.old }
-    ensures kept { result <ℤ pos 0 → (challenge.new ≡ challenge.old) × (salt.new ≡ salt.old) × (nonce.new ≡ nonce.old) }
+    ensures kept { result <ℤ pos 0
+        → (challenge.new ≡ challenge.old) × (salt.new ≡ salt.old) × (nonce.new ≡ nonce.old) }
 {
     match challenge_of(alloc, body) {
         Ok(read) => {
@@ -164,7 +168,8 @@ fn lengths_of(challenge: &AuthenticationSaslContinue) -> PgmsgChallenge
 }
 
 fn challenge_of(alloc: Global, body: &[u8]) -> Result<AuthenticationSaslContinue, Error>
-    ensures value { IfOk result (λ challenge. Means requests body.now (sasl_continue (continue_shown challenge))) }
+    ensures value { IfOk result
+        (λ challenge. Means requests body.now (sasl_continue (continue_shown challenge))) }
     ensures within { OnOk result (length body.now ≤ max_body) }
     ensures fault { IfErr result (IsErrorOf (IsAskedFault 11 body.now) ⊤) }
 {
@@ -184,7 +189,8 @@ pub extern "C" fn pgmsg_read_verifier(
     fault: &mut PgmsgFault,
 ) -> isize
     ensures value { pos 0 ≤ℤ result → ReadsVerifier body.now verifier.old verifier.new result }
-    ensures fault { result <ℤ pos 0 → Refuses (IsAskedFault 12 body.now) ⊤ fault.old fault.new result }
+    ensures fault { result <ℤ pos 0
+        → Refuses (IsAskedFault 12 body.now) ⊤ fault.old fault.new result }
     ensures within { pos 0 ≤ℤ result → length body.now ≤ max_body }
     ensures untouched { pos 0 ≤ℤ result → fault.new ≡ fault.old }
     ensures kept { result <ℤ pos 0 → verifier.new ≡ verifier.old }
@@ -208,7 +214,8 @@ fn verifier_of(alloc: Global, body: &[u8]) -> Result<AuthenticationSaslFinal, Er
 
 // What was asked is not what the caller reads.
 fn unexpected(asked: &Authentication) -> Error
-    ensures { result ≡ Protocol None (UnknownAuthentication (method_of (authentication_shown asked.now))) }
+    ensures { result
+        ≡ Protocol None (UnknownAuthentication (method_of (authentication_shown asked.now))) }
 {
     ProtocolFault::UnknownAuthentication(shown(asked).method).into()
 }

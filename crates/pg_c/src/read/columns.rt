@@ -9,8 +9,7 @@ ghost use Rattle.pg_format.specs.Messages.{column, row_description, parameter_de
 ghost use Rattle.pg_receive.specs.RowDescription.Columns.{column_of_ref};
 ghost use Rattle.pg_response.specs.Received.{max_body};
 ghost use Rattle.pg_c.specs.Columns.{column_in};
-ghost use Rattle.pg_c.specs.Read.{ReadsItems, GivesFront, IsBodyFault};
-ghost use Rattle.pg_c.specs.Refusal.{Refuses};
+ghost use Rattle.pg_c.specs.Read.{ReadsItems, GivesFront, IsBodyFault, RefusesBody};
 
 use crate::place::PgmsgSpan;
 use crate::read::check_body;
@@ -51,10 +50,12 @@ pub extern "C" fn pgmsg_read_columns(
     columns: &mut [PgmsgColumn],
     fault: &mut PgmsgFault,
 ) -> isize
-    ensures columns { pos 0 ≤ℤ result → ReadsItems row_description (column_in body.now) body.now columns.old columns.new result }
-    ensures fault { result <ℤ pos 0 → Refuses (IsBodyFault (IsFaultOf row_description) body.now) ⊥ fault.old fault.new result }
+    ensures columns { pos 0 ≤ℤ result
+        → ReadsItems row_description (column_in body.now) body.now columns.old columns.new result }
+    ensures fault { RefusesBody row_description body.now ⊥ fault.old fault.new result }
     ensures within { pos 0 ≤ℤ result → length body.now ≤ max_body }
-    ensures front { result <ℤ pos 0 → GivesFront column (column_in body.now) body.now 2 columns.old columns.new }
+    ensures front { result <ℤ pos 0
+        → GivesFront column (column_in body.now) body.now 2 columns.old columns.new }
     ensures untouched { pos 0 ≤ℤ result → fault.new ≡ fault.old }
 {
     match columns_of(body, columns) {
@@ -65,10 +66,13 @@ pub extern "C" fn pgmsg_read_columns(
 
 fn columns_of(body: &[u8], columns: &mut [PgmsgColumn]) -> Result<usize, ProtocolFault>
     ensures small { IfOk result (λ count. count ≤ 65535) }
-    ensures columns { IfOk result (λ count. ReadsItems row_description (column_in body.now) body.now columns.old columns.new (pos count)) }
+    ensures columns { IfOk result
+        (λ count. ReadsItems row_description (column_in body.now) body.now
+        columns.old columns.new (pos count)) }
     ensures within { OnOk result (length body.now ≤ max_body) }
     ensures fault { IfErr result (IsBodyFault (IsFaultOf row_description) body.now) }
-    ensures front { IfErr result (λ _. GivesFront column (column_in body.now) body.now 2 columns.old columns.new) }
+    ensures front { IfErr result
+        (λ _. GivesFront column (column_in body.now) body.now 2 columns.old columns.new) }
 {
     check_body(body)?;
     let count = usize::from(u16_at(body, 0)?);
@@ -86,7 +90,8 @@ fn columns_of(body: &[u8], columns: &mut [PgmsgColumn]) -> Result<usize, Protoco
 
 // The place of the column that begins at an offset.
 fn place_of(at: usize, field: &FieldRef<'_>) -> PgmsgColumn
-    ensures { (body : List ℕ) (end : ℕ) → IsReadAt column body at (column_of_ref field.now) end → column_in body result ≡ Some (column_of_ref field.now) }
+    ensures { (body : List ℕ) (end : ℕ) → IsReadAt column body at (column_of_ref field.now) end
+        → column_in body result ≡ Some (column_of_ref field.now) }
 {
     PgmsgColumn {
         name: PgmsgSpan {
@@ -120,10 +125,13 @@ pub extern "C" fn pgmsg_read_parameter_types(
     types: &mut [u32],
     fault: &mut PgmsgFault,
 ) -> isize
-    ensures types { pos 0 ≤ℤ result → ReadsItems parameter_description (λ number. Some number) body.now types.old types.new result }
-    ensures fault { result <ℤ pos 0 → Refuses (IsBodyFault (IsFaultOf parameter_description) body.now) ⊥ fault.old fault.new result }
+    ensures types { pos 0 ≤ℤ result
+        → ReadsItems parameter_description (λ number. Some number) body.now
+        types.old types.new result }
+    ensures fault { RefusesBody parameter_description body.now ⊥ fault.old fault.new result }
     ensures within { pos 0 ≤ℤ result → length body.now ≤ max_body }
-    ensures front { result <ℤ pos 0 → GivesFront be_u32 (λ number. Some number) body.now 2 types.old types.new }
+    ensures front { result <ℤ pos 0
+        → GivesFront be_u32 (λ number. Some number) body.now 2 types.old types.new }
     ensures untouched { pos 0 ≤ℤ result → fault.new ≡ fault.old }
 {
     match types_of(body, types) {
@@ -134,10 +142,13 @@ pub extern "C" fn pgmsg_read_parameter_types(
 
 fn types_of(body: &[u8], types: &mut [u32]) -> Result<usize, ProtocolFault>
     ensures small { IfOk result (λ count. count ≤ 65535) }
-    ensures types { IfOk result (λ count. ReadsItems parameter_description (λ number. Some number) body.now types.old types.new (pos count)) }
+    ensures types { IfOk result
+        (λ count. ReadsItems parameter_description (λ number. Some number) body.now
+        types.old types.new (pos count)) }
     ensures within { OnOk result (length body.now ≤ max_body) }
     ensures fault { IfErr result (IsBodyFault (IsFaultOf parameter_description) body.now) }
-    ensures front { IfErr result (λ _. GivesFront be_u32 (λ number. Some number) body.now 2 types.old types.new) }
+    ensures front { IfErr result
+        (λ _. GivesFront be_u32 (λ number. Some number) body.now 2 types.old types.new) }
 {
     check_body(body)?;
     let count = usize::from(u16_at(body, 0)?);

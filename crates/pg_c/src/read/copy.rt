@@ -6,8 +6,7 @@ ghost use Rattle.pg_format.specs.Format.Parts.{be_i16};
 ghost use Rattle.pg_format.specs.Messages.{columns_of, copy_response};
 ghost use Rattle.pg_response.specs.Received.{max_body};
 ghost use Rattle.pg_c.specs.Copy.{ReadsFormats};
-ghost use Rattle.pg_c.specs.Read.{GivesFront, IsBodyFault};
-ghost use Rattle.pg_c.specs.Refusal.{Refuses};
+ghost use Rattle.pg_c.specs.Read.{GivesFront, IsBodyFault, RefusesBody};
 
 use crate::read::check_body;
 use crate::refusal::{PgmsgFault, report};
@@ -41,10 +40,12 @@ pub extern "C" fn pgmsg_read_copy_response(
     codes: &mut [i16],
     fault: &mut PgmsgFault,
 ) -> isize
-    ensures formats { pos 0 ≤ℤ result → ReadsFormats body.now response.new codes.old codes.new result }
-    ensures fault { result <ℤ pos 0 → Refuses (IsBodyFault (IsFaultOf copy_response) body.now) ⊥ fault.old fault.new result }
+    ensures formats { pos 0 ≤ℤ result
+        → ReadsFormats body.now response.new codes.old codes.new result }
+    ensures fault { RefusesBody copy_response body.now ⊥ fault.old fault.new result }
     ensures within { pos 0 ≤ℤ result → length body.now ≤ max_body }
-    ensures front { result <ℤ pos 0 → GivesFront be_i16 (λ code. Some code) body.now 3 codes.old codes.new }
+    ensures front { result <ℤ pos 0
+        → GivesFront be_i16 (λ code. Some code) body.now 3 codes.old codes.new }
     ensures untouched { pos 0 ≤ℤ result → fault.new ≡ fault.old }
     ensures kept { result <ℤ pos 0 → response.new ≡ response.old }
 {
@@ -60,10 +61,12 @@ fn codes_of(
     codes: &mut [i16],
 ) -> Result<usize, ProtocolFault>
     ensures small { IfOk result (λ count. count ≤ 65535) }
-    ensures formats { IfOk result (λ count. ReadsFormats body.now response.new codes.old codes.new (pos count)) }
+    ensures formats { IfOk result
+        (λ count. ReadsFormats body.now response.new codes.old codes.new (pos count)) }
     ensures within { OnOk result (length body.now ≤ max_body) }
     ensures fault { IfErr result (IsBodyFault (IsFaultOf copy_response) body.now) }
-    ensures front { IfErr result (λ _. GivesFront be_i16 (λ code. Some code) body.now 3 codes.old codes.new) }
+    ensures front { IfErr result
+        (λ _. GivesFront be_i16 (λ code. Some code) body.now 3 codes.old codes.new) }
     ensures kept { IfErr result (λ _. response.new ≡ response.old) }
 {
     check_body(body)?;

@@ -1,14 +1,14 @@
 //! The fields of an error or a notice, and how grave it is.
 
-ghost use Rattle.std.specs.Prelude.{◌≡◌, ◌≤◌, ◌<ℤ◌, ◌≤ℤ◌, ⊤, pos, length, OnOk, IfOk, IfErr};
+ghost use Rattle.std.specs.Prelude.{◌≡◌, ◌≤◌, ◌≤ℤ◌, ⊤, pos, length, OnOk, IfOk, IfErr};
 ghost use Rattle.pg_response.specs.Response.Fields.{fields_in};
 ghost use Rattle.pg_response.specs.Response.Severity.{severity_number};
 ghost use Rattle.pg_format.specs.Format.{IsFaultOf};
 ghost use Rattle.pg_response.specs.Response.{notices};
 ghost use Rattle.pg_response.specs.Received.{max_body};
 ghost use Rattle.pg_c.specs.Fields.{field_in, IsSeverityOf};
-ghost use Rattle.pg_c.specs.Read.{AreGiven, IsBodyFault};
-ghost use Rattle.pg_c.specs.Refusal.{Refuses, IsErrorOf};
+ghost use Rattle.pg_c.specs.Read.{AreGiven, IsBodyFault, RefusesBody};
+ghost use Rattle.pg_c.specs.Refusal.{IsErrorOf};
 
 use crate::place::PgmsgSpan;
 use crate::read::check_body;
@@ -57,7 +57,7 @@ pub extern "C" fn pgmsg_read_fields(body: &[u8], fields: &mut [PgmsgField]) -> u
 #[unsafe(no_mangle)]
 pub extern "C" fn pgmsg_read_severity(alloc: Global, body: &[u8], fault: &mut PgmsgFault) -> i32
     ensures severity { pos 0 ≤ℤ result → IsSeverityOf body.now result }
-    ensures fault { result <ℤ pos 0 → Refuses (IsBodyFault (IsFaultOf notices) body.now) ⊤ fault.old fault.new result }
+    ensures fault { RefusesBody notices body.now ⊤ fault.old fault.new result }
     ensures within { pos 0 ≤ℤ result → length body.now ≤ max_body }
     ensures untouched { pos 0 ≤ℤ result → fault.new ≡ fault.old }
 {
@@ -68,7 +68,8 @@ pub extern "C" fn pgmsg_read_severity(alloc: Global, body: &[u8], fault: &mut Pg
 }
 
 fn severity_of(alloc: Global, body: &[u8]) -> Result<PgSeverity, Error>
-    ensures severity { IfOk result (λ severity. IsSeverityOf body.now (pos (severity_number severity))) }
+    ensures severity { IfOk result
+        (λ severity. IsSeverityOf body.now (pos (severity_number severity))) }
     ensures within { OnOk result (length body.now ≤ max_body) }
     ensures fault { IfErr result (IsErrorOf (IsBodyFault (IsFaultOf notices) body.now) ⊤) }
 {

@@ -38,8 +38,10 @@ pub extern "C" fn pgmsg_next_frame(
     ensures result { result ≤ℤ pos 1 }
     ensures whole { result ≡ pos 1 → IsWhole stream.now frame.new }
     ensures part { result ≡ pos 0 → Needs stream.now frame.new.length }
-    ensures part_alone { result ≡ pos 0 → (frame.new.tag ≡ frame.old.tag) × (frame.new.body ≡ frame.old.body) }
-    ensures fault { result <ℤ pos 0 → Refuses (IsStreamFault stream.now) ⊥ fault.old fault.new result }
+    ensures part_alone { result ≡ pos 0
+        → (frame.new.tag ≡ frame.old.tag) × (frame.new.body ≡ frame.old.body) }
+    ensures fault { result <ℤ pos 0
+        → Refuses (IsStreamFault stream.now) ⊥ fault.old fault.new result }
     ensures untouched { pos 0 ≤ℤ result → fault.new ≡ fault.old }
     ensures kept { result <ℤ pos 0 → frame.new ≡ frame.old }
 {
@@ -58,7 +60,8 @@ pub extern "C" fn pgmsg_next_frame(
 
 // Where the message at the front is.
 fn place_of(stream: &[u8], frame: &Frame<'_>) -> PgmsgFrame
-    requires { Begins stream.now (backend_tag frame.now.format) frame.now.body.now frame.now.rest.now }
+    requires { Begins stream.now (backend_tag frame.now.format)
+        frame.now.body.now frame.now.rest.now }
     ensures { IsWhole stream.now result }
 {
     PgmsgFrame {

@@ -22,7 +22,8 @@ use pg_base::io::MAX_BODY;
 /// Whether a message can have a body of this length.
 pub(crate) fn check_body(body: &[u8]) -> Result<(), ProtocolFault>
     ensures ok { OnOk result (length body.now ≤ max_body) }
-    ensures err { IfErr result (λ fault. (max_body < length body.now) × (fault ≡ BodyTooLong (length body.now))) }
+    ensures err { IfErr result
+        (λ fault. (max_body < length body.now) × (fault ≡ BodyTooLong (length body.now))) }
 {
     if body.len() > MAX_BODY {
         return Err(ProtocolFault::BodyTooLong(body.len()));

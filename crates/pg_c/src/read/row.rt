@@ -6,9 +6,8 @@ ghost use Rattle.pg_format.specs.Format.Nullable.{cell};
 ghost use Rattle.pg_format.specs.Format.Places.{IsReadAt};
 ghost use Rattle.pg_format.specs.Messages.{data_row};
 ghost use Rattle.pg_response.specs.Received.{max_body};
-ghost use Rattle.pg_c.specs.Read.{ReadsItems, GivesFront, IsBodyFault};
+ghost use Rattle.pg_c.specs.Read.{ReadsItems, GivesFront, IsBodyFault, RefusesBody};
 ghost use Rattle.pg_c.specs.Row.{cell_in};
-ghost use Rattle.pg_c.specs.Refusal.{Refuses};
 
 use crate::read::check_body;
 use crate::refusal::{PgmsgFault, report};
@@ -40,10 +39,12 @@ pub extern "C" fn pgmsg_read_row(
     cells: &mut [PgmsgCell],
     fault: &mut PgmsgFault,
 ) -> isize
-    ensures row { pos 0 ≤ℤ result → ReadsItems data_row (cell_in body.now) body.now cells.old cells.new result }
-    ensures fault { result <ℤ pos 0 → Refuses (IsBodyFault (IsFaultOf data_row) body.now) ⊥ fault.old fault.new result }
+    ensures row { pos 0 ≤ℤ result
+        → ReadsItems data_row (cell_in body.now) body.now cells.old cells.new result }
+    ensures fault { RefusesBody data_row body.now ⊥ fault.old fault.new result }
     ensures within { pos 0 ≤ℤ result → length body.now ≤ max_body }
-    ensures front { result <ℤ pos 0 → GivesFront cell (cell_in body.now) body.now 2 cells.old cells.new }
+    ensures front { result <ℤ pos 0
+        → GivesFront cell (cell_in body.now) body.now 2 cells.old cells.new }
     ensures untouched { pos 0 ≤ℤ result → fault.new ≡ fault.old }
 {
     match cells_of(body, cells) {
@@ -54,10 +55,12 @@ pub extern "C" fn pgmsg_read_row(
 
 fn cells_of(body: &[u8], cells: &mut [PgmsgCell]) -> Result<usize, ProtocolFault>
     ensures small { IfOk result (λ count. count ≤ 65535) }
-    ensures row { IfOk result (λ count. ReadsItems data_row (cell_in body.now) body.now cells.old cells.new (pos count)) }
+    ensures row { IfOk result
+        (λ count. ReadsItems data_row (cell_in body.now) body.now cells.old cells.new (pos count)) }
     ensures within { OnOk result (length body.now ≤ max_body) }
     ensures fault { IfErr result (IsBodyFault (IsFaultOf data_row) body.now) }
-    ensures front { IfErr result (λ _. GivesFront cell (cell_in body.now) body.now 2 cells.old cells.new) }
+    ensures front { IfErr result
+        (λ _. GivesFront cell (cell_in body.now) body.now 2 cells.old cells.new) }
 {
     check_body(body)?;
     let count = usize::from(u16_at(body, 0)?);
@@ -77,7 +80,8 @@ fn cells_of(body: &[u8], cells: &mut [PgmsgCell]) -> Result<usize, ProtocolFault
 fn place_of(at: usize, value: Option<&[u8]>, end: usize) -> PgmsgCell
     requires wide { at + 4 ≤ end }
     requires short { end ≤ MAX_BODY }
-    ensures { (body : List ℕ) → IsReadAt cell body at (option_copied value.entry) end → cell_in body result ≡ Some (option_copied value.entry) }
+    ensures { (body : List ℕ) → IsReadAt cell body at (option_copied value.entry) end
+        → cell_in body result ≡ Some (option_copied value.entry) }
 {
     let start = at + CELL_LENGTH;
     PgmsgCell {

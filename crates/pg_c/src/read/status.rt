@@ -1,13 +1,12 @@
 //! Notifications, settings, keys, and what a command and a session report of themselves.
 
 ghost use Rattle.std.specs.Prelude.{◌≡◌, ◌≤◌, ◌<ℤ◌, ◌≤ℤ◌, pos, length};
-ghost use Rattle.pg_format.specs.Format.{Means, IsFaultOf};
+ghost use Rattle.pg_format.specs.Format.{Means};
 ghost use Rattle.pg_format.specs.Messages as page;
 ghost use Rattle.pg_receive.specs.CommandComplete.{row_count};
 ghost use Rattle.pg_receive.specs.ReadyForQuery.{shown_status};
 ghost use Rattle.pg_response.specs.Received.{max_body};
-ghost use Rattle.pg_c.specs.Read.{IsBodyFault, ReadsBody};
-ghost use Rattle.pg_c.specs.Refusal.{Refuses};
+ghost use Rattle.pg_c.specs.Read.{ReadsBody, RefusesBody};
 ghost use Rattle.pg_c.specs.Status.{ReadsNotification, ReadsSetting, IsStatusLetter};
 
 use crate::place::PgmsgSpan;
@@ -54,7 +53,7 @@ pub extern "C" fn pgmsg_read_notification(
 ) -> i32
     ensures result { result ≤ℤ pos 0 }
     ensures value { result ≡ pos 0 → ReadsNotification body.now notification.new }
-    ensures fault { result <ℤ pos 0 → Refuses (IsBodyFault (IsFaultOf page.notification) body.now) ⊥ fault.old fault.new result }
+    ensures fault { RefusesBody page.notification body.now ⊥ fault.old fault.new result }
     ensures within { pos 0 ≤ℤ result → length body.now ≤ max_body }
     ensures untouched { pos 0 ≤ℤ result → fault.new ≡ fault.old }
     ensures kept { result <ℤ pos 0 → notification.new ≡ notification.old }
@@ -80,7 +79,12 @@ pub extern "C" fn pgmsg_read_notification(
 }
 
 fn notification_of(body: &[u8]) -> Result<NotificationRef<'_>, ProtocolFault>
-    ensures { ReadsBody page.notification (λ n. record { process_id = n.process_id; channel = n.channel.now; payload = n.payload.now }) body.now result }
+    ensures { ReadsBody page.notification
+        (λ n. record {
+          process_id = n.process_id;
+          channel = n.channel.now;
+          payload = n.payload.now;
+        }) body.now result }
 {
     check_body(body)?;
     NotificationRef::read(body)
@@ -96,7 +100,7 @@ pub extern "C" fn pgmsg_read_parameter_status(
 ) -> i32
     ensures result { result ≤ℤ pos 0 }
     ensures value { result ≡ pos 0 → ReadsSetting body.now status.new }
-    ensures fault { result <ℤ pos 0 → Refuses (IsBodyFault (IsFaultOf page.parameter_status) body.now) ⊥ fault.old fault.new result }
+    ensures fault { RefusesBody page.parameter_status body.now ⊥ fault.old fault.new result }
     ensures within { pos 0 ≤ℤ result → length body.now ≤ max_body }
     ensures untouched { pos 0 ≤ℤ result → fault.new ≡ fault.old }
     ensures kept { result <ℤ pos 0 → status.new ≡ status.old }
@@ -120,7 +124,8 @@ pub extern "C" fn pgmsg_read_parameter_status(
 }
 
 fn setting_of(body: &[u8]) -> Result<ParameterStatusRef<'_>, ProtocolFault>
-    ensures { ReadsBody page.parameter_status (λ status. record { name = status.name.now; value = status.value.now }) body.now result }
+    ensures { ReadsBody page.parameter_status
+        (λ status. record { name = status.name.now; value = status.value.now }) body.now result }
 {
     check_body(body)?;
     ParameterStatusRef::read(body)
@@ -135,8 +140,10 @@ pub extern "C" fn pgmsg_read_key_data(
     fault: &mut PgmsgFault,
 ) -> i32
     ensures result { result ≤ℤ pos 0 }
-    ensures value { result ≡ pos 0 → Means page.backend_key_data body.now (record { process_id = key.new.process_id; secret_key = key.new.secret_key }) }
-    ensures fault { result <ℤ pos 0 → Refuses (IsBodyFault (IsFaultOf page.backend_key_data) body.now) ⊥ fault.old fault.new result }
+    ensures value { result ≡ pos 0
+        → Means page.backend_key_data body.now
+        (record { process_id = key.new.process_id; secret_key = key.new.secret_key }) }
+    ensures fault { RefusesBody page.backend_key_data body.now ⊥ fault.old fault.new result }
     ensures within { pos 0 ≤ℤ result → length body.now ≤ max_body }
     ensures untouched { pos 0 ≤ℤ result → fault.new ≡ fault.old }
     ensures kept { result <ℤ pos 0 → key.new ≡ key.old }
@@ -154,7 +161,9 @@ pub extern "C" fn pgmsg_read_key_data(
 }
 
 fn key_of(body: &[u8]) -> Result<BackendKeyData, ProtocolFault>
-    ensures { ReadsBody page.backend_key_data (λ key. record { process_id = key.process_id; secret_key = key.secret_key }) body.now result }
+    ensures { ReadsBody page.backend_key_data
+        (λ key. record { process_id = key.process_id; secret_key = key.secret_key })
+        body.now result }
 {
     check_body(body)?;
     BackendKeyData::read(body)
@@ -174,7 +183,7 @@ pub extern "C" fn pgmsg_read_rows_affected(body: &[u8]) -> u64
 #[unsafe(no_mangle)]
 pub extern "C" fn pgmsg_read_ready(alloc: Global, body: &[u8], fault: &mut PgmsgFault) -> i32
     ensures value { pos 0 ≤ℤ result → IsStatusLetter body.now result }
-    ensures fault { result <ℤ pos 0 → Refuses (IsBodyFault (IsFaultOf page.ready_for_query) body.now) ⊥ fault.old fault.new result }
+    ensures fault { RefusesBody page.ready_for_query body.now ⊥ fault.old fault.new result }
     ensures within { pos 0 ≤ℤ result → length body.now ≤ max_body }
     ensures untouched { pos 0 ≤ℤ result → fault.new ≡ fault.old }
 {
@@ -185,7 +194,8 @@ pub extern "C" fn pgmsg_read_ready(alloc: Global, body: &[u8], fault: &mut Pgmsg
 }
 
 fn status_of(body: &[u8]) -> Result<ReadyForQuery, ProtocolFault>
-    ensures { ReadsBody page.ready_for_query (λ ready. shown_status ready.transaction_status) body.now result }
+    ensures { ReadsBody page.ready_for_query
+        (λ ready. shown_status ready.transaction_status) body.now result }
 {
     check_body(body)?;
     ReadyForQuery::read(body)

@@ -1,5 +1,5 @@
 -- The laws of the messages of a client: each has one spelling.
-use Rattle.std.specs.Prelude.{◌≡◌, ◌≢◌, ℕ, ◌==◌, Bool, true, false, List, [], ◌∷◌, Some, None, if◌then◌else◌}
+use Rattle.std.specs.Prelude.{◌≡◌, ◌≢◌, ℕ, ◌==◌, Bool, true, false, List, [], ◌∷◌, length, Some, None, if◌then◌else◌}
 use Rattle.std.proofs.Common.{refl, sym}
 use Rattle.std.proofs.lemmas.Bool.{eqb-true}
 use Rattle.pg_base.specs.declared.error.ProtocolFault.TheVariants.{UnknownMessageType}
@@ -7,10 +7,10 @@ use Rattle.pg_format.specs.Format.{Lawful, Canonical, Total}
 use Rattle.pg_format.specs.Format.Parts.{until_nul}
 use Rattle.pg_format.specs.Format.Sequences.{◌⨾◌}
 use Rattle.pg_format.specs.Format.Tests.{only}
-use Rattle.pg_format.specs.Messages.{format_codes, bind, empty, Target, statement, portal, target_of, target_letter, targeted, execute, parse, text, sasl_initial_response, sasl_response, ssl_request, startup}
+use Rattle.pg_format.specs.Messages.{format_codes, bind, key_fault, cancel_request, empty, Target, statement, portal, target_of, target_letter, targeted, execute, function_call, gss_enc_request, parse, text, sasl_initial_response, sasl_response, ssl_request, startup}
 use Rattle.pg_format.proofs.FormatLaws.Parts.{lawful_until_nul, canonical_until_nul, total_until_nul, lawful_unsigned, canonical_unsigned, total_unsigned, lawful_remaining, canonical_remaining, lawful_one_of, canonical_one_of, total_one_of, lawful_success, canonical_success, total_success}
 use Rattle.pg_format.proofs.FormatLaws.Sequences.{◌l⨾◌, ◌c⨾◌, ◌t⨾◌, lawful_record_of, canonical_record_of, total_record_of}
-use Rattle.pg_format.proofs.FormatLaws.Tests.{lawful_only}
+use Rattle.pg_format.proofs.FormatLaws.Tests.{lawful_checked, canonical_checked, lawful_only, canonical_only}
 use Rattle.pg_format.proofs.FormatLaws.Ends.{lawful_exactly, canonical_exactly, total_exactly}
 use Rattle.pg_format.proofs.FormatLaws.Lists.{lawful_counted, canonical_counted, total_counted, lawful_counted_least, canonical_counted_least, total_counted_least, lawful_many}
 use Rattle.pg_format.proofs.FormatLaws.Nullable.{lawful_value, canonical_value, total_value}
@@ -37,6 +37,15 @@ pub total_bind : Total bind
 total_bind =
     total_exactly (total_record_of _ (λ a. record { portal = a.0; statement = a.1.0; formats = a.1.1.0; values = a.1.1.1.0; result_formats = a.1.1.1.1 }) (λ a. refl)
     (total_until_nul t⨾ total_until_nul t⨾ total_codes t⨾ total_counted total_value t⨾ total_codes))
+
+pub lawful_cancel_request : Lawful cancel_request
+lawful_cancel_request =
+    lawful_only (λ n. n ≡ 80877102) (lawful_unsigned 4 tt) l⨾ lawful_record_of _ (λ a b e i. record { process_id = (e i).0; secret_key = (e i).1 })
+    (lawful_unsigned 4 tt l⨾ lawful_checked (λ key. key_fault (length key)) lawful_remaining)
+
+pub canonical_cancel_request : Canonical cancel_request
+canonical_cancel_request =
+    canonical_only (λ n. n ≡ 80877102) (canonical_unsigned 4 tt) c⨾ canonical_record_of _ (canonical_unsigned 4 tt c⨾ canonical_checked (λ key. key_fault (length key)) canonical_remaining)
 
 pub lawful_empty : Lawful empty
 lawful_empty = lawful_exactly (lawful_success tt)
@@ -78,6 +87,22 @@ canonical_execute = canonical_exactly (canonical_record_of _ (canonical_until_nu
 
 pub total_execute : Total execute
 total_execute = total_exactly (total_record_of _ (λ a. record { portal = a.0; limit = a.1 }) (λ a. refl) (total_until_nul t⨾ total_unsigned 4))
+
+pub lawful_function_call : Lawful function_call
+lawful_function_call =
+    lawful_exactly (lawful_record_of _ (λ a b e i. record { object_id = (e i).0; formats = (e i).1.0; arguments = (e i).1.1.0; result_format = (e i).1.1.1 })
+    (lawful_unsigned 4 tt l⨾ lawful_codes l⨾ lawful_counted lawful_value l⨾ lawful_unsigned 2 tt))
+
+pub canonical_function_call : Canonical function_call
+canonical_function_call = canonical_exactly (canonical_record_of _ (canonical_unsigned 4 tt c⨾ canonical_codes c⨾ canonical_counted canonical_value c⨾ canonical_unsigned 2 tt))
+
+pub total_function_call : Total function_call
+total_function_call =
+    total_exactly (total_record_of _ (λ a. record { object_id = a.0; formats = a.1.0; arguments = a.1.1.0; result_format = a.1.1.1 }) (λ a. refl)
+    (total_unsigned 4 t⨾ total_codes t⨾ total_counted total_value t⨾ total_unsigned 2))
+
+pub lawful_gss_enc_request : Lawful gss_enc_request
+lawful_gss_enc_request = lawful_exactly (lawful_only (λ n. n ≡ 80877104) (lawful_unsigned 4 tt))
 
 pub lawful_parse : Lawful parse
 lawful_parse =

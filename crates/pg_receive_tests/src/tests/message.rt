@@ -2,7 +2,6 @@
 
 mod authentication;
 mod backend_key_data;
-mod columns;
 mod command_complete;
 mod copy;
 mod data_row;
@@ -12,5 +11,3 @@ mod parameter_status;
 mod ready_for_query;
 mod received;
 mod row_description;
-mod row_index;
-mod row_reader;

@@ -4,7 +4,7 @@ use Rattle.std.proofs.Common.{arith}
 use Rattle.std.proofs.lemmas.Bool.{leb-true}
 use Rattle.pg_base.specs.Text.{ended}
 use Rattle.pg_request.specs.declared.message.password.Password.{Password}
-use Rattle.pg_request.specs.declared.message.password.Password.TheVariants.{Cleartext, Md5}
+use Rattle.pg_request.specs.declared.message.password.Password.TheVariants.{Cleartext, Bytes, Md5}
 use Rattle.pg_request.specs.Message.{body, fault, hint, password_message}
 use Rattle.pg_request.specs.Password.{power_from, power_over}
 
@@ -25,4 +25,5 @@ power_over_covers n small = power_from_covers 64 0 n small
 
 pub enough_room : (password : Password) → fault (password_message password) ≡ None → length (body (password_message password)) ≤ hint (password_message password)
 enough_room (Cleartext text) fits = power_over_covers (length (ended text.now)) (grind arith)
+enough_room (Bytes bytes) fits = power_over_covers (length (ended bytes.now)) (grind arith)
 enough_room (Md5 digest) fits = grind arith

@@ -5,9 +5,8 @@ ghost use Rattle.pg_request.specs.Bind.{bind_law, bind_fields};
 
 use crate::message::FrontendMessage;
 use crate::message::counted::{put_formats, too_many};
-use crate::message::parts::{put_slice, put_u16};
 use crate::message::round_trip::check_values;
-use pg_base::io::{PgValueFormat, PortalId, StatementId};
+use pg_base::io::{PgValueFormat, PortalId, Sink, StatementId};
 use pg_base::{FrontendMessageFormat, ProtocolFault};
 
 /// Asks the server to make a portal of a prepared statement and the values of its parameters.
@@ -79,13 +78,13 @@ impl FrontendMessage for Bind<'_> {
     }
 
     #[inline(always)]
-    fn put_body(&self, buf: &mut Vec<u8>) {
-        self.portal.push_name_reserved(buf);
-        self.statement.push_name_reserved(buf);
-        put_formats(self.formats, buf);
-        put_u16(self.num_params, buf);
-        put_slice(self.params, buf);
-        put_formats(self.result_formats, buf);
+    fn put_body<S: Sink>(&self, sink: &mut S) {
+        self.portal.put_name(sink);
+        self.statement.put_name(sink);
+        put_formats(self.formats, sink);
+        sink.put_u16(self.num_params);
+        sink.put_slice(self.params);
+        put_formats(self.result_formats, sink);
     }
 
     ghost use Rattle.std.proofs.Common.{arith};

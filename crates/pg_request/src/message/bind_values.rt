@@ -7,20 +7,14 @@ ghost use Rattle.pg_base.specs.Reading.{Values};
 ghost use Rattle.pg_request.specs.BindValues.{with_value, with_null};
 ghost use Rattle.pg_request.specs.Frame.{first_fault};
 
-use crate::message::parts::{put_slice, put_u32};
-use pg_base::io::MAX_BODY;
+use crate::message::values::{LENGTH_SIZE, NULL_LENGTH};
+use pg_base::io::{MAX_BODY, Sink};
 use pg_base::{Error, ProtocolFault};
 use std::alloc::Global;
 use std::marker::Model;
 
 // The most values that a Bind can count.
 const MAX_VALUES: u16 = u16::MAX;
-
-// The length that says NULL: -1.
-const NULL_LENGTH: u32 = u32::MAX;
-
-// The bytes of a length.
-const LENGTH_SIZE: usize = 4;
 
 /// The values of a [`Bind`](crate::message::Bind)'s parameters in the order of the parameters: what
 /// to send as `params`, and how many they are, `num_params`. At most 65535.
@@ -92,8 +86,8 @@ impl BindValues {
             return Err(ProtocolFault::MessageTooLong(value.len().saturating_add(4)).into());
         }
         self.bytes.reserve(LENGTH_SIZE + value.len())?;
-        put_u32(value.len() as u32, &mut self.bytes);
-        put_slice(value, &mut self.bytes);
+        self.bytes.put_u32(value.len() as u32);
+        self.bytes.put_slice(value);
         self.count += 1;
         Ok(())
     }
@@ -107,7 +101,7 @@ impl BindValues {
         ensures memory { IsOkUnless result OutOfMemory }
     {
         self.bytes.reserve(LENGTH_SIZE)?;
-        put_u32(NULL_LENGTH, &mut self.bytes);
+        self.bytes.put_u32(NULL_LENGTH);
         self.count += 1;
         Ok(())
     }

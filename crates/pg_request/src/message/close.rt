@@ -4,7 +4,7 @@ ghost use Rattle.pg_request.specs.Close.{close_law, close_target};
 
 use crate::message::FrontendMessage;
 use crate::message::target::{portal_len, put_portal, put_statement, statement_len};
-use pg_base::io::{PortalId, StatementId};
+use pg_base::io::{PortalId, Sink, StatementId};
 use pg_base::{FrontendMessageFormat, ProtocolFault};
 
 /// Asks the server to close a prepared statement or a portal. Documentation: "Message Formats", Close
@@ -40,10 +40,10 @@ impl FrontendMessage for Close {
     }
 
     #[inline(always)]
-    fn put_body(&self, buf: &mut Vec<u8>) {
+    fn put_body<S: Sink>(&self, sink: &mut S) {
         match self {
-            Close::Statement(id) => put_statement(*id, buf),
-            Close::Portal(id) => put_portal(*id, buf),
+            Close::Statement(id) => put_statement(*id, sink),
+            Close::Portal(id) => put_portal(*id, sink),
         }
     }
 

@@ -6,9 +6,9 @@ ghost use Rattle.pg_request.specs.CopyDone.{copy_done_law};
 ghost use Rattle.pg_request.specs.CopyFail.{copy_fail_law};
 
 use crate::message::FrontendMessage;
-use crate::message::parts::{put_slice, put_text, text_len};
+use crate::message::parts::text_len;
 use crate::message::round_trip::check_text;
-use pg_base::io::{CopyData, CopyDone, LendBytes};
+use pg_base::io::{CopyData, CopyDone, LendBytes, Sink};
 use pg_base::{FrontendMessageFormat, ProtocolFault};
 
 /// Fails a COPY, and says why. Documentation: "Message Formats", CopyFail (F).
@@ -60,8 +60,8 @@ impl<B: LendBytes> FrontendMessage for CopyData<B> {
     }
 
     #[inline(always)]
-    fn put_body(&self, buf: &mut Vec<u8>) {
-        put_slice(self.0.bytes(), buf);
+    fn put_body<S: Sink>(&self, sink: &mut S) {
+        sink.put_slice(self.0.bytes());
     }
 
     ghost use Rattle.std.proofs.Common.{arith};
@@ -91,8 +91,8 @@ impl FrontendMessage for CopyFail {
     }
 
     #[inline(always)]
-    fn put_body(&self, buf: &mut Vec<u8>) {
-        put_text(self.message.as_str(), buf);
+    fn put_body<S: Sink>(&self, sink: &mut S) {
+        sink.put_text(self.message.as_str().as_bytes());
     }
 
     ghost use Rattle.std.proofs.Common.{arith};
@@ -122,7 +122,7 @@ impl FrontendMessage for CopyDone {
     }
 
     #[inline(always)]
-    fn put_body(&self, _buf: &mut Vec<u8>) {}
+    fn put_body<S: Sink>(&self, _sink: &mut S) {}
 
     ghost use Rattle.std.proofs.Common.{arith};
 

@@ -4,7 +4,7 @@ ghost use Rattle.pg_request.specs.Describe.{describe_law, describe_target};
 
 use crate::message::FrontendMessage;
 use crate::message::target::{portal_len, put_portal, put_statement, statement_len};
-use pg_base::io::{PortalId, StatementId};
+use pg_base::io::{PortalId, Sink, StatementId};
 use pg_base::{FrontendMessageFormat, ProtocolFault};
 
 /// Asks the server to describe a prepared statement or a portal. Documentation: "Message Formats",
@@ -40,10 +40,10 @@ impl FrontendMessage for Describe {
     }
 
     #[inline(always)]
-    fn put_body(&self, buf: &mut Vec<u8>) {
+    fn put_body<S: Sink>(&self, sink: &mut S) {
         match self {
-            Describe::Statement(id) => put_statement(*id, buf),
-            Describe::Portal(id) => put_portal(*id, buf),
+            Describe::Statement(id) => put_statement(*id, sink),
+            Describe::Portal(id) => put_portal(*id, sink),
         }
     }
 

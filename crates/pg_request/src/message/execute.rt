@@ -3,8 +3,7 @@
 ghost use Rattle.pg_request.specs.Execute.{execute_law, execute_fields};
 
 use crate::message::FrontendMessage;
-use crate::message::parts::put_u32;
-use pg_base::io::PortalId;
+use pg_base::io::{PortalId, Sink};
 use pg_base::{FrontendMessageFormat, ProtocolFault};
 
 /// Asks the server to run a portal. Documentation: "Message Formats", Execute (F).
@@ -39,9 +38,9 @@ impl FrontendMessage for Execute {
     }
 
     #[inline(always)]
-    fn put_body(&self, buf: &mut Vec<u8>) {
-        self.portal.push_name_reserved(buf);
-        put_u32(self.limit, buf);
+    fn put_body<S: Sink>(&self, sink: &mut S) {
+        self.portal.put_name(sink);
+        sink.put_u32(self.limit);
     }
 
     ghost use Rattle.std.proofs.Common.{arith};

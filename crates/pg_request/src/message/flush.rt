@@ -3,6 +3,7 @@
 ghost use Rattle.pg_request.specs.Flush.{flush_law};
 
 use crate::message::FrontendMessage;
+use pg_base::io::Sink;
 use pg_base::{FrontendMessageFormat, ProtocolFault};
 
 /// Asks the server to send what it holds back. Documentation: "Message Formats", Flush (F).
@@ -31,7 +32,7 @@ impl FrontendMessage for Flush {
     }
 
     #[inline(always)]
-    fn put_body(&self, _buf: &mut Vec<u8>) {}
+    fn put_body<S: Sink>(&self, _sink: &mut S) {}
 
     ghost use Rattle.std.proofs.Common.{arith};
 

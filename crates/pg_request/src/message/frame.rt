@@ -4,11 +4,11 @@ ghost use Rattle.std.specs.Prelude.{◌≡◌, ◌+◌, ◌≤◌, ◌<◌, ◌+
 ghost use Rattle.std.specs.Bool.{OnTrue, OnFalse};
 ghost use Rattle.pg_base.specs.declared.error.Error.TheVariants.{OutOfMemory};
 ghost use Rattle.pg_base.specs.declared.error.ProtocolFault.{ProtocolFault};
+ghost use Rattle.pg_base.specs.Sink.{IsGiven};
 ghost use Rattle.pg_base.specs.Cutting.{IsCutInto};
 ghost use Rattle.pg_request.specs.Frame.{Law, tag, fault, hint, text, checked_len, room_or_fault, saturated, EncodesMessage};
 
-use crate::message::parts::put_slice;
-use pg_base::io::{MAX_BODY, ProtocolEncode};
+use pg_base::io::{MAX_BODY, ProtocolEncode, Sink, Text, write_text};
 use pg_base::{Error, FrontendMessageFormat, ProtocolFault};
 
 // The bytes before a body: the tag and the length.
@@ -44,11 +44,12 @@ pub trait FrontendMessage: Sized + Drop {
         ensures { result ≡ hint (law self.now) };
 
     /// Adds the body of a message within the limits, in room that is there.
-    fn put_body(&self, buf: &mut Vec<u8>)
+    fn put_body<S: Sink>(&self, sink: &mut S)
         requires limits { fault (law self.now) ≡ None }
-        requires room { vec_len buf.old + length (law self.now).body ≤ vec_capacity buf.old }
-        ensures items { buf.new.items ≡ buf.old.items ++ (law self.now).body }
-        ensures capacity { vec_capacity buf.old ≤ vec_capacity buf.new }
+        requires room { length (S.written sink.old) + length (law self.now).body ≤ S.capacity sink.old }
+        ensures written { S.written sink.new ≡ S.written sink.old ++ (law self.now).body }
+        ensures capacity { S.capacity sink.old ≤ S.capacity sink.new }
+        ensures loan { S.loan sink.new ≡ S.loan sink.old }
         ensures range { (law self.now).IsInRange };
 
     /// Within the limits the room that is reserved holds the body.
@@ -106,17 +107,18 @@ pub trait FrontendMessage: Sized + Drop {
     /// Adds tag, length and body of a message within the limits, in room that is there. `len` is
     /// the length of the body in bytes.
     #[inline(always)]
-    final fn put_frame(&self, len: usize, buf: &mut Vec<u8>)
+    final fn put_frame<S: Sink>(&self, len: usize, sink: &mut S)
         requires limits { fault (law self.now) ≡ None }
         requires len { len ≡ length (law self.now).body }
-        requires room { vec_len buf.old + (length (law self.now).body + 5) ≤ vec_capacity buf.old }
-        ensures items { buf.new.items ≡ buf.old.items ++ text (law self.now) }
-        ensures capacity { vec_capacity buf.old ≤ vec_capacity buf.new }
+        requires room { length (S.written sink.old) + (length (law self.now).body + 5) ≤ S.capacity sink.old }
+        ensures written { S.written sink.new ≡ S.written sink.old ++ text (law self.now) }
+        ensures capacity { S.capacity sink.old ≤ S.capacity sink.new }
+        ensures loan { S.loan sink.new ≡ S.loan sink.old }
         ensures range { (law self.now).IsInRange }
     {
         let [first, second, third, fourth] = (len as u32 + 4).to_be_bytes();
-        put_slice(&[self.tag(), first, second, third, fourth], buf);
-        self.put_body(buf);
+        sink.put_slice(&[self.tag(), first, second, third, fourth]);
+        self.put_body(sink);
     }
 
     /// Adds the whole message to the buffer, as [`encode_frame`] does.
@@ -176,6 +178,37 @@ fn encode_or_refuse<F: FrontendMessage>(message: &F, buf: &mut Vec<u8>) -> Resul
     buf.reserve(message.room_for(len).saturating_add(HEADER))?;
     message.put_frame(len, buf);
     Ok(())
+}
+
+/// Writes tag, length and body of a message within the limits at the front of `out` where it is
+/// that long; else `out` stays. `len` is the length of the body in bytes.
+#[inline]
+pub fn write_frame<F: FrontendMessage>(message: &F, len: usize, out: &mut [u8])
+    requires limits { fault (F.law message.now) ≡ None }
+    requires len { len ≡ length (F.law message.now).body }
+    ensures given { IsGiven (text (F.law message.now)) out.old out.new }
+{
+    write_text(&Framed { message, len }, len + HEADER, out);
+}
+
+// A message within the limits, and the length of its body in bytes.
+#[derive(Drop)]
+struct Framed<'a, F> {
+    message: &'a F,
+    len: usize,
+}
+
+impl<F: FrontendMessage> Text for Framed<'_, F> {
+    ghost use Rattle.pg_request.specs.Frame.{text, IsMeasured};
+
+    ghost text = { λ framed. text (F.law framed.message.now) };
+
+    ghost can = { λ framed. IsMeasured (F.law framed.message.now) framed.len };
+
+    #[inline(always)]
+    fn put<S: Sink>(&self, sink: &mut S) {
+        self.message.put_frame(self.len, sink);
+    }
 }
 
 /// A message as [`ProtocolEncode`] writes it: by [`encode_frame`].

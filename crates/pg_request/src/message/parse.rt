@@ -5,9 +5,8 @@ ghost use Rattle.pg_request.specs.Parse.{parse_law, parse_fields};
 
 use crate::message::FrontendMessage;
 use crate::message::counted::{put_types, too_many};
-use crate::message::parts::put_text;
 use crate::message::round_trip::check_text;
-use pg_base::io::{Oid, StatementId};
+use pg_base::io::{Oid, Sink, StatementId};
 use pg_base::{FrontendMessageFormat, ProtocolFault};
 
 /// Asks the server to prepare a statement. Documentation: "Message Formats", Parse (F).
@@ -61,10 +60,10 @@ impl FrontendMessage for Parse<'_> {
     }
 
     #[inline(always)]
-    fn put_body(&self, buf: &mut Vec<u8>) {
-        self.statement.push_name_reserved(buf);
-        put_text(self.query, buf);
-        put_types(self.param_types, buf);
+    fn put_body<S: Sink>(&self, sink: &mut S) {
+        self.statement.put_name(sink);
+        sink.put_text(self.query.as_bytes());
+        put_types(self.param_types, sink);
     }
 
     ghost use Rattle.std.proofs.Common.{arith};

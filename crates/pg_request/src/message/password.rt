@@ -2,11 +2,12 @@
 
 ghost use Rattle.std.specs.Prelude.{◌≡◌, Some, OnOk, IfErr, length};
 ghost use Rattle.hex.specs.Hex.{encode_lower};
-ghost use Rattle.pg_request.specs.Password.{md5_body, IsDigest};
+ghost use Rattle.pg_request.specs.Password.{md5_body, power_over, IsDigest};
 
 use crate::message::FrontendMessage;
-use crate::message::parts::{put_slice, put_text, text_len};
-use crate::message::round_trip::check_text;
+use crate::message::parts::{ended_len, text_len};
+use crate::message::round_trip::{check_ended, check_text};
+use pg_base::io::Sink;
 use pg_base::{FrontendMessageFormat, ProtocolFault};
 
 const MD5_PREFIX: &str = "md5";
@@ -14,7 +15,10 @@ const MD5_PREFIX: &str = "md5";
 /// Answers a request for a password. Documentation: "Message Formats", PasswordMessage (F).
 #[derive(Debug, Drop)]
 pub enum Password<'a> {
+    /// In clear.
     Cleartext(&'a str),
+    /// What another method or another encoding asks for: any bytes before the NUL that ends them.
+    Bytes(&'a [u8]),
     /// The MD5 digest of two texts: the hexadecimal digits of the MD5 digest of the password and
     /// the user's name, and the salt.
     Md5 { digest: [u8; 16] },
@@ -23,8 +27,8 @@ pub enum Password<'a> {
 impl Password<'_> {
     ghost use Rattle.pg_request.specs.Message.{law_of, password_message};
 
-    /// Whether a reader would get the message back: refused with `TextHoldsNul` where a password in
-    /// clear holds a NUL.
+    /// Whether a reader would get the message back: refused with `TextHoldsNul` where the
+    /// password holds a NUL.
     #[inline(always)]
     pub fn check_round_trip(&self) -> Result<(), ProtocolFault>
         ensures ok { OnOk result (law_of (password_message self.now)).CanRoundTrip }
@@ -32,6 +36,7 @@ impl Password<'_> {
     {
         match self {
             Password::Cleartext(password) => check_text(password),
+            Password::Bytes(password) => check_ended(password),
             Password::Md5 { .. } => Ok(()),
         }
     }
@@ -51,6 +56,7 @@ impl FrontendMessage for Password<'_> {
     fn body_len(&self) -> usize {
         match self {
             Password::Cleartext(password) => text_len(password),
+            Password::Bytes(password) => ended_len(password),
             Password::Md5 { digest } => md5_body_len(digest),
         }
     }
@@ -61,19 +67,20 @@ impl FrontendMessage for Password<'_> {
 
     fn room_for(&self, len: usize) -> usize {
         match self {
-            // The least power of two that holds it, so that the room doesn't tell the length.
-            Password::Cleartext(_) => len.checked_next_power_of_two().unwrap_or(usize::MAX),
+            Password::Cleartext(_) => power_over(len),
+            Password::Bytes(_) => power_over(len),
             Password::Md5 { .. } => len,
         }
     }
 
-    fn put_body(&self, buf: &mut Vec<u8>) {
+    fn put_body<S: Sink>(&self, sink: &mut S) {
         match self {
-            Password::Cleartext(password) => put_text(password, buf),
+            Password::Cleartext(password) => sink.put_text(password.as_bytes()),
+            Password::Bytes(password) => sink.put_text(password),
             Password::Md5 { digest } => {
-                put_slice(MD5_PREFIX.as_bytes(), buf);
-                put_slice(&digits_of(digest), buf);
-                buf.push_reserved(0);
+                sink.put_slice(MD5_PREFIX.as_bytes());
+                sink.put_slice(&digits_of(digest));
+                sink.put_u8(0);
             }
         }
     }
@@ -81,6 +88,13 @@ impl FrontendMessage for Password<'_> {
     ghost use Rattle.pg_request.specs.Password.Laws.{enough_room};
 
     ghost enough = { λ password h. enough_room password h };
+}
+
+// The least power of two that holds a length, so that the room doesn't tell it.
+fn power_over(len: usize) -> usize
+    ensures { result ≡ power_over len }
+{
+    len.checked_next_power_of_two().unwrap_or(usize::MAX)
 }
 
 fn md5_body_len(digest: &[u8; 16]) -> usize

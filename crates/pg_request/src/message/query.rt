@@ -4,8 +4,9 @@ ghost use Rattle.std.specs.Prelude.{◌≡◌, Some, OnOk, IfErr};
 ghost use Rattle.pg_request.specs.Query.{query_law};
 
 use crate::message::FrontendMessage;
-use crate::message::parts::{put_text, text_len};
+use crate::message::parts::text_len;
 use crate::message::round_trip::check_text;
+use pg_base::io::Sink;
 use pg_base::{FrontendMessageFormat, ProtocolFault};
 
 /// Asks the server to run the statements of a text. Documentation: "Message Formats", Query (F).
@@ -45,8 +46,8 @@ impl FrontendMessage for Query<'_> {
     }
 
     #[inline(always)]
-    fn put_body(&self, buf: &mut Vec<u8>) {
-        put_text(self.0, buf);
+    fn put_body<S: Sink>(&self, sink: &mut S) {
+        sink.put_text(self.0.as_bytes());
     }
 
     ghost use Rattle.std.proofs.Common.{arith};

@@ -17,7 +17,16 @@ pub fn check_text(text: &str) -> Result<(), ProtocolFault>
     ensures ok { OnOk result (HoldsNo 0 text.now) }
     ensures fault { IfErr result (λ fault. (fault ≡ TextHoldsNul) × ¬ (HoldsNo 0 text.now)) }
 {
-    match memchr(0, text.as_bytes()) {
+    check_ended(text.as_bytes())
+}
+
+/// Refuses bytes that are to end at a NUL, and hold one, with `TextHoldsNul`.
+#[inline(always)]
+pub fn check_ended(bytes: &[u8]) -> Result<(), ProtocolFault>
+    ensures ok { OnOk result (HoldsNo 0 bytes.now) }
+    ensures fault { IfErr result (λ fault. (fault ≡ TextHoldsNul) × ¬ (HoldsNo 0 bytes.now)) }
+{
+    match memchr(0, bytes) {
         Some(_) => Err(ProtocolFault::TextHoldsNul),
         None => Ok(()),
     }

@@ -5,7 +5,7 @@ ghost use Rattle.pg_request.specs.SaslInitialResponse.{mechanism, sasl_initial_l
 ghost use Rattle.pg_request.specs.SaslResponse.{sasl_response_law};
 
 use crate::message::FrontendMessage;
-use crate::message::parts::{put_slice, put_text, put_u32};
+use pg_base::io::Sink;
 use pg_base::{FrontendMessageFormat, ProtocolFault};
 
 /// Chooses SCRAM with SHA-256, and begins it. Documentation: "Message Formats",
@@ -54,10 +54,10 @@ impl FrontendMessage for SaslInitialResponse<'_> {
         len
     }
 
-    fn put_body(&self, buf: &mut Vec<u8>) {
-        put_text(self.selected_mechanism(), buf);
-        put_u32(self.response.len() as u32, buf);
-        put_slice(self.response.as_bytes(), buf);
+    fn put_body<S: Sink>(&self, sink: &mut S) {
+        sink.put_text(self.selected_mechanism().as_bytes());
+        sink.put_u32(self.response.len() as u32);
+        sink.put_slice(self.response.as_bytes());
     }
 
     ghost use Rattle.std.proofs.Common.{arith};
@@ -90,8 +90,8 @@ impl FrontendMessage for SaslResponse<'_> {
         len
     }
 
-    fn put_body(&self, buf: &mut Vec<u8>) {
-        put_slice(self.0.as_bytes(), buf);
+    fn put_body<S: Sink>(&self, sink: &mut S) {
+        sink.put_slice(self.0.as_bytes());
     }
 
     ghost use Rattle.std.proofs.Common.{arith};

@@ -1,11 +1,11 @@
 //! A request for an encrypted connection.
 
 ghost use Rattle.std.specs.Prelude.{None};
-ghost use Rattle.pg_request.specs.SslRequest.{ssl_request_text};
+ghost use Rattle.pg_base.specs.Encode.{Encodes};
+ghost use Rattle.pg_request.specs.SslRequest.{code_text, ssl_request_text};
 
-use crate::message::parts::put_u32;
 use pg_base::Error;
-use pg_base::io::ProtocolEncode;
+use pg_base::io::{ProtocolEncode, Sink};
 
 // The length of the whole, in bytes.
 const LENGTH: u32 = 8;
@@ -26,9 +26,17 @@ impl ProtocolEncode for SslRequest {
     ghost room = { λ _. 8 };
 
     fn encode(&self, buf: &mut Vec<u8>) -> Result<(), Error> {
-        buf.reserve(LENGTH as usize)?;
-        put_u32(LENGTH, buf);
-        put_u32(SSL_REQUEST, buf);
-        Ok(())
+        encode_code(SSL_REQUEST, buf)
     }
+}
+
+/// Adds a message without a tag that is a code alone, in the place of a version. The only refusal is
+/// `OutOfMemory`.
+pub fn encode_code(code: u32, buf: &mut Vec<u8>) -> Result<(), Error>
+    ensures { Encodes (code_text code) None 8 buf.old buf.new result }
+{
+    buf.reserve(LENGTH as usize)?;
+    buf.put_u32(LENGTH);
+    buf.put_u32(code);
+    Ok(())
 }

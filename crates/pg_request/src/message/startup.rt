@@ -1,14 +1,14 @@
 //! The opening of a session.
 
-ghost use Rattle.std.specs.Prelude.{◌≡◌, ◌+◌, ◌≤◌, ◌++◌, None, IfErr, OnOk, codes, length, option_copied, vec_len, vec_capacity};
+ghost use Rattle.std.specs.Prelude.{◌≡◌, ◌+◌, ◌≤◌, ◌++◌, None, IfErr, OnOk, codes, length, option_copied};
 ghost use Rattle.std.specs.List.{flat_map, All};
+ghost use Rattle.pg_base.specs.Cutting.{max_length};
 ghost use Rattle.pg_base.specs.declared.error.ProtocolFault.TheVariants.{TextHoldsNul};
 ghost use Rattle.pg_request.specs.Frame.{first_fault, saturated};
 ghost use Rattle.pg_request.specs.Startup.{setting, setting_where_there, settings_of, startup_body, startup_text, IsReadable, IsReadableWhereThere, StartupCanRoundTrip};
 
-use crate::message::parts::{put_text, put_u32};
 use crate::message::round_trip::check_text;
-use pg_base::io::{MAX_LENGTH, ProtocolEncode};
+use pg_base::io::{MAX_LENGTH, ProtocolEncode, Sink};
 use pg_base::{Error, ProtocolFault};
 
 // Protocol 3.0: the major version in the upper two bytes, the minor one in the lower.
@@ -53,6 +53,23 @@ impl Startup<'_> {
             .saturating_add(optional_len("database", self.database))
             .saturating_add(params_len(self.params))
     }
+
+    // Adds the whole, of `len` bytes, in room that is there.
+    fn put<S: Sink>(&self, len: usize, sink: &mut S)
+        requires len { len ≡ length (startup_text (startup_fields self.now)) }
+        requires long { len ≤ max_length }
+        requires room { length (S.written sink.old) + length (startup_text (startup_fields self.now)) ≤ S.capacity sink.old }
+        ensures written { S.written sink.new ≡ S.written sink.old ++ startup_text (startup_fields self.now) }
+        ensures capacity { S.capacity sink.old ≤ S.capacity sink.new }
+        ensures loan { S.loan sink.new ≡ S.loan sink.old }
+    {
+        sink.put_u32(len as u32);
+        sink.put_u32(PROTOCOL_VERSION);
+        put_optional("user", self.username, sink);
+        put_optional("database", self.database, sink);
+        put_params(self.params, sink);
+        sink.put_u8(0);
+    }
 }
 
 impl ProtocolEncode for Startup<'_> {
@@ -70,12 +87,7 @@ impl ProtocolEncode for Startup<'_> {
             return Err(ProtocolFault::MessageTooLong(len).into());
         }
         buf.reserve(len)?;
-        put_u32(len as u32, buf);
-        put_u32(PROTOCOL_VERSION, buf);
-        put_optional("user", self.username, buf);
-        put_optional("database", self.database, buf);
-        put_params(self.params, buf);
-        buf.push_reserved(0);
+        self.put(len, buf);
         Ok(())
     }
 }
@@ -103,34 +115,37 @@ fn params_len(params: &[(&str, &str)]) -> usize
 }
 
 // Adds a name and its value, each ended by a NUL, in room that is there.
-fn put_setting(name: &str, value: &str, buf: &mut Vec<u8>)
-    requires { vec_len buf.old + length (setting (name.now, value.now)) ≤ vec_capacity buf.old }
-    ensures items { buf.new.items ≡ buf.old.items ++ setting (name.now, value.now) }
-    ensures capacity { vec_capacity buf.old ≤ vec_capacity buf.new }
+fn put_setting<S: Sink>(name: &str, value: &str, sink: &mut S)
+    requires { length (S.written sink.old) + length (setting (name.now, value.now)) ≤ S.capacity sink.old }
+    ensures written { S.written sink.new ≡ S.written sink.old ++ setting (name.now, value.now) }
+    ensures capacity { S.capacity sink.old ≤ S.capacity sink.new }
+    ensures loan { S.loan sink.new ≡ S.loan sink.old }
 {
-    put_text(name, buf);
-    put_text(value, buf);
+    sink.put_text(name.as_bytes());
+    sink.put_text(value.as_bytes());
 }
 
 // Adds a name and its value where there is one, in room that is there.
-fn put_optional(name: &str, value: Option<&str>, buf: &mut Vec<u8>)
-    requires { vec_len buf.old + length (setting_where_there name.now (option_copied value)) ≤ vec_capacity buf.old }
-    ensures items { buf.new.items ≡ buf.old.items ++ setting_where_there name.now (option_copied value.entry) }
-    ensures capacity { vec_capacity buf.old ≤ vec_capacity buf.new }
+fn put_optional<S: Sink>(name: &str, value: Option<&str>, sink: &mut S)
+    requires { length (S.written sink.old) + length (setting_where_there name.now (option_copied value)) ≤ S.capacity sink.old }
+    ensures written { S.written sink.new ≡ S.written sink.old ++ setting_where_there name.now (option_copied value.entry) }
+    ensures capacity { S.capacity sink.old ≤ S.capacity sink.new }
+    ensures loan { S.loan sink.new ≡ S.loan sink.old }
 {
     if let Some(value) = value {
-        put_setting(name, value, buf);
+        put_setting(name, value, sink);
     }
 }
 
 // Adds names and values, each ended by a NUL, in room that is there.
-fn put_params(params: &[(&str, &str)], buf: &mut Vec<u8>)
-    requires { vec_len buf.old + length (flat_map setting (settings_of params.now)) ≤ vec_capacity buf.old }
-    ensures items { buf.new.items ≡ buf.old.items ++ flat_map setting (settings_of params.now) }
-    ensures capacity { vec_capacity buf.old ≤ vec_capacity buf.new }
+fn put_params<S: Sink>(params: &[(&str, &str)], sink: &mut S)
+    requires { length (S.written sink.old) + length (flat_map setting (settings_of params.now)) ≤ S.capacity sink.old }
+    ensures written { S.written sink.new ≡ S.written sink.old ++ flat_map setting (settings_of params.now) }
+    ensures capacity { S.capacity sink.old ≤ S.capacity sink.new }
+    ensures loan { S.loan sink.new ≡ S.loan sink.old }
 {
     for (name, value) in params {
-        put_setting(name, value, buf);
+        put_setting(name, value, sink);
     }
 }
 

@@ -3,6 +3,7 @@
 ghost use Rattle.pg_request.specs.Sync.{sync_law};
 
 use crate::message::FrontendMessage;
+use pg_base::io::Sink;
 use pg_base::{FrontendMessageFormat, ProtocolFault};
 
 /// Asks the server to end the extended query and to say that it is ready. Documentation: "Message
@@ -32,7 +33,7 @@ impl FrontendMessage for Sync {
     }
 
     #[inline(always)]
-    fn put_body(&self, _buf: &mut Vec<u8>) {}
+    fn put_body<S: Sink>(&self, _sink: &mut S) {}
 
     ghost use Rattle.std.proofs.Common.{arith};
 

@@ -3,6 +3,7 @@
 ghost use Rattle.pg_request.specs.Terminate.{terminate_law};
 
 use crate::message::FrontendMessage;
+use pg_base::io::Sink;
 use pg_base::{FrontendMessageFormat, ProtocolFault};
 
 /// Tells the server that the session ends. Documentation: "Message Formats", Terminate (F).
@@ -31,7 +32,7 @@ impl FrontendMessage for Terminate {
     }
 
     #[inline(always)]
-    fn put_body(&self, _buf: &mut Vec<u8>) {}
+    fn put_body<S: Sink>(&self, _sink: &mut S) {}
 
     ghost use Rattle.std.proofs.Common.{arith};
 

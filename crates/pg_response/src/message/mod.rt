@@ -1,13 +1,14 @@
 //! What a received message is, and a notice.
 
 mod copy;
-mod decimal;
+pub(crate) mod parts;
 mod received;
 pub(crate) mod response;
-mod text;
 
-pub use decimal::{leading_u32, leading_u64, leading_usize};
+pub use parts::{
+    Fields, leading_u32, leading_u64, leading_usize, split_field, split_text, str_at, text_at,
+    utf8_text,
+};
 pub use pg_base::io::{CopyData, CopyDone};
 pub use received::{BackendMessage, ReceivedMessage};
-pub use response::{Fields, Notice, PgSeverity, split_field};
-pub use text::{split_text, str_at, text_at, utf8_text};
+pub use response::{Notice, PgSeverity};

@@ -1,3 +1,4 @@
-//! Each message by itself.
+//! Each message by itself, and the parts of bodies.
 
+mod parts;
 mod response;

@@ -4,9 +4,10 @@ mod run;
 mod tagged;
 
 pub use pg_request::message::{
-    Bind, BindValues, Close, CopyData, CopyDone, CopyFail, Describe, EncodeMessage, Execute, Flush,
-    FrontendMessage, Parse, Password, Query, SaslInitialResponse, SaslResponse, SslRequest,
-    Startup, Sync, Terminate, encode_frame, put_if_fits,
+    Bind, BindValues, CancelRequest, Close, CopyData, CopyDone, CopyFail, Describe, EncodeMessage,
+    Execute, Flush, FrontendMessage, FunctionCall, GssEncRequest, Parse, Password, Query, RawBind,
+    RawClose, RawDescribe, RawExecute, RawParse, SaslInitial, SaslInitialResponse, SaslResponse,
+    SslRequest, Startup, Sync, Terminate, encode_frame, put_if_fits, write_frame,
 };
 pub use run::{encode_all, encode_strict};
 pub use tagged::TaggedMessage;

@@ -1,15 +1,17 @@
 //! Any message that has a tag.
 
-ghost use Rattle.std.specs.Prelude.{◌≡◌, ◌+◌, ◌≤◌, ◌++◌, length, Some, None, Ok, OnOk, IfErr, vec_len, vec_capacity};
+ghost use Rattle.std.specs.Prelude.{◌≡◌, ◌+◌, ◌≤◌, ◌++◌, length, Some, None, Ok, OnOk, IfErr};
 ghost use Rattle.std.specs.Bool.{OnTrue, OnFalse};
 ghost use Rattle.pg_request.specs.Frame.{EncodesMessage, room_or_fault};
 ghost use Rattle.pg_request.specs.Message.{law_of, body, fault, hint, text, IsInRange, CanRoundTrip, round_trip_fault, RoundTrips};
 ghost use Rattle.pg_send.specs.TaggedMessage.{message_of};
 
 use crate::message::{
-    Bind, Close, CopyData, CopyDone, CopyFail, Describe, Execute, Flush, FrontendMessage, Parse,
-    Password, Query, SaslInitialResponse, SaslResponse, Sync, Terminate, encode_frame, put_if_fits,
+    Bind, Close, CopyData, CopyDone, CopyFail, Describe, Execute, Flush, FrontendMessage,
+    FunctionCall, Parse, Password, Query, RawBind, RawClose, RawDescribe, RawExecute, RawParse,
+    SaslInitial, SaslInitialResponse, SaslResponse, Sync, Terminate, encode_frame, put_if_fits,
 };
+use pg_base::io::Sink;
 use pg_base::{Error, ProtocolFault};
 
 /// Any message that has a tag.
@@ -23,9 +25,16 @@ pub enum TaggedMessage<'a> {
     Describe(Describe),
     Execute(Execute),
     Flush(Flush),
+    FunctionCall(FunctionCall<'a>),
     Parse(Parse<'a>),
     Password(Password<'a>),
     Query(Query<'a>),
+    RawBind(RawBind<'a>),
+    RawClose(RawClose<'a>),
+    RawDescribe(RawDescribe<'a>),
+    RawExecute(RawExecute<'a>),
+    RawParse(RawParse<'a>),
+    SaslInitial(SaslInitial<'a>),
     SaslInitialResponse(SaslInitialResponse<'a>),
     SaslResponse(SaslResponse<'a>),
     Sync(Sync),
@@ -47,9 +56,16 @@ macro_rules! held {
             TaggedMessage::Describe($message) => $call,
             TaggedMessage::Execute($message) => $call,
             TaggedMessage::Flush($message) => $call,
+            TaggedMessage::FunctionCall($message) => $call,
             TaggedMessage::Parse($message) => $call,
             TaggedMessage::Password($message) => $call,
             TaggedMessage::Query($message) => $call,
+            TaggedMessage::RawBind($message) => $call,
+            TaggedMessage::RawClose($message) => $call,
+            TaggedMessage::RawDescribe($message) => $call,
+            TaggedMessage::RawExecute($message) => $call,
+            TaggedMessage::RawParse($message) => $call,
+            TaggedMessage::SaslInitial($message) => $call,
             TaggedMessage::SaslInitialResponse($message) => $call,
             TaggedMessage::SaslResponse($message) => $call,
             TaggedMessage::Sync($message) => $call,
@@ -105,9 +121,9 @@ impl TaggedMessage<'_> {
         held!(self, message => message.frame_room())
     }
 
-    /// Whether a reader would get the message back from its bytes: refused with `TextHoldsNul` for a
-    /// Query, a CopyFail, a password in clear or the query of a Parse that holds a NUL, and with
-    /// `BadParams` for a Bind whose parameters are not as many values as it says.
+    /// Whether a reader would get the message back from its bytes: refused with `TextHoldsNul` where a
+    /// text or a name that the protocol ends with a NUL holds one, and with `BadParams` for a Bind
+    /// whose parameters are not as many values as it says.
     #[inline(always)]
     pub fn check_round_trip(&self) -> Result<(), ProtocolFault>
         ensures ok { OnOk result (CanRoundTrip (message_of self.now)) }
@@ -119,12 +135,19 @@ impl TaggedMessage<'_> {
             TaggedMessage::Parse(message) => message.check_round_trip(),
             TaggedMessage::Password(message) => message.check_round_trip(),
             TaggedMessage::Query(message) => message.check_round_trip(),
+            TaggedMessage::RawBind(message) => message.check_round_trip(),
+            TaggedMessage::RawClose(message) => message.check_round_trip(),
+            TaggedMessage::RawDescribe(message) => message.check_round_trip(),
+            TaggedMessage::RawExecute(message) => message.check_round_trip(),
+            TaggedMessage::RawParse(message) => message.check_round_trip(),
+            TaggedMessage::SaslInitial(message) => message.check_round_trip(),
             TaggedMessage::Close(_)
             | TaggedMessage::CopyData(_)
             | TaggedMessage::CopyDone(_)
             | TaggedMessage::Describe(_)
             | TaggedMessage::Execute(_)
             | TaggedMessage::Flush(_)
+            | TaggedMessage::FunctionCall(_)
             | TaggedMessage::SaslInitialResponse(_)
             | TaggedMessage::SaslResponse(_)
             | TaggedMessage::Sync(_)
@@ -134,13 +157,14 @@ impl TaggedMessage<'_> {
 
     /// Adds a message within the limits, in room that is there.
     #[inline]
-    pub fn put_frame(&self, buf: &mut Vec<u8>)
+    pub fn put_frame<S: Sink>(&self, sink: &mut S)
         requires limits { fault (message_of self.now) ≡ None }
-        requires room { vec_len buf.old + (length (body (message_of self.now)) + 5) ≤ vec_capacity buf.old }
-        ensures items { buf.new.items ≡ buf.old.items ++ text (message_of self.now) }
-        ensures capacity { vec_capacity buf.old ≤ vec_capacity buf.new }
+        requires room { length (S.written sink.old) + (length (body (message_of self.now)) + 5) ≤ S.capacity sink.old }
+        ensures written { S.written sink.new ≡ S.written sink.old ++ text (message_of self.now) }
+        ensures capacity { S.capacity sink.old ≤ S.capacity sink.new }
+        ensures loan { S.loan sink.new ≡ S.loan sink.old }
         ensures range { IsInRange (message_of self.now) }
     {
-        held!(self, message => message.put_frame(message.body_len(), buf))
+        held!(self, message => message.put_frame(message.body_len(), sink))
     }
 }

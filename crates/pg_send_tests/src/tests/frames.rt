@@ -22,7 +22,7 @@ fn assert_frames(
     Ok(())
 }
 
-fn assert_msg<M: FrontendMessage>(
+pub fn assert_msg<M: FrontendMessage>(
     rt: &impl Abort,
     alloc: Global,
     message: M,

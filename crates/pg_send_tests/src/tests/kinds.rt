@@ -2,6 +2,7 @@
 //! Formats".
 
 use super::ID;
+use super::raw::check_raw_kinds;
 use pg_base::io::{Oid, PgValueFormat, PortalId, StatementId};
 use pg_send::message::*;
 use std::alloc::{AllocError, Global};
@@ -38,7 +39,7 @@ impl Expected {
 }
 
 /// A message whose hint is the length of its body.
-fn exact(frame: &'static [u8]) -> Expected {
+pub fn exact(frame: &'static [u8]) -> Expected {
     Expected {
         frame,
         hint: frame.len().saturating_sub(5),
@@ -65,6 +66,7 @@ pub fn check_each_kind<C: Check>(
     check_extended_query(rt, alloc, check)?;
     check_credentials(rt, alloc, check)?;
     check_copy(rt, alloc, check)?;
+    check_raw_kinds(rt, alloc, check)?;
     check.check(rt, alloc, Query("SELECT 1"), exact(QUERY))?;
     check.check(rt, alloc, Flush, exact(FLUSH))?;
     check.check(rt, alloc, Sync, exact(SYNC))?;

@@ -9,7 +9,7 @@ use std::alloc::{AllocError, Global};
 use std::process::Abort;
 
 // The message is refused, and leaves the buffer and its room as they were.
-fn assert_refused<E: ProtocolEncode>(
+pub fn assert_refused<E: ProtocolEncode>(
     rt: &impl Abort,
     alloc: Global,
     message: &E,

@@ -9,7 +9,7 @@ use std::alloc::{AllocError, Global};
 use std::process::Abort;
 
 // A strict run of one message after an old byte adds this frame.
-fn assert_strict(
+pub fn assert_strict(
     rt: &impl Abort,
     alloc: Global,
     messages: &[TaggedMessage<'_>],
@@ -19,7 +19,7 @@ fn assert_strict(
 }
 
 // A strict run of one message is refused with this fault.
-fn assert_refused(
+pub fn assert_refused(
     rt: &impl Abort,
     alloc: Global,
     messages: &[TaggedMessage<'_>],

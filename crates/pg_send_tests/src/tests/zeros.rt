@@ -6,6 +6,7 @@ ghost use Rattle.pg_request.specs.CopyData.{copy_data_law};
 use super::refusing::{
     Adds, assert_adds, assert_all_or_nothing, assert_fault, ran_out, refuse_nth, was_refused,
 };
+use pg_base::io::Sink;
 use pg_base::{Error, FrontendMessageFormat, ProtocolFault};
 use pg_send::message::{FrontendMessage, encode_frame};
 use std::alloc::{AllocError, Global};
@@ -36,9 +37,10 @@ impl FrontendMessage for Zeros {
         len
     }
 
-    fn put_body(&self, buf: &mut Vec<u8>) {
-        let resized = buf.resize(buf.len() + self.0, 0);
-        prove!(resized.is_ok());
+    fn put_body<S: Sink>(&self, sink: &mut S) {
+        for _index in 0..self.0 {
+            sink.put_u8(0);
+        }
     }
 
     ghost use Rattle.std.proofs.Common.{arith};
@@ -103,8 +105,8 @@ impl FrontendMessage for Spacious {
         1 << 62
     }
 
-    fn put_body(&self, buf: &mut Vec<u8>) {
-        buf.push_reserved(0);
+    fn put_body<S: Sink>(&self, sink: &mut S) {
+        sink.put_u8(0);
     }
 
     ghost use Rattle.std.proofs.Common.{arith};

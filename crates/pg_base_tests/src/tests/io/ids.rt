@@ -1,7 +1,7 @@
 //! Ids by their numbers. None of these calls asks for memory.
 
 use crate::tests::refusing::{refuse_nth, was_refused};
-use pg_base::io::{MAX_BODY, MAX_LENGTH, Oid, PgValueFormat, PortalId, StatementId};
+use pg_base::io::{PortalId, StatementId};
 
 // Numbers with the lengths of their names.
 const LENGTHS: &[(u32, usize)] = &[
@@ -57,13 +57,4 @@ fn unnamed_and_first_ids(rt: HostRuntime) {
     assert!(rt; PortalId::NAMED_START.number() == 1);
     assert!(rt; PortalId::from_number(1) == PortalId::NAMED_START);
     assert!(rt; PortalId::UNNAMED.next() == PortalId::UNNAMED);
-}
-
-#[test]
-fn numbers_of_types_formats_and_lengths(rt: HostRuntime) {
-    assert!(rt; Oid::default() == Oid(0));
-    assert!(rt; PgValueFormat::Text as u16 == 0);
-    assert!(rt; PgValueFormat::Binary as u16 == 1);
-    assert!(rt; MAX_LENGTH == 2147483647);
-    assert!(rt; MAX_BODY == 2147483643);
 }

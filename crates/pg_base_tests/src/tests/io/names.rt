@@ -122,7 +122,7 @@ fn assert_statement_in_its_room(
 ) -> Result<(), AllocError> {
     let mut buf = Vec::with_capacity(alloc, id.name_len())?;
     refuse_nth(alloc, 1);
-    id.push_name_reserved(&mut buf);
+    id.put_name(&mut buf);
     assert!(rt; !was_refused(alloc));
     assert!(rt; buf.as_slice() == name);
     Ok(())
@@ -136,7 +136,7 @@ fn assert_portal_in_its_room(
 ) -> Result<(), AllocError> {
     let mut buf = Vec::with_capacity(alloc, id.name_len())?;
     refuse_nth(alloc, 1);
-    id.push_name_reserved(&mut buf);
+    id.put_name(&mut buf);
     assert!(rt; !was_refused(alloc));
     assert!(rt; buf.as_slice() == name);
     Ok(())

@@ -1,6 +1,6 @@
 //! The cells of a row, read one by one.
 
-ghost use Rattle.std.specs.Prelude.{◌≡◌, ◌≤◌, length, option_copied, IfOk, IfErr, MatchOption};
+ghost use Rattle.std.specs.Prelude.{◌≡◌, ◌==◌, ◌≤◌, length, option_copied, IfOk, IfErr, MatchOption};
 ghost use Rattle.pg_format.specs.Format.Nullable.{cell};
 ghost use Rattle.pg_receive.specs.CountedItems.{IsCountFault, Begins, IsRead, NoneIsLeft, NextBreaks};
 
@@ -58,6 +58,13 @@ impl<'a> RowReader<'a> {
         ensures { result ≡ self.now.left }
     {
         self.left
+    }
+
+    /// Whether no cells are left.
+    pub fn is_empty(&self) -> bool
+        ensures { result ≡ (self.now.left == 0) }
+    {
+        self.len() == 0
     }
 
     /// The next cell, nothing for NULL; or nothing where none is left. After a fault the reader is as

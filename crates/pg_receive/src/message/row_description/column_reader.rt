@@ -1,6 +1,6 @@
 //! The columns of a result, read one by one.
 
-ghost use Rattle.std.specs.Prelude.{◌≡◌, ◌≤◌, length, IfOk, IfErr, MatchOption};
+ghost use Rattle.std.specs.Prelude.{◌≡◌, ◌==◌, ◌≤◌, length, IfOk, IfErr, MatchOption};
 ghost use Rattle.pg_format.specs.Messages.{column};
 ghost use Rattle.pg_receive.specs.CountedItems.{IsCountFault, Begins, IsRead, NoneIsLeft, NextBreaks};
 ghost use Rattle.pg_receive.specs.RowDescription.Columns.{column_of_ref};
@@ -59,6 +59,13 @@ impl<'a> ColumnReader<'a> {
         ensures { result ≡ self.now.left }
     {
         self.left
+    }
+
+    /// Whether no columns are left.
+    pub fn is_empty(&self) -> bool
+        ensures { result ≡ (self.now.left == 0) }
+    {
+        self.len() == 0
     }
 
     /// The next column; or nothing where none is left. After a fault the reader is as it was.

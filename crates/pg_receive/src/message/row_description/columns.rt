@@ -1,6 +1,6 @@
 //! The columns of a result, borrowed from their body.
 
-ghost use Rattle.std.specs.Prelude.{◌≡◌, ◌≤◌, ℕ, List, ◌++◌, length, slice_get, IsOk, IfOk, IfErr, option_map};
+ghost use Rattle.std.specs.Prelude.{◌≡◌, ◌==◌, ◌≤◌, ℕ, List, ◌++◌, length, slice_get, IsOk, IfOk, IfErr, option_map};
 ghost use Rattle.std.specs.Iterator.{YieldsFirstBy, item_count};
 ghost use Rattle.pg_format.specs.Format.{ReadsAs};
 ghost use Rattle.pg_format.specs.Format.Places.{IsReadAt, BreaksAt};
@@ -101,6 +101,13 @@ impl<'a> Columns<'a> {
         ensures { result ≡ length self.now }
     {
         self.left
+    }
+
+    /// Whether no columns are left.
+    pub fn is_empty(&self) -> bool
+        ensures { result ≡ (length self.now == 0) }
+    {
+        self.len() == 0
     }
 
     /// The column at an index, counted from those that are left, where there is one. It goes over

@@ -1,12 +1,13 @@
 //! Requests for authentication.
 
+mod mechanisms;
+
 use crate::tests::unless_out_of_memory;
 use bytes::Bytes;
 use pg_base::io::ProtocolDecode;
 use pg_base::{Error, ProtocolFault};
 use pg_receive::message::{
     Authentication, AuthenticationSaslContinue, AuthenticationSaslFinal, BackendMessage,
-    SaslMechanisms,
 };
 use std::alloc::{AllocError, Global};
 use std::process::Abort;
@@ -94,37 +95,6 @@ fn assert_end(rt: &impl Abort, alloc: Global) -> Result<(), Error> {
 
 fn assert_bytes(rt: &impl Abort, found: &[u8], due: &[u8]) {
     assert!(rt; found == due);
-}
-
-#[test]
-fn mechanisms(rt: HostRuntime) -> Result<(), Error> {
-    let body = b"\0\0\0\x0ASCRAM-SHA-256\0\xFF\0PLAIN\0\0";
-    assert_mechanisms(&rt, rt.alloc(), body, Some("SCRAM-SHA-256"))?;
-    assert_mechanisms(&rt, rt.alloc(), b"\0\0\0\x0A", None)
-}
-
-// What the iterator over mechanisms gives first, and then no more.
-fn assert_mechanisms(
-    rt: &impl Abort,
-    alloc: Global,
-    body: &'static [u8],
-    first: Option<&str>,
-) -> Result<(), Error> {
-    match request_of(rt, alloc, body)? {
-        Authentication::Sasl(sasl) => assert_names(rt, sasl.mechanisms(), first),
-        _ => panic!(rt; "no SASL exchange"),
-    }
-    Ok(())
-}
-
-fn assert_names(rt: &impl Abort, mut names: SaslMechanisms<'_>, first: Option<&str>) {
-    assert_next(rt, &mut names, first);
-    assert_next(rt, &mut names, None);
-    assert_next(rt, &mut names, None);
-}
-
-fn assert_next(rt: &impl Abort, names: &mut SaslMechanisms<'_>, due: Option<&str>) {
-    assert!(rt; names.next() == due);
 }
 
 // A fault, or out of memory, which is passed on.

@@ -1,5 +1,9 @@
 //! Rows.
 
+mod cell;
+mod row_index;
+mod row_reader;
+
 use crate::tests::unless_out_of_memory;
 use bytes::Bytes;
 use pg_base::{Error, ProtocolFault};
@@ -31,7 +35,7 @@ fn assert_cells(
 }
 
 fn assert_row(rt: &impl Abort, row: &DataRow, cells: &[Option<&[u8]>]) {
-    assert!(rt; row.len() == cells.len());
+    assert!(rt; row.len() == cells.len() && row.is_empty() == cells.is_empty());
     for (index, cell) in cells.iter().enumerate() {
         assert!(rt; row.get(index) == *cell, "at {index}");
     }

@@ -1,5 +1,8 @@
 //! Columns.
 
+mod column_reader;
+mod columns;
+
 use crate::tests::unless_out_of_memory;
 use bytes::Bytes;
 use pg_base::io::Oid;
@@ -22,7 +25,7 @@ fn columns_of(
 }
 
 #[test]
-fn columns(rt: HostRuntime) -> Result<(), Error> {
+fn a_column_of_a_table(rt: HostRuntime) -> Result<(), Error> {
     assert_id(&rt, rt.alloc())
 }
 

@@ -1,14 +1,12 @@
 //! Errors and notices of the server.
 
-mod fields;
-mod lengths;
 pub(crate) mod letters;
 mod read;
 mod severity;
 
-ghost use Rattle.std.specs.Prelude.{◌≡◌, option_copied};
+ghost use Rattle.std.specs.Prelude.{◌≡◌, [], option_copied};
 ghost use Rattle.pg_base.specs.declared.format.BackendMessageFormat.TheVariants as formats;
-ghost use Rattle.pg_response.specs.Response.Lengths.{HasLengths};
+ghost use Rattle.pg_response.specs.Response.FirstPlaces.{AreFirst};
 ghost use Rattle.pg_response.specs.Response.Fields.{fields_in, first_value, first_text};
 ghost use Rattle.pg_response.specs.Response.{NoticeValue, notices};
 ghost use Rattle.pg_format.specs.Format.{Means, IsFaultOf};
@@ -17,14 +15,12 @@ ghost use Rattle.pg_format.proofs.FormatLaws.Sequences.{lawful_viewed};
 ghost use Rattle.pg_format.proofs.FormatLaws.Whole.{one_meaning, meaning_or_fault};
 ghost use Rattle.pg_response.specs.Response.Places.{IsPlaceIn, bytes_in};
 
-use crate::message::{BackendMessage, utf8_text};
+use crate::message::{BackendMessage, Fields, utf8_text};
 use bytes::Bytes;
-pub use fields::{Fields, split_field};
-use lengths::value_in;
+use letters::FirstPlaces;
 use pg_base::io::ProtocolDecode;
 use pg_base::{BackendMessageFormat, Error};
 pub use severity::PgSeverity;
-use smallvec::SmallVec;
 use std::alloc::Global;
 use std::marker::Model;
 use std::ops::Range;
@@ -40,7 +36,7 @@ pub struct Notice {
     severity: PgSeverity,
     message: Range<usize>,
     code: Range<usize>,
-    lengths: SmallVec<u32, 16>,
+    firsts: FirstPlaces,
 }
 
 impl Model for Notice {
@@ -53,7 +49,7 @@ impl Model for Notice {
       code = bytes_in notice.storage notice.code;
     } };
 
-    ghost invariant = { λ notice. IsPlaceIn notice.storage notice.message × IsPlaceIn notice.storage notice.code × HasLengths notice.storage notice.lengths.items };
+    ghost invariant = { λ notice. IsPlaceIn notice.storage notice.message × IsPlaceIn notice.storage notice.code × AreFirst notice.storage [] notice.firsts.starts notice.firsts.ends };
 }
 
 impl Notice {
@@ -93,7 +89,7 @@ impl Notice {
     pub fn get_raw(&self, wanted: u8) -> Option<&[u8]>
         ensures { option_copied result ≡ first_value wanted self.now.fields }
     {
-        value_in(self.storage.as_slice(), self.lengths.as_slice(), wanted)
+        self.firsts.value_in(self.storage.as_slice(), wanted)
     }
 
     /// All fields, in order.
@@ -115,10 +111,10 @@ impl ProtocolDecode for Notice {
 
     ghost NeedsNoMemory = { λ _. Unit {0} };
 
-    fn decode(alloc: Global, buf: Bytes) -> Result<Self, Error> {
-        let (part, lengths) = read::read(alloc, buf.as_slice())?;
+    fn decode(_: Global, buf: Bytes) -> Result<Self, Error> {
+        let (part, firsts) = read::read(buf.as_slice())?;
         Ok(Notice {
-            lengths,
+            firsts,
             severity: part.severity(),
             message: part.message,
             code: part.code,

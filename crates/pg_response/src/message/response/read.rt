@@ -1,9 +1,9 @@
 //! The part of an error or a notice that is read when it is decoded.
 
-ghost use Rattle.std.specs.Prelude.{◌≡◌, ◌+◌, None, Some, IfOk, OnOk, IfErr, if◌then◌else◌, ◌==◌, ◌&&◌, nat_lt, true, false, ◌≤◌, length};
+ghost use Rattle.std.specs.Prelude.{◌≡◌, ◌+◌, None, Some, IfOk, OnOk, IfErr, if◌then◌else◌, ◌==◌, ◌&&◌, nat_lt, true, false, ◌≤◌, [], length};
 ghost use Rattle.std.specs.Str.{is_utf8};
 ghost use Rattle.pg_response.specs.Response.Fields.{fields_in};
-ghost use Rattle.pg_response.specs.Response.Lengths.{HasLengths};
+ghost use Rattle.pg_response.specs.Response.FirstPlaces.{AreFirst};
 ghost use Rattle.std.specs.Option.{option_or, unwrap_or};
 ghost use Rattle.pg_response.specs.declared.message.response.severity.PgSeverity.TheVariants.{Log};
 ghost use Rattle.pg_response.specs.Response.Severity.{severity_of_word};
@@ -14,14 +14,10 @@ ghost use Rattle.pg_format.specs.Notices.{field_fault, code_letter, message_lett
 ghost use Rattle.pg_response.specs.Response.Places.{IsPlaceIn, bytes_in, are_full};
 
 use crate::message::response::PgSeverity;
-use crate::message::response::fields::split_field;
-use crate::message::response::lengths::{KEPT, keep_length};
-use crate::message::response::letters::{CODE, LOCALIZED_SEVERITY, MESSAGE, SEVERITY};
-use crate::message::utf8_text;
+use crate::message::response::letters::{CODE, FirstPlaces, LOCALIZED_SEVERITY, MESSAGE, SEVERITY};
+use crate::message::{split_field, utf8_text};
 use pg_base::ProtocolFault;
 use pg_base::io::MAX_BODY;
-use smallvec::SmallVec;
-use std::alloc::Global;
 use std::ops::Range;
 
 /// What the fields that are read say. The ranges are of offsets in the body.
@@ -90,16 +86,13 @@ fn notice_text(value: &[u8]) -> Result<&str, ProtocolFault>
 }
 
 /// Reads a body up to the first field after which the last message and the last code aren't
-/// empty, or else all its fields, and keeps the lengths of the first fields. The first fault of a
-/// field is answered.
-pub(crate) fn read(
-    alloc: Global,
-    body: &[u8],
-) -> Result<(ReadPart, SmallVec<u32, 16>), ProtocolFault>
+/// empty, or else all its fields, and keeps where the first field of each letter is, up to the last.
+/// The first fault of a field that is read is answered.
+pub(crate) fn read(body: &[u8]) -> Result<(ReadPart, FirstPlaces), ProtocolFault>
     requires { length body.now ≤ MAX_BODY }
     ensures within { IfOk result (λ read. IsPlaceIn body.now read.0.message × IsPlaceIn body.now read.0.code) }
     ensures reads { IfOk result (λ read. Read (fields_in body.now) (bytes_in body.now read.0.message) (bytes_in body.now read.0.code) read.0.severity read.0.localized) }
-    ensures lengths { IfOk result (λ read. HasLengths body.now read.1.items) }
+    ensures firsts { IfOk result (λ read. AreFirst body.now [] read.1.starts read.1.ends) }
     ensures fault { IfErr result (IsFaultOf notices body.now) }
 {
     let mut part = ReadPart {
@@ -108,23 +101,14 @@ pub(crate) fn read(
         message: 0..0,
         code: 0..0,
     };
-    let mut lengths = SmallVec::new(alloc);
+    let mut firsts = FirstPlaces::new();
     let mut rest = body;
-    while wants_more(&part, &lengths) {
-        let Some((letter, value, after)) = split_field(rest) else {
-            break;
-        };
+    while let Some((letter, value, after)) = split_field(rest) {
         let start = body.len() - rest.len() + 1;
-        part.take(letter, value, start..start + value.len())?;
-        keep_length(&mut lengths, value);
+        let place = start..start + value.len();
+        firsts.keep(letter, &place);
+        part.take(letter, value, place)?;
         rest = after;
     }
-    Ok((part, lengths))
-}
-
-// Whether the next field is to be taken in, or its length to be kept.
-fn wants_more(part: &ReadPart, lengths: &SmallVec<u32, 16>) -> bool
-    ensures { result ≡ false → are_full part.now.message part.now.code ≡ true }
-{
-    !part.is_full() || lengths.len() < KEPT
+    Ok((part, firsts))
 }

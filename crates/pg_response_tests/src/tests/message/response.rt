@@ -3,11 +3,15 @@
 use bytes::Bytes;
 use pg_base::io::ProtocolDecode;
 use pg_base::{Error, ProtocolFault};
-use pg_response::message::{Fields, Notice, PgSeverity};
+use pg_response::message::{Notice, PgSeverity};
 use std::alloc::Global;
 use std::process::Abort;
 
-fn notice_of(rt: &impl Abort, alloc: Global, body: &'static [u8]) -> Result<Notice, Error> {
+pub(super) fn notice_of(
+    rt: &impl Abort,
+    alloc: Global,
+    body: &'static [u8],
+) -> Result<Notice, Error> {
     assert!(rt; body.len() < 200);
     Notice::decode(alloc, Bytes::from_static(body))
 }
@@ -106,44 +110,60 @@ fn assert_no_text(rt: &impl Abort, alloc: Global) -> Result<(), Error> {
     Ok(())
 }
 
+// The documentation names eighteen letters.
 #[test]
-fn fields_in_their_order(rt: HostRuntime) -> Result<(), Error> {
-    assert_two_fields(&rt, rt.alloc())
-}
-
-fn assert_two_fields(rt: &impl Abort, alloc: Global) -> Result<(), Error> {
-    let notice = notice_of(rt, alloc, b"X\xFF\0Xa\0\0")?;
-    let mut fields = notice.fields();
-    assert_next(rt, &mut fields, Some((b'X', b"\xFF")));
-    assert_next(rt, &mut fields, Some((b'X', b"a")));
-    assert_next(rt, &mut fields, None);
-    assert_next(rt, &mut fields, None);
+fn fields_of_each_letter(rt: HostRuntime) -> Result<(), Error> {
+    let known = b"SVCMDHPpqWstcdnFLR";
+    let notice = notice_of(
+        &rt,
+        rt.alloc(),
+        b"S0\0VINFO\0C2\0M3\0D4\0H5\0P6\0p7\0q8\0W9\0s10\0t11\0c12\0d13\0n14\0F15\0L16\0R17\0S\0R\0\0",
+    )?;
+    for (number, letter) in known.iter().enumerate() {
+        let due = format!(in rt.alloc(); "{number}")?;
+        let due = if *letter == b'V' {
+            "INFO"
+        } else {
+            due.as_str()
+        };
+        assert_get(&rt, &notice, *letter, Some(due));
+    }
     Ok(())
 }
 
-fn assert_next(rt: &impl Abort, fields: &mut Fields<'_>, due: Option<(u8, &[u8])>) {
-    assert!(rt; fields.next() == due);
-}
-
-// The lengths of sixteen fields are kept.
 #[test]
-fn fields_after_the_sixteenth(rt: HostRuntime) -> Result<(), Error> {
-    assert_eighteen_fields(&rt, rt.alloc())
+fn fields_of_other_letters(rt: HostRuntime) -> Result<(), Error> {
+    assert_other_fields(&rt, rt.alloc())
 }
 
-fn assert_eighteen_fields(rt: &impl Abort, alloc: Global) -> Result<(), Error> {
-    let notice = notice_of(
-        rt,
-        alloc,
-        b"a0\0b1\0c2\0d3\0e4\0f5\0g6\0h7\0i8\0j9\0k10\0l11\0m12\0n13\0o14\0p15\0q16\0r\xFF\0\0sno\0\0",
-    )?;
+fn assert_other_fields(rt: &impl Abort, alloc: Global) -> Result<(), Error> {
+    let notice = notice_of(rt, alloc, b"a0\0a1\0r\xFF\0z\0Mfoo\0C1\0Z2\0\0b3\0\0")?;
     assert_get(rt, &notice, b'a', Some("0"));
-    assert_get(rt, &notice, b'p', Some("15"));
-    assert_get(rt, &notice, b'q', Some("16"));
     assert_get(rt, &notice, b'r', None);
     assert_get_raw(rt, &notice, b'r', Some(b"\xFF"));
-    assert_get_raw(rt, &notice, b's', None);
+    assert_get(rt, &notice, b'z', Some(""));
+    assert_get(rt, &notice, b'Z', Some("2"));
+    assert_get_raw(rt, &notice, b'b', None);
     assert_get_raw(rt, &notice, 0, None);
+    Ok(())
+}
+
+// The fields after a message and a code aren't read, and yet found.
+#[test]
+fn fields_after_those_that_are_read(rt: HostRuntime) -> Result<(), Error> {
+    assert_late_fields(&rt, rt.alloc())
+}
+
+fn assert_late_fields(rt: &impl Abort, alloc: Global) -> Result<(), Error> {
+    let notice = notice_of(rt, alloc, b"Mfoo\0C1\0Da\0Db\0VFOO\0H\xFF\0Mbar\0R\0\0")?;
+    assert_parts(rt, &notice, PgSeverity::Log, "foo", "1");
+    assert_get(rt, &notice, b'M', Some("foo"));
+    assert_get(rt, &notice, b'D', Some("a"));
+    assert_get(rt, &notice, b'V', Some("FOO"));
+    assert_get(rt, &notice, b'H', None);
+    assert_get_raw(rt, &notice, b'H', Some(b"\xFF"));
+    assert_get(rt, &notice, b'R', Some(""));
+    assert_get_raw(rt, &notice, b'S', None);
     Ok(())
 }
 

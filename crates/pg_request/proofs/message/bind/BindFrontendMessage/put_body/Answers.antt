@@ -2,9 +2,9 @@ use Rattle.pg_request.proofs.CountedLemmas.{codes_small}
 use Rattle.pg_request.proofs.message.bind.BindFrontendMessage.put_body.Goals as goal
 
 pub returns-clause-range : goal.returns-clause-range
-returns-clause-range c = record {
-  portal = c.push_name_reserved.ensures.range;
-  statement = c.push_name_reserved-2.ensures.range;
+returns-clause-range g c = record {
+  portal = c.put_name.ensures.range;
+  statement = c.put_name-2.ensures.range;
   formats = codes_small c.args.self.now.formats.now;
   num_params = c.put_u16.ensures.range;
   result_formats = codes_small c.args.self.now.result_formats.now;

@@ -6,5 +6,5 @@ use Rattle.pg_request.proofs.message.bind_values.BindValues.push.Goals as goal
 pub invariant_of-self-2 : goal.invariant_of-self-2
 invariant_of-self-2 c =
     let value = c.args.value.now in
-    rw (c.put_slice.ensures.items, c.put_u32.ensures.items, c.reserve.ensures.items, append_assoc, add-one)
+    rw (c.put_slice.ensures.written, c.put_u32.ensures.written, c.reserve.ensures.items, append_assoc, add-one)
     (values_push c.self.inside.count c.self.inside.bytes.items (be32 (length value) ++ value) c.self.invariant (a_value value (omega (arith, c.if-value-gt-MAX_BODY.false))))

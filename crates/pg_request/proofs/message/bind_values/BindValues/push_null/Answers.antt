@@ -6,5 +6,5 @@ use Rattle.pg_request.proofs.message.bind_values.BindValues.push_null.Goals as g
 
 pub invariant_of-self-2 : goal.invariant_of-self-2
 invariant_of-self-2 c =
-    rw (c.put_u32.ensures.items, c.reserve.ensures.items, add-one)
+    rw (c.put_u32.ensures.written, c.reserve.ensures.items, add-one)
     (values_push c.self.inside.count c.self.inside.bytes.items (be32 null_length) c.self.invariant a_null)

@@ -1,0 +1,9 @@
+//! What holds beyond single calls: each function's contract is a law. A module has those of the crate
+//! of its name.
+
+pub use pg_base::laws as base;
+pub use pg_format::laws as format;
+pub use pg_frames::laws as frames;
+pub use pg_receive::laws as receive;
+pub use pg_request::laws as request;
+pub use pg_response::laws as response;

@@ -1,0 +1,60 @@
+//! Columns that are read one by one.
+
+use super::columns::{TWO, assert_name};
+use pg_base::ProtocolFault;
+use pg_receive::message::ColumnReader;
+use std::process::Abort;
+use std::test::Fail;
+
+fn reader_of(rt: &impl Abort, body: &'static [u8]) -> Result<ColumnReader<'static>, ProtocolFault> {
+    assert!(rt; body.len() < 100);
+    ColumnReader::new(body)
+}
+
+// The next column's name, or that there are no more.
+fn assert_next(
+    rt: &impl Abort,
+    columns: &mut ColumnReader<'_>,
+    name: Option<&str>,
+) -> Result<(), ProtocolFault> {
+    let column = columns.next_column()?;
+    match name {
+        Some(name) => assert_name(rt, column, name),
+        None => assert!(rt; column.is_none()),
+    }
+    Ok(())
+}
+
+#[test]
+fn columns_one_by_one(rt: HostRuntime) -> Result<(), Fail> {
+    let mut columns = reader_of(&rt, TWO)?;
+    assert!(rt; columns.len() == 2);
+    let id = columns.next_column()?.ok_or("the first")?;
+    assert!(rt; id.type_modifier == -1);
+    assert_name(&rt, Some(id), "id");
+    assert!(rt; columns.len() == 1 && !columns.is_empty());
+    assert_next(&rt, &mut columns, Some(""))?;
+    assert!(rt; columns.is_empty());
+    assert_next(&rt, &mut columns, None)?;
+    Ok(())
+}
+
+// A column `a`, and a name without an end.
+const BROKEN: &[u8] =
+    b"\0\x02a\0\0\0\0\0\0\0\0\0\0\x17\0\x04\xFF\xFF\xFF\xFF\0\0bbbbbbbbbbbbbbbbbbbb";
+
+#[test]
+fn columns_until_one_is_broken(rt: HostRuntime) -> Result<(), Fail> {
+    let mut columns = reader_of(&rt, BROKEN)?;
+    assert_next(&rt, &mut columns, Some("a"))?;
+    assert_broken(&rt, &mut columns);
+    assert_broken(&rt, &mut columns);
+    assert!(rt; columns.len() == 1);
+    assert!(rt; reader_of(&rt, &BROKEN[..21]).is_err());
+    Ok(())
+}
+
+fn assert_broken(rt: &impl Abort, columns: &mut ColumnReader<'_>) {
+    let fault = ProtocolFault::MissingNul { at: 22 };
+    assert!(rt; columns.next_column().err() == Some(fault));
+}

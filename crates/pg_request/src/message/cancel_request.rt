@@ -1,0 +1,63 @@
+//! A request to stop what a session does.
+
+ghost use Rattle.std.specs.Prelude.{◌≡◌, ◌+◌, ◌≤◌, length, IfNone};
+ghost use Rattle.pg_format.specs.Messages.{key_fault};
+ghost use Rattle.pg_request.specs.CancelRequest.{cancel_request_text, cancel_request_fields};
+
+use pg_base::io::{ProtocolEncode, Sink};
+use pg_base::{Error, ProtocolFault};
+
+// The length of the whole without its key, in bytes.
+const LENGTH: usize = 12;
+
+// What stands in the place of a version: 1234 in the upper two bytes and 5678 in the lower.
+const CANCEL_REQUEST: u32 = 80877102;
+
+// The fewest and the most bytes of a key.
+const MIN_KEY: usize = 4;
+
+const MAX_KEY: usize = 256;
+
+/// Asks the server to stop what a session does. It has no tag, goes alone on a connection of its
+/// own, and has no answer. Documentation: "Message Formats", CancelRequest (F).
+#[derive(Drop)]
+pub struct CancelRequest<'a> {
+    /// The process of the session, as its BackendKeyData says.
+    pub process_id: u32,
+    /// The key of the session, as its BackendKeyData says: 4 bytes in protocol 3.0, up to 256 from
+    /// 3.2 on. Another length is refused with `BadKeyLength`.
+    pub secret_key: &'a [u8],
+}
+
+impl ProtocolEncode for CancelRequest<'_> {
+    ghost text = { λ cancel. cancel_request_text (cancel_request_fields cancel) };
+
+    ghost fault = { λ cancel. key_fault (length cancel.secret_key.now) };
+
+    ghost room = { λ cancel. length cancel.secret_key.now + 12 };
+
+    fn encode(&self, buf: &mut Vec<u8>) -> Result<(), Error> {
+        let key_len = self.secret_key.len();
+        if let Some(fault) = fault_of_key(key_len) {
+            return Err(fault.into());
+        }
+        let len = key_len + LENGTH;
+        buf.reserve(len)?;
+        buf.put_u32(len as u32);
+        buf.put_u32(CANCEL_REQUEST);
+        buf.put_u32(self.process_id);
+        buf.put_slice(self.secret_key);
+        Ok(())
+    }
+}
+
+// The fault of a key with so many bytes.
+fn fault_of_key(length: usize) -> Option<ProtocolFault>
+    ensures fault { result ≡ key_fault length }
+    ensures small { IfNone result (length ≤ 256) }
+{
+    if length < MIN_KEY || length > MAX_KEY {
+        return Some(ProtocolFault::BadKeyLength(length));
+    }
+    None
+}
