@@ -1,0 +1,90 @@
+"""The tables, as text and as Markdown: both are the same."""
+
+import aims
+from timing import ratio
+
+NONE = ""
+
+
+def table(heads, lines):
+    """A table of text, in columns of equal width, the first two to the left."""
+    widths = [max(map(len, column)) for column in zip(heads, *lines)]
+    rules = ["-" * width if at < 2 else "-" * (width - 1) + ":" for at, width in enumerate(widths)]
+    return "\n".join(
+        "| " + " | ".join(aligned(cell, width, at) for at, (cell, width) in enumerate(zip(line, widths))) + " |"
+        for line in (heads, rules, *lines)
+    )
+
+
+def aligned(cell, width, at):
+    return cell.ljust(width) if at < 2 else cell.rjust(width)
+
+
+def number(value, form="{:.2f}"):
+    return NONE if value is None else form.format(value)
+
+
+def compared(ratios, aim):
+    """A ratio with its spread, bold where it is above the aim."""
+    if ratios is None:
+        return NONE
+    middle, low, high = ratios
+    text = f"{middle:.2f}"
+    if aim is not None and round(middle, 2) > aim:
+        text = f"**{text}**"
+    return f"{text} ({low:.2f} to {high:.2f})"
+
+
+def times_table(rows):
+    """One line for each row, with aims, and what it was before."""
+    heads = ["case", "how", "ns a message", "over the original's", "aim", "before"]
+    heads += ["over postgres-protocol's", "aim", "over pgproto3's"]
+    lines = []
+    for row in rows:
+        original = aims.over_original(row.case, row.how)
+        peer = aims.over_postgres_protocol(row.case, row.how)
+        has_peer = "postgres-protocol" in row.times
+        lines.append([
+            row.case,
+            row.how,
+            f"{row.nanoseconds():.1f}",
+            compared(row.over("original"), original),
+            number(original),
+            number(aims.BEFORE[row.case].get(row.how)),
+            compared(row.over("postgres-protocol"), peer),
+            number(peer if has_peer else None),
+            compared(row.over("pgproto3"), None),
+        ])
+    return table(heads, lines)
+
+
+def instructions_table(rows):
+    """The instructions of a message, of each side that callgrind runs."""
+    heads = ["case", "how", "ours", "original", "postgres-protocol"]
+    lines = [
+        [row.case, row.how, *(number(row.instructions.get(side), "{:.0f}") for side in heads[2:])]
+        for row in rows
+        if row.instructions
+    ]
+    return table(heads, lines) if lines else NONE
+
+
+def strict_lines(rows):
+    """What `encode_strict` takes over `encode_all`."""
+    times = {(row.case, row.how): row.times["ours"] for row in rows}
+    for case, how in times:
+        if how == "encode_strict" and (case, "encode_all") in times:
+            aim = aims.STRICT.get(case[0])
+            text = compared(ratio(times[case, how], times[case, "encode_all"]), aim)
+            yield f"- {case}: {text}" + (f", aim {aim}" if aim else "")
+
+
+def scale_table(scale, times):
+    """The nanoseconds of a unit: a column for each size."""
+    heads = ["side", "how", *map(str, scale.sizes)]
+    jobs = dict.fromkeys(job for size in scale.sizes for job in times[size])
+    lines = [
+        [*job, *(number(times[size].get(job), "{:.3g}") for size in scale.sizes)]
+        for job in jobs
+    ]
+    return table(heads, lines)

@@ -1,0 +1,3 @@
+//! Stands in for the original's file of this name, which the benchmark never calls.
+
+pub struct SslRequest;
