@@ -1,0 +1,112 @@
+//! Finds `libpg_message`: in the folder that `PGMSG_LIB_DIR` names, else by `pkg-config`, else by
+//! building it, where this is the repository of the library and `rt` is there.
+
+use std::env;
+use std::fs;
+use std::path::{Path, PathBuf};
+use std::process::{self, Command};
+
+const VARIABLE: &str = "PGMSG_LIB_DIR";
+
+/// The versions that this crate declares the calls of.
+const VERSIONS: [&str; 2] = ["pg_message >= 0.1.0", "pg_message < 0.2.0"];
+
+const WAYS: &str = "\
+there is no libpg_message. One of these helps:
+- the variable PGMSG_LIB_DIR, which names the folder of libpg_message.a or libpg_message.so
+- pkg-config, where PKG_CONFIG_PATH has the folder of pg_message.pc
+- rt, with which this script builds the library in its repository";
+
+fn main() {
+    for variable in [VARIABLE, "PKG_CONFIG", "PKG_CONFIG_PATH", "DOCS_RS"] {
+        println!("cargo:rerun-if-env-changed={variable}");
+    }
+    // The documentation needs no library, and docs.rs has none.
+    if env::var_os("DOCS_RS").is_some() {
+        return;
+    }
+    if let Err(why) = folder().and_then(|folder| link(&folder)) {
+        eprintln!("error: {why}");
+        process::exit(1);
+    }
+}
+
+/// The folder of the library.
+fn folder() -> Result<PathBuf, String> {
+    let named = env::var_os(VARIABLE).map(|folder| manifest().join(folder));
+    match named.or_else(installed) {
+        Some(folder) => {
+            println!("cargo:rerun-if-changed={}", folder.display());
+            Ok(folder)
+        }
+        None => built(),
+    }
+}
+
+/// Has cargo link the library of a folder.
+fn link(folder: &Path) -> Result<(), String> {
+    let library = |kind| folder.join(format!("libpg_message.{kind}"));
+    let kind = match library("a").is_file() {
+        true => "static",
+        false if library("so").is_file() => "dylib",
+        false => return Err(format!("no libpg_message is in {}", folder.display())),
+    };
+    println!("cargo:rustc-link-search=native={}", folder.display());
+    println!("cargo:rustc-link-lib={kind}=pg_message");
+    Ok(())
+}
+
+/// The folder that `pkg-config` names, where the library of one of the versions is installed.
+fn installed() -> Option<PathBuf> {
+    let program = env::var_os("PKG_CONFIG").unwrap_or_else(|| "pkg-config".into());
+    let is_there = Command::new(&program)
+        .arg("--exists")
+        .args(VERSIONS)
+        .status();
+    if !is_there.ok()?.success() {
+        return None;
+    }
+    let said = Command::new(&program)
+        .args(["--variable=libdir", "pg_message"])
+        .output();
+    let folder = String::from_utf8(said.ok()?.stdout).ok()?;
+    Some(PathBuf::from(folder.trim_end()))
+}
+
+/// The folder in which `clients/library` has made the library. It proves first what isn't proved
+/// yet, which takes minutes.
+fn built() -> Result<PathBuf, String> {
+    let top = manifest().join("../../..");
+    let script = top.join("clients/library");
+    let has_rt = Command::new("rt").arg("version").output().is_ok();
+    if !script.is_file() || !has_rt {
+        return Err(WAYS.into());
+    }
+    watch(&top);
+    let out = PathBuf::from(env::var_os("OUT_DIR").unwrap_or_default());
+    match Command::new(&script).arg(&out).status() {
+        Ok(status) if status.success() => Ok(out),
+        Ok(status) => Err(format!("{} failed: {status}", script.display())),
+        Err(why) => Err(format!("{}: {why}", script.display())),
+    }
+}
+
+/// Has cargo run this script again when a source of the library changes.
+fn watch(top: &Path) {
+    for file in ["clients/library", "crates.txt"] {
+        println!("cargo:rerun-if-changed={}", top.join(file).display());
+    }
+    let crates = fs::read_dir(top.join("crates")).into_iter().flatten();
+    for part in crates.flatten() {
+        for sources in ["src", "specs", "proofs"].map(|name| part.path().join(name)) {
+            if sources.is_dir() {
+                println!("cargo:rerun-if-changed={}", sources.display());
+            }
+        }
+    }
+}
+
+/// The folder of this crate. A relative path of the variable starts there.
+fn manifest() -> PathBuf {
+    PathBuf::from(env::var_os("CARGO_MANIFEST_DIR").unwrap_or_default())
+}

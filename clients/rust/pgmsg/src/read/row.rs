@@ -1,0 +1,146 @@
+//! The cells of a row.
+
+mod cells;
+
+pub use cells::{Cell, Cells};
+
+use super::answer::{answer, fill};
+use crate::error::Fault;
+use crate::sys;
+use std::fmt;
+
+/// Reads rows, and keeps the room for the places of their cells from one row to the next.
+///
+/// ```
+/// # use pgmsg::read::RowIndex;
+/// let mut index = RowIndex::new();
+/// let row = index.read(b"\0\x02\0\0\0\x015\xff\xff\xff\xff")?;
+/// assert!(row.iter().eq([Some(&b"5"[..]), None]));
+/// # Ok::<(), pgmsg::Fault>(())
+/// ```
+#[derive(Clone, Debug, Default)]
+pub struct RowIndex {
+    cells: Vec<Cell>,
+}
+
+impl RowIndex {
+    /// A reader that has allocated nothing yet.
+    #[inline]
+    pub const fn new() -> RowIndex {
+        RowIndex { cells: Vec::new() }
+    }
+
+    /// A reader with room for rows of so many cells.
+    pub fn with_capacity(cells: usize) -> RowIndex {
+        RowIndex {
+            cells: vec![Cell::default(); cells],
+        }
+    }
+
+    /// Reads the body of a DataRow.
+    ///
+    /// It allocates only for a row of more cells than any row before.
+    #[inline]
+    pub fn read<'b>(&mut self, body: &'b [u8]) -> Result<Row<'b, '_>, Fault> {
+        let cells = fill(&mut self.cells, |room| {
+            answer(|fault| {
+                // SAFETY: `body` and `room` are slices, valid for their lengths, and `&mut` keeps
+                // `room` and `fault` apart. A `Cell` is one of the library.
+                unsafe {
+                    sys::pgmsg_read_row(
+                        body.as_ptr(),
+                        body.len(),
+                        room.as_mut_ptr().cast(),
+                        room.len(),
+                        fault,
+                    )
+                }
+            })
+        })?;
+        match cells.iter().find(|cell| !cell.is_in(body)) {
+            Some(cell) => Err(Fault::unexpected(cell.start())),
+            None => Ok(Row { body, cells }),
+        }
+    }
+}
+
+/// A row: for each column the bytes of its value, or `None` where it is NULL.
+///
+/// The values borrow the body alone, so they can be kept when the reader goes on to the next row.
+#[derive(Clone, Copy)]
+pub struct Row<'b, 'r> {
+    body: &'b [u8],
+    /// Each is NULL or lies in the body.
+    cells: &'r [Cell],
+}
+
+impl<'b, 'r> Row<'b, 'r> {
+    /// How many cells the row has.
+    #[inline]
+    pub fn len(&self) -> usize {
+        self.cells.len()
+    }
+
+    /// Whether the row has no cell.
+    #[inline]
+    pub fn is_empty(&self) -> bool {
+        self.cells.is_empty()
+    }
+
+    /// The cell of a column, counted from 0, or `None` where the row has no such column.
+    #[inline]
+    pub fn get(&self, index: usize) -> Option<Option<&'b [u8]>> {
+        let cell = self.cells.get(index)?;
+        Some(cell.value(self.body))
+    }
+
+    /// The cells in order.
+    #[inline]
+    pub fn iter(&self) -> Cells<'b, 'r> {
+        Cells::new(self.body, self.cells)
+    }
+
+    /// The places of the cells in the body.
+    ///
+    /// A driver that keeps the body copies them, and needs no reader for the row again:
+    ///
+    /// ```
+    /// # use pgmsg::read::RowIndex;
+    /// let body = b"\0\x02\0\0\0\x015\xff\xff\xff\xff".to_vec();
+    /// let places = RowIndex::new().read(&body)?.places().to_vec();
+    /// assert_eq!(places[0].range(), Some(6..7));
+    /// assert_eq!(places[0].value(&body), Some(&b"5"[..]));
+    /// assert_eq!(places[1].range(), None);
+    /// # Ok::<(), pgmsg::Fault>(())
+    /// ```
+    #[inline]
+    pub fn places(&self) -> &'r [Cell] {
+        self.cells
+    }
+}
+
+impl fmt::Debug for Row<'_, '_> {
+    fn fmt(&self, f: &mut fmt::Formatter<'_>) -> fmt::Result {
+        f.debug_list().entries(self.iter()).finish()
+    }
+}
+
+impl<'b, 'r> IntoIterator for Row<'b, 'r> {
+    type Item = Option<&'b [u8]>;
+    type IntoIter = Cells<'b, 'r>;
+
+    #[inline]
+    fn into_iter(self) -> Cells<'b, 'r> {
+        self.iter()
+    }
+}
+
+impl<'b, 'r> IntoIterator for &Row<'b, 'r> {
+    type Item = Option<&'b [u8]>;
+    type IntoIter = Cells<'b, 'r>;
+
+    #[inline]
+    fn into_iter(self) -> Cells<'b, 'r> {
+        self.iter()
+    }
+}

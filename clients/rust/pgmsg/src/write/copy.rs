@@ -1,0 +1,65 @@
+//! The data of a COPY.
+
+use super::Messages;
+use crate::error::Refusal;
+use crate::sys;
+
+/// The first five bytes of a CopyData message, which `len` bytes of data follow.
+///
+/// A program that sends them one after the other needs no copy of the data, as
+/// [`Messages::copy_data`] makes one.
+///
+/// Refused with [`MessageTooLong`](Refusal::MessageTooLong) above 2147483643 bytes.
+///
+/// ```
+/// # use pgmsg::write::copy_head;
+/// assert_eq!(copy_head(b"1\t2\n".len())?, *b"d\0\0\0\x08");
+/// # Ok::<(), pgmsg::Refusal>(())
+/// ```
+#[inline]
+pub fn copy_head(len: usize) -> Result<[u8; 5], Refusal> {
+    let mut head = [0; 5];
+    // SAFETY: `head` is an array of the five bytes that the call writes.
+    let number = unsafe { sys::pgmsg_put_copy_head(len, &mut head) };
+    match number {
+        0 => Ok(head),
+        _ => Err(Refusal::from_number(number as isize)),
+    }
+}
+
+impl Messages {
+    /// Sends data of a COPY: CopyData. The parts need not end where rows end.
+    ///
+    /// Refused with [`MessageTooLong`](Refusal::MessageTooLong) above 2147483643 bytes.
+    #[inline]
+    pub fn copy_data(&mut self, data: &[u8]) -> Result<&mut Self, Refusal> {
+        self.put(|out| {
+            // SAFETY: both are slices, valid for their lengths, and `&mut` keeps `out` apart.
+            unsafe {
+                sys::pgmsg_put_copy_data(data.as_ptr(), data.len(), out.as_mut_ptr(), out.len())
+            }
+        })
+    }
+
+    /// Ends the data of a COPY: CopyDone.
+    #[inline]
+    pub fn copy_done(&mut self) -> Result<&mut Self, Refusal> {
+        self.put(|out| {
+            // SAFETY: `out` is a slice, valid for its length.
+            unsafe { sys::pgmsg_put_copy_done(out.as_mut_ptr(), out.len()) }
+        })
+    }
+
+    /// Makes a COPY fail, for this reason: CopyFail.
+    ///
+    /// Refused with [`TextHoldsNul`](Refusal::TextHoldsNul) where the reason holds a NUL.
+    #[inline]
+    pub fn copy_fail(&mut self, reason: &str) -> Result<&mut Self, Refusal> {
+        self.put(|out| {
+            // SAFETY: both are slices, valid for their lengths, and `&mut` keeps `out` apart.
+            unsafe {
+                sys::pgmsg_put_copy_fail(reason.as_ptr(), reason.len(), out.as_mut_ptr(), out.len())
+            }
+        })
+    }
+}

@@ -1,0 +1,131 @@
+//! Rows and columns from the server, with bytes written by hand in the layouts of "Message Formats"
+//! in the PostgreSQL documentation.
+
+mod common;
+
+use common::fault_of;
+use pgmsg::read::*;
+use pgmsg::{Fault, Format, FormatCode, Refusal};
+
+/// The cells of a row.
+fn cells(body: &[u8]) -> Result<Vec<Option<&[u8]>>, Fault> {
+    let mut reader = RowIndex::new();
+    reader.read(body).map(|row| row.iter().collect())
+}
+
+#[test]
+fn rows() {
+    let body = b"\0\x03\0\0\0\x02ab\xff\xff\xff\xff\0\0\0\0";
+    let mut reader = RowIndex::new();
+    let row = reader.read(body).expect("the row is complete");
+    assert_eq!(row.len(), 3);
+    assert!(!row.is_empty());
+    assert!(row.iter().eq([Some(&b"ab"[..]), None, Some(b"")]));
+    assert!(row.iter().rev().eq([Some(&b""[..]), None, Some(b"ab")]));
+    assert_eq!(row.get(0), Some(Some(&b"ab"[..])));
+    assert_eq!(row.get(1), Some(None));
+    assert_eq!(row.get(3), None);
+    assert_eq!(format!("{row:?}"), "[Some([97, 98]), None, Some([])]");
+    let mut count = 0;
+    for cell in &row {
+        count += cell.map_or(0, <[u8]>::len);
+    }
+    assert_eq!((count, row.into_iter().len()), (2, 3));
+}
+
+#[test]
+fn places_of_cells() {
+    let body = b"\0\x03\0\0\0\x02ab\xff\xff\xff\xff\0\0\0\0";
+    let mut reader = RowIndex::with_capacity(1);
+    let row = reader.read(body).expect("the row is complete");
+    let ranges = row.places().iter().map(Cell::range);
+    assert!(ranges.eq([Some(6..8), None, Some(16..16)]));
+    assert!(row.places()[1].is_null() && !row.places()[2].is_null());
+    let places = row.places().to_vec();
+    let values = places.iter().map(|place| place.value(body));
+    assert!(values.eq(&row));
+    assert_eq!(places[0].value(b"too short"[..7].as_ref()), None);
+}
+
+#[test]
+fn a_reader_is_used_again() {
+    let mut reader = RowIndex::new();
+    let wide = b"\0\x02\0\0\0\x01a\0\0\0\x01b";
+    let values: Vec<_> = reader
+        .read(wide)
+        .expect("the row is complete")
+        .iter()
+        .collect();
+    let narrow = reader
+        .read(b"\0\x01\xff\xff\xff\xff")
+        .expect("the row is complete");
+    assert!(narrow.iter().eq([None]));
+    assert!(reader
+        .read(b"\0\0")
+        .expect("the row is complete")
+        .is_empty());
+    assert_eq!(values, [Some(&b"a"[..]), Some(b"b")]);
+}
+
+#[test]
+fn broken_rows() {
+    assert_eq!(fault_of(cells(b"")), (Refusal::Short, 0));
+    assert_eq!(fault_of(cells(b"\0\x01\0\0\0")), (Refusal::Short, 2));
+    assert_eq!(fault_of(cells(b"\0\x01\0\0\0\x02a")), (Refusal::Short, 6));
+    let fault = cells(b"\0\x01\0\0\0\x02a").expect_err("a byte is missing");
+    assert_eq!(fault.to_string(), "expected 2 bytes at offset 6, got 1");
+}
+
+#[test]
+fn a_cell_of_any_length_below_zero_is_null() {
+    assert_eq!(cells(b"\0\x01\x80\0\0\0"), Ok(vec![None]));
+}
+
+#[test]
+fn columns_of_a_result() {
+    let body = b"\0\x02\
+        id\0\0\0\x40\x01\0\x02\0\0\0\x17\0\x04\xff\xff\xff\xff\0\x01\
+        \xc3\xa9\0\0\0\0\0\0\0\0\0\0\x19\xff\xff\0\0\0\x08\0\x02";
+    let columns_of = |body| columns(body).expect("the columns are complete");
+    let [id, computed]: [Column<'_>; 2] = columns_of(body).try_into().expect("two columns");
+    assert_eq!(
+        (id.name, id.table, id.attribute),
+        ("id", Some(0x4001), Some(2))
+    );
+    assert_eq!((id.type_id, id.type_size, id.type_modifier), (23, 4, -1));
+    assert_eq!(id.format, FormatCode::from(Format::Binary));
+    assert_eq!(
+        (computed.name, computed.table, computed.attribute),
+        ("é", None, None)
+    );
+    assert_eq!(
+        (computed.type_id, computed.type_size, computed.type_modifier),
+        (25, -1, 8)
+    );
+    assert_eq!(computed.format, FormatCode(2));
+    assert_eq!(computed.format.format(), None);
+    assert_eq!(columns_of(b"\0\0"), []);
+}
+
+#[test]
+fn broken_columns() {
+    let column = |name: &[u8]| [b"\0\x01", name, &[0; 18]].concat();
+    assert_eq!(fault_of(columns(b"\0")), (Refusal::Short, 0));
+    assert_eq!(fault_of(columns(b"\0\x01")), (Refusal::Short, 2));
+    assert_eq!(
+        fault_of(columns(&[b"\0\x01", &[1; 19][..]].concat())),
+        (Refusal::MissingNul, 2)
+    );
+    assert_eq!(fault_of(columns(&column(b"\xff\0"))), (Refusal::NotUtf8, 0));
+    assert_eq!(fault_of(columns(&column(b"ab"))), (Refusal::Short, 5));
+}
+
+#[test]
+fn types_of_parameters() {
+    assert_eq!(
+        parameter_types(b"\0\x02\0\0\0\x17\0\0\0\x19"),
+        Ok(vec![23, 25])
+    );
+    assert_eq!(parameter_types(b"\0\0"), Ok(vec![]));
+    assert_eq!(fault_of(parameter_types(b"\0\x01\0")), (Refusal::Short, 2));
+}

@@ -1,0 +1,67 @@
+//! Messages whose bodies are shared.
+
+use bytes::{Bytes, BytesMut};
+use pgmsg::read::{split_frame, Kind, RowIndex};
+use pgmsg::write::Messages;
+use pgmsg::Refusal;
+
+const STREAM: &[u8] = b"D\0\0\0\x0f\0\x02\0\0\0\x015\xff\xff\xff\xffZ\0\0\0\x05I";
+
+#[test]
+fn frames_share_the_stream() {
+    let mut stream = BytesMut::from(STREAM);
+    let start = stream.as_ptr();
+    let row = split_frame(&mut stream).expect("a tag that is known");
+    let row = row.expect("a complete message");
+    assert_eq!(
+        (row.kind, row.body.as_ptr()),
+        (Kind::DataRow, start.wrapping_add(5))
+    );
+    assert_eq!(row.body, &STREAM[5..16]);
+    let ready = split_frame(&mut stream).expect("a tag that is known");
+    let ready = ready.expect("a complete message");
+    assert_eq!(
+        (ready.kind, ready.body),
+        (Kind::ReadyForQuery, Bytes::from("I"))
+    );
+    assert_eq!(split_frame(&mut stream), Ok(None));
+}
+
+#[test]
+fn every_part_of_a_stream_is_left_until_it_is_complete() {
+    for len in 0..16 {
+        let mut stream = BytesMut::from(&STREAM[..len]);
+        assert_eq!(split_frame(&mut stream), Ok(None));
+        assert_eq!(stream, &STREAM[..len]);
+    }
+}
+
+#[test]
+fn a_stream_that_is_refused_is_left() {
+    let mut stream = BytesMut::from(&b"!\0\0\0\x04"[..]);
+    let fault = split_frame(&mut stream).expect_err("no message has this tag");
+    assert_eq!(fault.refusal, Refusal::UnknownMessageType);
+    assert_eq!(stream, &b"!\0\0\0\x04"[..]);
+}
+
+#[test]
+fn values_share_the_body() {
+    let body = Bytes::from_static(&STREAM[5..16]);
+    let mut index = RowIndex::new();
+    let row = index.read(&body).expect("the row is complete");
+    let values = row.places().iter().map(|place| place.share(&body));
+    let values: Vec<_> = values.collect();
+    assert_eq!(values, [Some(Bytes::from("5")), None]);
+    let shared = values[0].as_ref().map(|value| value.as_ptr());
+    assert_eq!(shared, Some(body[6..].as_ptr()));
+}
+
+#[test]
+fn messages_become_bytes_without_a_copy() {
+    let mut messages = Messages::new();
+    messages.sync().expect("a Sync has no fault");
+    let start = messages.as_bytes().as_ptr();
+    let bytes = Bytes::from(messages);
+    assert_eq!(bytes, &b"S\0\0\0\x04"[..]);
+    assert_eq!(bytes.as_ptr(), start);
+}
