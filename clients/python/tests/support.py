@@ -1,0 +1,11 @@
+"""What the tests share."""
+
+import pathlib
+import sys
+
+TOP = pathlib.Path(__file__).resolve().parent.parent
+
+# At the end: a package on PYTHONPATH comes first, such as that of a wheel.
+sys.path.append(str(TOP))
+
+HEADER = TOP.parent / "c" / "include" / "pg_message.h"

@@ -1,0 +1,139 @@
+"""Each code with its words and its offset."""
+
+import ctypes
+import mmap
+import unittest
+from unittest import mock
+
+import support  # noqa: F401
+import pgmsg
+from pgmsg import Code, Fault, Messages, _library, fault
+
+NOTICE_NOT_UTF8 = (
+    "Postgres returned a non-UTF-8 string for its error message. This is most likely due to an error that occurred "
+    "during authentication and the default lc_messages locale is not binary-compatible with UTF-8. See the server logs "
+    "for the error details.")
+
+# A call of the package with what it is passed, and the code, the offset and the words that are due.
+REPORTED = [
+    (pgmsg.next_frame, b"v\0\0\0\x03", Code.UNKNOWN_MESSAGE_TYPE, 0, "unknown message type: 118"),
+    (pgmsg.next_frame, b"Z\0\0\0\x03", Code.BAD_LENGTH, 0, "bad message length: 3"),
+    (pgmsg.next_frame, b"1\xff\xff\xff\xff", Code.BAD_LENGTH, 0, "bad message length: -1"),
+    (pgmsg.read_ready, b"Q", Code.UNKNOWN_STATUS, 0, "unknown transaction status: 81"),
+    (pgmsg.read_key_data, b"\0\0\x27\xc6\x89\x52", Code.SHORT, 4, "expected 4 bytes at offset 4, got 2"),
+    (pgmsg.read_columns, b"\xff\xff", Code.SHORT, 2, "expected 1245165 bytes at offset 2, got 0"),
+    (pgmsg.read_row, b"\0\1\0\0\0\5ab", Code.SHORT, 6, "expected 5 bytes at offset 6, got 2"),
+    (pgmsg.read_notification, b"\0\0\0\1a\0b", Code.MISSING_NUL, 6, "expected NUL after offset 6"),
+    (pgmsg.read_parameter_status, b"a\0\xff\0", Code.NOT_UTF8, 0, "text is not UTF-8"),
+    (pgmsg.read_severity, b"VFOO\0\0", Code.UNKNOWN_SEVERITY, 0, "unknown severity"),
+    (pgmsg.read_severity, b"M\xff\0\0", Code.NOTICE_NOT_UTF8, 0, NOTICE_NOT_UTF8),
+    (pgmsg.read_authentication, b"\0\0\0\7", Code.UNKNOWN_AUTHENTICATION, 0, "unknown authentication method: 7"),
+    (pgmsg.read_challenge, b"\0\0\0\x0cv=", Code.UNKNOWN_AUTHENTICATION, 0, "unknown authentication method: 12"),
+    (pgmsg.read_verifier, b"\0\0\0\x0br=", Code.UNKNOWN_AUTHENTICATION, 0, "unknown authentication method: 11"),
+    (pgmsg.read_authentication, b"\0\0\0\x0br", Code.SHORT_SASL_ITEM, 0, "SASL item of fewer than two bytes"),
+    (pgmsg.read_authentication, b"\0\0\0\x0cv=*", Code.BASE64, 0, "SASL value is not base64"),
+]
+
+# The least length of a body that is refused unread.
+TOO_LONG = 2147483644
+
+READERS = [
+    pgmsg.read_row, pgmsg.read_columns, pgmsg.read_parameter_types, pgmsg.read_copy_response, pgmsg.read_severity,
+    pgmsg.read_notification, pgmsg.read_parameter_status, pgmsg.read_key_data, pgmsg.read_ready,
+    pgmsg.read_authentication, pgmsg.read_verifier,
+]
+
+# A call that writes, and the code: the words are those of the header.
+REFUSED = [
+    (lambda: Messages().query("\0"), Code.TEXT_HOLDS_NUL),
+    (lambda: Messages().query(b"\xff"), Code.NOT_UTF8),
+    (lambda: Messages().parse("", types=[0] * 65536), Code.TOO_MANY_PARAM_TYPES),
+    (lambda: Messages().bind([None] * 65536), Code.BAD_PARAMS),
+    (lambda: Messages().bind(formats=[0] * 65536), Code.TOO_MANY_PARAM_FORMATS),
+    (lambda: Messages().bind(result_formats=[0] * 65536), Code.TOO_MANY_RESULT_FORMATS),
+    (lambda: pgmsg.copy_head(TOO_LONG), Code.MESSAGE_TOO_LONG),
+]
+
+# Codes that no test here provokes, with the reason.
+WITHOUT = {
+    "OUT_OF_MEMORY": "it is raised as MemoryError",
+    "WRONG_FORMAT": "no call returns it",
+    "BAD_KEY_LENGTH": "it is among those of the raw messages",
+}
+
+
+class TestFaults(unittest.TestCase):
+    def refused(self, call, *args):
+        with self.assertRaises(Fault) as refused:
+            call(*args)
+        return refused.exception
+
+    def test_each_that_is_reported(self):
+        for call, body, code, at, words in REPORTED:
+            with self.subTest(words=words):
+                found = self.refused(call, body)
+                self.assertEqual((found.code, found.at, found.words, str(found)), (code, at, words, words))
+                self.assertIsInstance(found.code, Code)
+
+    def test_bodies_that_are_too_long(self):
+        # Memory that is never there, since no byte of it is read or written.
+        with mmap.mmap(-1, TOO_LONG, flags=mmap.MAP_PRIVATE | mmap.MAP_ANONYMOUS, prot=mmap.PROT_READ) as body:
+            for call in READERS:
+                found = self.refused(call, body)
+                self.assertIs(found.code, Code.BODY_TOO_LONG)
+                self.assertEqual(found.words, "message body out of range for protocol: 2147483644")
+
+    def test_each_of_a_message_to_be_sent(self):
+        for call, code in REFUSED:
+            found = self.refused(call)
+            self.assertIs(found.code, code)
+            self.assertTrue(found.words)
+            self.assertEqual(str(found), found.words)
+
+    def test_no_code_is_forgotten(self):
+        tested = {code for _, _, code, _, _ in REPORTED} | {code for _, code in REFUSED} | {Code.BODY_TOO_LONG}
+        self.assertEqual({code.name for code in set(Code) - tested} - set(WITHOUT), set())
+        self.assertEqual({code.name for code in tested} & set(WITHOUT), set())
+
+    def test_words_of_the_header(self):
+        with mock.patch.object(fault.header, "PROTOTYPES", {}):
+            for code in set(Code) - {Code.OUT_OF_MEMORY}:
+                self.assertEqual(str(fault.refusal(code)), fault.header.WORDS[code])
+
+    def test_words_of_the_library(self):
+        for kind in (ctypes.c_char, ctypes.c_uint8):
+            text = type("Text", (ctypes.Structure,), {"_fields_": [("text", kind * 64)]})()
+            ctypes.memmove(ctypes.addressof(text), b"some words", 10)
+            with mock.patch.object(fault.header, "PROTOTYPES", {"pgmsg_strerror": None}):
+                with mock.patch.object(_library, "library") as library:
+                    library.pgmsg_strerror.return_value = text
+                    self.assertEqual(str(fault.refusal(Code.SHORT)), "some words")
+                    library.pgmsg_strerror.assert_called_with(Code.SHORT)
+
+    def test_a_number_that_the_header_does_not_have(self):
+        found = fault.refusal(-1000)
+        self.assertEqual((found.code, str(found)), (-1000, "unexpected number -1000 of libpg_message"))
+
+
+class TestOutOfMemory(unittest.TestCase):
+    def test_a_number_is_a_memory_error(self):
+        messages = Messages().sync()
+        with mock.patch.object(pgmsg.messages, "library") as library:
+            library.pgmsg_put_sync.return_value = Code.OUT_OF_MEMORY
+            with self.assertRaisesRegex(MemoryError, "memory"):
+                messages.sync()
+        with mock.patch.object(pgmsg.answers, "library") as library:
+            library.pgmsg_read_ready.return_value = Code.OUT_OF_MEMORY
+            self.assertRaises(MemoryError, pgmsg.read_ready, b"I")
+        self.assertEqual(bytes(messages), b"S\0\0\0\x04")
+
+    def test_no_room_for_a_message(self):
+        messages = Messages().sync()
+        with mock.patch.object(pgmsg.messages, "library") as library:
+            library.pgmsg_put_sync.return_value = 1 << 62
+            self.assertRaises(MemoryError, messages.sync)
+        self.assertEqual(bytes(messages.sync()), b"S\0\0\0\x04" * 2)
+
+
+if __name__ == "__main__":
+    unittest.main()
