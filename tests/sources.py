@@ -6,6 +6,10 @@ import re
 # closes at its own indentation.
 BLOCK = re.compile(r"^( *)(?:pub(?:\([a-z]+\))? )?(impl|trait|mod)\b(.*)$")
 FUNCTION = re.compile(r'^( *)(?:pub(?:\([a-z]+\))? |const |final |unsafe |extern "C" )*fn (\w+)')
+
+# A clause of a contract, which may go over several lines.
+CLAUSE = re.compile(r" *(requires|ensures)\b")
+
 LIFETIME = re.compile(r"'[a-z_]+\b,? ?")
 
 
@@ -71,13 +75,29 @@ def end_of(lines, number, indent):
 
 def body_of(lines, number, indent):
     """The line on which a function's body opens, or None where it has none."""
-    for at in range(number, len(lines)):
+    at = number
+    while at < len(lines):
         line = lines[at]
-        if line == indent + "{" or re.search(r"\{( .*\})?$|\{\}$", line) and not re.match(r" *(requires|ensures)\b", line):
+        if CLAUSE.match(line):
+            at = clause_end(lines, at)
+            if lines[at].endswith(";"):
+                return None
+        elif line == indent + "{" or re.search(r"\{( .*\})?$|\{\}$", line):
             return at
-        if line.endswith(";"):
+        elif line.endswith(";"):
             return None
+        at += 1
     return None
+
+
+def clause_end(lines, number):
+    """The line on which a clause ends that begins on a line."""
+    depth = 0
+    for at in range(number, len(lines)):
+        depth += lines[at].count("{") - lines[at].count("}")
+        if not depth:
+            return at
+    return number
 
 
 def block_name(kind, head):
