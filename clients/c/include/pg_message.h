@@ -20,7 +20,7 @@
 #include <stddef.h>
 #include <stdint.h>
 
-/* The version of this header and of the library with it. */
+/* The version of this header. `pgmsg_version` has that of the library. */
 #define PGMSG_VERSION "0.1.0"
 
 #ifdef __cplusplus
@@ -69,6 +69,8 @@ enum {
     PGMSG_TEXT_HOLDS_NUL = -19,
     /* The values of a Bind can't be counted. */
     PGMSG_BAD_PARAMS = -20,
+    /* A session's secret key has fewer than 4 or more than 256 bytes. */
+    PGMSG_BAD_KEY_LENGTH = -21,
 };
 
 /* What is wrong with bytes that were read. `number` is what the call returned. `at` is an offset in
@@ -80,6 +82,11 @@ typedef struct {
     size_t words_len;
     uint8_t words[256];
 } pgmsg_fault;
+
+/* A text of ASCII, and zeros after it. */
+typedef struct {
+    char text[64];
+} pgmsg_text;
 
 /* A place in the bytes that were passed: `len` of them from `at` on. */
 typedef struct {
@@ -174,6 +181,14 @@ typedef struct {
     size_t nonce_len;
 } pgmsg_challenge;
 
+/* Why a call refused, by the number below 0 that it returned, in a few words; those of its fault
+ * say more. They are "no error" for 0 and above, and "unknown error" for a number that no call
+ * returns. */
+pgmsg_text pgmsg_strerror(int32_t number);
+
+/* The version of the library, for comparison with `PGMSG_VERSION` of the header. */
+pgmsg_text pgmsg_version(void);
+
 /* Opens a session with these settings, of which `user` is required by the server. A name or a value
  * that holds a NUL, or an empty name, is refused as a text that holds a NUL: the server would read
  * other settings. */
@@ -246,6 +261,62 @@ ptrdiff_t pgmsg_put_bind(uint32_t portal, uint32_t statement, const uint8_t *for
 ptrdiff_t pgmsg_put_batch(const uint8_t *query, size_t query_len, const uint8_t *formats,
     size_t formats_len, const pgmsg_value *values, size_t values_len, const uint8_t *result_formats,
     size_t result_formats_len, uint8_t *out, size_t out_len);
+
+/* Asks the server to stop what a session does, by the two numbers of its BackendKeyData. It goes
+ * alone on a connection of its own. The key has 4 bytes in protocol 3.0, and up to 256 from 3.2
+ * on. */
+ptrdiff_t pgmsg_put_cancel_request(uint32_t process_id, const uint8_t *secret_key,
+    size_t secret_key_len, uint8_t *out, size_t out_len);
+
+/* Asks for a connection that GSSAPI encrypts, before the session is opened. */
+ptrdiff_t pgmsg_put_gss_enc_request(uint8_t *out, size_t out_len);
+
+/* Answers a request for a password with any bytes, before the NUL that ends them. */
+ptrdiff_t pgmsg_put_password_bytes(const uint8_t *password, size_t password_len, uint8_t *out,
+    size_t out_len);
+
+/* Chooses any mechanism of SASL. Where not `has_response`, the server begins. */
+ptrdiff_t pgmsg_put_sasl_mechanism(const uint8_t *mechanism, size_t mechanism_len,
+    bool has_response, const uint8_t *response, size_t response_len, uint8_t *out, size_t out_len);
+
+/* Prepares a statement of any name. `types` are those of the parameters from the first on; the
+ * server infers those that are 0 or missing. */
+ptrdiff_t pgmsg_put_raw_parse(const uint8_t *statement, size_t statement_len, const uint8_t *query,
+    size_t query_len, const uint32_t *types, size_t types_len, uint8_t *out, size_t out_len);
+
+/* Makes a portal of any name of a prepared statement of any name and the values of its parameters.
+ * Formats are codes, 0 for text and 1 for binary: none where all are text, one for all, or one
+ * each. */
+ptrdiff_t pgmsg_put_raw_bind(const uint8_t *portal, size_t portal_len, const uint8_t *statement,
+    size_t statement_len, const uint16_t *formats, size_t formats_len, const pgmsg_value *values,
+    size_t values_len, const uint16_t *result_formats, size_t result_formats_len, uint8_t *out,
+    size_t out_len);
+
+/* Describes the prepared statement of any name. */
+ptrdiff_t pgmsg_put_raw_describe_statement(const uint8_t *statement, size_t statement_len,
+    uint8_t *out, size_t out_len);
+
+/* Describes the portal of any name. */
+ptrdiff_t pgmsg_put_raw_describe_portal(const uint8_t *portal, size_t portal_len, uint8_t *out,
+    size_t out_len);
+
+/* Closes the prepared statement of any name. */
+ptrdiff_t pgmsg_put_raw_close_statement(const uint8_t *statement, size_t statement_len,
+    uint8_t *out, size_t out_len);
+
+/* Closes the portal of any name. */
+ptrdiff_t pgmsg_put_raw_close_portal(const uint8_t *portal, size_t portal_len, uint8_t *out,
+    size_t out_len);
+
+/* Runs the portal of any name. `limit` is the most rows to send back, 0 for all of them. */
+ptrdiff_t pgmsg_put_raw_execute(const uint8_t *portal, size_t portal_len, uint32_t limit,
+    uint8_t *out, size_t out_len);
+
+/* Calls a function by its object id. Formats are as in `pgmsg_put_raw_bind`. The answer is a
+ * FunctionCallResponse, which this library doesn't read. */
+ptrdiff_t pgmsg_put_function_call(uint32_t object_id, const uint16_t *formats, size_t formats_len,
+    const pgmsg_value *arguments, size_t arguments_len, uint16_t result_format, uint8_t *out,
+    size_t out_len);
 
 /* A part of the data of a COPY. */
 ptrdiff_t pgmsg_put_copy_data(const uint8_t *data, size_t data_len, uint8_t *out, size_t out_len);

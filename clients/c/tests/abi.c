@@ -23,12 +23,16 @@ SAME(PGMSG_BASE64, -17);
 SAME(PGMSG_BAD_LENGTH, -18);
 SAME(PGMSG_TEXT_HOLDS_NUL, -19);
 SAME(PGMSG_BAD_PARAMS, -20);
+SAME(PGMSG_BAD_KEY_LENGTH, -21);
 
 SAME(sizeof(pgmsg_fault), 280);
 SAME(offsetof(pgmsg_fault, number), 0);
 SAME(offsetof(pgmsg_fault, at), 8);
 SAME(offsetof(pgmsg_fault, words_len), 16);
 SAME(offsetof(pgmsg_fault, words), 24);
+
+SAME(sizeof(pgmsg_text), 64);
+SAME(offsetof(pgmsg_text, text), 0);
 
 SAME(sizeof(pgmsg_span), 16);
 SAME(offsetof(pgmsg_span, at), 0);

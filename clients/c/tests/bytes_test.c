@@ -7,9 +7,9 @@ int main(void)
 {
     struct tally tally = {0};
     test_put(&tally);
-    test_refusals(&tally);
+    test_put_faults(&tally);
     test_read(&tally);
-    test_words(&tally);
-    test_login(&tally);
+    test_read_faults(&tally);
+    test_read_login(&tally);
     return report(&tally);
 }

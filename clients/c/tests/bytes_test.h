@@ -16,9 +16,9 @@ struct sample {
 const struct sample *put_samples(size_t *count);
 
 void test_put(struct tally *tally);
-void test_refusals(struct tally *tally);
+void test_put_faults(struct tally *tally);
 void test_read(struct tally *tally);
-void test_words(struct tally *tally);
-void test_login(struct tally *tally);
+void test_read_faults(struct tally *tally);
+void test_read_login(struct tally *tally);
 
 #endif

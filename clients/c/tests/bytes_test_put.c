@@ -131,9 +131,11 @@ static void test_heads(struct tally *tally)
     uint8_t head[5];
     CHECK(tally, pgmsg_put_copy_head(0, head) == 0 && are_bytes(head, 5, "d\0\0\0\4", 5));
     CHECK(tally, pgmsg_put_copy_head(65536, head) == 0 && are_bytes(head, 5, "d\0\1\0\4", 5));
+    CHECK(tally, pgmsg_put_copy_head(1 << 20, head) == 0 && are_bytes(head, 5, "d\0\20\0\4", 5));
     CHECK(tally, pgmsg_put_copy_head(2147483643, head) == 0 && are_bytes(head, 5, "d\177\377\377\377", 5));
     memset(head, UNTOUCHED, sizeof head);
     CHECK(tally, pgmsg_put_copy_head(2147483644, head) == PGMSG_MESSAGE_TOO_LONG);
+    CHECK(tally, pgmsg_put_copy_head(4294967291, head) == PGMSG_MESSAGE_TOO_LONG);
     CHECK(tally, pgmsg_put_copy_head(SIZE_MAX, head) == PGMSG_MESSAGE_TOO_LONG);
     CHECK(tally, are_bytes(head, 5, "\252\252\252\252\252", 5));
 }

@@ -68,7 +68,7 @@ static void test_verifiers(struct tally *tally)
     CHECK(tally, pgmsg_read_verifier(BYTES("\0\0\0\3"), verifier, 4, &fault) < 0);
 }
 
-void test_login(struct tally *tally)
+void test_read_login(struct tally *tally)
 {
     test_methods(tally);
     test_mechanisms(tally);

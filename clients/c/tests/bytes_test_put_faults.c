@@ -68,6 +68,16 @@ static void refuse_texts(struct tally *tally)
     REFUSES(tally, PGMSG_TEXT_HOLDS_NUL, pgmsg_put_query(BYTES("a\0b"), out, ROOM));
     REFUSES(tally, PGMSG_TEXT_HOLDS_NUL, pgmsg_put_parse(0, BYTES("a\0b"), no_type, 0, out, ROOM));
     REFUSES(tally, PGMSG_TEXT_HOLDS_NUL, pgmsg_put_copy_fail(BYTES("a\0b"), out, ROOM));
+    REFUSES(tally, PGMSG_TEXT_HOLDS_NUL, pgmsg_put_password_bytes(BYTES("a\0"), out, ROOM));
+    REFUSES(tally, PGMSG_TEXT_HOLDS_NUL, pgmsg_put_sasl_mechanism(BYTES("\0"), false, BYTES(""), out, ROOM));
+    REFUSES(tally, PGMSG_TEXT_HOLDS_NUL, pgmsg_put_raw_parse(BYTES("s\0"), BYTES(""), no_type, 0, out, ROOM));
+    REFUSES(tally, PGMSG_TEXT_HOLDS_NUL, pgmsg_put_raw_parse(BYTES(""), BYTES("a\0b"), no_type, 0, out, ROOM));
+    REFUSES(tally, PGMSG_TEXT_HOLDS_NUL, pgmsg_put_raw_describe_statement(BYTES("s\0"), out, ROOM));
+    REFUSES(tally, PGMSG_TEXT_HOLDS_NUL, pgmsg_put_raw_describe_portal(BYTES("p\0"), out, ROOM));
+    REFUSES(tally, PGMSG_TEXT_HOLDS_NUL, pgmsg_put_raw_close_statement(BYTES("s\0"), out, ROOM));
+    REFUSES(tally, PGMSG_TEXT_HOLDS_NUL, pgmsg_put_raw_close_portal(BYTES("p\0"), out, ROOM));
+    REFUSES(tally, PGMSG_TEXT_HOLDS_NUL, pgmsg_put_raw_execute(BYTES("p\0"), 0, out, ROOM));
+    REFUSES(tally, PGMSG_BAD_KEY_LENGTH, pgmsg_put_cancel_request(1, BYTES("abc"), out, ROOM));
     REFUSES(tally, PGMSG_TEXT_HOLDS_NUL,
             pgmsg_put_batch(BYTES("a\0b"), no_format, 0, &no_value, 0, no_format, 0, out, ROOM));
 }
@@ -108,7 +118,7 @@ static bool make_parts(struct parts *parts)
     return true;
 }
 
-void test_refusals(struct tally *tally)
+void test_put_faults(struct tally *tally)
 {
     struct parts parts;
     bool is_made = make_parts(&parts);

@@ -1,4 +1,5 @@
-/* The number, the offset and the words of each fault of bytes that are read, and what a refusal leaves alone. */
+/* The words of numbers; the number, the offset and the words of each fault of bytes that are read, and what a refusal
+ * leaves alone. */
 #define _DEFAULT_SOURCE
 
 #include "bytes_test.h"
@@ -38,6 +39,35 @@ static bool is_fault(const pgmsg_fault *fault, int32_t number, size_t at, const 
         CHECK((tally), (call) == (expected));                           \
         CHECK((tally), is_fault(&fault, (expected), (offset), (words))); \
     } while (0)
+
+/* The words of a number, and zeros after them. */
+static bool is_text(pgmsg_text text, const char *words)
+{
+    char due[sizeof text.text] = {0};
+    memcpy(due, words, strlen(words));
+    return memcmp(text.text, due, sizeof due) == 0;
+}
+
+/* The words of the numbers from -1 down, of what comes after them, and of what is no refusal. */
+static void words_of_numbers(struct tally *tally)
+{
+    static const char *const words[] = {
+        "out of memory", "too many parameter formats", "too many result formats", "too many parameter types",
+        "message is too long", "message of another kind", "message body is too long", "unknown message type",
+        "unknown authentication method", "unknown transaction status", "unknown severity", "message body is too short",
+        "text has no NUL", "text is not UTF-8", "text of an error or a notice is not UTF-8",
+        "SASL item of fewer than two bytes", "SASL value is not base64", "message length is below 4", "text holds NUL",
+        "values can't be counted", "secret key is too short or too long", "unknown error",
+    };
+    int32_t count = sizeof words / sizeof words[0];
+    for (int32_t i = 0; i < count; i++)
+        CHECK(tally, is_text(pgmsg_strerror(-1 - i), words[i]));
+    CHECK(tally, count == 1 - PGMSG_BAD_KEY_LENGTH);
+    CHECK(tally, is_text(pgmsg_strerror(INT32_MIN), "unknown error"));
+    CHECK(tally, is_text(pgmsg_strerror(0), "no error"));
+    CHECK(tally, is_text(pgmsg_strerror(INT32_MAX), "no error"));
+    CHECK(tally, is_text(pgmsg_version(), PGMSG_VERSION));
+}
 
 static void words_of_streams(struct tally *tally)
 {
@@ -140,25 +170,12 @@ static void what_is_left_alone(struct tally *tally)
     CHECK(tally, types[0] == 7 && types[1] == 7);
 }
 
-/* The five bytes before the data of a COPY, at the greatest length and beyond it. */
-static void heads_of_a_copy(struct tally *tally)
+void test_read_faults(struct tally *tally)
 {
-    uint8_t head[5] = {1, 2, 3, 4, 5};
-    CHECK(tally, pgmsg_put_copy_head(2147483644, head) == PGMSG_MESSAGE_TOO_LONG);
-    CHECK(tally, pgmsg_put_copy_head(4294967291, head) == PGMSG_MESSAGE_TOO_LONG);
-    CHECK(tally, are_bytes(head, sizeof head, "\1\2\3\4\5", 5));
-    CHECK(tally, pgmsg_put_copy_head(1 << 20, head) == 0);
-    CHECK(tally, are_bytes(head, sizeof head, "d\0\x10\0\4", 5));
-    CHECK(tally, pgmsg_put_copy_head(2147483643, head) == 0);
-    CHECK(tally, are_bytes(head, sizeof head, "d\x7f\377\377\377", 5));
-}
-
-void test_words(struct tally *tally)
-{
+    words_of_numbers(tally);
     words_of_streams(tally);
     words_of_bodies(tally);
     words_of_logins(tally);
     words_of_long_bodies(tally);
     what_is_left_alone(tally);
-    heads_of_a_copy(tally);
 }

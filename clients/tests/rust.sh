@@ -1,0 +1,123 @@
+# The crates for Rust: their tests by each cargo that is there, and a program that takes them. Sourced by `test`.
+
+oldest_rust=1.63
+
+# The example of the crate that loads a table, where it is built.
+rust_copy=
+
+# The folders of a rustc and a cargo that are new enough, with the version: the first of the PATH, and the system's.
+rust_folders() {
+    local folder version seen=
+    for folder in "$(dirname "$(command -v cargo 2> /dev/null)")" /usr/bin; do
+        version=$("$folder/rustc" --version 2> /dev/null | cut -d ' ' -f 2)
+        if [ -x "$folder/cargo" ] && [ -n "$version" ] && [[ " $seen " != *" $version "* ]] \
+            && [ "$(printf '%s\n' $oldest_rust "$version" | sort -V | head -n 1)" = $oldest_rust ]; then
+            echo "$folder $version"
+            seen+=" $version"
+        fi
+    done
+}
+
+test_rust() {
+    local folders folder version features=() bytes=$PWD/rust/stand-in/bytes first=yes
+    folders=$(rust_folders)
+    if [ -z "$folders" ]; then
+        echo "left out: the tests of the Rust crates, which need rustc and cargo from $oldest_rust on"
+        return
+    fi
+    find_bytes
+    while read -r -u 3 folder version; do
+        # What a newer cargo wrote an older one may not read.
+        rm -f rust/Cargo.lock
+        by_cargo test --quiet --workspace "${features[@]}"
+        expect "the Rust crates, $version" 0
+        if [ "$first" = yes ]; then
+            rust_copy=out/rust/$version/debug/examples/copy
+            test_rust_words
+            test_rust_package
+        fi
+        test_rust_program
+        first=no
+    done 3<<< "$folders"
+}
+
+# Takes the crate bytes of Debian, where it is there.
+find_bytes() {
+    local found
+    found=$(compgen -G '/usr/share/cargo/registry/bytes-1.*' | tail -n 1)
+    if [ -z "$found" ]; then
+        echo 'left out: the feature bytes of the Rust crate, which needs librust-bytes-dev'
+        return
+    fi
+    bytes=$found
+    features=(--features pgmsg/bytes)
+}
+
+# Runs cargo of the folder on the crates, over the library that is tested.
+by_cargo() {
+    try env PATH="$folder:$PATH" RUSTC="$folder/rustc" RUSTDOC="$folder/rustdoc" RUSTDOCFLAGS=-Dwarnings \
+        PGMSG_LIB_DIR="$(dirname "$(realpath "$LIBRARY")")" CARGO_TARGET_DIR="out/rust/$version" \
+        "$folder/cargo" "$1" --offline --manifest-path rust/Cargo.toml --config "patch.crates-io.bytes.path='$bytes'" "${@:2}"
+}
+
+# No warning of the documentation or of clippy, and no library where there is none.
+test_rust_words() {
+    try rust/declare --check
+    expect 'the declarations of pgmsg-sys are those of the header' 0
+    by_cargo doc --quiet --no-deps "${features[@]}"
+    expect 'the Rust crates: documentation without a warning' 0
+    if "$folder/cargo" clippy --version > /dev/null 2>&1; then
+        by_cargo clippy --quiet --all-targets "${features[@]}" -- -D warnings
+        expect 'the Rust crates: clippy without a warning' 0
+    else
+        echo 'left out: clippy, which is not there'
+    fi
+    mkdir -p "$work/none"
+    LIBRARY=$work/none/libpg_message.a by_cargo check --quiet
+    expect 'the Rust crates: no library in the folder that is named' 101 'no libpg_message is in'
+}
+
+# What would be published, built from the packed files.
+test_rust_package() {
+    by_cargo package --quiet --allow-dirty --package pgmsg-sys
+    expect 'pgmsg-sys: packed, and built from that' 0
+    by_cargo package --quiet --allow-dirty --package pgmsg --config "patch.crates-io.pgmsg-sys.path='$PWD/rust/pgmsg-sys'"
+    expect 'pgmsg: packed, and built from that' 0
+}
+
+# A program that takes the crate by `cargo add`, and the library by pkg-config.
+test_rust_program() {
+    local program=$work/program.$version name="a Rust program by cargo add, $version"
+    if ! command -v pkg-config > /dev/null; then
+        echo 'left out: a Rust program by pkg-config, which is not there'
+        return
+    fi
+    mkdir -p "$program/src"
+    printf '[package]\nname = "program"\nversion = "0.1.0"\nedition = "2021"\n' > "$program/Cargo.toml"
+    cat > "$program/src/main.rs" << 'END'
+fn main() -> Result<(), pgmsg::Refusal> {
+    print!("{}", pgmsg::write::Messages::new().query("SELECT 1")?.len());
+    Ok(())
+}
+END
+    try env "$folder/cargo" add --offline --quiet --manifest-path "$program/Cargo.toml" --path "$PWD/rust/pgmsg"
+    expect "$name: is added" 0
+    try env -u PGMSG_LIB_DIR PATH="$folder:$PATH" RUSTC="$folder/rustc" CARGO_TARGET_DIR="$program/target" \
+        PKG_CONFIG_PATH="$work/installed/lib/pkgconfig" \
+        "$folder/cargo" run --offline --quiet --manifest-path "$program/Cargo.toml"
+    same "$name" "$status $output" '0 14'
+}
+
+# Loads a table, and fails to, by the example of the crate.
+test_rust_copy() {
+    if [ -z "$rust_copy" ]; then
+        return
+    fi
+    sql 'CREATE TABLE by_rust (id int, name text)'
+    printf '1\ta\n2\t\\N\n' > "$work/rust.tsv"
+    try "$rust_copy" "127.0.0.1:$PGPORT" postgres postgres by_rust < "$work/rust.tsv"
+    same 'a COPY by Rust' "$status $output$(sql 'SELECT * FROM by_rust ORDER BY id')" $'0 COPY 21|a\n2|'
+    printf 'x\n' > "$work/rust.tsv"
+    try "$rust_copy" "127.0.0.1:$PGPORT" postgres postgres by_rust < "$work/rust.tsv"
+    expect 'a COPY by Rust that the server refuses' 1 'invalid input syntax'
+}
