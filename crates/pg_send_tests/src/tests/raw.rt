@@ -125,47 +125,115 @@ fn assert_holds_nul(
     strict::assert_refused(rt, alloc, &[message], ProtocolFault::TextHoldsNul)
 }
 
+fn assert_parse_refused(
+    rt: &impl Abort,
+    alloc: Global,
+    statement: &[u8],
+    query: &[u8],
+) -> Result<(), AllocError> {
+    assert_holds_nul(rt, alloc, TaggedMessage::RawParse(parse(statement, query)))
+}
+
+fn assert_bind_refused(
+    rt: &impl Abort,
+    alloc: Global,
+    portal: &[u8],
+    statement: &[u8],
+) -> Result<(), AllocError> {
+    let bind = bind(portal, statement, &[]);
+    assert_holds_nul(rt, alloc, TaggedMessage::RawBind(bind))
+}
+
 #[test]
 fn names_of_parses_and_binds_that_hold_a_nul(rt: HostRuntime) -> Result<(), AllocError> {
     let alloc = rt.alloc();
-    assert_holds_nul(&rt, alloc, TaggedMessage::RawParse(parse(b"s\0", b"a")))?;
-    assert_holds_nul(&rt, alloc, TaggedMessage::RawParse(parse(b"s", b"a\0b")))?;
-    assert_holds_nul(&rt, alloc, TaggedMessage::RawBind(bind(b"\0", b"", &[])))?;
-    assert_holds_nul(&rt, alloc, TaggedMessage::RawBind(bind(b"", b"s\0", &[])))?;
-    let accepted = TaggedMessage::RawBind(bind(b"p0", b"s0", VALUES));
-    strict::assert_strict(&rt, alloc, &[accepted], BIND)
+    assert_parse_refused(&rt, alloc, b"s\0", b"a")?;
+    assert_parse_refused(&rt, alloc, b"s", b"a\0b")?;
+    assert_bind_refused(&rt, alloc, b"\0", b"")?;
+    assert_bind_refused(&rt, alloc, b"", b"s\0")
+}
+
+#[test]
+fn names_and_values_that_are_sent_strictly(rt: HostRuntime) -> Result<(), AllocError> {
+    let bind = bind(b"p0", b"s0", VALUES);
+    strict::assert_strict(&rt, rt.alloc(), &[TaggedMessage::RawBind(bind)], BIND)
+}
+
+fn assert_statement_refused(
+    rt: &impl Abort,
+    alloc: Global,
+    statement: &[u8],
+) -> Result<(), AllocError> {
+    let close = RawClose::Statement(statement);
+    assert_holds_nul(rt, alloc, TaggedMessage::RawClose(close))
+}
+
+fn assert_portal_refused(
+    rt: &impl Abort,
+    alloc: Global,
+    portal: &[u8],
+) -> Result<(), AllocError> {
+    let describe = RawDescribe::Portal(portal);
+    assert_holds_nul(rt, alloc, TaggedMessage::RawDescribe(describe))
+}
+
+fn assert_execute_refused(
+    rt: &impl Abort,
+    alloc: Global,
+    portal: &[u8],
+) -> Result<(), AllocError> {
+    let execute = RawExecute { portal, limit: 0 };
+    assert_holds_nul(rt, alloc, TaggedMessage::RawExecute(execute))
+}
+
+fn assert_mechanism_refused(
+    rt: &impl Abort,
+    alloc: Global,
+    mechanism: &[u8],
+) -> Result<(), AllocError> {
+    assert_holds_nul(rt, alloc, TaggedMessage::SaslInitial(sasl(mechanism)))
+}
+
+fn assert_password_refused(
+    rt: &impl Abort,
+    alloc: Global,
+    password: &[u8],
+) -> Result<(), AllocError> {
+    let password = Password::Bytes(password);
+    assert_holds_nul(rt, alloc, TaggedMessage::Password(password))
 }
 
 #[test]
 fn other_names_that_hold_a_nul(rt: HostRuntime) -> Result<(), AllocError> {
     let alloc = rt.alloc();
-    let close = RawClose::Statement(b"s\0");
-    assert_holds_nul(&rt, alloc, TaggedMessage::RawClose(close))?;
-    let describe = RawDescribe::Portal(b"\0p");
-    assert_holds_nul(&rt, alloc, TaggedMessage::RawDescribe(describe))?;
-    let execute = RawExecute {
-        portal: b"p\0",
-        limit: 0,
-    };
-    assert_holds_nul(&rt, alloc, TaggedMessage::RawExecute(execute))?;
-    assert_holds_nul(&rt, alloc, TaggedMessage::SaslInitial(sasl(b"PLAIN\0")))?;
-    let password = Password::Bytes(b"a\0b");
-    assert_holds_nul(&rt, alloc, TaggedMessage::Password(password))
+    assert_statement_refused(&rt, alloc, b"s\0")?;
+    assert_portal_refused(&rt, alloc, b"\0p")?;
+    assert_execute_refused(&rt, alloc, b"p\0")?;
+    assert_mechanism_refused(&rt, alloc, b"PLAIN\0")?;
+    assert_password_refused(&rt, alloc, b"a\0b")
 }
 
-#[test]
-fn more_values_than_a_count_says(rt: HostRuntime) -> Result<(), AllocError> {
-    let values: Vec<Option<&[u8]>> = vec![in rt.alloc(); None; 65536]?;
-    assert_too_many(&rt, rt.alloc(), values.as_slice())
-}
-
-fn assert_too_many(
+fn assert_too_many_bound(
     rt: &impl Abort,
     alloc: Global,
     values: &[Option<&[u8]>],
 ) -> Result<(), AllocError> {
     let bind = EncodeMessage(bind(b"", b"", values));
-    assert_refused(rt, alloc, &bind, ProtocolFault::BadParams)?;
-    let call = EncodeMessage(call(values));
+    assert_refused(rt, alloc, &bind, ProtocolFault::BadParams)
+}
+
+fn assert_too_many_passed(
+    rt: &impl Abort,
+    alloc: Global,
+    arguments: &[Option<&[u8]>],
+) -> Result<(), AllocError> {
+    let call = EncodeMessage(call(arguments));
     assert_refused(rt, alloc, &call, ProtocolFault::BadParams)
+}
+
+#[test]
+fn more_values_than_a_count_says(rt: HostRuntime) -> Result<(), AllocError> {
+    let values: Vec<Option<&[u8]>> = vec![in rt.alloc(); None; 65536]?;
+    assert_too_many_bound(&rt, rt.alloc(), values.as_slice())?;
+    assert_too_many_passed(&rt, rt.alloc(), values.as_slice())
 }
