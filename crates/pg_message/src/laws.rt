@@ -2,7 +2,7 @@
 //! of its name.
 
 pub use pg_base::laws as base;
-pub use pg_format::laws as format;
+pub use pg_format::laws as formats;
 pub use pg_frames::laws as frames;
 pub use pg_receive::laws as receive;
 pub use pg_request::laws as request;
