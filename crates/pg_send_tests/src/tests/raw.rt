@@ -168,20 +168,12 @@ fn assert_statement_refused(
     assert_holds_nul(rt, alloc, TaggedMessage::RawClose(close))
 }
 
-fn assert_portal_refused(
-    rt: &impl Abort,
-    alloc: Global,
-    portal: &[u8],
-) -> Result<(), AllocError> {
+fn assert_portal_refused(rt: &impl Abort, alloc: Global, portal: &[u8]) -> Result<(), AllocError> {
     let describe = RawDescribe::Portal(portal);
     assert_holds_nul(rt, alloc, TaggedMessage::RawDescribe(describe))
 }
 
-fn assert_execute_refused(
-    rt: &impl Abort,
-    alloc: Global,
-    portal: &[u8],
-) -> Result<(), AllocError> {
+fn assert_execute_refused(rt: &impl Abort, alloc: Global, portal: &[u8]) -> Result<(), AllocError> {
     let execute = RawExecute { portal, limit: 0 };
     assert_holds_nul(rt, alloc, TaggedMessage::RawExecute(execute))
 }
