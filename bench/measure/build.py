@@ -4,9 +4,13 @@ import os
 import re
 import shutil
 import subprocess
+import sys
 from pathlib import Path
 
 BENCH = Path(__file__).resolve().parent.parent
+sys.path.insert(0, str(BENCH.parent / "tests"))
+
+import crates
 
 # Debian's sources of crates, where its packages are installed.
 DEBIAN_CRATES = Path("/usr/share/cargo/registry")
@@ -72,10 +76,7 @@ def postgres_protocol(out):
 
 
 def ours():
-    crate = BENCH.parent / "crates/pg_bench"
-    output("rt", "lib", cwd=crate)
-    kit = Path(output("rt", "doc").strip()).parent
-    return [crate / "out/libpg_bench.a", kit / "c/liblibc_c.a"]
+    return [crates.archive(crates.known()["pg_bench"]), crates.kit() / "c/liblibc_c.a"]
 
 
 def link(out, side, archives, *flags):
