@@ -1,8 +1,12 @@
 //! The calls of `laws` that answer, each once.
 
+use bytes::Bytes;
+use pg_base::Error;
+use pg_base::io::ProtocolDecode;
 use pg_response::error::PgErrorPosition;
 use pg_response::laws;
-use pg_response::message::PgSeverity;
+use pg_response::message::{Notice, PgSeverity};
+use std::alloc::Global;
 use std::process::Abort;
 use std::test::Fail;
 
@@ -48,4 +52,31 @@ fn equality_and_clones(rt: HostRuntime) -> Result<(), Fail> {
 
 fn assert_equal(rt: &impl Abort, a: &PgErrorPosition<'_>, b: &PgErrorPosition<'_>, due: bool) {
     assert!(rt; laws::positions_are_equal(a, b) == due);
+}
+
+#[test]
+fn a_message_and_a_code_by_get(rt: HostRuntime) -> Result<(), Error> {
+    assert_by_get(
+        &rt,
+        rt.alloc(),
+        b"SERROR\0Mno table\0C42P01\0\0",
+        "no table",
+        "42P01",
+    )?;
+    assert_by_get(&rt, rt.alloc(), b"M\0C\0\0", "", "")?;
+    assert_by_get(&rt, rt.alloc(), b"\0", "", "")
+}
+
+fn assert_by_get(
+    rt: &impl Abort,
+    alloc: Global,
+    body: &'static [u8],
+    message: &str,
+    code: &str,
+) -> Result<(), Error> {
+    assert!(rt; body.len() < 200);
+    let notice = Notice::decode(alloc, Bytes::from_static(body))?;
+    assert!(rt; laws::message_by_get(&notice) == message);
+    assert!(rt; laws::code_by_get(&notice) == code);
+    Ok(())
 }
