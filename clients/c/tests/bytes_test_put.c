@@ -4,7 +4,7 @@
 #include <stdio.h>
 #include <string.h>
 
-enum { ROOM = 256, UNTOUCHED = 0xaa };
+enum { ROOM = 320, UNTOUCHED = 0xaa, MIN_KEY = 4, MAX_KEY = 256 };
 
 static const pgmsg_setting settings[] = {
     {(const uint8_t *)"user", 4, (const uint8_t *)"ann", 3},
@@ -16,7 +16,8 @@ static const uint8_t digest[16] = {0, 1, 2, 3, 4, 5, 6, 7, 8, 9, 10, 11, 12, 13,
 static const uint8_t no_format[1];
 static const uint8_t text_format[] = {0};
 static const uint8_t mixed_formats[] = {1, 0};
-static const uint32_t types[] = {23};
+static const uint16_t codes[] = {1, 0, 258};
+static const uint32_t types[] = {23, UINT32_MAX};
 
 static const pgmsg_value values[] = {
     {(const uint8_t *)"ab", 2, false},
@@ -60,6 +61,30 @@ MESSAGE(copy_data, pgmsg_put_copy_data(BYTES("1\t2\n"), out, out_len))
 MESSAGE(empty_copy_data, pgmsg_put_copy_data(BYTES(""), out, out_len))
 MESSAGE(copy_done, pgmsg_put_copy_done(out, out_len))
 MESSAGE(copy_fail, pgmsg_put_copy_fail(BYTES("no"), out, out_len))
+MESSAGE(cancel_request, pgmsg_put_cancel_request(1234, BYTES("\377\0\0\1"), out, out_len))
+MESSAGE(long_cancel_request, pgmsg_put_cancel_request(UINT32_MAX, BYTES("a key of 28 bytes, not of 4\0"), out, out_len))
+MESSAGE(gss_enc_request, pgmsg_put_gss_enc_request(out, out_len))
+MESSAGE(password_bytes, pgmsg_put_password_bytes(BYTES("p\377w"), out, out_len))
+MESSAGE(no_password_bytes, pgmsg_put_password_bytes(BYTES(""), out, out_len))
+MESSAGE(mechanism, pgmsg_put_sasl_mechanism(BYTES("OAUTHBEARER"), true, BYTES("n,,\1a\0\377"), out, out_len))
+MESSAGE(bare_mechanism, pgmsg_put_sasl_mechanism(BYTES("\377"), false, BYTES("not sent"), out, out_len))
+MESSAGE(empty_response, pgmsg_put_sasl_mechanism(BYTES(""), true, BYTES(""), out, out_len))
+MESSAGE(raw_parse, pgmsg_put_raw_parse(BYTES("st\377"), BYTES("SELECT $1, $2"), types, 2, out, out_len))
+MESSAGE(bare_raw_parse, pgmsg_put_raw_parse(BYTES(""), BYTES(""), types, 0, out, out_len))
+MESSAGE(raw_bind, pgmsg_put_raw_bind(BYTES("po\377"), BYTES("st"), codes, 3, values, 3, &codes[2], 1, out, out_len))
+MESSAGE(bare_raw_bind, pgmsg_put_raw_bind(BYTES(""), BYTES(""), codes, 0, values, 0, codes, 0, out, out_len))
+MESSAGE(raw_describe_statement, pgmsg_put_raw_describe_statement(BYTES("st\377"), out, out_len))
+MESSAGE(bare_raw_describe_statement, pgmsg_put_raw_describe_statement(BYTES(""), out, out_len))
+MESSAGE(raw_describe_portal, pgmsg_put_raw_describe_portal(BYTES("po"), out, out_len))
+MESSAGE(bare_raw_describe_portal, pgmsg_put_raw_describe_portal(BYTES(""), out, out_len))
+MESSAGE(raw_close_statement, pgmsg_put_raw_close_statement(BYTES("st"), out, out_len))
+MESSAGE(bare_raw_close_statement, pgmsg_put_raw_close_statement(BYTES(""), out, out_len))
+MESSAGE(raw_close_portal, pgmsg_put_raw_close_portal(BYTES("po\377"), out, out_len))
+MESSAGE(bare_raw_close_portal, pgmsg_put_raw_close_portal(BYTES(""), out, out_len))
+MESSAGE(raw_execute, pgmsg_put_raw_execute(BYTES("po"), UINT32_MAX, out, out_len))
+MESSAGE(bare_raw_execute, pgmsg_put_raw_execute(BYTES(""), 0, out, out_len))
+MESSAGE(function_call, pgmsg_put_function_call(0x80000001, codes, 3, values, 3, 1, out, out_len))
+MESSAGE(bare_function_call, pgmsg_put_function_call(0, codes, 0, values, 0, 258, out, out_len))
 
 #define SAMPLE(put, literal) {put, literal, sizeof(literal) - 1}
 
@@ -94,6 +119,32 @@ static const struct sample samples[] = {
     SAMPLE(empty_copy_data, "d\0\0\0\4"),
     SAMPLE(copy_done, "c\0\0\0\4"),
     SAMPLE(copy_fail, "f\0\0\0\7" "no\0"),
+    SAMPLE(cancel_request, "\0\0\0\20" "\4\322\26\56" "\0\0\4\322" "\377\0\0\1"),
+    SAMPLE(long_cancel_request, "\0\0\0\50" "\4\322\26\56" "\377\377\377\377" "a key of 28 bytes, not of 4\0"),
+    SAMPLE(gss_enc_request, "\0\0\0\10" "\4\322\26\60"),
+    SAMPLE(password_bytes, "p\0\0\0\10" "p\377w\0"),
+    SAMPLE(no_password_bytes, "p\0\0\0\5" "\0"),
+    SAMPLE(mechanism, "p\0\0\0\33" "OAUTHBEARER\0" "\0\0\0\7" "n,,\1a\0\377"),
+    SAMPLE(bare_mechanism, "p\0\0\0\12" "\377\0" "\377\377\377\377"),
+    SAMPLE(empty_response, "p\0\0\0\11" "\0" "\0\0\0\0"),
+    SAMPLE(raw_parse, "P\0\0\0\40" "st\377\0" "SELECT $1, $2\0" "\0\2" "\0\0\0\27" "\377\377\377\377"),
+    SAMPLE(bare_raw_parse, "P\0\0\0\10" "\0" "\0" "\0\0"),
+    SAMPLE(raw_bind, "B\0\0\0\47" "po\377\0" "st\0" "\0\3" "\0\1" "\0\0" "\1\2" "\0\3" "\0\0\0\2" "ab"
+                     "\377\377\377\377" "\0\0\0\0" "\0\1" "\1\2"),
+    SAMPLE(bare_raw_bind, "B\0\0\0\14" "\0" "\0" "\0\0" "\0\0" "\0\0"),
+    SAMPLE(raw_describe_statement, "D\0\0\0\11" "S" "st\377\0"),
+    SAMPLE(bare_raw_describe_statement, "D\0\0\0\6" "S" "\0"),
+    SAMPLE(raw_describe_portal, "D\0\0\0\10" "P" "po\0"),
+    SAMPLE(bare_raw_describe_portal, "D\0\0\0\6" "P" "\0"),
+    SAMPLE(raw_close_statement, "C\0\0\0\10" "S" "st\0"),
+    SAMPLE(bare_raw_close_statement, "C\0\0\0\6" "S" "\0"),
+    SAMPLE(raw_close_portal, "C\0\0\0\11" "P" "po\377\0"),
+    SAMPLE(bare_raw_close_portal, "C\0\0\0\6" "P" "\0"),
+    SAMPLE(raw_execute, "E\0\0\0\13" "po\0" "\377\377\377\377"),
+    SAMPLE(bare_raw_execute, "E\0\0\0\11" "\0" "\0\0\0\0"),
+    SAMPLE(function_call, "F\0\0\0\42" "\200\0\0\1" "\0\3" "\0\1" "\0\0" "\1\2" "\0\3" "\0\0\0\2" "ab"
+                          "\377\377\377\377" "\0\0\0\0" "\0\1"),
+    SAMPLE(bare_function_call, "F\0\0\0\16" "\0\0\0\0" "\0\0" "\0\0" "\1\2"),
 };
 
 const struct sample *put_samples(size_t *count)
@@ -140,6 +191,25 @@ static void test_heads(struct tally *tally)
     CHECK(tally, are_bytes(head, 5, "\252\252\252\252\252", 5));
 }
 
+/* A request to cancel with a key of each length, and of those that no server gives. */
+static void test_keys(struct tally *tally)
+{
+    uint8_t key[MAX_KEY + 1], out[ROOM];
+    for (size_t i = 0; i < sizeof key; i++)
+        key[i] = (uint8_t)(i * 7);
+    for (size_t n = 0; n <= sizeof key; n++) {
+        memset(out, UNTOUCHED, sizeof out);
+        ptrdiff_t len = pgmsg_put_cancel_request(1, key, n, out, ROOM);
+        if (n < MIN_KEY || n > MAX_KEY) {
+            CHECK(tally, len == PGMSG_BAD_KEY_LENGTH && is_untouched(out, 0));
+        } else {
+            const uint8_t head[] = {0, 0, (uint8_t)((n + 12) >> 8), (uint8_t)(n + 12), 4, 210, 22, 46, 0, 0, 0, 1};
+            CHECK(tally, len == (ptrdiff_t)n + 12 && is_untouched(out, n + 12));
+            CHECK(tally, memcmp(out, head, sizeof head) == 0 && memcmp(out + sizeof head, key, n) == 0);
+        }
+    }
+}
+
 void test_put(struct tally *tally)
 {
     for (size_t i = 0; i < sizeof samples / sizeof *samples; i++) {
@@ -149,4 +219,5 @@ void test_put(struct tally *tally)
         test_room(tally, &samples[i], 0);
     }
     test_heads(tally);
+    test_keys(tally);
 }

@@ -13,12 +13,14 @@ enum { ROOM = 64, UNTOUCHED = 0xaa, TOO_MANY = 65536 };
 #define TOO_LONG ((size_t)1 << 31)
 
 static const uint8_t no_format[1];
+static const uint16_t no_code[1];
 static const pgmsg_value no_value = {(const uint8_t *)"", 0, true};
 static const uint32_t no_type[1];
 
 /* What the refused messages are made of. */
 struct parts {
     uint8_t *zeros; /* TOO_MANY formats */
+    uint16_t *codes;
     pgmsg_value *values;
     uint32_t *types;
 };
@@ -68,18 +70,37 @@ static void refuse_texts(struct tally *tally)
     REFUSES(tally, PGMSG_TEXT_HOLDS_NUL, pgmsg_put_query(BYTES("a\0b"), out, ROOM));
     REFUSES(tally, PGMSG_TEXT_HOLDS_NUL, pgmsg_put_parse(0, BYTES("a\0b"), no_type, 0, out, ROOM));
     REFUSES(tally, PGMSG_TEXT_HOLDS_NUL, pgmsg_put_copy_fail(BYTES("a\0b"), out, ROOM));
-    REFUSES(tally, PGMSG_TEXT_HOLDS_NUL, pgmsg_put_password_bytes(BYTES("a\0"), out, ROOM));
-    REFUSES(tally, PGMSG_TEXT_HOLDS_NUL, pgmsg_put_sasl_mechanism(BYTES("\0"), false, BYTES(""), out, ROOM));
-    REFUSES(tally, PGMSG_TEXT_HOLDS_NUL, pgmsg_put_raw_parse(BYTES("s\0"), BYTES(""), no_type, 0, out, ROOM));
-    REFUSES(tally, PGMSG_TEXT_HOLDS_NUL, pgmsg_put_raw_parse(BYTES(""), BYTES("a\0b"), no_type, 0, out, ROOM));
-    REFUSES(tally, PGMSG_TEXT_HOLDS_NUL, pgmsg_put_raw_describe_statement(BYTES("s\0"), out, ROOM));
-    REFUSES(tally, PGMSG_TEXT_HOLDS_NUL, pgmsg_put_raw_describe_portal(BYTES("p\0"), out, ROOM));
-    REFUSES(tally, PGMSG_TEXT_HOLDS_NUL, pgmsg_put_raw_close_statement(BYTES("s\0"), out, ROOM));
-    REFUSES(tally, PGMSG_TEXT_HOLDS_NUL, pgmsg_put_raw_close_portal(BYTES("p\0"), out, ROOM));
-    REFUSES(tally, PGMSG_TEXT_HOLDS_NUL, pgmsg_put_raw_execute(BYTES("p\0"), 0, out, ROOM));
-    REFUSES(tally, PGMSG_BAD_KEY_LENGTH, pgmsg_put_cancel_request(1, BYTES("abc"), out, ROOM));
     REFUSES(tally, PGMSG_TEXT_HOLDS_NUL,
             pgmsg_put_batch(BYTES("a\0b"), no_format, 0, &no_value, 0, no_format, 0, out, ROOM));
+}
+
+/* Checks a call on a text that begins, goes on or ends with a NUL: by the text and its length. */
+#define REFUSES_NUL(tally, call)                                   \
+    do {                                                           \
+        static const char *const texts[] = {"\0a", "a\0b", "ab\0"}; \
+        static const size_t lengths[] = {2, 3, 3};                 \
+        for (size_t i = 0; i < 3; i++) {                           \
+            const uint8_t *text = (const uint8_t *)texts[i];       \
+            size_t len = lengths[i];                               \
+            REFUSES((tally), PGMSG_TEXT_HOLDS_NUL, call);          \
+        }                                                          \
+    } while (0)
+
+/* Free texts of any bytes, which no reader would get back. */
+static void refuse_free_texts(struct tally *tally)
+{
+    REFUSES_NUL(tally, pgmsg_put_password_bytes(text, len, out, ROOM));
+    REFUSES_NUL(tally, pgmsg_put_sasl_mechanism(text, len, true, BYTES("r"), out, ROOM));
+    REFUSES_NUL(tally, pgmsg_put_sasl_mechanism(text, len, false, BYTES(""), out, ROOM));
+    REFUSES_NUL(tally, pgmsg_put_raw_parse(text, len, BYTES("q"), no_type, 0, out, ROOM));
+    REFUSES_NUL(tally, pgmsg_put_raw_parse(BYTES("s"), text, len, no_type, 1, out, ROOM));
+    REFUSES_NUL(tally, pgmsg_put_raw_bind(text, len, BYTES("s"), no_code, 0, &no_value, 1, no_code, 0, out, ROOM));
+    REFUSES_NUL(tally, pgmsg_put_raw_bind(BYTES("p"), text, len, no_code, 1, &no_value, 0, no_code, 1, out, ROOM));
+    REFUSES_NUL(tally, pgmsg_put_raw_describe_statement(text, len, out, ROOM));
+    REFUSES_NUL(tally, pgmsg_put_raw_describe_portal(text, len, out, ROOM));
+    REFUSES_NUL(tally, pgmsg_put_raw_close_statement(text, len, out, ROOM));
+    REFUSES_NUL(tally, pgmsg_put_raw_close_portal(text, len, out, ROOM));
+    REFUSES_NUL(tally, pgmsg_put_raw_execute(text, len, 0, out, ROOM));
 }
 
 static void refuse_counts(struct tally *tally, const struct parts *parts)
@@ -95,6 +116,68 @@ static void refuse_counts(struct tally *tally, const struct parts *parts)
     REFUSES(tally, PGMSG_TOO_MANY_PARAM_TYPES, pgmsg_put_parse(0, BYTES(""), parts->types, TOO_MANY, out, ROOM));
 }
 
+/* Of messages with free texts. A limit is refused before a NUL. */
+static void refuse_raw_counts(struct tally *tally, const struct parts *parts)
+{
+    REFUSES(tally, PGMSG_TOO_MANY_PARAM_FORMATS,
+            pgmsg_put_raw_bind(BYTES("\0"), BYTES(""), parts->codes, TOO_MANY, parts->values, TOO_MANY, parts->codes,
+                               TOO_MANY, out, ROOM));
+    REFUSES(tally, PGMSG_TOO_MANY_RESULT_FORMATS,
+            pgmsg_put_raw_bind(BYTES(""), BYTES("\0"), no_code, 0, parts->values, TOO_MANY, parts->codes, TOO_MANY, out,
+                               ROOM));
+    REFUSES(tally, PGMSG_BAD_PARAMS,
+            pgmsg_put_raw_bind(BYTES("\0"), BYTES("\0"), no_code, 0, parts->values, TOO_MANY, no_code, 0, out, ROOM));
+    REFUSES(tally, PGMSG_TOO_MANY_PARAM_TYPES,
+            pgmsg_put_raw_parse(BYTES("\0"), BYTES("\0"), parts->types, TOO_MANY, out, ROOM));
+    REFUSES(tally, PGMSG_TOO_MANY_PARAM_FORMATS,
+            pgmsg_put_function_call(0, parts->codes, TOO_MANY, parts->values, TOO_MANY, 0, out, ROOM));
+    REFUSES(tally, PGMSG_BAD_PARAMS,
+            pgmsg_put_function_call(0, no_code, 0, parts->values, TOO_MANY, 0, out, ROOM));
+}
+
+/* The longest messages, which have no room, and those a byte longer. */
+static void compare_with_longest(struct tally *tally, const uint8_t *data)
+{
+    pgmsg_value value = {data, TOO_LONG - 17, false};
+    REFUSES(tally, (ptrdiff_t)TOO_LONG,
+            pgmsg_put_raw_bind(BYTES(""), BYTES(""), no_code, 0, &value, 1, no_code, 0, out, ROOM));
+    value.bytes_len++;
+    REFUSES(tally, PGMSG_MESSAGE_TOO_LONG,
+            pgmsg_put_raw_bind(BYTES(""), BYTES(""), no_code, 0, &value, 1, no_code, 0, out, ROOM));
+    value.bytes_len = TOO_LONG - 19;
+    REFUSES(tally, (ptrdiff_t)TOO_LONG, pgmsg_put_function_call(0, no_code, 0, &value, 1, 0, out, ROOM));
+    value.bytes_len++;
+    REFUSES(tally, PGMSG_MESSAGE_TOO_LONG, pgmsg_put_function_call(0, no_code, 0, &value, 1, 0, out, ROOM));
+    REFUSES(tally, (ptrdiff_t)TOO_LONG,
+            pgmsg_put_sasl_mechanism(BYTES("X"), true, data, TOO_LONG - 11, out, ROOM));
+    REFUSES(tally, PGMSG_MESSAGE_TOO_LONG,
+            pgmsg_put_sasl_mechanism(BYTES("X"), true, data, TOO_LONG - 10, out, ROOM));
+}
+
+/* Of messages with free texts, by zeros. */
+static void refuse_raw_lengths(struct tally *tally, const uint8_t *data)
+{
+    const pgmsg_value value = {data, TOO_LONG, false};
+#define REFUSES_LONG(call) REFUSES(tally, PGMSG_MESSAGE_TOO_LONG, call)
+    REFUSES_LONG(pgmsg_put_password_bytes(data, TOO_LONG, out, ROOM));
+    REFUSES_LONG(pgmsg_put_sasl_mechanism(data, TOO_LONG, false, BYTES(""), out, ROOM));
+    REFUSES_LONG(pgmsg_put_sasl_mechanism(BYTES("\0"), true, data, TOO_LONG, out, ROOM));
+    REFUSES_LONG(pgmsg_put_raw_parse(data, TOO_LONG, BYTES(""), no_type, 0, out, ROOM));
+    REFUSES_LONG(pgmsg_put_raw_parse(BYTES("\0"), data, TOO_LONG, no_type, 0, out, ROOM));
+    REFUSES_LONG(pgmsg_put_raw_bind(data, TOO_LONG, BYTES(""), no_code, 0, &no_value, 0, no_code, 0, out, ROOM));
+    REFUSES_LONG(pgmsg_put_raw_bind(BYTES("\0"), data, TOO_LONG, no_code, 0, &no_value, 0, no_code, 0, out, ROOM));
+    REFUSES_LONG(pgmsg_put_raw_bind(BYTES("\0"), BYTES(""), no_code, 0, &value, 1, no_code, 0, out, ROOM));
+    REFUSES_LONG(pgmsg_put_raw_describe_statement(data, TOO_LONG, out, ROOM));
+    REFUSES_LONG(pgmsg_put_raw_describe_portal(data, TOO_LONG, out, ROOM));
+    REFUSES_LONG(pgmsg_put_raw_close_statement(data, TOO_LONG, out, ROOM));
+    REFUSES_LONG(pgmsg_put_raw_close_portal(data, TOO_LONG, out, ROOM));
+    REFUSES_LONG(pgmsg_put_raw_execute(data, TOO_LONG, 0, out, ROOM));
+    REFUSES_LONG(pgmsg_put_function_call(0, no_code, 0, &value, 1, 0, out, ROOM));
+#undef REFUSES_LONG
+    REFUSES(tally, PGMSG_BAD_KEY_LENGTH, pgmsg_put_cancel_request(1, data, TOO_LONG, out, ROOM));
+    compare_with_longest(tally, data);
+}
+
 /* Data that is refused before a byte of it is read, so that the memory of it is never there. */
 static void refuse_length(struct tally *tally)
 {
@@ -103,15 +186,17 @@ static void refuse_length(struct tally *tally)
     if (data == MAP_FAILED)
         return;
     REFUSES(tally, PGMSG_MESSAGE_TOO_LONG, pgmsg_put_copy_data(data, TOO_LONG, out, ROOM));
+    refuse_raw_lengths(tally, data);
     CHECK(tally, munmap(data, TOO_LONG) == 0);
 }
 
 static bool make_parts(struct parts *parts)
 {
     parts->zeros = calloc(TOO_MANY, sizeof *parts->zeros);
+    parts->codes = calloc(TOO_MANY, sizeof *parts->codes);
     parts->values = calloc(TOO_MANY, sizeof *parts->values);
     parts->types = calloc(TOO_MANY, sizeof *parts->types);
-    if (parts->zeros == NULL || parts->values == NULL || parts->types == NULL)
+    if (parts->zeros == NULL || parts->codes == NULL || parts->values == NULL || parts->types == NULL)
         return false;
     for (size_t i = 0; i < TOO_MANY; i++)
         parts->values[i] = no_value;
@@ -125,10 +210,14 @@ void test_put_faults(struct tally *tally)
     CHECK(tally, is_made);
     refuse_settings(tally);
     refuse_texts(tally);
+    refuse_free_texts(tally);
     refuse_length(tally);
-    if (is_made)
+    if (is_made) {
         refuse_counts(tally, &parts);
+        refuse_raw_counts(tally, &parts);
+    }
     free(parts.zeros);
+    free(parts.codes);
     free(parts.values);
     free(parts.types);
 }

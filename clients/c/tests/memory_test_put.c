@@ -10,6 +10,7 @@ enum { ROOM = 5 << 20 };
 
 static uint8_t out[ROOM], untouched[ROOM], expected[ROOM];
 static uint8_t formats[MOST_ITEMS];
+static uint16_t codes[MOST_ITEMS];
 static uint32_t types[MOST_ITEMS];
 static pgmsg_value values[MOST_ITEMS];
 static pgmsg_setting settings[MOST_ITEMS];
@@ -77,6 +78,20 @@ static uint8_t *add_bind(uint8_t *to, size_t formats_len, const pgmsg_value *bou
     return end(from, to);
 }
 
+/* A call of the first of the values and the formats. */
+static uint8_t *add_call(uint8_t *to, size_t formats_len, const pgmsg_value *passed, size_t values_len)
+{
+    uint8_t *from = to;
+    *to = 'F';
+    to = add_u16(add_u32(to + 5, 1598), formats_len);
+    for (size_t i = 0; i < formats_len; i++)
+        to = add_u16(to, codes[i]);
+    to = add_u16(to, values_len);
+    for (size_t i = 0; i < values_len; i++)
+        to = add_value(to, &passed[i]);
+    return end(from, add_u16(to, 1));
+}
+
 static uint8_t *add_rest_of_batch(uint8_t *to)
 {
     return add(to, "D\0\0\0\6P\0E\0\0\0\11\0\0\0\0\0S\0\0\0\4", 22);
@@ -141,6 +156,44 @@ MESSAGE(batch_value, pgmsg_put_batch(letters, 1, formats, 0, &value, 1, formats,
 MESSAGE(batch_items, pgmsg_put_batch(letters, 1, formats, n, values, n, formats, n, out, out_len),
         add_rest_of_batch(add_bind(add_text(to, 'P', "", 1, 1, 3), n, values, n, n)))
 
+/* Those with free texts. */
+MESSAGE(password_bytes, pgmsg_put_password_bytes(letters, n, out, out_len), add_text(to, 'p', "", 0, n, 1))
+MESSAGE(mechanism, pgmsg_put_sasl_mechanism(letters, n, false, letters, 1, out, out_len),
+        end(to, add_u32(add_text(to, 'p', "", 0, n, 1), UINT32_MAX)))
+MESSAGE(raw_statement, pgmsg_put_raw_parse(letters, n, letters, 0, types, 0, out, out_len),
+        add_text(to, 'P', "", 0, n, 4))
+MESSAGE(raw_query, pgmsg_put_raw_parse(letters, 0, letters, n, types, 0, out, out_len), add_text(to, 'P', "", 1, n, 3))
+MESSAGE(bound_portal, pgmsg_put_raw_bind(letters, n, letters, 0, codes, 0, values, 0, codes, 0, out, out_len),
+        add_text(to, 'B', "", 0, n, 8))
+MESSAGE(bound_statement, pgmsg_put_raw_bind(letters, 0, letters, n, codes, 0, values, 0, codes, 0, out, out_len),
+        add_text(to, 'B', "", 1, n, 7))
+MESSAGE(raw_value, pgmsg_put_raw_bind(letters, 0, letters, 0, codes, 0, &value, 1, codes, 0, out, out_len),
+        add_bind(to, 0, &value, 1, 0))
+MESSAGE(raw_values, pgmsg_put_raw_bind(letters, 0, letters, 0, codes, 0, values, n, codes, 0, out, out_len),
+        add_bind(to, 0, values, n, 0))
+MESSAGE(codes, pgmsg_put_raw_bind(letters, 0, letters, 0, codes, n, values, 0, codes, n, out, out_len),
+        add_bind(to, n, values, 0, n))
+MESSAGE(described_statement, pgmsg_put_raw_describe_statement(letters, n, out, out_len),
+        add_text(to, 'D', "S", 1, n, 1))
+MESSAGE(described_portal, pgmsg_put_raw_describe_portal(letters, n, out, out_len), add_text(to, 'D', "P", 1, n, 1))
+MESSAGE(closed_statement, pgmsg_put_raw_close_statement(letters, n, out, out_len), add_text(to, 'C', "S", 1, n, 1))
+MESSAGE(closed_portal, pgmsg_put_raw_close_portal(letters, n, out, out_len), add_text(to, 'C', "P", 1, n, 1))
+MESSAGE(run_portal, pgmsg_put_raw_execute(letters, n, 0, out, out_len), add_text(to, 'E', "", 0, n, 5))
+MESSAGE(argument, pgmsg_put_function_call(1598, codes, 0, &value, 1, 1, out, out_len), add_call(to, 0, &value, 1))
+MESSAGE(arguments, pgmsg_put_function_call(1598, codes, n, values, n, 1, out, out_len), add_call(to, n, values, n))
+
+static ptrdiff_t put_first_response(size_t n, size_t out_len)
+{
+    return pgmsg_put_sasl_mechanism((const uint8_t *)"GSS", 3, true, letters, n, out, out_len);
+}
+
+static uint8_t *spell_first_response(size_t n, uint8_t *to)
+{
+    uint8_t before[8] = "GSS";
+    add_u32(before + 4, n);
+    return add_text(to, 'p', before, sizeof before, n, 0);
+}
+
 static ptrdiff_t put_initial(size_t n, size_t out_len)
 {
     return pgmsg_put_sasl_initial(letters, n, true, out, out_len);
@@ -167,24 +220,41 @@ static uint8_t *spell_types(size_t n, uint8_t *to)
     return end(from, to);
 }
 
+static ptrdiff_t put_raw_types(size_t n, size_t out_len)
+{
+    return pgmsg_put_raw_parse(letters, 0, letters, 1, types, n, out, out_len);
+}
+
+static uint8_t *spell_raw_types(size_t n, uint8_t *to)
+{
+    return spell_types(n, to);
+}
+
 struct message {
     const char *name;
     ptrdiff_t (*put)(size_t n, size_t out_len);
     uint8_t *(*spell)(size_t n, uint8_t *to);
     size_t most;
-    bool is_copied_first;
+    size_t least_copied;
 };
 
-/* A message that is written where it goes needs no memory; one that is copied first asks for some. */
-#define PLACED(name, most) {#name, put_##name, spell_##name, most, false}
-#define COPIED(name, most) {#name, put_##name, spell_##name, most, true}
+/* A message that is written where it goes needs no memory; one that is copied first asks for some, from a least
+ * size on. */
+#define PLACED(name, most) {#name, put_##name, spell_##name, most, SIZE_MAX}
+#define COPIED(name, least, most) {#name, put_##name, spell_##name, most, least}
 
 static const struct message messages[] = {
-    PLACED(query, LONG), PLACED(copy_data, LONG), COPIED(copy_fail, LONG), PLACED(password, LONG),
-    PLACED(response, LONG), PLACED(initial, LONG), COPIED(parse, LONG), COPIED(types, MOST_ITEMS),
-    COPIED(setting, LONG), COPIED(settings, MOST_ITEMS), COPIED(value, LONG), COPIED(values, MOST_ITEMS),
-    COPIED(formats, MOST_ITEMS), COPIED(batch_query, LONG), COPIED(batch_value, LONG),
-    COPIED(batch_items, MOST_ITEMS),
+    PLACED(query, LONG), PLACED(copy_data, LONG), COPIED(copy_fail, 1, LONG), PLACED(password, LONG),
+    PLACED(response, LONG), PLACED(initial, LONG), PLACED(parse, LONG), COPIED(types, 1, MOST_ITEMS),
+    COPIED(setting, 0, LONG), COPIED(settings, 0, MOST_ITEMS), COPIED(value, 0, LONG), COPIED(values, 1, MOST_ITEMS),
+    COPIED(formats, 1, MOST_ITEMS), COPIED(batch_query, 0, LONG), COPIED(batch_value, 0, LONG),
+    COPIED(batch_items, 0, MOST_ITEMS),
+    PLACED(password_bytes, LONG), PLACED(mechanism, LONG), PLACED(first_response, LONG), PLACED(raw_statement, LONG),
+    PLACED(raw_query, LONG), COPIED(raw_types, 1, MOST_ITEMS), PLACED(bound_portal, LONG),
+    PLACED(bound_statement, LONG), COPIED(raw_value, 0, LONG), COPIED(raw_values, 1, MOST_ITEMS),
+    PLACED(codes, MOST_ITEMS), PLACED(described_statement, LONG), PLACED(described_portal, LONG),
+    PLACED(closed_statement, LONG), PLACED(closed_portal, LONG), PLACED(run_portal, LONG), COPIED(argument, 0, LONG),
+    COPIED(arguments, 1, MOST_ITEMS),
 };
 
 /* Whether the front of `out` is untouched; it is made so again. */
@@ -211,7 +281,7 @@ static void test_message(struct tally *tally, const struct message *message, siz
         CHECK(tally, answer == PGMSG_OUT_OF_MEMORY);
         CHECK(tally, was_untouched(len + 1));
     }
-    CHECK(tally, nth > 1 == message->is_copied_first && nth < MANY_REQUESTS);
+    CHECK(tally, (nth > 1) == (n >= message->least_copied) && nth < MANY_REQUESTS);
     CHECK(tally, memcmp(out, expected, len) == 0 && out[len] == UNTOUCHED);
     memset(out, UNTOUCHED, len);
     CHECK(tally, message->put(n, len - 1) == (ptrdiff_t)len);
@@ -245,6 +315,7 @@ static void make_parts(void)
     memset(out, UNTOUCHED, sizeof out);
     for (size_t i = 0; i < MOST_ITEMS; i++) {
         formats[i] = i % 3 == 1;
+        codes[i] = formats[i];
         types[i] = (uint32_t)i * 65539;
         values[i] = (pgmsg_value){letters + i % 23, i % 5, i % 7 == 6};
         settings[i] = (pgmsg_setting){letters + i % 23, 1 + i % 3, letters + i % 5, i % 4};

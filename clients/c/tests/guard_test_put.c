@@ -1,0 +1,175 @@
+/* Messages to the server: of texts and lists at pages that can't be touched, into room at such a page. */
+#include "bytes_test.h"
+#include "guard_test.h"
+
+#include <stdio.h>
+#include <string.h>
+
+enum { ROOM = 2048, MOST = 12, DIGEST = 16, HEAD = 5, UNTOUCHED = 0xaa, REFUSED_ROOM = 40 };
+
+/* A text of n bytes, lists of n items, and a digest. */
+struct inputs {
+    size_t n;
+    const uint8_t *text;
+    const uint8_t *digest;
+    const uint8_t *formats;
+    const uint16_t *codes;
+    const uint32_t *types;
+    const pgmsg_value *values;
+    const pgmsg_setting *settings;
+};
+
+/* Where inputs and a message are. */
+static struct guarded texts, digests, formats, codes, types, values, settings, outs;
+
+/* Each call that writes a message, by its arguments. */
+#define CALLS(CALL)                                                                                                 \
+    CALL(startup, (in->settings, in->n, out, out_len))                                                              \
+    CALL(ssl_request, (out, out_len))                                                                               \
+    CALL(password, (in->text, in->n, out, out_len))                                                                 \
+    CALL(md5_password, (in->digest, out, out_len))                                                                  \
+    CALL(sasl_initial, (in->text, in->n, in->n % 2 == 1, out, out_len))                                             \
+    CALL(sasl_response, (in->text, in->n, out, out_len))                                                            \
+    CALL(terminate, (out, out_len))                                                                                 \
+    CALL(query, (in->text, in->n, out, out_len))                                                                    \
+    CALL(describe_statement, (number, out, out_len))                                                                \
+    CALL(describe_portal, (number, out, out_len))                                                                   \
+    CALL(close_statement, (number, out, out_len))                                                                   \
+    CALL(close_portal, (number, out, out_len))                                                                      \
+    CALL(execute, (number, number, out, out_len))                                                                   \
+    CALL(flush, (out, out_len))                                                                                     \
+    CALL(sync, (out, out_len))                                                                                      \
+    CALL(parse, (number, in->text, in->n, in->types, in->n, out, out_len))                                          \
+    CALL(bind, (number, 0, in->formats, in->n, in->values, in->n, in->formats, in->n, out, out_len))                \
+    CALL(batch, (in->text, in->n, in->formats, in->n, in->values, in->n, in->formats, in->n, out, out_len))         \
+    CALL(cancel_request, (number, in->text, in->n, out, out_len))                                                   \
+    CALL(gss_enc_request, (out, out_len))                                                                           \
+    CALL(password_bytes, (in->text, in->n, out, out_len))                                                           \
+    CALL(sasl_mechanism, (in->text, in->n, in->n % 2 == 1, in->text, in->n, out, out_len))                          \
+    CALL(raw_parse, (in->text, in->n, in->text, in->n, in->types, in->n, out, out_len))                             \
+    CALL(raw_bind, (in->text, in->n, in->text, in->n, in->codes, in->n, in->values, in->n, in->codes, in->n, out,   \
+                    out_len))                                                                                       \
+    CALL(raw_describe_statement, (in->text, in->n, out, out_len))                                                   \
+    CALL(raw_describe_portal, (in->text, in->n, out, out_len))                                                      \
+    CALL(raw_close_statement, (in->text, in->n, out, out_len))                                                      \
+    CALL(raw_close_portal, (in->text, in->n, out, out_len))                                                         \
+    CALL(raw_execute, (in->text, in->n, number, out, out_len))                                                      \
+    CALL(function_call, (number, in->codes, in->n, in->values, in->n, 1, out, out_len))                             \
+    CALL(copy_data, (in->text, in->n, out, out_len))                                                                \
+    CALL(copy_done, (out, out_len))                                                                                 \
+    CALL(copy_fail, (in->text, in->n, out, out_len))
+
+#define FUNCTION(name, arguments)                                                            \
+    static ptrdiff_t put_##name(const struct inputs *in, uint8_t *out, size_t out_len)      \
+    {                                                                                        \
+        uint32_t number = (uint32_t)(in->n * in->n * in->n * 7919);                          \
+        (void)number;                                                                        \
+        return pgmsg_put_##name arguments;                                                   \
+    }
+
+CALLS(FUNCTION)
+
+#define ROW(name, arguments) {#name, put_##name},
+
+static const struct {
+    const char *name;
+    ptrdiff_t (*put)(const struct inputs *in, uint8_t *out, size_t out_len);
+} calls[] = {CALLS(ROW)};
+
+/* Texts of letters, and lists whose texts end or begin at the page of the text. */
+static struct inputs guarded_inputs(size_t n, enum side side)
+{
+    uint8_t *text = place(&texts, n, side), *digest = place(&digests, DIGEST, side);
+    uint8_t *format = place(&formats, n, side);
+    uint16_t *code = (uint16_t *)(void *)place(&codes, n * sizeof *code, side);
+    uint32_t *type = (uint32_t *)(void *)place(&types, n * sizeof *type, side);
+    pgmsg_value *value = (pgmsg_value *)(void *)place(&values, n * sizeof *value, side);
+    pgmsg_setting *setting = (pgmsg_setting *)(void *)place(&settings, n * sizeof *setting, side);
+    for (size_t i = 0; i < DIGEST; i++)
+        digest[i] = (uint8_t)(16 * i + n);
+    for (size_t i = 0; i < n; i++) {
+        size_t len = i % 4, name_len = 1 + i % 3;
+        format[i] = i % 2;
+        code[i] = (uint16_t)(i * 255);
+        type[i] = (uint32_t)i * 65539;
+        value[i] = (pgmsg_value){place(&texts, len, side), len, i % 5 == 4};
+        setting[i] = (pgmsg_setting){place(&texts, name_len, side), name_len, place(&texts, len, side), len};
+    }
+    return (struct inputs){n, text, digest, format, code, type, value, setting};
+}
+
+/* Whether some bytes are as they were. */
+static bool are_untouched(const uint8_t *from, const uint8_t *end)
+{
+    while (from < end && *from == UNTOUCHED)
+        from++;
+    return from == end;
+}
+
+/* Checks what was put into so much room at an end of its page, and clears the page. */
+static bool is_put(const uint8_t *out, size_t out_len, ptrdiff_t answer, const uint8_t *due, ptrdiff_t due_answer)
+{
+    size_t len = due_answer >= 0 && (size_t)due_answer <= out_len ? (size_t)due_answer : 0;
+    bool is_right = answer == due_answer && memcmp(out, due, len) == 0 && are_untouched(outs.from, out)
+                 && are_untouched(out + len, outs.end);
+    memset(outs.from, UNTOUCHED, (size_t)(outs.end - outs.from));
+    return is_right;
+}
+
+/* A call with as many items at the ends of their pages, into rooms up to one that is long enough. What is due is
+ * what it puts where no page is near. */
+static void test_call(struct tally *tally, size_t call, size_t n, enum side side)
+{
+    struct inputs in = guarded_inputs(n, side);
+    uint8_t due[ROOM];
+    ptrdiff_t due_answer = calls[call].put(&in, due, ROOM);
+    size_t most = due_answer < 0 ? REFUSED_ROOM : (size_t)due_answer + 1;
+    unsigned failed = tally->failed;
+    CHECK(tally, most < ROOM);
+    for (size_t out_len = 0; out_len <= most && most < ROOM; out_len++) {
+        uint8_t *out = place(&outs, out_len, side);
+        ptrdiff_t answer = calls[call].put(&in, out, out_len);
+        CHECK(tally, is_put(out, out_len, answer, due, due_answer));
+    }
+    if (tally->failed > failed)
+        fprintf(stderr, "put_%s of %zu items\n", calls[call].name, n);
+}
+
+static void test_sample(struct tally *tally, const struct sample *sample, enum side side)
+{
+    for (size_t out_len = 0; out_len <= sample->len; out_len++) {
+        uint8_t *out = place(&outs, out_len, side);
+        ptrdiff_t answer = sample->put(out, out_len);
+        CHECK(tally, is_put(out, out_len, answer, (const uint8_t *)sample->bytes, (ptrdiff_t)sample->len));
+    }
+}
+
+static void test_side(struct tally *tally, enum side side)
+{
+    size_t count;
+    const struct sample *samples = put_samples(&count);
+    name_call("a sample");
+    for (size_t i = 0; i < count; i++)
+        test_sample(tally, &samples[i], side);
+    for (size_t call = 0; call < sizeof calls / sizeof *calls; call++) {
+        name_call(calls[call].name);
+        for (size_t n = 0; n <= MOST; n++)
+            test_call(tally, call, n, side);
+    }
+    name_call("copy_head");
+    uint8_t *head = place(&outs, HEAD, side);
+    CHECK(tally, pgmsg_put_copy_head(0, head) == 0 && is_put(head, HEAD, HEAD, (const uint8_t *)"d\0\0\0\4", HEAD));
+    CHECK(tally, pgmsg_put_copy_head(SIZE_MAX, head) == PGMSG_MESSAGE_TOO_LONG && are_untouched(outs.from, outs.end));
+}
+
+void test_guarded_put(struct tally *tally)
+{
+    struct guarded *const pages[] = {&texts, &digests, &formats, &codes, &types, &values, &settings, &outs};
+    for (size_t i = 0; i < sizeof pages / sizeof *pages; i++)
+        *pages[i] = guarded_page();
+    for (uint8_t *text = texts.from; text < texts.end; text++)
+        *text = (uint8_t)('a' + (text - texts.from) % 23);
+    memset(outs.from, UNTOUCHED, (size_t)(outs.end - outs.from));
+    test_side(tally, AT_FRONT);
+    test_side(tally, AT_END);
+}

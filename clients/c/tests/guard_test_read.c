@@ -1,0 +1,146 @@
+/* Messages from the server: each body cut at each length, with each byte replaced in turn, at a page that can't be
+ * touched. */
+#include "guard_test.h"
+
+#include <stdio.h>
+#include <string.h>
+
+enum { LONGEST = 128, PLENTY = 64, UNTOUCHED = 0xaa };
+
+/* Where bodies and what is read of them are. */
+static struct guarded bodies, ones, items, seconds, faults;
+
+/* How many items there is room for, and at which end of its page everything is. */
+static size_t room;
+static enum side side;
+
+#define ONE(type) (type *)(void *)place(&ones, sizeof(type), side)
+#define ITEMS(type) (type *)(void *)place(&items, room * sizeof(type), side), room
+#define SECOND place(&seconds, room, side), room
+
+/* Each call that reads, by a body and its length. */
+#define CALLS(CALL)                                                                                        \
+    CALL(frame, pgmsg_next_frame(body, len, ONE(pgmsg_frame), fault))                                      \
+    CALL(row, pgmsg_read_row(body, len, ITEMS(pgmsg_cell), fault))                                         \
+    CALL(columns, pgmsg_read_columns(body, len, ITEMS(pgmsg_column), fault))                               \
+    CALL(parameter_types, pgmsg_read_parameter_types(body, len, ITEMS(uint32_t), fault))                   \
+    CALL(fields, (ptrdiff_t)pgmsg_read_fields(body, len, ITEMS(pgmsg_field)))                              \
+    CALL(severity, pgmsg_read_severity(body, len, fault))                                                  \
+    CALL(notification, pgmsg_read_notification(body, len, ONE(pgmsg_notification), fault))                 \
+    CALL(parameter_status, pgmsg_read_parameter_status(body, len, ONE(pgmsg_parameter_status), fault))     \
+    CALL(key_data, pgmsg_read_key_data(body, len, ONE(pgmsg_key_data), fault))                             \
+    CALL(rows_affected, (ptrdiff_t)pgmsg_read_rows_affected(body, len))                                    \
+    CALL(ready, pgmsg_read_ready(body, len, fault))                                                        \
+    CALL(copy_response, pgmsg_read_copy_response(body, len, ONE(pgmsg_copy_response), ITEMS(int16_t), fault)) \
+    CALL(authentication, pgmsg_read_authentication(body, len, ONE(pgmsg_authentication), fault))           \
+    CALL(mechanisms, (ptrdiff_t)pgmsg_read_mechanisms(body, len, ITEMS(pgmsg_span)))                       \
+    CALL(challenge, pgmsg_read_challenge(body, len, ONE(pgmsg_challenge), ITEMS(uint8_t), SECOND, fault))  \
+    CALL(verifier, pgmsg_read_verifier(body, len, ITEMS(uint8_t), fault))
+
+#define FUNCTION(name, call)                                                              \
+    static ptrdiff_t read_##name(const uint8_t *body, size_t len, pgmsg_fault *fault)     \
+    {                                                                                     \
+        (void)fault;                                                                      \
+        return call;                                                                      \
+    }
+
+CALLS(FUNCTION)
+
+#define BODY(name, literal) {#name, read_##name, literal, sizeof(literal) - 1}
+
+/* Bodies of each kind, each with every part that it can have. */
+static const struct body {
+    const char *name;
+    ptrdiff_t (*read)(const uint8_t *body, size_t len, pgmsg_fault *fault);
+    const char *bytes;
+    size_t len;
+} samples[] = {
+    BODY(frame, "D\0\0\0\12" "\0\1" "\377\377\377\377" "Z\0"),
+    BODY(row, "\0\4" "\0\0\0\2" "ab" "\377\377\377\377" "\0\0\0\0" "\0\0\0\1" "c"),
+    BODY(row, "\0\1" "\177\377\377\377"),
+    BODY(columns, "\0\2" "id\0" "\0\0\100\1" "\0\1" "\0\0\0\27" "\0\4" "\377\377\377\377" "\0\0"
+                  "n\0" "\0\0\0\0" "\0\0" "\0\0\0\31" "\377\377" "\0\0\0\24" "\0\1"),
+    BODY(parameter_types, "\0\3" "\0\0\0\27" "\0\0\0\31" "\377\377\377\377"),
+    BODY(fields, "SERROR\0" "VERROR\0" "C42P01\0" "Mno\0" "\0"),
+    BODY(severity, "SERROR\0" "VPANIC\0" "C42P01\0" "Mno\0" "\0"),
+    BODY(notification, "\0\0\4\322" "ch\0" "hi\0"),
+    BODY(parameter_status, "TimeZone\0" "UTC\0"),
+    BODY(key_data, "\0\0\4\322" "\377\0\0\1"),
+    BODY(rows_affected, "INSERT 0 18446744073709551615\0"),
+    BODY(ready, "T"),
+    BODY(copy_response, "\1" "\0\3" "\0\0" "\0\1" "\0\0"),
+    BODY(authentication, "\0\0\0\5" "\1\2\3\4"),
+    BODY(authentication, "\0\0\0\12" "SCRAM-SHA-256-PLUS\0" "SCRAM-SHA-256\0" "\0"),
+    BODY(authentication, "\0\0\0\14" "v=AQID"),
+    BODY(mechanisms, "\0\0\0\12" "SCRAM-SHA-256-PLUS\0" "SCRAM-SHA-256\0" "\0"),
+    BODY(challenge, "\0\0\0\13" "r=abc,s=AQID,i=8192"),
+    BODY(verifier, "\0\0\0\14" "v=AQIDBAU="),
+};
+
+/* Whether two faults say the same. */
+static bool are_same(const pgmsg_fault *one, const pgmsg_fault *other)
+{
+    return one->number == other->number && one->at == other->at && one->words_len == other->words_len
+        && memcmp(one->words, other->words, sizeof one->words) == 0;
+}
+
+/* Reads some bytes at an end of their page, into room at one too. What is due is what is read with bytes beside
+ * them, into plenty of room. */
+static bool is_read(const struct body *sample, const uint8_t *bytes, size_t len, size_t count)
+{
+    uint8_t around[LONGEST + 2 * PLENTY];
+    pgmsg_fault due, *fault = (pgmsg_fault *)(void *)place(&faults, sizeof due, side);
+    uint8_t *body = place(&bodies, len, side);
+    memset(around, UNTOUCHED, sizeof around);
+    memcpy(around + PLENTY, bytes, len);
+    memcpy(body, bytes, len);
+    memset(&due, UNTOUCHED, sizeof due);
+    memset(fault, UNTOUCHED, sizeof *fault);
+    room = PLENTY;
+    ptrdiff_t due_answer = sample->read(around + PLENTY, len, &due);
+    room = count;
+    return sample->read(body, len, fault) == due_answer && are_same(fault, &due);
+}
+
+/* The front of a body, and what becomes of it by other bytes. */
+static void test_front(struct tally *tally, const struct body *sample, size_t len)
+{
+    static const uint8_t others[] = {0, 1, '=', 127, 128, 255};
+    static const size_t rooms[] = {0, 1, 3};
+    uint8_t bytes[LONGEST];
+    memcpy(bytes, sample->bytes, len);
+    for (size_t k = 0; k < sizeof rooms / sizeof *rooms; k++) {
+        CHECK(tally, is_read(sample, bytes, len, rooms[k]));
+        for (size_t i = 0; i < len; i++) {
+            for (size_t j = 0; j < sizeof others; j++) {
+                bytes[i] = others[j];
+                CHECK(tally, is_read(sample, bytes, len, rooms[k]));
+            }
+            bytes[i] = (uint8_t)sample->bytes[i];
+        }
+    }
+}
+
+static void test_body(struct tally *tally, const struct body *sample)
+{
+    unsigned failed = tally->failed;
+    name_call(sample->name);
+    CHECK(tally, sample->len <= LONGEST);
+    for (size_t len = 0; len <= sample->len && sample->len <= LONGEST; len++)
+        test_front(tally, sample, len);
+    if (tally->failed > failed)
+        fprintf(stderr, "read of a %s\n", sample->name);
+}
+
+void test_guarded_read(struct tally *tally)
+{
+    struct guarded *const pages[] = {&bodies, &ones, &items, &seconds, &faults};
+    for (size_t i = 0; i < sizeof pages / sizeof *pages; i++)
+        *pages[i] = guarded_page();
+    for (size_t i = 0; i < sizeof samples / sizeof *samples; i++) {
+        side = AT_FRONT;
+        test_body(tally, &samples[i]);
+        side = AT_END;
+        test_body(tally, &samples[i]);
+    }
+}
