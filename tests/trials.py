@@ -1,7 +1,9 @@
 """Tries wrong bodies, many in a check, and judges each by the function that it changes."""
 
+import re
 import shutil
 import tempfile
+import threading
 import time
 from concurrent.futures import ThreadPoolExecutor
 
@@ -23,6 +25,9 @@ SELF_TEST = crates.TOP / "tests" / "self_test"
 class Trial:
     """The edits of one crate, tried in turn over what its earlier checks proved."""
 
+    # No more checks at a time than there are processors for.
+    turns = threading.BoundedSemaphore(crates.processors())
+
     def __init__(self, crate, edits):
         self.crate, self.edits, self.checks, self.kept = crate, edits, 0, None
         self.passed, self.failed = 0, 0
@@ -37,24 +42,25 @@ class Trial:
             self.failed += 1
             print(f"FAILED {label}: {verdict}: {why}", flush=True)
 
-    def run(self):
-        """Shows a verdict for each edit."""
+    def run(self, proofs):
+        """Shows a verdict for each edit, once its crate is proved."""
+        is_proved = proofs is None or proofs.have(self.crate)
         left = []
         for edit in self.edits:
-            if edit.why_not:
-                self.show(edit, NOT_APPLIED, edit.why_not)
+            if edit.why_not or not is_proved:
+                self.show(edit, NOT_APPLIED, edit.why_not or "its crate is not proved")
             else:
                 left.append(edit)
         with tempfile.TemporaryDirectory(prefix="edits-") as self.kept:
-            self.begin()
+            self.begin(proofs)
             while left:
                 batch = batch_of(left)
                 again = self.together(batch) if len(batch) > 1 else self.alone(batch[0])
                 left = [edit for edit in left if edit not in batch] + again
 
-    def begin(self):
+    def begin(self, proofs):
         """Begins with what earlier checks proved; of a static library, with what its build did."""
-        if self.crate.is_static:
+        if self.crate.is_static and not proofs:
             crates.archive(self.crate)
         if self.crate.kept().exists():
             shutil.copytree(self.crate.kept(), self.kept, dirs_exist_ok=True)
@@ -65,7 +71,8 @@ class Trial:
         functions = sorted({owner.partition("::")[2] for edit in edits for owner in edit.owners - edit.laws})
         # A law is checked with all that is.
         only = [] if any(edit.laws for edit in edits) else [word for function in functions for word in ("--only", function)]
-        return report.Report(self.crate.check(wrong_bodies.texts(self.crate, edits), only, self.kept))
+        with self.turns:
+            return report.Report(self.crate.check(wrong_bodies.texts(self.crate, edits), only, self.kept))
 
     def together(self, batch):
         """Judges a batch by one check; returns what is to be tried again."""
@@ -104,6 +111,25 @@ class Trial:
         return []
 
 
+class Proofs:
+    """What a run of `rt ci` proves meanwhile, by the file that it prints to; a file `LOG.ended` tells its end."""
+
+    def __init__(self, log):
+        self.log, self.ended = log, log.with_name(f"{log.name}.ended")
+
+    def have(self, crate):
+        """Waits for the proof of a crate; whether there is one."""
+        while not self.says(crate):
+            if self.ended.exists():
+                return self.says(crate)
+            time.sleep(1)
+        return True
+
+    def says(self, crate):
+        is_said = re.compile(rf"rt: {crate.name} (?:proved$|is kept:)", re.MULTILINE)
+        return self.log.exists() and bool(is_said.search(self.log.read_text(errors="replace")))
+
+
 def verdict_of(edit, said):
     """The verdict on an edit: that of the first of its functions that has an open goal, else of the least decided."""
     order = [report.OPEN_GOAL, report.UNKNOWN, report.OF_SHAPE, report.WAITS, report.PROVED]
@@ -134,13 +160,14 @@ def due(edit):
     return edit.file.parent.name.replace("_", " ") if SELF_TEST in edit.file.parents else REFUSED
 
 
-def run(trials):
-    """Runs trials beside each other, the longest first; returns whether each edit had the verdict that is due."""
+def run(trials, proofs=None):
+    """Runs trials beside each other, each once it has its proofs; returns whether each edit had the verdict that is due."""
     begun = time.monotonic()
-    trials = sorted((trial for trial in trials if trial.edits), key=lambda trial: -len(trial.edits))
-    crates.build([trial.crate for trial in trials])
-    with ThreadPoolExecutor(crates.processors()) as pool:
-        list(pool.map(Trial.run, trials))
+    trials = [trial for trial in trials if trial.edits]
+    if not proofs:
+        crates.build([trial.crate for trial in trials])
+    with ThreadPoolExecutor(max(1, len(trials))) as pool:
+        list(pool.map(lambda trial: trial.run(proofs), trials))
     passed, failed, checks = (sum(getattr(trial, it) for trial in trials) for it in ("passed", "failed", "checks"))
     print(f"{passed + failed} edits in {checks} checks and {time.monotonic() - begun:.0f} seconds")
     print(f"{passed} passed, {failed} failed")
