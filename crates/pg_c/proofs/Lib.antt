@@ -1,8 +1,8 @@
-pub mod ColumnLemmas
-pub mod FieldLemmas
-pub mod FrameLemmas
-pub mod ListLemmas
-pub mod MechanismLemmas
 pub mod PlaceLemmas
 pub mod PreparedLemmas
+pub mod ReadAuthenticationLemmas
+pub mod ReadColumnsLemmas
+pub mod ReadFieldsLemmas
+pub mod ReadFrameLemmas
 pub mod ReadLemmas
+pub mod ReadListsLemmas

@@ -1,14 +1,7 @@
-pub mod Authentication
-pub mod Columns
-pub mod Copy
-pub mod Fields
-pub mod Frame
 pub mod Place
 pub mod Prepared
 pub mod Put
 pub mod Read
 pub mod Refusal
-pub mod Row
 pub mod Session
-pub mod Status
 pub mod Words

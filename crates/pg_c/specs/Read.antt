@@ -1,4 +1,11 @@
 -- What a call that reads items into an array of places answers.
+pub mod Authentication
+pub mod Columns
+pub mod Copy
+pub mod Fields
+pub mod Frame
+pub mod Row
+pub mod Status
 use Rattle.std.specs.Prelude.{◌≡◌, ◌<◌, ◌≤◌, ◌<ℤ◌, ◌⊎◌, ℕ, ℤ, pos, List, Option, Some, map, take, drop, length, Result, Ok, Err}
 use Rattle.pg_base.specs.declared.error.ProtocolFault.{ProtocolFault}
 use Rattle.pg_base.specs.declared.error.ProtocolFault.TheVariants.{BodyTooLong}

@@ -9,7 +9,7 @@ ghost use Rattle.pg_receive.specs.Authentication.{requests, sasl_continue, sasl_
 ghost use Rattle.pg_receive.specs.Authentication.SaslContinue.Shown.{continue_shown};
 ghost use Rattle.pg_receive.specs.Authentication.Shown.{authentication_shown};
 ghost use Rattle.pg_response.specs.Received.{max_body};
-ghost use Rattle.pg_c.specs.Authentication.{ReadsAuthentication, ReadsChallenge, ReadsVerifier, IsAskedFault, salt_of};
+ghost use Rattle.pg_c.specs.Read.Authentication.{ReadsAuthentication, ReadsChallenge, ReadsVerifier, IsAskedFault, salt_of};
 ghost use Rattle.pg_c.specs.Place.{part};
 ghost use Rattle.pg_c.specs.Read.{AreGiven, IsBodyFault, RefusesBody};
 ghost use Rattle.pg_c.specs.Refusal.{Refuses, IsErrorOf};

@@ -6,7 +6,7 @@ ghost use Rattle.pg_response.specs.Response.Severity.{severity_number};
 ghost use Rattle.pg_format.specs.Format.{IsFaultOf};
 ghost use Rattle.pg_response.specs.Response.{notices};
 ghost use Rattle.pg_response.specs.Received.{max_body};
-ghost use Rattle.pg_c.specs.Fields.{field_in, IsSeverityOf};
+ghost use Rattle.pg_c.specs.Read.Fields.{field_in, IsSeverityOf};
 ghost use Rattle.pg_c.specs.Read.{AreGiven, IsBodyFault, RefusesBody};
 ghost use Rattle.pg_c.specs.Refusal.{IsErrorOf};
 

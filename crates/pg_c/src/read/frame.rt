@@ -4,7 +4,7 @@ ghost use Rattle.std.specs.Prelude.{◌≡◌, ◌≤◌, ◌<◌, ◌<ℤ◌, �
 ghost use Rattle.pg_base.specs.Cutting.{Begins};
 ghost use Rattle.pg_base.specs.Format.{backend_tag};
 ghost use Rattle.pg_frames.specs.Stream.{WantsMore, IsStreamFault};
-ghost use Rattle.pg_c.specs.Frame.{IsWhole, Needs};
+ghost use Rattle.pg_c.specs.Read.Frame.{IsWhole, Needs};
 ghost use Rattle.pg_c.specs.Refusal.{Refuses};
 
 use crate::place::PgmsgSpan;

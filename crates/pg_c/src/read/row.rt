@@ -7,7 +7,7 @@ ghost use Rattle.pg_format.specs.Format.Places.{IsReadAt};
 ghost use Rattle.pg_format.specs.Messages.{data_row};
 ghost use Rattle.pg_response.specs.Received.{max_body};
 ghost use Rattle.pg_c.specs.Read.{ReadsItems, GivesFront, IsBodyFault, RefusesBody};
-ghost use Rattle.pg_c.specs.Row.{cell_in};
+ghost use Rattle.pg_c.specs.Read.Row.{cell_in};
 
 use crate::read::check_body;
 use crate::refusal::{PgmsgFault, report};

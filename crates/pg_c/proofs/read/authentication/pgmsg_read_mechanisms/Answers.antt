@@ -5,8 +5,8 @@ use Rattle.pg_receive.proofs.AuthenticationMechanismsLemmas.{no_mechanisms_clean
 use Rattle.pg_c.specs.Place.{part}
 use Rattle.std.specs.Prelude.{slice_range}
 use Rattle.pg_c.proofs.ReadLemmas.{none_given}
-use Rattle.pg_c.proofs.ListLemmas.{none_yet}
-use Rattle.pg_c.proofs.MechanismLemmas.{one_more_name, no_more_name}
+use Rattle.pg_c.proofs.ReadListsLemmas.{none_yet}
+use Rattle.pg_c.proofs.ReadAuthenticationLemmas.{one_more_name, no_more_name}
 use Rattle.pg_c.proofs.read.authentication.pgmsg_read_mechanisms.Goals as goal
 use Rattle.pg_c.proofs.read.authentication.pgmsg_read_mechanisms.Goals.{then-count-mechanisms, else-count-mechanisms}
 

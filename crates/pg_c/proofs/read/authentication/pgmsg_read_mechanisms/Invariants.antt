@@ -1,5 +1,5 @@
 use Rattle.std.proofs.Common.{length, drop}
-use Rattle.pg_c.proofs.MechanismLemmas.{GivesNames}
+use Rattle.pg_c.proofs.ReadAuthenticationLemmas.{GivesNames}
 use Rattle.pg_c.proofs.read.authentication.pgmsg_read_mechanisms.Given as goal
 
 abbrev pub invariant-loop-name : goal.invariant-loop-name

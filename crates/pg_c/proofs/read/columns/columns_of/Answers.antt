@@ -2,7 +2,7 @@ use Rattle.std.proofs.Common.{◌≡◌, ◌+◌, ◌*◌, ◌<◌, ◌≤◌, l
 use Rattle.std.proofs.lemmas.Result.{err_from_is_err_and}
 use Rattle.pg_format.specs.Messages.{column}
 use Rattle.pg_receive.specs.RowDescription.Columns.{column_of_ref}
-use Rattle.pg_c.specs.Columns.{column_in}
+use Rattle.pg_c.specs.Read.Columns.{column_in}
 use Rattle.pg_c.proofs.ReadLemmas.{gives_more, gives_full, gives_front, item_breaks, reads_items}
 use Rattle.pg_c.proofs.read.columns.columns_of.Goals as goal
 use Rattle.pg_c.proofs.read.columns.columns_of.Goals.{then-index-columns, else-index-columns}

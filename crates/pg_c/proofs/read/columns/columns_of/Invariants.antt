@@ -1,5 +1,5 @@
 use Rattle.pg_format.specs.Messages.{column}
-use Rattle.pg_c.specs.Columns.{column_in}
+use Rattle.pg_c.specs.Read.Columns.{column_in}
 use Rattle.pg_c.specs.Read.{GivesItems}
 use Rattle.pg_c.proofs.read.columns.columns_of.Given as goal
 

@@ -4,7 +4,7 @@ use Rattle.std.proofs.lemmas.Int.{to_z-of_z}
 use mir.Val.{SFits}
 use Rattle.pg_format.specs.Messages.{table, attribute}
 use Rattle.pg_receive.specs.RowDescription.Columns.{column_of_ref}
-use Rattle.pg_c.proofs.ColumnLemmas.{name_is, table_is, attribute_is}
+use Rattle.pg_c.proofs.ReadColumnsLemmas.{name_is, table_is, attribute_is}
 use Rattle.pg_c.proofs.read.columns.place_of.Goals as goal
 
 pub returns : goal.returns

@@ -1,9 +1,9 @@
 use Rattle.std.proofs.Common.{arith}
 use Rattle.std.proofs.Common.{[], refl}
 use Rattle.pg_response.specs.Response.Fields.{fields_in}
-use Rattle.pg_c.specs.Fields.{field_in}
-use Rattle.pg_c.proofs.ListLemmas.{none_yet}
-use Rattle.pg_c.proofs.FieldLemmas.{one_more_field, no_more_field}
+use Rattle.pg_c.specs.Read.Fields.{field_in}
+use Rattle.pg_c.proofs.ReadListsLemmas.{none_yet}
+use Rattle.pg_c.proofs.ReadFieldsLemmas.{one_more_field, no_more_field}
 use Rattle.pg_c.proofs.read.fields.pgmsg_read_fields.Goals as goal
 use Rattle.pg_c.proofs.read.fields.pgmsg_read_fields.Goals.{then-count-fields, else-count-fields}
 

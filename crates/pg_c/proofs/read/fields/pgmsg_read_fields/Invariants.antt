@@ -1,5 +1,5 @@
 use Rattle.std.proofs.Common.{length}
-use Rattle.pg_c.proofs.FieldLemmas.{GivesFields}
+use Rattle.pg_c.proofs.ReadFieldsLemmas.{GivesFields}
 use Rattle.pg_c.proofs.read.fields.pgmsg_read_fields.Given as goal
 
 abbrev pub invariant-loop-letter : goal.invariant-loop-letter

@@ -1,7 +1,7 @@
 use Rattle.std.proofs.Common.{◌≡◌, refl, sym}
 use Rattle.std.specs.Prelude.{slice_index_or}
 use Rattle.pg_base.specs.Format.{backend_tag}
-use Rattle.pg_c.proofs.FrameLemmas.{message_at}
+use Rattle.pg_c.proofs.ReadFrameLemmas.{message_at}
 use Rattle.pg_c.proofs.read.frame.place_of.Goals as goal
 
 pub returns : goal.returns

@@ -1,7 +1,7 @@
 use Rattle.std.proofs.Common.{◌≡◌, ◌+◌, ◌*◌, ◌<◌, ◌≤◌, length, option_copied, arith}
 use Rattle.std.proofs.lemmas.Result.{err_from_is_err_and}
 use Rattle.pg_format.specs.Format.Nullable.{cell}
-use Rattle.pg_c.specs.Row.{cell_in}
+use Rattle.pg_c.specs.Read.Row.{cell_in}
 use Rattle.pg_receive.proofs.DataRowLemmas.{cell_is_wide}
 use Rattle.pg_c.proofs.ReadLemmas.{gives_more, gives_full, gives_front, item_breaks, reads_items}
 use Rattle.pg_c.proofs.read.row.cells_of.Goals as goal

@@ -1,5 +1,5 @@
 use Rattle.pg_format.specs.Format.Nullable.{cell}
-use Rattle.pg_c.specs.Row.{cell_in}
+use Rattle.pg_c.specs.Read.Row.{cell_in}
 use Rattle.pg_c.specs.Read.{GivesItems}
 use Rattle.pg_c.proofs.read.row.cells_of.Given as goal
 

@@ -6,7 +6,7 @@ use mir.Val.{to_z}
 use Rattle.pg_format.specs.Format.Nullable.{cell}
 use Rattle.pg_format.specs.Format.Places.{IsReadAt}
 use Rattle.pg_receive.proofs.DataRowLemmas.{value_at}
-use Rattle.pg_c.specs.Row.{value_in}
+use Rattle.pg_c.specs.Read.Row.{value_in}
 use Rattle.pg_c.proofs.PlaceLemmas.{bytes_found}
 use Rattle.pg_c.proofs.read.row.place_of.Goals as goal
 

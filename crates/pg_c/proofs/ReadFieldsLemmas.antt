@@ -2,9 +2,9 @@
 use Rattle.std.proofs.Common.{◌≡◌, ℕ, ◌+◌, ◌<◌, ◌≤◌, Some, List, [], ◌∷◌, ◌++◌, length, set, refl, sym, ap, ◌∙◌, arith, append_assoc, length-append}
 use Rattle.pg_response.specs.Response.Fields.{BeginsWithField, fields_in}
 use Rattle.pg_response.proofs.ResponseFieldsLemmas.{fields_at}
-use Rattle.pg_c.specs.Fields.{field_in}
+use Rattle.pg_c.specs.Read.Fields.{field_in}
 use Rattle.pg_c.specs.declared.read.fields.PgmsgField.{PgmsgField}
-use Rattle.pg_c.proofs.ListLemmas.{GivesAll, one_more, no_more}
+use Rattle.pg_c.proofs.ReadListsLemmas.{GivesAll, one_more, no_more}
 use Rattle.pg_c.proofs.PlaceLemmas.{bytes_are}
 
 abbrev pub GivesFields : List ℕ → List ℕ → ℕ → ℕ → List PgmsgField → List PgmsgField → Type 0

@@ -4,7 +4,7 @@ use Rattle.pg_receive.specs.Authentication.Mechanisms.{BeginsWithName, mechanism
 use Rattle.pg_receive.proofs.AuthenticationMechanismsLemmas.{mechanisms_at}
 use Rattle.pg_c.specs.Place.{part}
 use Rattle.pg_c.specs.declared.place.PgmsgSpan.{PgmsgSpan}
-use Rattle.pg_c.proofs.ListLemmas.{GivesAll, one_more, no_more}
+use Rattle.pg_c.proofs.ReadListsLemmas.{GivesAll, one_more, no_more}
 use Rattle.pg_c.proofs.PlaceLemmas.{bytes_are}
 
 abbrev pub GivesNames : List ℕ → List ℕ → List ℕ → ℕ → ℕ → List PgmsgSpan → List PgmsgSpan → Type 0
