@@ -1,1 +1,2 @@
+pub mod ExamplesLemmas
 pub mod FormatLaws

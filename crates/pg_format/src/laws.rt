@@ -1,5 +1,7 @@
 //! What holds of the format of every message.
 
+pub mod examples;
+
 ghost use Rattle.pg_base.specs.declared.format.BackendMessageFormat.{BackendMessageFormat};
 ghost use Rattle.pg_base.specs.declared.format.FrontendMessageFormat.{FrontendMessageFormat};
 ghost use Rattle.pg_format.specs.Format.{Lawful, Canonical, Total};

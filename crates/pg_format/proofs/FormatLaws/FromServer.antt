@@ -18,10 +18,10 @@ use Rattle.pg_format.proofs.FormatLaws.Lists.{lawful_times, total_times, times_t
 use Rattle.pg_format.proofs.FormatLaws.Nullable.{lawful_cell, total_cell}
 use Rattle.pg_format.proofs.FormatLaws.Takes.{takes_until_nul, takes_unsigned, takes_signed, takes_pair, takes_record_of, takes_mapped, takes_verify, takes_only, takes_with_room, takes_cell}
 
-u32 : Lawful be_u32
+pub u32 : Lawful be_u32
 u32 = lawful_unsigned 4 tt
 
-i16 : Lawful be_i16
+pub i16 : Lawful be_i16
 i16 = lawful_signed 2 tt
 
 -- ---- from a server
@@ -39,7 +39,7 @@ is_name_or_not (b ∷ bs) =
       | inr not ↦ inr (λ p. not p.1)
     ]
 
-lawful_names : Lawful mechanism_names
+pub lawful_names : Lawful mechanism_names
 lawful_names = lawful_many (0 ∷ []) (lawful_only (λ n. (n ≢ []) × IsUtf8 n) lawful_until_nul) no_name
 
 total_names : Total mechanism_names
@@ -152,7 +152,7 @@ lawful_ready_for_query = lawful_loosely (lawful_one_of status_of status_letter U
 pub total_ready_for_query : Total ready_for_query
 total_ready_for_query = total_loosely (total_one_of status_of status_letter UnknownStatus)
 
-numbers_take : Takes 18 numbers
+pub numbers_take : Takes 18 numbers
 numbers_take =
     takes_pair 4 14 (takes_mapped 4 table table_number (takes_unsigned 4))
     (takes_pair 2 12 (takes_mapped 2 attribute attribute_number (takes_signed 2))
