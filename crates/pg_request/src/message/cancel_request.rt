@@ -1,10 +1,10 @@
 //! A request to stop what a session does.
 
-ghost use Rattle.std.specs.Prelude.{◌≡◌, ◌+◌, ◌≤◌, length, IfNone};
+ghost use Rattle.std.specs.Prelude.{◌≡◌, ◌+◌, ◌≤◌, Some, None, length, IfNone, IfOk, IfErr};
 ghost use Rattle.pg_format.specs.Messages.{key_fault};
 ghost use Rattle.pg_request.specs.CancelRequest.{cancel_request_text, cancel_request_fields};
 
-use pg_base::io::{ProtocolEncode, Sink};
+use pg_base::io::{ProtocolEncode, Sink, Text};
 use pg_base::{Error, ProtocolFault};
 
 // The length of the whole without its key, in bytes.
@@ -29,6 +29,21 @@ pub struct CancelRequest<'a> {
     pub secret_key: &'a [u8],
 }
 
+impl CancelRequest<'_> {
+    /// The length of the message in bytes, or `BadKeyLength`.
+    pub fn checked_len(&self) -> Result<usize, ProtocolFault>
+        ensures sound { IfOk result (λ _. key_fault (length self.now.secret_key.now) ≡ None) }
+        ensures len { IfOk result (λ len. len ≡ length self.now.secret_key.now + 12) }
+        ensures fault { IfErr result (λ fault. key_fault (length self.now.secret_key.now) ≡ Some fault) }
+    {
+        let key_len = self.secret_key.len();
+        if let Some(fault) = fault_of_key(key_len) {
+            return Err(fault);
+        }
+        Ok(key_len + LENGTH)
+    }
+}
+
 impl ProtocolEncode for CancelRequest<'_> {
     ghost text = { λ cancel. cancel_request_text (cancel_request_fields cancel) };
 
@@ -37,17 +52,25 @@ impl ProtocolEncode for CancelRequest<'_> {
     ghost room = { λ cancel. length cancel.secret_key.now + 12 };
 
     fn encode(&self, buf: &mut Vec<u8>) -> Result<(), Error> {
-        let key_len = self.secret_key.len();
-        if let Some(fault) = fault_of_key(key_len) {
-            return Err(fault.into());
-        }
-        let len = key_len + LENGTH;
+        let len = self.checked_len()?;
         buf.reserve(len)?;
-        buf.put_u32(len as u32);
-        buf.put_u32(CANCEL_REQUEST);
-        buf.put_u32(self.process_id);
-        buf.put_slice(self.secret_key);
+        self.put(buf);
         Ok(())
+    }
+}
+
+impl Text for CancelRequest<'_> {
+    ghost text = { λ cancel. cancel_request_text (cancel_request_fields cancel) };
+
+    ghost can = { λ cancel. key_fault (length cancel.secret_key.now) ≡ None };
+
+    #[inline(always)]
+    fn put<S: Sink>(&self, sink: &mut S) {
+        let len = self.secret_key.len() + LENGTH;
+        sink.put_u32(len as u32);
+        sink.put_u32(CANCEL_REQUEST);
+        sink.put_u32(self.process_id);
+        sink.put_slice(self.secret_key);
     }
 }
 

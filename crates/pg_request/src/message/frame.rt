@@ -191,11 +191,11 @@ pub fn write_frame<F: FrontendMessage>(message: &F, len: usize, out: &mut [u8])
     write_text(&Framed { message, len }, len + HEADER, out);
 }
 
-// A message within the limits, and the length of its body in bytes.
+/// A message within the limits, and the length of its body in bytes.
 #[derive(Drop)]
-struct Framed<'a, F> {
-    message: &'a F,
-    len: usize,
+pub struct Framed<'a, F> {
+    pub message: &'a F,
+    pub len: usize,
 }
 
 impl<F: FrontendMessage> Text for Framed<'_, F> {

@@ -11,8 +11,8 @@ use crate::message::round_trip::check_text;
 use pg_base::io::{MAX_LENGTH, ProtocolEncode, Sink};
 use pg_base::{Error, ProtocolFault};
 
-// Protocol 3.0: the major version in the upper two bytes, the minor one in the lower.
-const PROTOCOL_VERSION: u32 = 196608;
+/// Protocol 3.0: the major version in the upper two bytes, the minor one in the lower.
+pub const PROTOCOL_VERSION: u32 = 196608;
 
 // The length of a message without settings: the length field, the version and the last NUL.
 const EMPTY_LENGTH: usize = 9;
