@@ -1,4 +1,4 @@
-/* Messages to the server, with each request for memory refused in turn. */
+/* Messages to the server, which ask for no memory: each request is refused. */
 #include "bytes_test.h"
 #include "memory_test.h"
 #include "refusing.h"
@@ -235,26 +235,22 @@ struct message {
     ptrdiff_t (*put)(size_t n, size_t out_len);
     uint8_t *(*spell)(size_t n, uint8_t *to);
     size_t most;
-    size_t least_copied;
 };
 
-/* A message that is written where it goes needs no memory; one that is copied first asks for some, from a least
- * size on. */
-#define PLACED(name, most) {#name, put_##name, spell_##name, most, SIZE_MAX}
-#define COPIED(name, least, most) {#name, put_##name, spell_##name, most, least}
+#define PLACED(name, most) {#name, put_##name, spell_##name, most}
 
 static const struct message messages[] = {
-    PLACED(query, LONG), PLACED(copy_data, LONG), COPIED(copy_fail, 1, LONG), PLACED(password, LONG),
-    PLACED(response, LONG), PLACED(initial, LONG), PLACED(parse, LONG), COPIED(types, 1, MOST_ITEMS),
-    COPIED(setting, 0, LONG), COPIED(settings, 0, MOST_ITEMS), COPIED(value, 0, LONG), COPIED(values, 1, MOST_ITEMS),
-    COPIED(formats, 1, MOST_ITEMS), COPIED(batch_query, 0, LONG), COPIED(batch_value, 0, LONG),
-    COPIED(batch_items, 0, MOST_ITEMS),
+    PLACED(query, LONG), PLACED(copy_data, LONG), PLACED(copy_fail, LONG), PLACED(password, LONG),
+    PLACED(response, LONG), PLACED(initial, LONG), PLACED(parse, LONG), PLACED(types, MOST_ITEMS),
+    PLACED(setting, LONG), PLACED(settings, MOST_ITEMS), PLACED(value, LONG), PLACED(values, MOST_ITEMS),
+    PLACED(formats, MOST_ITEMS), PLACED(batch_query, LONG), PLACED(batch_value, LONG),
+    PLACED(batch_items, MOST_ITEMS),
     PLACED(password_bytes, LONG), PLACED(mechanism, LONG), PLACED(first_response, LONG), PLACED(raw_statement, LONG),
-    PLACED(raw_query, LONG), COPIED(raw_types, 1, MOST_ITEMS), PLACED(bound_portal, LONG),
-    PLACED(bound_statement, LONG), COPIED(raw_value, 0, LONG), COPIED(raw_values, 1, MOST_ITEMS),
+    PLACED(raw_query, LONG), PLACED(raw_types, MOST_ITEMS), PLACED(bound_portal, LONG),
+    PLACED(bound_statement, LONG), PLACED(raw_value, LONG), PLACED(raw_values, MOST_ITEMS),
     PLACED(codes, MOST_ITEMS), PLACED(described_statement, LONG), PLACED(described_portal, LONG),
-    PLACED(closed_statement, LONG), PLACED(closed_portal, LONG), PLACED(run_portal, LONG), COPIED(argument, 0, LONG),
-    COPIED(arguments, 1, MOST_ITEMS),
+    PLACED(closed_statement, LONG), PLACED(closed_portal, LONG), PLACED(run_portal, LONG), PLACED(argument, LONG),
+    PLACED(arguments, MOST_ITEMS),
 };
 
 /* Whether the front of `out` is untouched; it is made so again. */
@@ -265,46 +261,33 @@ static bool was_untouched(size_t len)
     return was;
 }
 
-/* Puts a message with each request refused in turn, then with none, and then into a byte too few. */
+/* Puts a message into just its room, and into a byte too few, with each request refused. */
 static void test_message(struct tally *tally, const struct message *message, size_t n)
 {
     size_t len = (size_t)(message->spell(n, expected) - expected);
     unsigned failed = tally->failed;
-    size_t nth = 1;
-    for (; nth < MANY_REQUESTS; nth++) {
-        refuse_nth(nth);
-        ptrdiff_t answer = message->put(n, len);
-        if (!was_refused()) {
-            CHECK(tally, answer == (ptrdiff_t)len);
-            break;
-        }
-        CHECK(tally, answer == PGMSG_OUT_OF_MEMORY);
-        CHECK(tally, was_untouched(len + 1));
-    }
-    CHECK(tally, (nth > 1) == (n >= message->least_copied) && nth < MANY_REQUESTS);
+    refuse_all();
+    ptrdiff_t answer = message->put(n, len);
+    CHECK(tally, !was_refused());
+    CHECK(tally, answer == (ptrdiff_t)len);
     CHECK(tally, memcmp(out, expected, len) == 0 && out[len] == UNTOUCHED);
     memset(out, UNTOUCHED, len);
-    CHECK(tally, message->put(n, len - 1) == (ptrdiff_t)len);
+    refuse_all();
+    answer = message->put(n, len - 1);
+    CHECK(tally, !was_refused());
+    CHECK(tally, answer == (ptrdiff_t)len);
     CHECK(tally, was_untouched(len + 1));
     if (tally->failed > failed)
-        fprintf(stderr, "%s of size %zu, at request %zu\n", message->name, n, nth);
+        fprintf(stderr, "%s of size %zu\n", message->name, n);
 }
 
 /* The same of a message that has one size. */
 static void test_sample(struct tally *tally, const struct sample *sample)
 {
-    size_t nth = 1;
-    for (; nth < MANY_REQUESTS; nth++) {
-        refuse_nth(nth);
-        ptrdiff_t answer = sample->put(out, sample->len);
-        if (!was_refused()) {
-            CHECK(tally, answer == (ptrdiff_t)sample->len);
-            break;
-        }
-        CHECK(tally, answer == PGMSG_OUT_OF_MEMORY);
-        CHECK(tally, was_untouched(sample->len + 1));
-    }
-    CHECK(tally, nth < MANY_REQUESTS);
+    refuse_all();
+    ptrdiff_t answer = sample->put(out, sample->len);
+    CHECK(tally, !was_refused());
+    CHECK(tally, answer == (ptrdiff_t)sample->len);
     CHECK(tally, are_bytes(out, sample->len, sample->bytes, sample->len));
     memset(out, UNTOUCHED, sample->len);
 }

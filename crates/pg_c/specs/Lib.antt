@@ -1,3 +1,4 @@
+pub mod Parse
 pub mod Place
 pub mod Prepared
 pub mod Put

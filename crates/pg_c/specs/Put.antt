@@ -1,21 +1,12 @@
 -- What a call that writes a message into the caller's room answers, as a number of C's `ptrdiff_t`.
-use Rattle.std.specs.Prelude.{◌≡◌, ◌≤◌, ◌<◌, ◌⊎◌, ℕ, ℤ, pos, List, [], ◌∷◌, ◌++◌, length, drop, Option, Some, None, Result, Ok, Err}
-use Rattle.pg_base.specs.Encode.{IsAnswer}
+use Rattle.std.specs.Prelude.{◌≡◌, ◌⊎◌, ℕ, ℤ, pos, List, [], ◌∷◌, ◌++◌, length, Option, Some, None, MatchOption, Result, Ok, Err}
 use Rattle.pg_base.specs.Sink.{IsGiven}
 use Rattle.pg_base.specs.declared.error.Error.{Error}
 use Rattle.pg_base.specs.declared.error.Error.TheVariants.{Protocol, OutOfMemory}
 use Rattle.pg_base.specs.declared.error.ProtocolFault.{ProtocolFault}
-use Rattle.pg_request.specs.Frame.{Law, IsStrictAnswer, fault, text}
+use Rattle.pg_request.specs.Frame.{Law, fault, text}
 use Rattle.pg_request.specs.Message.{Message, law_of}
-use Rattle.pg_c.specs.Refusal.{refusal_number}
-
-abbrev pub Answer : Type 0
-Answer = Result (Unit {0}) Error
-
--- the length of the text, which is given; or the number of the refusal, and the room is as it was
-abbrev pub IsPut : List ℕ → Answer → List ℕ → List ℕ → ℤ → Type 0
-IsPut text (Ok _) old new result = (result ≡ pos (length text)) × IsGiven text old new
-IsPut text (Err error) old new result = (result ≡ refusal_number error) × (new ≡ old)
+use Rattle.pg_c.specs.Refusal.{fault_number, refusal_number}
 
 -- the message breaks no limit, and a reader gets it back
 abbrev pub IsSound : Law → Type 0
@@ -48,37 +39,35 @@ pub record PutsLaw (law : Law) (old new : List ℕ) (result : ℤ) : Type 0 wher
 abbrev pub PutsMessage : Message → List ℕ → List ℕ → ℤ → Type 0
 PutsMessage m old new result = PutsLaw (law_of m) old new result
 
--- the text of a message without a tag is put, or refused for its fault
-pub record PutsText (text : List ℕ) (fault : Option ProtocolFault) (old new : List ℕ) (result : ℤ) : Type 0 where
-  pub answer : Answer
-  pub is : IsAnswer fault answer
-  pub put : IsPut text answer old new result
-
--- the same, where memory may run out before the message is made
-abbrev pub MayPut : Message → List ℕ → List ℕ → ℤ → Type 0
-MayPut m old new result = PutsMessage m old new result ⊎ IsPut [] (Err OutOfMemory) old new result
-
 -- refused for that fault
 abbrev pub IsRefused : ProtocolFault → List ℕ → List ℕ → ℤ → Type 0
-IsRefused fault old new result = IsPut [] (Err (Protocol None fault)) old new result
+IsRefused fault old new result = (result ≡ fault_number fault) × (new ≡ old)
+
+-- the text of a message without a tag is put, or refused for its fault
+abbrev pub PutsText : List ℕ → Option ProtocolFault → List ℕ → List ℕ → ℤ → Type 0
+PutsText text fault old new result = MatchOption fault ((result ≡ pos (length text)) × IsGiven text old new) (λ f. IsRefused f old new result)
 
 -- the texts of messages, one after the other
 abbrev pub texts : List Message → List ℕ
 texts [] = []
 texts (m ∷ ms) = text (law_of m) ++ texts ms
 
--- all messages are accepted, or the answer is that of the first that is refused
-abbrev pub IsBatchAnswer : List Message → Answer → Type 0
-IsBatchAnswer [] answer = answer ≡ Ok tt
-IsBatchAnswer (m ∷ ms) answer =
-    (IsStrictAnswer (law_of m) (Ok tt) × IsBatchAnswer ms answer) ⊎ ((error : Error) × (answer ≡ Err error) × IsStrictAnswer (law_of m) (Err error))
+abbrev pub AreSound : List Message → Type 0
+AreSound [] = Unit {0}
+AreSound (m ∷ ms) = IsSound (law_of m) × AreSound ms
+
+-- the refusal of the first that isn't sound
+abbrev pub IsDueOfBatch : List Message → Error → Type 0
+IsDueOfBatch [] error = ⊥
+IsDueOfBatch (m ∷ ms) error = IsDue (law_of m) error ⊎ (IsSound (law_of m) × IsDueOfBatch ms error)
+
+-- the length of all, which are given where each is sound; or the refusal that is due, and the room is as it was
+abbrev pub IsBatchWritten : List Message → Result ℕ Error → List ℕ → List ℕ → Type 0
+IsBatchWritten ms (Ok len) old new = AreSound ms × (len ≡ length (texts ms)) × IsGiven (texts ms) old new
+IsBatchWritten ms (Err error) old new = IsDueOfBatch ms error × (new ≡ old)
 
 -- all of a batch is put, or nothing of it
 pub record PutsBatch (ms : List Message) (old new : List ℕ) (result : ℤ) : Type 0 where
-  pub answer : Answer
-  pub is : IsBatchAnswer ms answer
-  pub put : IsPut (texts ms) answer old new result
-
--- the same, where memory may run out before the messages are made
-abbrev pub MayPutBatch : List Message → List ℕ → List ℕ → ℤ → Type 0
-MayPutBatch ms old new result = PutsBatch ms old new result ⊎ IsPut [] (Err OutOfMemory) old new result
+  pub answer : Result ℕ Error
+  pub is : IsBatchWritten ms answer old new
+  pub number : result ≡ number_of_answer answer

@@ -6,7 +6,7 @@ ghost use Rattle.pg_c.specs.Refusal.{fault_number, refusal_number, fault_place, 
 use pg_base::{Error, ProtocolFault};
 use std::alloc::Global;
 
-/// No memory was there.
+/// No memory was there. No call that writes returns it.
 pub const OUT_OF_MEMORY: i32 = -1;
 
 /// More parameter formats than a message can count.

@@ -5,7 +5,7 @@ use core::mem::MaybeUninit;
 /// The version of this header. `pgmsg_version` has that of the library.
 pub const PGMSG_VERSION: &str = "0.1.0";
 
-/// No memory was there.
+/// No memory was there. No call that writes returns it.
 pub const PGMSG_OUT_OF_MEMORY: i32 = -1;
 
 /// More parameter formats than a message can count.

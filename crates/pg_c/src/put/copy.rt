@@ -1,19 +1,22 @@
 //! The client's part of a COPY.
 
-ghost use Rattle.std.specs.Prelude.{◌≡◌, ◌≢◌, ◌+◌, ◌<◌, ◌≤◌, ◌≤ℤ◌, ◌++◌, ℕ, List, pos, length, true, false};
+ghost use Rattle.std.specs.Prelude.{◌≡◌, ◌≢◌, ◌+◌, ◌<◌, ◌≤◌, ◌≤ℤ◌, ◌++◌, ℕ, List, pos, length, true, false, Some, OnOk, IfErr};
 ghost use Rattle.std.specs.Str.{is_utf8};
 ghost use Rattle.pg_base.specs.declared.error.ProtocolFault.TheVariants.{NotUtf8};
 ghost use Rattle.pg_base.specs.Cutting.{max_length};
+ghost use Rattle.pg_request.specs.CopyFail.{copy_fail_law};
 ghost use Rattle.pg_request.specs.Message as message;
 ghost use Rattle.pg_request.specs.Message.{text, fault};
-ghost use Rattle.pg_c.specs.Put.{PutsMessage, MayPut, IsRefused};
+ghost use Rattle.pg_c.specs.Put.{PutsMessage, IsRefused};
 ghost use Rattle.pg_c.specs.Refusal.{too_long_number};
 
 use crate::put::{put, text_of};
-use crate::refusal::{MESSAGE_TOO_LONG, OUT_OF_MEMORY, number_of};
-use pg_base::io::MAX_BODY;
-use pg_request::message::{CopyData, CopyDone, CopyFail};
-use std::alloc::Global;
+use crate::refusal::{MESSAGE_TOO_LONG, number_of};
+use pg_base::io::{MAX_BODY, Sink};
+use pg_base::{FrontendMessageFormat, ProtocolFault};
+use pg_request::message::parts::text_len;
+use pg_request::message::round_trip::check_text;
+use pg_request::message::{CopyData, CopyDone, FrontendMessage};
 
 /// A part of the data of a COPY.
 #[unsafe(no_mangle)]
@@ -52,18 +55,60 @@ pub extern "C" fn pgmsg_put_copy_done(out: &mut [u8]) -> isize
 
 /// Fails a COPY, and says why, in UTF-8.
 #[unsafe(no_mangle)]
-pub extern "C" fn pgmsg_put_copy_fail(alloc: Global, reason: &[u8], out: &mut [u8]) -> isize
+pub extern "C" fn pgmsg_put_copy_fail(reason: &[u8], out: &mut [u8]) -> isize
     ensures utf8 { is_utf8 reason.now ≡ true
-        → MayPut (message.CopyFail reason.now) out.old out.new result }
+        → PutsMessage (message.CopyFail reason.now) out.old out.new result }
     ensures not_utf8 { is_utf8 reason.now ≡ false → IsRefused NotUtf8 out.old out.new result }
 {
-    let text = match text_of(reason) {
-        Ok(text) => text,
-        Err(fault) => return number_of(fault.into()) as isize,
-    };
-    let Ok(message) = String::from_str(alloc, text) else {
-        return OUT_OF_MEMORY as isize;
-    };
-    let fail = CopyFail::new(message);
-    put(&fail, fail.check_round_trip(), out)
+    match text_of(reason) {
+        Ok(text) => {
+            let fail = CopyFail(text);
+            put(&fail, fail.check_round_trip(), out)
+        }
+        Err(fault) => number_of(fault.into()) as isize,
+    }
+}
+
+// As `pg_request::message::CopyFail`, with the text where the caller has it.
+#[derive(Drop)]
+struct CopyFail<'a>(&'a str);
+
+impl CopyFail<'_> {
+    fn check_round_trip(&self) -> Result<(), ProtocolFault>
+        ensures ok { OnOk result (copy_fail_law self.now.0.now).CanRoundTrip }
+        ensures fault { IfErr result (λ fault. ((copy_fail_law self.now.0.now).round_trip_fault ≡ Some fault) × ¬ (copy_fail_law self.now.0.now).CanRoundTrip) }
+    {
+        check_text(self.0)
+    }
+}
+
+impl FrontendMessage for CopyFail<'_> {
+    const FORMAT: FrontendMessageFormat = FrontendMessageFormat::CopyFail;
+
+    ghost law = { λ fail. copy_fail_law fail.0.now };
+
+    fn tag(&self) -> u8 {
+        Self::FORMAT as u8
+    }
+
+    fn body_len(&self) -> usize {
+        text_len(self.0)
+    }
+
+    fn count_fault(&self) -> Option<ProtocolFault> {
+        None
+    }
+
+    fn room_for(&self, len: usize) -> usize {
+        len
+    }
+
+    #[inline(always)]
+    fn put_body<S: Sink>(&self, sink: &mut S) {
+        sink.put_text(self.0.as_bytes());
+    }
+
+    ghost use Rattle.std.proofs.Common.{arith};
+
+    ghost enough = { λ fail h. Prim.grind (arith) };
 }

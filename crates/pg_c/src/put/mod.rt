@@ -3,32 +3,36 @@
 //! Each call gives the length of the message in bytes, and has written it where `out` is that long;
 //! else `out` is as it was. It refuses by a number below 0, and `out` is as it was: a message that
 //! breaks a limit, one that a reader wouldn't get back from its bytes, or a text that is not UTF-8.
-//! A Startup, a Parse, a Bind, a FunctionCall, a batch, a CopyFail and a message without a tag are
-//! copied first, and may be out of memory too.
+//! What is to be sent is read where the caller has it, and no memory is asked for.
 
+mod bind;
 mod copy;
+mod function_call;
+mod lists;
+mod parse;
 mod prepared;
 mod query;
 mod raw;
 mod session;
+mod startup;
+mod then;
 
-ghost use Rattle.std.specs.Prelude.{◌≡◌, ◌+◌, ◌<◌, ◌≤◌, ◌++◌, length, pos, true, false, Ok, Err, IfOk, IfErr, OnOk};
+ghost use Rattle.std.specs.Prelude.{◌≡◌, ◌+◌, ◌<◌, ◌≤◌, length, pos, true, false, IfOk, IfErr, OnOk};
 ghost use Rattle.std.specs.Str.{is_utf8};
 ghost use Rattle.pg_base.specs.declared.error.ProtocolFault.TheVariants.{NotUtf8};
 ghost use Rattle.pg_base.specs.Cutting.{max_length};
 ghost use Rattle.pg_base.specs.Sink.{IsGiven};
-ghost use Rattle.pg_request.specs.Frame.{text, IsStrictAnswer, IsMeasured};
-ghost use Rattle.pg_c.specs.Put.{CannotRoundTrip, IsSound, IsDue, IsWritten, PutsLaw, PutsText};
+ghost use Rattle.pg_request.specs.Frame.{IsMeasured};
+ghost use Rattle.pg_c.specs.Put.{CannotRoundTrip, IsSound, IsDue, IsWritten, PutsLaw};
 
 use crate::refusal::number_of;
-use pg_base::io::ProtocolEncode;
+use pg_base::io::{Text, write_text};
 use pg_base::{Error, ProtocolFault};
-use pg_request::message::{FrontendMessage, encode_frame, write_frame};
+use pg_request::message::{FrontendMessage, write_frame};
 use pg_response::message::utf8_text;
-use std::alloc::Global;
 
-// The bytes before a body: the tag and the length.
-const HEADER: usize = 5;
+/// The bytes before a body: the tag and the length.
+pub(crate) const HEADER: usize = 5;
 
 /// Writes a message. `round_trip` is whether a reader would get it back.
 #[inline]
@@ -62,8 +66,8 @@ fn write<F: FrontendMessage>(
     Ok(len + HEADER)
 }
 
-// The length of the body, or why the message is refused: for a limit, then for the round trip.
-fn sound_len<F: FrontendMessage>(
+/// The length of the body, or why the message is refused: for a limit, then for the round trip.
+pub(crate) fn sound_len<F: FrontendMessage>(
     message: &F,
     round_trip: Result<(), ProtocolFault>,
 ) -> Result<usize, Error>
@@ -79,43 +83,17 @@ fn sound_len<F: FrontendMessage>(
     Ok(len)
 }
 
-/// Adds a message to a buffer. A refusal is for a limit, then for the round trip, then for memory.
-pub(crate) fn add<F: FrontendMessage>(
-    message: &F,
-    round_trip: Result<(), ProtocolFault>,
-    buf: &mut Vec<u8>,
-) -> Result<(), Error>
-    requires can { OnOk round_trip (F.law message.now).CanRoundTrip }
-    requires cannot { IfErr round_trip (CannotRoundTrip (F.law message.now)) }
-    ensures answer { IsStrictAnswer (F.law message.now) result }
-    ensures text { OnOk result (buf.new.items ≡ buf.old.items ++ text (F.law message.now)) }
+/// Writes a text of `len` bytes, and gives its length.
+#[inline]
+pub(crate) fn put_text<T: Text>(text: &T, len: usize, out: &mut [u8]) -> isize
+    requires can { T.can text.now }
+    requires len { len ≡ length (T.text text.now) }
+    requires small { len < 9223372036854775808 }
+    ensures length { result ≡ pos (length (T.text text.now)) }
+    ensures given { IsGiven (T.text text.now) out.old out.new }
 {
-    message.checked_body_len()?;
-    round_trip?;
-    encode_frame(message, buf)
-}
-
-/// Writes a message without a tag.
-pub(crate) fn put_untagged<M: ProtocolEncode>(alloc: Global, message: &M, out: &mut [u8]) -> isize
-    ensures { PutsText (M.text message.now) (M.fault message.now) out.old out.new result }
-{
-    let mut buf = Vec::new(alloc);
-    match message.encode(&mut buf) {
-        Ok(()) => give(buf.as_slice(), out),
-        Err(error) => number_of(error) as isize,
-    }
-}
-
-/// Copies a text to the front of the room where it has that much, and gives its length.
-pub(crate) fn give(text: &[u8], out: &mut [u8]) -> isize
-    requires { length text.now < 9223372036854775808 }
-    ensures length { result ≡ pos (length text.now) }
-    ensures given { IsGiven text.now out.old out.new }
-{
-    if text.len() <= out.len() {
-        out[..text.len()].copy_from_slice(text);
-    }
-    text.len() as isize
+    write_text(text, len, out);
+    len as isize
 }
 
 /// The bytes as text.

@@ -1,29 +1,28 @@
 //! Messages with free names and codes, for drivers that have conventions of their own.
 
-ghost use Rattle.std.specs.Prelude.{◌≡◌, ◌⊎◌, map, length, IfOk, Some, None, option_copied, if◌then◌else◌};
+ghost use Rattle.std.specs.Prelude.{◌≡◌, length, Some, None, option_copied, if◌then◌else◌};
 ghost use Rattle.pg_format.specs.Messages as page;
 ghost use Rattle.pg_request.specs.CancelRequest.{cancel_request_text};
 ghost use Rattle.pg_request.specs.GssEncRequest.{gss_enc_request_text};
 ghost use Rattle.pg_request.specs.Message as message;
-ghost use Rattle.pg_request.specs.Values.{values_of};
-ghost use Rattle.pg_c.specs.Prepared.{value_of};
-ghost use Rattle.pg_c.specs.Put.{PutsMessage, PutsText, MayPut};
+ghost use Rattle.pg_c.specs.Prepared.{raw_bind_of, function_call_of};
+ghost use Rattle.pg_c.specs.Put.{PutsMessage, PutsText};
 
-use crate::put::prepared::{PgmsgValue, oids_of};
-use crate::put::{put, put_untagged};
+use crate::put::bind::RawBind;
+use crate::put::function_call::FunctionCall;
+use crate::put::parse::RawParse;
+use crate::put::prepared::PgmsgValue;
+use crate::put::{put, put_text};
 use crate::refusal::number_of;
-use pg_base::io::Oid;
 use pg_request::message::{
-    CancelRequest, FunctionCall, GssEncRequest, Password, RawBind, RawClose, RawDescribe,
-    RawExecute, RawParse, SaslInitial,
+    CODE_LENGTH, CancelRequest, GssEncRequest, Password, RawClose, RawDescribe, RawExecute,
+    SaslInitial,
 };
-use std::alloc::{AllocError, Global};
 
 /// Asks the server to stop what a session does, by the two numbers of its BackendKeyData. It goes
 /// alone on a connection of its own. The key has 4 bytes in protocol 3.0, and up to 256 from 3.2 on.
 #[unsafe(no_mangle)]
 pub extern "C" fn pgmsg_put_cancel_request(
-    alloc: Global,
     process_id: u32,
     secret_key: &[u8],
     out: &mut [u8],
@@ -34,15 +33,18 @@ pub extern "C" fn pgmsg_put_cancel_request(
         process_id,
         secret_key,
     };
-    put_untagged(alloc, &cancel, out)
+    match cancel.checked_len() {
+        Ok(len) => put_text(&cancel, len, out),
+        Err(fault) => number_of(fault.into()) as isize,
+    }
 }
 
 /// Asks for a connection that GSSAPI encrypts, before the session is opened.
 #[unsafe(no_mangle)]
-pub extern "C" fn pgmsg_put_gss_enc_request(alloc: Global, out: &mut [u8]) -> isize
+pub extern "C" fn pgmsg_put_gss_enc_request(out: &mut [u8]) -> isize
     ensures { PutsText gss_enc_request_text None out.old out.new result }
 {
-    put_untagged(alloc, &GssEncRequest, out)
+    put_text(&GssEncRequest, CODE_LENGTH, out)
 }
 
 /// Answers a request for a password with any bytes, before the NUL that ends them.
@@ -81,32 +83,25 @@ fn given(is_given: bool, bytes: &[u8]) -> Option<&[u8]>
 /// server infers those that are 0 or missing.
 #[unsafe(no_mangle)]
 pub extern "C" fn pgmsg_put_raw_parse(
-    alloc: Global,
     statement: &[u8],
     query: &[u8],
     types: &[u32],
     out: &mut [u8],
 ) -> isize
-    ensures { MayPut (message.RawParse (record { statement = statement.now; query = query.now; types = types.now })) out.old out.new result }
+    ensures { PutsMessage (message.RawParse (record { statement = statement.now; query = query.now; types = types.now })) out.old out.new result }
 {
-    match oids_of(alloc, types) {
-        Ok(param_types) => {
-            let parse = RawParse {
-                statement,
-                query,
-                param_types: param_types.as_slice(),
-            };
-            put(&parse, parse.check_round_trip(), out)
-        }
-        Err(error) => number_of(error.into()) as isize,
-    }
+    let parse = RawParse {
+        statement,
+        query,
+        types,
+    };
+    put(&parse, parse.check_round_trip(), out)
 }
 
 /// Makes a portal of any name of a prepared statement of any name and the values of its parameters.
 /// Formats are codes, 0 for text and 1 for binary: none where all are text, one for all, or one each.
 #[unsafe(no_mangle)]
 pub extern "C" fn pgmsg_put_raw_bind(
-    alloc: Global,
     portal: &[u8],
     statement: &[u8],
     formats: &[u16],
@@ -114,21 +109,16 @@ pub extern "C" fn pgmsg_put_raw_bind(
     result_formats: &[u16],
     out: &mut [u8],
 ) -> isize
-    ensures { MayPut (message.RawBind (record { portal = portal.now; statement = statement.now; formats = formats.now; values = map value_of values.now; result_formats = result_formats.now })) out.old out.new result }
+    ensures { PutsMessage (message.RawBind (raw_bind_of portal.now statement.now formats.now values.now result_formats.now)) out.old out.new result }
 {
-    match borrowed(alloc, values) {
-        Ok(values) => {
-            let bind = RawBind {
-                portal,
-                statement,
-                formats,
-                values: values.as_slice(),
-                result_formats,
-            };
-            put(&bind, bind.check_round_trip(), out)
-        }
-        Err(error) => number_of(error.into()) as isize,
-    }
+    let bind = RawBind {
+        portal,
+        statement,
+        formats,
+        values,
+        result_formats,
+    };
+    put(&bind, bind.check_round_trip(), out)
 }
 
 /// Describes the prepared statement of any name.
@@ -180,39 +170,19 @@ pub extern "C" fn pgmsg_put_raw_execute(portal: &[u8], limit: u32, out: &mut [u8
 /// FunctionCallResponse, which this library doesn't read.
 #[unsafe(no_mangle)]
 pub extern "C" fn pgmsg_put_function_call(
-    alloc: Global,
     object_id: u32,
     formats: &[u16],
     arguments: &[PgmsgValue<'_>],
     result_format: u16,
     out: &mut [u8],
 ) -> isize
-    ensures { MayPut (message.FunctionCall (record { object_id = object_id; formats = formats.now; arguments = map value_of arguments.now; result_format = result_format })) out.old out.new result }
+    ensures { PutsMessage (message.FunctionCall (function_call_of object_id formats.now arguments.now result_format)) out.old out.new result }
 {
-    match borrowed(alloc, arguments) {
-        Ok(arguments) => {
-            let call = FunctionCall {
-                object_id: Oid(object_id),
-                formats,
-                arguments: arguments.as_slice(),
-                result_format,
-            };
-            put(&call, Ok(()), out)
-        }
-        Err(error) => number_of(error.into()) as isize,
-    }
-}
-
-// The values as a message borrows them.
-fn borrowed<'a>(
-    alloc: Global,
-    values: &[PgmsgValue<'a>],
-) -> Result<Vec<Option<&'a [u8]>>, AllocError>
-    ensures { IfOk result (λ held. values_of held.items ≡ map value_of values.now) }
-{
-    let mut held = Vec::new(alloc);
-    for value in values {
-        held.push(given(!value.is_null, value.bytes))?;
-    }
-    Ok(held)
+    let call = FunctionCall {
+        object_id,
+        formats,
+        arguments,
+        result_format,
+    };
+    put(&call, Ok(()), out)
 }

@@ -1,25 +1,21 @@
 //! How a session begins and ends.
 
-ghost use Rattle.std.specs.Prelude.{◌≡◌, ◌⊎◌, [], true, false, Some, None, Err, IfOk, IfErr, OnOk, IsErrOf, length, map};
+ghost use Rattle.std.specs.Prelude.{◌≡◌, true, false, None};
 ghost use Rattle.std.specs.List.{list_all};
 ghost use Rattle.std.specs.Str.{is_utf8};
-ghost use Rattle.pg_base.specs.declared.error.Error.TheVariants.{OutOfMemory};
-ghost use Rattle.pg_base.specs.declared.error.ProtocolFault.TheVariants.{NotUtf8, TextHoldsNul};
-ghost use Rattle.pg_request.specs.Frame.{first_fault, IsStrictAnswerOf};
+ghost use Rattle.pg_base.specs.declared.error.ProtocolFault.TheVariants.{NotUtf8};
 ghost use Rattle.pg_request.specs.Message as message;
 ghost use Rattle.pg_request.specs.SslRequest.{ssl_request_text};
-ghost use Rattle.pg_request.specs.Startup.{settings_of, startup_fields, startup_body, startup_text, StartupCanRoundTrip};
-ghost use Rattle.pg_c.specs.Put.{PutsMessage, PutsText, IsPut, IsRefused};
-ghost use Rattle.pg_c.specs.Session.{IsSettingsError, PutsSettings, PutsStartup, is_text, name_and_value};
+ghost use Rattle.pg_c.specs.Put.{PutsMessage, PutsText, IsRefused};
+ghost use Rattle.pg_c.specs.Session.{PutsStartup, is_text};
 
-use crate::put::{give, put, put_untagged, text_of};
+use crate::put::startup::{are_texts, write_startup};
+use crate::put::{put, put_text, text_of};
 use crate::refusal::number_of;
-use pg_base::Error;
-use pg_base::io::ProtocolEncode;
+use pg_base::ProtocolFault;
 use pg_request::message::{
-    Password, SaslInitialResponse, SaslResponse, SslRequest, Startup, Terminate,
+    CODE_LENGTH, Password, SaslInitialResponse, SaslResponse, SslRequest, Terminate,
 };
-use std::alloc::Global;
 
 /// The name of a setting and its value, in UTF-8.
 #[repr(C)]
@@ -33,77 +29,27 @@ pub struct PgmsgSetting<'a> {
 /// that holds a NUL, or an empty name, is refused as a text that holds a NUL: the server would read
 /// other settings.
 #[unsafe(no_mangle)]
-pub extern "C" fn pgmsg_put_startup(
-    alloc: Global,
-    settings: &[PgmsgSetting<'_>],
-    out: &mut [u8],
-) -> isize
+pub extern "C" fn pgmsg_put_startup(settings: &[PgmsgSetting<'_>], out: &mut [u8]) -> isize
     ensures utf8 { list_all is_text settings.now ≡ true
         → PutsStartup settings.now out.old out.new result }
     ensures not_utf8 { list_all is_text settings.now ≡ false
-        → IsRefused NotUtf8 out.old out.new result
-        ⊎ IsPut [] (Err OutOfMemory) out.old out.new result }
+        → IsRefused NotUtf8 out.old out.new result }
 {
-    match params_of(alloc, settings) {
-        Ok(params) => {
-            let startup = Startup {
-                username: None,
-                database: None,
-                params: params.as_slice(),
-            };
-            put_startup(alloc, &startup, out)
-        }
+    if !are_texts(settings) {
+        return number_of(ProtocolFault::NotUtf8.into()) as isize;
+    }
+    match write_startup(settings, out) {
+        Ok(len) => len as isize,
         Err(error) => number_of(error) as isize,
     }
-}
-
-fn put_startup(alloc: Global, startup: &Startup<'_>, out: &mut [u8]) -> isize
-    ensures { PutsSettings (startup_fields startup.now) out.old out.new result
-        ⊎ IsPut [] (Err OutOfMemory) out.old out.new result }
-{
-    let mut buf = Vec::new(alloc);
-    match add_startup(startup, &mut buf) {
-        Ok(()) => give(buf.as_slice(), out),
-        Err(error) => number_of(error) as isize,
-    }
-}
-
-// Adds the message to an empty buffer. A refusal is for its length, then for the round trip.
-fn add_startup(startup: &Startup<'_>, buf: &mut Vec<u8>) -> Result<(), Error>
-    requires { buf.old.items ≡ [] }
-    ensures answer { IsErrOf result OutOfMemory
-        ⊎ IsStrictAnswerOf (first_fault None (length (startup_body (startup_fields startup.now))))
-        (StartupCanRoundTrip (startup_fields startup.now)) (Some TextHoldsNul) result }
-    ensures text { OnOk result (buf.new.items ≡ startup_text (startup_fields startup.now)) }
-{
-    startup.encode(buf)?;
-    startup.check_round_trip()?;
-    Ok(())
-}
-
-// The settings as texts.
-fn params_of<'a>(
-    alloc: Global,
-    settings: &[PgmsgSetting<'a>],
-) -> Result<Vec<(&'a str, &'a str)>, Error>
-    ensures ok { IfOk result
-        (λ params. (settings_of params.items ≡ map name_and_value settings.now)
-        × (list_all is_text settings.now ≡ true)) }
-    ensures err { IfErr result (IsSettingsError settings.now) }
-{
-    let mut params = Vec::new(alloc);
-    for setting in settings {
-        params.push((text_of(setting.name)?, text_of(setting.value)?))?;
-    }
-    Ok(params)
 }
 
 /// Asks for an encrypted connection, before the session is opened.
 #[unsafe(no_mangle)]
-pub extern "C" fn pgmsg_put_ssl_request(alloc: Global, out: &mut [u8]) -> isize
+pub extern "C" fn pgmsg_put_ssl_request(out: &mut [u8]) -> isize
     ensures { PutsText ssl_request_text None out.old out.new result }
 {
-    put_untagged(alloc, &SslRequest, out)
+    put_text(&SslRequest, CODE_LENGTH, out)
 }
 
 /// Answers a request for a password with the password, in UTF-8.

@@ -1,8 +1,9 @@
 //! What the server asks of a client that opens a session.
 
-ghost use Rattle.std.specs.Prelude.{◌≡◌, ◌≤◌, ◌<ℤ◌, ◌≤ℤ◌, ⊤, pos, drop, length, None, OnOk, IfOk, IfErr};
+ghost use Rattle.std.specs.Prelude.{◌≡◌, ◌≤◌, ◌<◌, ◌<ℤ◌, ◌≤ℤ◌, ⊤, pos, drop, length, None, OnOk, IfOk, IfErr};
 ghost use Rattle.pg_base.specs.declared.error.Error.TheVariants.{Protocol};
 ghost use Rattle.pg_base.specs.declared.error.ProtocolFault.TheVariants.{UnknownAuthentication};
+ghost use Rattle.pg_base.specs.Sink.{IsGiven};
 ghost use Rattle.pg_receive.specs.Authentication.Mechanisms.{mechanisms_in};
 ghost use Rattle.pg_format.specs.Format.{Means, IsFaultOf};
 ghost use Rattle.pg_receive.specs.Authentication.{requests, sasl_continue, sasl_final, method_of};
@@ -15,7 +16,6 @@ ghost use Rattle.pg_c.specs.Read.{AreGiven, IsBodyFault, RefusesBody};
 ghost use Rattle.pg_c.specs.Refusal.{Refuses, IsErrorOf};
 
 use crate::place::PgmsgSpan;
-use crate::put::give;
 use crate::read::check_body;
 use crate::refusal::{PgmsgFault, report};
 use bytes::Bytes;
@@ -153,6 +153,18 @@ pub extern "C" fn pgmsg_read_challenge(
         }
         Err(error) => report(alloc, error, fault),
     }
+}
+
+// Copies a text to the front of the room where it has that much, and gives its length.
+fn give(text: &[u8], out: &mut [u8]) -> isize
+    requires { length text.now < 9223372036854775808 }
+    ensures length { result ≡ pos (length text.now) }
+    ensures given { IsGiven text.now out.old out.new }
+{
+    if text.len() <= out.len() {
+        out[..text.len()].copy_from_slice(text);
+    }
+    text.len() as isize
 }
 
 fn lengths_of(challenge: &AuthenticationSaslContinue) -> PgmsgChallenge
