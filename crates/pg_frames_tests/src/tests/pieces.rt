@@ -22,8 +22,10 @@ const PARSE: Shown<'static> = (BackendMessageFormat::ParseComplete, b"");
 
 const UNKNOWN_END: StreamEnd = StreamEnd::Fault(ProtocolFault::UnknownMessageType(118));
 
-/// Streams, the messages that each has, and how it ends.
-const STREAMS: [(&[u8], &[Shown<'static>], StreamEnd); 7] = [
+// A stream, the messages that it has, and how it ends.
+type Stream<'a> = (&'a [u8], &'a [Shown<'a>], StreamEnd);
+
+const STREAMS: [Stream<'static>; 7] = [
     (MESSAGES, BOTH, StreamEnd::Rest(3)),
     (b"1\0\0\0\x04", &[PARSE], StreamEnd::Rest(0)),
     (b"1\0\0\0", &[], StreamEnd::Rest(4)),
@@ -57,10 +59,15 @@ fn assert_end(rt: &impl Abort, pieces: &[&[u8]], found: StreamEnd, end: StreamEn
 
 #[test]
 fn streams_in_one_piece(rt: HostRuntime) -> Result<(), Error> {
-    for (stream, messages, end) in STREAMS.iter() {
-        expect_whole(&rt, rt.alloc(), stream, messages, *end)?;
-    }
+    expect_each(&rt, rt.alloc(), &STREAMS)?;
     expect(&rt, rt.alloc(), &[], &[], StreamEnd::Rest(0))
+}
+
+fn expect_each(rt: &impl Abort, alloc: Global, streams: &[Stream<'_>]) -> Result<(), Error> {
+    for (stream, messages, end) in streams {
+        expect_whole(rt, alloc, stream, messages, *end)?;
+    }
+    Ok(())
 }
 
 fn expect_whole(
