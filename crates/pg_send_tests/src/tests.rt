@@ -1,20 +1,19 @@
 //! Frames, limits, and what calls answer where memory runs out.
 
-mod calls;
-mod formats;
-mod frames;
+mod bind_values;
+mod copy;
+mod frame;
 mod kinds;
+mod layouts;
 mod limits;
-mod one_reservation;
+mod password;
 mod raw;
 mod refusing;
 mod requests;
 mod room;
-mod runs;
+mod run;
 mod startup;
-mod strict;
-mod values;
-mod without_memory;
+mod tagged;
 mod zeros;
 
 // The number of a statement or a portal.

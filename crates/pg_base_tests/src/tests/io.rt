@@ -1,8 +1,7 @@
 //! Ids and their names, the length prefix, numbers, and the parts of a COPY.
 
 mod atoi;
+mod buf_mut;
 mod copy;
-mod ids;
-mod names;
+mod id;
 mod numbers;
-mod prefix;

@@ -1,6 +1,6 @@
 //! Refusals for what a message can't count or say. They ask for no memory.
 
-use super::frames::bind_of;
+use super::layouts::bind_of;
 use super::refusing::{assert_accepted, assert_fault, refuse_nth, was_refused};
 use pg_base::io::{Oid, PgValueFormat, ProtocolEncode, StatementId};
 use pg_base::{Error, ProtocolFault};

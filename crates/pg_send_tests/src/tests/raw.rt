@@ -1,9 +1,9 @@
 //! Messages with free names and codes. Documentation: "Message Formats".
 
-use super::frames::assert_msg;
 use super::kinds::{Check, Expected, exact};
+use super::layouts::assert_msg;
 use super::limits::assert_refused;
-use super::strict;
+use super::run::strict;
 use pg_base::ProtocolFault;
 use pg_base::io::Oid;
 use pg_send::message::*;

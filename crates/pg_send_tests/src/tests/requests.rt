@@ -1,10 +1,10 @@
 //! Requests without a tag, by which a server is asked for something else than a session.
-//! Documentation: "Message Formats", CancelRequest and GSSENCRequest.
+//! Documentation: "Message Formats", CancelRequest, GSSENCRequest and SSLRequest.
 
 use super::refusing::{Adds, assert_adds, assert_all_or_nothing};
 use pg_base::io::ProtocolEncode;
 use pg_base::{Error, ProtocolFault};
-use pg_send::message::{CancelRequest, GssEncRequest};
+use pg_send::message::{CancelRequest, GssEncRequest, SslRequest};
 use std::alloc::{AllocError, Global};
 use std::process::Abort;
 
@@ -15,6 +15,12 @@ impl Adds for CancelRequest<'_> {
 }
 
 impl Adds for GssEncRequest {
+    fn add(&self, buf: &mut Vec<u8>) -> Result<(), Error> {
+        self.encode(buf)
+    }
+}
+
+impl Adds for SslRequest {
     fn add(&self, buf: &mut Vec<u8>) -> Result<(), Error> {
         self.encode(buf)
     }
@@ -71,4 +77,11 @@ fn a_request_for_gssapi(rt: HostRuntime) -> Result<(), AllocError> {
     let text = b"\x00\x00\x00\x08\x04\xd2\x16\x30";
     assert_adds(&rt, rt.alloc(), &GssEncRequest, text)?;
     assert_all_or_nothing(&rt, rt.alloc(), &GssEncRequest, text)
+}
+
+#[test]
+fn a_request_for_ssl(rt: HostRuntime) -> Result<(), AllocError> {
+    let text = b"\x00\x00\x00\x08\x04\xd2\x16\x2f";
+    assert_adds(&rt, rt.alloc(), &SslRequest, text)?;
+    assert_all_or_nothing(&rt, rt.alloc(), &SslRequest, text)
 }

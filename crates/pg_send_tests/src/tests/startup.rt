@@ -1,20 +1,13 @@
-//! What opens a session, without a tag. Documentation: "Message Formats", StartupMessage and
-//! SSLRequest.
+//! What opens a session, without a tag. Documentation: "Message Formats", StartupMessage.
 
 use super::refusing::{Adds, assert_adds, assert_all_or_nothing};
 use pg_base::io::ProtocolEncode;
 use pg_base::{Error, ProtocolFault};
-use pg_send::message::{SslRequest, Startup};
+use pg_send::message::Startup;
 use std::alloc::{AllocError, Global};
 use std::process::Abort;
 
 impl Adds for Startup<'_> {
-    fn add(&self, buf: &mut Vec<u8>) -> Result<(), Error> {
-        self.encode(buf)
-    }
-}
-
-impl Adds for SslRequest {
     fn add(&self, buf: &mut Vec<u8>) -> Result<(), Error> {
         self.encode(buf)
     }
@@ -120,11 +113,4 @@ fn a_setting_without_a_name(rt: HostRuntime) {
     assert_refused(&rt, None, None, &[("", "a")]);
     assert_refused(&rt, None, None, &[("", "")]);
     assert_refused(&rt, Some("a"), Some("b"), &[("c", "d"), ("", "e")]);
-}
-
-#[test]
-fn a_request_for_ssl(rt: HostRuntime) -> Result<(), AllocError> {
-    let text = b"\x00\x00\x00\x08\x04\xd2\x16\x2f";
-    assert_adds(&rt, rt.alloc(), &SslRequest, text)?;
-    assert_all_or_nothing(&rt, rt.alloc(), &SslRequest, text)
 }

@@ -1,6 +1,6 @@
 //! The kinds of message: tags, names and numbers. Documentation: "Message Formats".
 
-use super::display::assert_prints_name;
+use super::error::assert_prints_name;
 use super::refusing::{refuse_nth, was_refused};
 use pg_base::{BackendMessageFormat, Error, FrontendMessageFormat, ProtocolFault};
 use std::alloc::{AllocError, Global};

@@ -1,6 +1,9 @@
 //! Runs of none, one and a thousand messages: into an empty buffer and after old bytes, with each
 //! request for memory refused in turn. A message is accepted where one request alone is refused.
 
+mod one_reservation;
+pub mod strict;
+
 use super::kinds::tagged_kinds;
 use super::refusing::{MANY, assert_added, assert_all_accepted, refuse_nth, was_refused};
 use pg_send::message::{CopyFail, Query, TaggedMessage, encode_all};

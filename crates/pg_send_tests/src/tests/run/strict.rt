@@ -1,7 +1,7 @@
 //! Strict runs: refused for a limit, or else for what a reader wouldn't get back, with each request
 //! for memory refused in turn.
 
-use super::refusing::{MANY, assert_added, ran_out, refuse_nth, was_refused};
+use crate::tests::refusing::{MANY, assert_added, ran_out, refuse_nth, was_refused};
 use pg_base::io::{Oid, PgValueFormat, PortalId, StatementId};
 use pg_base::{Error, ProtocolFault};
 use pg_send::message::*;

@@ -1,6 +1,6 @@
 //! The names of statements and portals, written and printed.
 
-use crate::tests::display::assert_prints;
+use crate::tests::error::assert_prints;
 use crate::tests::refusing::{Adds, assert_adds, assert_all_or_nothing, refuse_nth, was_refused};
 use pg_base::Error;
 use pg_base::io::{PgBufMutExt, PortalId, StatementId};

@@ -2,7 +2,9 @@
 //! accepted messages add. Where the second request is refused, each message asks for its own, and no
 //! answer changes.
 
-use super::refusing::{MANY, assert_accepted, assert_fault, refuse_from, refuse_nth, was_refused};
+use crate::tests::refusing::{
+    MANY, assert_accepted, assert_fault, refuse_from, refuse_nth, was_refused,
+};
 use pg_base::io::{Oid, StatementId};
 use pg_base::{Error, ProtocolFault};
 use pg_send::message::{Parse, Query, Sync, TaggedMessage, encode_all};

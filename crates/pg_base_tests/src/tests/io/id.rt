@@ -1,5 +1,7 @@
 //! Ids by their numbers. None of these calls asks for memory.
 
+mod names;
+
 use crate::tests::refusing::{refuse_nth, was_refused};
 use pg_base::io::{PortalId, StatementId};
 
