@@ -120,9 +120,9 @@ fn a_name_that_holds_a_nul_is_sent_as_it_is(rt: HostRuntime) -> Result<(), Alloc
 fn assert_holds_nul(
     rt: &impl Abort,
     alloc: Global,
-    message: TaggedMessage<'_>,
+    messages: &[TaggedMessage<'_>],
 ) -> Result<(), AllocError> {
-    strict::assert_refused(rt, alloc, &[message], ProtocolFault::TextHoldsNul)
+    strict::assert_refused(rt, alloc, messages, ProtocolFault::TextHoldsNul)
 }
 
 fn assert_parse_refused(
@@ -131,7 +131,11 @@ fn assert_parse_refused(
     statement: &[u8],
     query: &[u8],
 ) -> Result<(), AllocError> {
-    assert_holds_nul(rt, alloc, TaggedMessage::RawParse(parse(statement, query)))
+    assert_holds_nul(
+        rt,
+        alloc,
+        &[TaggedMessage::RawParse(parse(statement, query))],
+    )
 }
 
 fn assert_bind_refused(
@@ -141,7 +145,7 @@ fn assert_bind_refused(
     statement: &[u8],
 ) -> Result<(), AllocError> {
     let bind = bind(portal, statement, &[]);
-    assert_holds_nul(rt, alloc, TaggedMessage::RawBind(bind))
+    assert_holds_nul(rt, alloc, &[TaggedMessage::RawBind(bind)])
 }
 
 #[test]
@@ -165,17 +169,17 @@ fn assert_statement_refused(
     statement: &[u8],
 ) -> Result<(), AllocError> {
     let close = RawClose::Statement(statement);
-    assert_holds_nul(rt, alloc, TaggedMessage::RawClose(close))
+    assert_holds_nul(rt, alloc, &[TaggedMessage::RawClose(close)])
 }
 
 fn assert_portal_refused(rt: &impl Abort, alloc: Global, portal: &[u8]) -> Result<(), AllocError> {
     let describe = RawDescribe::Portal(portal);
-    assert_holds_nul(rt, alloc, TaggedMessage::RawDescribe(describe))
+    assert_holds_nul(rt, alloc, &[TaggedMessage::RawDescribe(describe)])
 }
 
 fn assert_execute_refused(rt: &impl Abort, alloc: Global, portal: &[u8]) -> Result<(), AllocError> {
     let execute = RawExecute { portal, limit: 0 };
-    assert_holds_nul(rt, alloc, TaggedMessage::RawExecute(execute))
+    assert_holds_nul(rt, alloc, &[TaggedMessage::RawExecute(execute)])
 }
 
 fn assert_mechanism_refused(
@@ -183,7 +187,7 @@ fn assert_mechanism_refused(
     alloc: Global,
     mechanism: &[u8],
 ) -> Result<(), AllocError> {
-    assert_holds_nul(rt, alloc, TaggedMessage::SaslInitial(sasl(mechanism)))
+    assert_holds_nul(rt, alloc, &[TaggedMessage::SaslInitial(sasl(mechanism))])
 }
 
 fn assert_password_refused(
@@ -192,7 +196,7 @@ fn assert_password_refused(
     password: &[u8],
 ) -> Result<(), AllocError> {
     let password = Password::Bytes(password);
-    assert_holds_nul(rt, alloc, TaggedMessage::Password(password))
+    assert_holds_nul(rt, alloc, &[TaggedMessage::Password(password)])
 }
 
 #[test]
