@@ -7,5 +7,6 @@ pub mod CopyLemmas
 pub mod CountedItemsLemmas
 pub mod DataRowLemmas
 pub mod NotificationLemmas
+pub mod ParameterStatusLemmas
 pub mod RowDescriptionColumnsLemmas
 pub mod RowDescriptionLemmas

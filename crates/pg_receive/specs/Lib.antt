@@ -4,5 +4,6 @@ pub mod Copy
 pub mod CountedItems
 pub mod DataRow
 pub mod ParameterDescription
+pub mod ParameterStatus
 pub mod ReadyForQuery
 pub mod RowDescription

@@ -5,6 +5,7 @@ ghost use Rattle.pg_base.specs.Decode.{Decodes};
 ghost use Rattle.pg_base.specs.declared.format.BackendMessageFormat.TheVariants as formats;
 ghost use Rattle.pg_format.specs.Format.{Means, IsFaultOf, ReadsAs};
 ghost use Rattle.pg_format.specs.Messages.{parameter_status};
+ghost use Rattle.pg_receive.specs.ParameterStatus.{SettingNeedsNoMemory};
 
 use crate::message::{BackendMessage, str_at};
 use bytes::Bytes;
@@ -25,6 +26,7 @@ impl BackendMessage for ParameterStatus {
     ghost use Rattle.std.specs.Prelude.{string_bytes};
     ghost use Rattle.pg_format.specs.Messages.{Setting, parameter_status};
     ghost use Rattle.pg_format.proofs.FormatLaws.FromServer.{lawful_parameter_status};
+    ghost use Rattle.pg_receive.specs.ParameterStatus.{SettingNeedsNoMemory};
 
     const FORMAT: BackendMessageFormat = BackendMessageFormat::ParameterStatus;
 
@@ -36,7 +38,7 @@ impl BackendMessage for ParameterStatus {
 
     ghost format = { parameter_status };
 
-    ghost NeedsNoMemory = { λ _. ⊥ };
+    ghost NeedsNoMemory = { SettingNeedsNoMemory };
 
     fn decode_body(alloc: Global, buf: Bytes) -> Result<Self, Error> {
         setting_of(alloc, buf.as_slice())
@@ -46,7 +48,7 @@ impl BackendMessage for ParameterStatus {
 }
 
 fn setting_of(alloc: Global, body: &[u8]) -> Result<ParameterStatus, Error>
-    ensures { Decodes (Means parameter_status) (IsFaultOf parameter_status) (λ _. ⊥) (λ status. record { name = string_bytes status.name; value = string_bytes status.value }) None body.now result }
+    ensures { Decodes (Means parameter_status) (IsFaultOf parameter_status) SettingNeedsNoMemory (λ status. record { name = string_bytes status.name; value = string_bytes status.value }) None body.now result }
 {
     let ParameterStatusRef { name, value } = ParameterStatusRef::read(body)?;
     Ok(ParameterStatus {
