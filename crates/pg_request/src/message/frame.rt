@@ -155,6 +155,8 @@ pub fn put_if_fits<F: FrontendMessage>(message: &F, buf: &mut Vec<u8>) -> bool
     ensures encodes { OnTrue result (EncodesMessage (F.law message.now) buf.old buf.new (Ok tt)) }
     ensures range { OnTrue result (F.law message.now).IsInRange }
     ensures same { OnFalse result (buf.new ≡ buf.old) }
+    // It is false only where a limit is broken or the spare room is short.
+    ensures short { OnFalse result (fault (F.law message.now) ≡ None → vec_capacity buf.old < vec_len buf.old + (hint (F.law message.now) + 5)) }
 {
     let len = message.body_len();
     if message.count_fault().is_some() || len > MAX_BODY {

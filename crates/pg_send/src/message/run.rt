@@ -117,6 +117,8 @@ fn push_answer(
 fn put_by_rule(message: &TaggedMessage<'_>, strict: bool, buf: &mut Vec<u8>) -> bool
     ensures put { OnTrue result (EncodesOne (IsAnswerOf strict) (message_of message.now) (Ok tt) buf.old buf.new) }
     ensures same { OnFalse result (buf.new ≡ buf.old) }
+    // It is false only where the rule refuses the message or the spare room is short.
+    ensures short { OnFalse result (IsAnswerOf strict (message_of message.now) (Ok tt) → vec_capacity buf.old < vec_len buf.old + (hint (message_of message.now) + 5)) }
 {
     if strict {
         if let Err(_) = message.check_round_trip() {

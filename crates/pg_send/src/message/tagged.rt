@@ -1,6 +1,6 @@
 //! Any message that has a tag.
 
-ghost use Rattle.std.specs.Prelude.{◌≡◌, ◌+◌, ◌≤◌, ◌++◌, length, Some, None, Ok, OnOk, IfErr};
+ghost use Rattle.std.specs.Prelude.{◌≡◌, ◌+◌, ◌<◌, ◌≤◌, ◌++◌, length, Some, None, Ok, OnOk, IfErr, vec_len, vec_capacity};
 ghost use Rattle.std.specs.Bool.{OnTrue, OnFalse};
 ghost use Rattle.pg_request.specs.Frame.{EncodesMessage, room_or_fault};
 ghost use Rattle.pg_request.specs.Message.{law_of, body, fault, hint, text, IsInRange, CanRoundTrip, round_trip_fault, RoundTrips};
@@ -97,6 +97,8 @@ impl TaggedMessage<'_> {
         ensures encodes { OnTrue result (EncodesMessage (law_of (message_of self.now)) buf.old buf.new (Ok tt)) }
         ensures range { OnTrue result (IsInRange (message_of self.now)) }
         ensures same { OnFalse result (buf.new ≡ buf.old) }
+        // It is false only where a limit is broken or the spare room is short.
+        ensures short { OnFalse result (fault (message_of self.now) ≡ None → vec_capacity buf.old < vec_len buf.old + (hint (message_of self.now) + 5)) }
     {
         held!(self, message => put_if_fits(message, buf))
     }
