@@ -1,9 +1,9 @@
 pub mod PlaceLemmas
-pub mod PreparedLemmas
+pub mod PutListsLemmas
+pub mod PutStartupLemmas
 pub mod ReadAuthenticationLemmas
 pub mod ReadColumnsLemmas
 pub mod ReadFieldsLemmas
 pub mod ReadFrameLemmas
 pub mod ReadLemmas
 pub mod ReadListsLemmas
-pub mod SessionLemmas

@@ -1,8 +1,5 @@
-pub mod Parse
 pub mod Place
-pub mod Prepared
 pub mod Put
 pub mod Read
 pub mod Refusal
-pub mod Session
 pub mod Words

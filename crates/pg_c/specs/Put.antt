@@ -1,4 +1,10 @@
 -- What a call that writes a message into the caller's room answers, as a number of C's `ptrdiff_t`.
+pub mod Bind
+pub mod FunctionCall
+pub mod Lists
+pub mod Parse
+pub mod Prepared
+pub mod Startup
 use Rattle.std.specs.Prelude.{◌≡◌, ◌⊎◌, ℕ, ℤ, pos, List, [], ◌∷◌, ◌++◌, length, Option, Some, None, MatchOption, Result, Ok, Err}
 use Rattle.pg_base.specs.Sink.{IsGiven}
 use Rattle.pg_base.specs.declared.error.Error.{Error}

@@ -4,7 +4,7 @@ ghost use Rattle.std.specs.Prelude.{◌≡◌, ◌≤◌, length, Some, OnOk, If
 ghost use Rattle.pg_base.specs.Numbers.{max_count};
 ghost use Rattle.pg_request.specs.Bind.{bind_law};
 ghost use Rattle.pg_request.specs.RawBind.{raw_bind_law};
-ghost use Rattle.pg_c.specs.Prepared.{bind_of, raw_bind_of};
+ghost use Rattle.pg_c.specs.Put.Bind.{bind_of, raw_bind_of};
 
 use crate::put::lists::{put_formats, put_values, values_len};
 use crate::put::prepared::PgmsgValue;

@@ -1,7 +1,7 @@
 //! A call of a function, with the arguments where the caller has them.
 
 ghost use Rattle.pg_request.specs.FunctionCall.{function_call_law};
-ghost use Rattle.pg_c.specs.Prepared.{function_call_of};
+ghost use Rattle.pg_c.specs.Put.FunctionCall.{function_call_of};
 
 use crate::put::lists::{put_values, values_len};
 use crate::put::prepared::PgmsgValue;

@@ -7,7 +7,7 @@ ghost use Rattle.pg_base.specs.Reading.{Values};
 ghost use Rattle.pg_request.specs.Counted.{counted16, counted32};
 ghost use Rattle.pg_request.specs.Frame.{saturated};
 ghost use Rattle.pg_request.specs.Values.{value_text};
-ghost use Rattle.pg_c.specs.Prepared.{format_of, value_of, fits, values_spelled, values_refusal};
+ghost use Rattle.pg_c.specs.Put.Lists.{format_of, value_of, fits, values_spelled, values_refusal};
 ghost use Rattle.pg_c.specs.Refusal.{fault_number, too_long_number};
 
 use crate::put::prepared::PgmsgValue;

@@ -3,7 +3,7 @@
 ghost use Rattle.std.specs.Prelude.{◌≡◌, Some, OnOk, IfErr};
 ghost use Rattle.pg_request.specs.Parse.{parse_law};
 ghost use Rattle.pg_request.specs.RawParse.{raw_parse_law};
-ghost use Rattle.pg_c.specs.Parse.{parse_fields, raw_parse_fields};
+ghost use Rattle.pg_c.specs.Put.Parse.{parse_fields, raw_parse_fields};
 
 use crate::put::lists::put_types;
 use pg_base::io::{Sink, StatementId};

@@ -6,7 +6,9 @@ ghost use Rattle.pg_base.specs.declared.error.ProtocolFault.TheVariants.{NotUtf8
 ghost use Rattle.pg_base.specs.Reading.{Values};
 ghost use Rattle.pg_request.specs.Message as message;
 ghost use Rattle.pg_c.specs.Put.{PutsMessage, PutsBatch, IsBatchWritten, IsRefused};
-ghost use Rattle.pg_c.specs.Prepared.{values_spelled, parse_of, bind_of, batch_of, UnlessRefused};
+ghost use Rattle.pg_c.specs.Put.Bind.{bind_of};
+ghost use Rattle.pg_c.specs.Put.Lists.{values_spelled};
+ghost use Rattle.pg_c.specs.Put.Prepared.{parse_of, batch_of, UnlessRefused};
 
 use crate::put::bind::Bind;
 use crate::put::lists::check_values;

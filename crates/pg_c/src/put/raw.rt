@@ -5,7 +5,8 @@ ghost use Rattle.pg_format.specs.Messages as page;
 ghost use Rattle.pg_request.specs.CancelRequest.{cancel_request_text};
 ghost use Rattle.pg_request.specs.GssEncRequest.{gss_enc_request_text};
 ghost use Rattle.pg_request.specs.Message as message;
-ghost use Rattle.pg_c.specs.Prepared.{raw_bind_of, function_call_of};
+ghost use Rattle.pg_c.specs.Put.Bind.{raw_bind_of};
+ghost use Rattle.pg_c.specs.Put.FunctionCall.{function_call_of};
 ghost use Rattle.pg_c.specs.Put.{PutsMessage, PutsText};
 
 use crate::put::bind::RawBind;

@@ -7,7 +7,7 @@ ghost use Rattle.pg_base.specs.declared.error.ProtocolFault.TheVariants.{NotUtf8
 ghost use Rattle.pg_request.specs.Message as message;
 ghost use Rattle.pg_request.specs.SslRequest.{ssl_request_text};
 ghost use Rattle.pg_c.specs.Put.{PutsMessage, PutsText, IsRefused};
-ghost use Rattle.pg_c.specs.Session.{PutsStartup, is_text};
+ghost use Rattle.pg_c.specs.Put.Startup.{PutsStartup, is_text};
 
 use crate::put::startup::{are_texts, write_startup};
 use crate::put::{put, put_text, text_of};

@@ -6,7 +6,7 @@ ghost use Rattle.pg_base.specs.declared.error.ProtocolFault.TheVariants.{TextHol
 ghost use Rattle.pg_base.specs.Cutting.{max_length};
 ghost use Rattle.pg_request.specs.Frame.{saturated};
 ghost use Rattle.pg_request.specs.Startup.{setting, startup_body, startup_text, IsReadable};
-ghost use Rattle.pg_c.specs.Session.{is_text, name_and_value, startup_of, IsStartupWritten};
+ghost use Rattle.pg_c.specs.Put.Startup.{is_text, name_and_value, startup_of, IsStartupWritten};
 
 use crate::put::session::PgmsgSetting;
 use pg_base::io::{MAX_LENGTH, Sink, Text, write_text};

@@ -1,5 +1,5 @@
 use Rattle.std.proofs.lemmas.List.{take_all}
-use Rattle.pg_c.proofs.PreparedLemmas.{values_read}
+use Rattle.pg_c.proofs.PutListsLemmas.{values_read}
 use Rattle.pg_c.proofs.put.lists.check_values.Goals as goal
 
 pub returns-clause-read : goal.returns-clause-read

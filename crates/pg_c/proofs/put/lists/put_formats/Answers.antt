@@ -1,7 +1,7 @@
 use Rattle.std.proofs.Common.{length, arith}
 use Rattle.pg_base.specs.Numbers.{be16}
 use Rattle.pg_request.proofs.CountedLemmas.{room_for_one}
-use Rattle.pg_c.specs.Prepared.{format_of}
+use Rattle.pg_c.specs.Put.Lists.{format_of}
 use Rattle.pg_c.proofs.put.lists.put_formats.Goals as goal
 
 pub put_u16-requires-in-loop-format : goal.put_u16-requires-in-loop-format

@@ -1,7 +1,7 @@
 use Rattle.std.proofs.Common.{◌≡◌, ◌≤◌, ◌++◌, length, take, map}
 use Rattle.std.specs.List.{flat_map}
 use Rattle.pg_base.specs.Numbers.{be16}
-use Rattle.pg_c.specs.Prepared.{format_of}
+use Rattle.pg_c.specs.Put.Lists.{format_of}
 use Rattle.pg_c.proofs.put.lists.put_formats.Given as goal
 
 abbrev pub invariant-loop-format : goal.invariant-loop-format

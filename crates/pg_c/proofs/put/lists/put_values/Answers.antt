@@ -2,8 +2,8 @@ use Rattle.std.proofs.Common.{[], arith, refl}
 use Rattle.pg_base.specs.Cutting.{max_length}
 use Rattle.pg_request.specs.Values.{value_text}
 use Rattle.pg_request.proofs.CountedLemmas.{room_for_one}
-use Rattle.pg_c.specs.Prepared.{value_of}
-use Rattle.pg_c.proofs.PreparedLemmas.{none}
+use Rattle.pg_c.specs.Put.Lists.{value_of}
+use Rattle.pg_c.proofs.PutListsLemmas.{none}
 use Rattle.pg_c.proofs.put.lists.put_values.Goals as goal
 
 pub put_value-requires-clause-small : goal.put_value-requires-clause-small

@@ -1,5 +1,5 @@
 use Rattle.std.proofs.Common.{◌≡◌, ◌≤◌, ◌++◌, take}
-use Rattle.pg_c.specs.Prepared.{values_spelled}
+use Rattle.pg_c.specs.Put.Lists.{values_spelled}
 use Rattle.pg_c.proofs.put.lists.put_values.Given as goal
 
 abbrev pub invariant-loop-value : goal.invariant-loop-value

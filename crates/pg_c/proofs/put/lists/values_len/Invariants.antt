@@ -1,6 +1,6 @@
 use Rattle.std.proofs.Common.{◌≡◌, length, take}
 use Rattle.pg_request.specs.Frame.{saturated}
-use Rattle.pg_c.specs.Prepared.{values_spelled}
+use Rattle.pg_c.specs.Put.Lists.{values_spelled}
 use Rattle.pg_c.proofs.put.lists.values_len.Given as goal
 
 abbrev pub invariant-loop-value : goal.invariant-loop-value

@@ -1,7 +1,7 @@
 use Rattle.std.proofs.Common.{take}
 use Rattle.std.specs.List.{All}
 use Rattle.pg_request.specs.Startup.{IsReadable}
-use Rattle.pg_c.specs.Session.{name_and_value}
+use Rattle.pg_c.specs.Put.Startup.{name_and_value}
 use Rattle.pg_c.proofs.put.startup.check_settings.Given as goal
 
 abbrev pub invariant-loop-setting : goal.invariant-loop-setting

@@ -1,8 +1,8 @@
 use Rattle.std.proofs.Common.{[], arith}
 use Rattle.pg_request.specs.Startup.{setting}
 use Rattle.pg_request.proofs.CountedLemmas.{room_for_one}
-use Rattle.pg_c.specs.Session.{name_and_value}
-use Rattle.pg_c.proofs.SessionLemmas.{none}
+use Rattle.pg_c.specs.Put.Startup.{name_and_value}
+use Rattle.pg_c.proofs.PutStartupLemmas.{none}
 use Rattle.pg_c.proofs.put.startup.put_settings.Goals as goal
 
 pub put_setting-requires : goal.put_setting-requires

@@ -1,4 +1,4 @@
-use Rattle.pg_c.proofs.PreparedLemmas.{codes_small}
+use Rattle.pg_c.proofs.PutListsLemmas.{codes_small}
 use Rattle.pg_c.proofs.put.bind.BindFrontendMessage.put_body.Goals as goal
 
 pub returns-clause-range : goal.returns-clause-range

@@ -9,7 +9,7 @@ use Rattle.pg_base.specs.Reading.{Value, Values}
 use Rattle.pg_base.proofs.RoundTripLemmas.{value_before}
 use Rattle.pg_request.specs.Values.{value_text}
 use Rattle.pg_request.proofs.RoundTripLemmas.{a_value, a_null}
-use Rattle.pg_c.specs.Prepared.{format_of, value_of, fits, values_spelled}
+use Rattle.pg_c.specs.Put.Lists.{format_of, value_of, fits, values_spelled}
 use Rattle.pg_c.specs.declared.put.prepared.PgmsgValue.{PgmsgValue}
 
 -- ---- formats
