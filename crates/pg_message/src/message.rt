@@ -11,7 +11,9 @@ pub use pg_receive::message::{
     ParameterStatusRef, ReadyForQuery, ReceivedMessage, Row, RowDescription, RowIndex, RowReader,
     SaslMechanisms, TransactionStatus, cell_at, column_at, rows_affected, split_field, split_name,
 };
-pub use pg_request::message::put_if_fits;
+pub use pg_request::message::{
+    CODE_LENGTH, Framed, PROTOCOL_VERSION, counted, parts, put_if_fits, round_trip, values,
+};
 pub use pg_send::message::{
     Bind, BindValues, CancelRequest, Close, CopyFail, Describe, EncodeMessage, Execute, Flush,
     FrontendMessage, FunctionCall, GssEncRequest, Parse, Password, Query, RawBind, RawClose,
