@@ -1,5 +1,5 @@
 /* Tests the message layer with each of its requests for memory refused in turn, at each size that may take
- * another path: a call that writes then leaves `out`, one that reads its answer, and a call that needs no memory
+ * another path: a call that reads then leaves its answer, and one that writes, or that needs no memory to read,
  * does its work with none. */
 #include "memory_test.h"
 
