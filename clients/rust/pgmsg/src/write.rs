@@ -5,11 +5,13 @@ mod names;
 mod parameters;
 mod prepared;
 mod query;
+mod raw;
 mod session;
 
 pub use copy::copy_head;
 pub use names::{Portal, Statement};
 pub use parameters::{Parameters, Value};
+pub use raw::RawParameters;
 pub use session::Mechanism;
 
 use crate::error::Refusal;

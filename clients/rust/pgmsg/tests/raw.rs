@@ -1,0 +1,136 @@
+//! Messages with names, formats and texts of the caller's, with bytes written by hand in the
+//! layouts of "Message Formats" in the PostgreSQL documentation.
+
+use pgmsg::write::{Messages, RawParameters, Value};
+use pgmsg::{FormatCode, Refusal};
+use std::num::NonZeroU32;
+
+/// Asserts that a call on no messages writes these bytes.
+macro_rules! assert_writes {
+    ($bytes:expr, $($call:tt)+) => {
+        let mut messages = Messages::new();
+        messages.$($call)+.map(|_| ()).expect("it has no fault");
+        let bytes: &[u8] = $bytes;
+        assert_eq!(messages.as_bytes(), bytes);
+    };
+}
+
+/// Asserts that a call is refused, and leaves the message that was written before.
+macro_rules! assert_refused {
+    ($refusal:ident, $($call:tt)+) => {
+        let mut messages = Messages::new();
+        messages.sync().expect("a Sync has no fault");
+        assert_eq!(messages.$($call)+.map(|_| ()), Err(Refusal::$refusal));
+        assert_eq!(messages.as_bytes(), b"S\0\0\0\x04");
+    };
+}
+
+#[test]
+fn raw_parse() {
+    let expected = b"P\0\0\0\x12s\0q\0\0\x02\0\0\0\x17\0\0\0\0";
+    assert_writes!(expected, raw_parse(b"s", b"q", &[23, 0]));
+    assert_writes!(b"P\0\0\0\x09\0\xff\0\0\0", raw_parse(b"", b"\xff", &[]));
+    assert_refused!(TextHoldsNul, raw_parse(b"a\0b", b"", &[]));
+    assert_refused!(TextHoldsNul, raw_parse(b"", b"a\0b", &[]));
+    assert_refused!(TooManyParamTypes, raw_parse(b"", b"", &[0; 65536]));
+}
+
+#[test]
+fn raw_bind() {
+    let parameters = RawParameters {
+        values: &[Value::new(b"ab"), Value::NULL],
+        formats: &[FormatCode(1), FormatCode(-1)],
+        result_formats: &[FormatCode(2)],
+    };
+    let expected =
+        b"B\0\0\0\x1ep\0s\0\0\x02\0\x01\xff\xff\0\x02\0\0\0\x02ab\xff\xff\xff\xff\0\x01\0\x02";
+    assert_writes!(expected, raw_bind(b"p", b"s", parameters));
+    let none = RawParameters::default();
+    assert_writes!(b"B\0\0\0\x0c\0\0\0\0\0\0\0\0", raw_bind(b"", b"", none));
+    assert_refused!(TextHoldsNul, raw_bind(b"a\0b", b"", none));
+    assert_refused!(TextHoldsNul, raw_bind(b"", b"a\0b", none));
+}
+
+#[test]
+fn lists_that_are_too_long() {
+    let codes = vec![FormatCode(0); 65536];
+    let values = vec![Value::NULL; 65536];
+    let many = RawParameters::text(&values);
+    assert_refused!(BadParams, raw_bind(b"", b"", many));
+    assert_refused!(BadParams, function_call(1, &values, &[], FormatCode(0)));
+    let formats = RawParameters {
+        formats: &codes,
+        ..RawParameters::default()
+    };
+    assert_refused!(TooManyParamFormats, raw_bind(b"", b"", formats));
+    assert_refused!(
+        TooManyParamFormats,
+        function_call(1, &[], &codes, FormatCode(0))
+    );
+    let results = RawParameters {
+        result_formats: &codes,
+        ..RawParameters::default()
+    };
+    assert_refused!(TooManyResultFormats, raw_bind(b"", b"", results));
+}
+
+#[test]
+fn raw_describe_and_close() {
+    assert_writes!(b"D\0\0\0\x07Ss\0", raw_describe_statement(b"s"));
+    assert_writes!(b"D\0\0\0\x07P\xff\0", raw_describe_portal(b"\xff"));
+    assert_writes!(b"C\0\0\0\x06S\0", raw_close_statement(b""));
+    assert_writes!(b"C\0\0\0\x07Pp\0", raw_close_portal(b"p"));
+    assert_refused!(TextHoldsNul, raw_describe_statement(b"\0"));
+    assert_refused!(TextHoldsNul, raw_describe_portal(b"\0"));
+    assert_refused!(TextHoldsNul, raw_close_statement(b"\0"));
+    assert_refused!(TextHoldsNul, raw_close_portal(b"\0"));
+}
+
+#[test]
+fn raw_execute() {
+    let limit = NonZeroU32::new(100);
+    assert_writes!(b"E\0\0\0\x0ap\0\0\0\0\x64", raw_execute(b"p", limit));
+    assert_writes!(b"E\0\0\0\x09\0\0\0\0\0", raw_execute(b"", None));
+    assert_refused!(TextHoldsNul, raw_execute(b"a\0", None));
+}
+
+#[test]
+fn function_call() {
+    let (text, binary) = (FormatCode(0), FormatCode(1));
+    let arguments = [Value::new(b"a"), Value::NULL];
+    let expected = b"F\0\0\0\x19\0\0\x40\x01\0\x01\0\0\0\x02\0\0\0\x01a\xff\xff\xff\xff\0\x01";
+    assert_writes!(expected, function_call(16385, &arguments, &[text], binary));
+    let empty = b"F\0\0\0\x0e\0\0\0\x01\0\0\0\0\0\0";
+    assert_writes!(empty, function_call(1, &[], &[], text));
+}
+
+#[test]
+fn password_bytes() {
+    assert_writes!(b"p\0\0\0\x06\xff\0", password_bytes(b"\xff"));
+    assert_refused!(TextHoldsNul, password_bytes(b"a\0b"));
+}
+
+#[test]
+fn sasl_mechanism() {
+    assert_writes!(
+        b"p\0\0\0\x0aX\0\xff\xff\xff\xff",
+        sasl_mechanism(b"X", None)
+    );
+    assert_writes!(b"p\0\0\0\x0aX\0\0\0\0\0", sasl_mechanism(b"X", Some(b"")));
+    assert_writes!(
+        b"p\0\0\0\x0cX\0\0\0\0\x02\0\xff",
+        sasl_mechanism(b"X", Some(b"\0\xff"))
+    );
+    assert_refused!(TextHoldsNul, sasl_mechanism(b"a\0b", None));
+}
+
+#[test]
+fn requests_without_a_tag() {
+    let expected = b"\0\0\0\x10\x04\xd2\x16\x2e\0\0\x04\xd2\xff\0\0\x01";
+    assert_writes!(expected, cancel_request(1234, b"\xff\0\0\x01"));
+    let longest = [&b"\0\0\x01\x0c\x04\xd2\x16\x2e\0\0\0\x01"[..], &[0; 256]].concat();
+    assert_writes!(&longest, cancel_request(1, &[0; 256]));
+    assert_refused!(BadKeyLength, cancel_request(1, &[0; 3]));
+    assert_refused!(BadKeyLength, cancel_request(1, &[0; 257]));
+    assert_writes!(b"\0\0\0\x08\x04\xd2\x16\x30", gss_enc_request());
+}
