@@ -1,15 +1,13 @@
 /* How long pgmsg_read_row takes for a row, beside C that is written by hand and tests every bound. Prints a
  * line for each shape of a row: nanoseconds of both, and the quotient. */
-#define _POSIX_C_SOURCE 200809L
-
 #include "pg_message.h"
+#include "turns.h"
 
 #include <stdio.h>
 #include <stdlib.h>
 #include <string.h>
-#include <time.h>
 
-enum { MOST_CELLS = 1664, ROUNDS = 101, CELLS_A_ROUND = 500000, BODY_ROOM = 65536 };
+enum { MOST_CELLS = 1664, CELLS_A_ROUND = 500000, BODY_ROOM = 65536 };
 
 struct shape {
     int cells;
@@ -46,6 +44,36 @@ static ptrdiff_t read_by_library(const uint8_t *body, size_t body_len, pgmsg_cel
 
 typedef ptrdiff_t reader(const uint8_t *body, size_t body_len, pgmsg_cell *cells, size_t cells_len);
 
+struct row {
+    uint8_t body[BODY_ROOM];
+    size_t len;
+};
+
+static uint64_t read_often(reader *volatile read, const struct row *row, int times)
+{
+    static pgmsg_cell cells[MOST_CELLS];
+    uint64_t sum = 0;
+    for (int i = 0; i < times; i++) {
+        ptrdiff_t count = read(row->body, row->len, cells, MOST_CELLS);
+        if (count <= 0) {
+            fprintf(stderr, "a row is refused\n");
+            exit(1);
+        }
+        sum += cells[count - 1].at;
+    }
+    return sum;
+}
+
+static uint64_t by_library(const void *row, int times)
+{
+    return read_often(read_by_library, row, times);
+}
+
+static uint64_t by_hand(const void *row, int times)
+{
+    return read_often(read_by_hand, row, times);
+}
+
 /* Writes the body of a row, and answers its length. */
 static size_t write_row(uint8_t *body, const struct shape *shape)
 {
@@ -62,59 +90,14 @@ static size_t write_row(uint8_t *body, const struct shape *shape)
     return at;
 }
 
-static double processor_seconds(void)
-{
-    struct timespec now;
-    if (clock_gettime(CLOCK_PROCESS_CPUTIME_ID, &now) < 0) {
-        perror("clock_gettime");
-        exit(1);
-    }
-    return (double)now.tv_sec + (double)now.tv_nsec * 1e-9;
-}
-
-/* The nanoseconds that a row takes. The sum keeps the compiler from leaving the work out. */
-static double time_of(reader *volatile read, const uint8_t *body, size_t len, int times, uint64_t *sum)
-{
-    static pgmsg_cell cells[MOST_CELLS];
-    double begin = processor_seconds();
-    for (int i = 0; i < times; i++) {
-        ptrdiff_t count = read(body, len, cells, MOST_CELLS);
-        if (count <= 0) {
-            fprintf(stderr, "a row is refused\n");
-            exit(1);
-        }
-        *sum += cells[count - 1].at;
-    }
-    return (processor_seconds() - begin) / times * 1e9;
-}
-
-static int compare(const void *one, const void *other)
-{
-    double a = *(const double *)one, b = *(const double *)other;
-    return (a > b) - (a < b);
-}
-
-static double median(double *all)
-{
-    qsort(all, ROUNDS, sizeof *all, compare);
-    return all[ROUNDS / 2];
-}
-
-/* Takes turns, so that both meet the same state of the machine. */
 static uint64_t measure(const struct shape *shape)
 {
-    static uint8_t body[BODY_ROOM];
-    double library[ROUNDS], hand[ROUNDS];
+    static struct row row;
     uint64_t sum = 0;
-    size_t len = write_row(body, shape);
-    int times = CELLS_A_ROUND / shape->cells;
-    for (int round = 0; round < ROUNDS; round++) {
-        library[round] = time_of(read_by_library, body, len, times, &sum);
-        hand[round] = time_of(read_by_hand, body, len, times, &sum);
-    }
-    double of_library = median(library), of_hand = median(hand);
+    row.len = write_row(row.body, shape);
+    struct turns of = take_turns(by_library, by_hand, &row, CELLS_A_ROUND / shape->cells, &sum);
     printf("%d cells of %d bytes: pgmsg_read_row %.1f ns, C by hand %.1f ns, quotient %.2f\n", shape->cells,
-           shape->len, of_library, of_hand, of_library / of_hand);
+           shape->len, of.library, of.hand, of.library / of.hand);
     return sum;
 }
 

@@ -1,0 +1,179 @@
+/* Messages to the server, written by hand. */
+#include "put_by_hand.h"
+
+#include <stdbool.h>
+#include <string.h>
+
+enum { MOST_ITEMS = 65535, HEADER = 5 };
+
+static const size_t MOST_BYTES = 2147483647;
+
+static uint8_t *add_u16(uint8_t *to, size_t number)
+{
+    to[0] = (uint8_t)(number >> 8);
+    to[1] = (uint8_t)number;
+    return to + 2;
+}
+
+static uint8_t *add_u32(uint8_t *to, size_t number)
+{
+    return add_u16(add_u16(to, number >> 16), number);
+}
+
+static uint8_t *add(uint8_t *to, struct text text)
+{
+    memcpy(to, text.bytes, text.len);
+    return to + text.len;
+}
+
+static uint8_t *add_ended(uint8_t *to, struct text text)
+{
+    to = add(to, text);
+    *to = 0;
+    return to + 1;
+}
+
+static uint8_t *add_header(uint8_t *to, char tag, size_t len)
+{
+    *to = (uint8_t)tag;
+    return add_u32(to + 1, len + 4);
+}
+
+static bool holds_nul(struct text text)
+{
+    return memchr(text.bytes, 0, text.len) != NULL;
+}
+
+/* The bytes that follow the first of a character in UTF-8, or -1 where none begins so. */
+static int bytes_after(uint8_t first)
+{
+    return first < 0x80 ? 0 : first < 0xc2 ? -1 : first < 0xe0 ? 1 : first < 0xf0 ? 2 : first < 0xf5 ? 3 : -1;
+}
+
+static bool is_utf8(struct text text)
+{
+    for (size_t i = 0; i < text.len;) {
+        uint64_t eight;
+        if (text.len - i >= 8 && (memcpy(&eight, text.bytes + i, 8), (eight & 0x8080808080808080) == 0)) {
+            i += 8;
+            continue;
+        }
+        const uint8_t *at = text.bytes + i;
+        int after = bytes_after(*at);
+        if (after < 0 || text.len - i <= (size_t)after)
+            return false;
+        for (int j = 1; j <= after; j++)
+            if ((at[j] & 0xc0) != 0x80)
+                return false;
+        if ((at[0] == 0xe0 && at[1] < 0xa0) || (at[0] == 0xed && at[1] > 0x9f) || (at[0] == 0xf0 && at[1] < 0x90)
+            || (at[0] == 0xf4 && at[1] > 0x8f))
+            return false;
+        i += 1 + (size_t)after;
+    }
+    return true;
+}
+
+ptrdiff_t hand_sync(uint8_t *out, size_t out_len)
+{
+    if (out_len >= HEADER)
+        add_header(out, 'S', 0);
+    return HEADER;
+}
+
+ptrdiff_t hand_query(struct text query, uint8_t *out, size_t out_len)
+{
+    if (!is_utf8(query))
+        return PGMSG_NOT_UTF8;
+    size_t len = query.len + 1;
+    if (len > MOST_BYTES - 4)
+        return PGMSG_MESSAGE_TOO_LONG;
+    if (holds_nul(query))
+        return PGMSG_TEXT_HOLDS_NUL;
+    if (out_len >= HEADER + len)
+        add_ended(add_header(out, 'Q', len), query);
+    return (ptrdiff_t)(HEADER + len);
+}
+
+ptrdiff_t hand_copy_data(struct text data, uint8_t *out, size_t out_len)
+{
+    if (data.len > MOST_BYTES - 4)
+        return PGMSG_MESSAGE_TOO_LONG;
+    if (out_len >= HEADER + data.len)
+        add(add_header(out, 'd', data.len), data);
+    return (ptrdiff_t)(HEADER + data.len);
+}
+
+ptrdiff_t hand_parse(struct text statement, struct text query, const uint32_t *types, size_t types_len, uint8_t *out,
+                     size_t out_len)
+{
+    if (types_len > MOST_ITEMS)
+        return PGMSG_TOO_MANY_PARAM_TYPES;
+    size_t len = statement.len + 1 + query.len + 1 + 2 + 4 * types_len;
+    if (len > MOST_BYTES - 4)
+        return PGMSG_MESSAGE_TOO_LONG;
+    if (holds_nul(statement) || holds_nul(query))
+        return PGMSG_TEXT_HOLDS_NUL;
+    if (out_len < HEADER + len)
+        return (ptrdiff_t)(HEADER + len);
+    uint8_t *to = add_u16(add_ended(add_ended(add_header(out, 'P', len), statement), query), types_len);
+    for (size_t i = 0; i < types_len; i++)
+        to = add_u32(to, types[i]);
+    return (ptrdiff_t)(HEADER + len);
+}
+
+static uint8_t *add_codes(uint8_t *to, const uint16_t *codes, size_t len)
+{
+    to = add_u16(to, len);
+    for (size_t i = 0; i < len; i++)
+        to = add_u16(to, codes[i]);
+    return to;
+}
+
+static uint8_t *add_values(uint8_t *to, const pgmsg_value *values, size_t len)
+{
+    to = add_u16(to, len);
+    for (size_t i = 0; i < len; i++) {
+        struct text value = {values[i].bytes, values[i].bytes_len};
+        to = values[i].is_null ? add_u32(to, UINT32_MAX) : add(add_u32(to, value.len), value);
+    }
+    return to;
+}
+
+ptrdiff_t hand_bind(struct text portal, struct text statement, const uint16_t *formats, size_t formats_len,
+                    const pgmsg_value *values, size_t values_len, const uint16_t *results, size_t results_len,
+                    uint8_t *out, size_t out_len)
+{
+    if (formats_len > MOST_ITEMS)
+        return PGMSG_TOO_MANY_PARAM_FORMATS;
+    if (results_len > MOST_ITEMS)
+        return PGMSG_TOO_MANY_RESULT_FORMATS;
+    if (values_len > MOST_ITEMS)
+        return PGMSG_BAD_PARAMS;
+    size_t len = portal.len + 1 + statement.len + 1 + 6 + 2 * (formats_len + results_len) + 4 * values_len;
+    for (size_t i = 0; i < values_len; i++) {
+        if (!values[i].is_null && values[i].bytes_len > MOST_BYTES)
+            return PGMSG_MESSAGE_TOO_LONG;
+        len += values[i].is_null ? 0 : values[i].bytes_len;
+    }
+    if (len > MOST_BYTES - 4)
+        return PGMSG_MESSAGE_TOO_LONG;
+    if (holds_nul(portal) || holds_nul(statement))
+        return PGMSG_TEXT_HOLDS_NUL;
+    if (out_len < HEADER + len)
+        return (ptrdiff_t)(HEADER + len);
+    uint8_t *to = add_codes(add_ended(add_ended(add_header(out, 'B', len), portal), statement), formats, formats_len);
+    add_codes(add_values(to, values, values_len), results, results_len);
+    return (ptrdiff_t)(HEADER + len);
+}
+
+ptrdiff_t hand_execute(struct text portal, uint32_t limit, uint8_t *out, size_t out_len)
+{
+    size_t len = portal.len + 1 + 4;
+    if (len > MOST_BYTES - 4)
+        return PGMSG_MESSAGE_TOO_LONG;
+    if (holds_nul(portal))
+        return PGMSG_TEXT_HOLDS_NUL;
+    if (out_len >= HEADER + len)
+        add_u32(add_ended(add_header(out, 'E', len), portal), limit);
+    return (ptrdiff_t)(HEADER + len);
+}

@@ -1,0 +1,23 @@
+/* Messages to the server, written by hand: the same bytes as the library's, refused for the same faults. */
+#ifndef PUT_BY_HAND_H
+#define PUT_BY_HAND_H
+
+#include "pg_message.h"
+
+/* A text or a name. */
+struct text {
+    const uint8_t *bytes;
+    size_t len;
+};
+
+ptrdiff_t hand_sync(uint8_t *out, size_t out_len);
+ptrdiff_t hand_query(struct text query, uint8_t *out, size_t out_len);
+ptrdiff_t hand_copy_data(struct text data, uint8_t *out, size_t out_len);
+ptrdiff_t hand_parse(struct text statement, struct text query, const uint32_t *types, size_t types_len, uint8_t *out,
+                     size_t out_len);
+ptrdiff_t hand_bind(struct text portal, struct text statement, const uint16_t *formats, size_t formats_len,
+                    const pgmsg_value *values, size_t values_len, const uint16_t *results, size_t results_len,
+                    uint8_t *out, size_t out_len);
+ptrdiff_t hand_execute(struct text portal, uint32_t limit, uint8_t *out, size_t out_len);
+
+#endif

@@ -1,0 +1,20 @@
+/* Times two calls by turns. */
+#ifndef TURNS_H
+#define TURNS_H
+
+#include <stdint.h>
+
+enum { ROUNDS = 101 };
+
+/* A call that is timed: so often, with a sum of what it gives, which keeps the work from being left out. */
+typedef uint64_t timed(const void *what, int times);
+
+/* The medians, over the rounds, of the nanoseconds of one call. */
+struct turns {
+    double library, hand;
+};
+
+/* Takes turns, so that both meet the same state of the machine. */
+struct turns take_turns(timed *library, timed *hand, const void *what, int times, uint64_t *sum);
+
+#endif
