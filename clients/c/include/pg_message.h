@@ -8,10 +8,13 @@
  * handler.
  *
  * A call that writes a message returns the length of the message in bytes, and has written it at the front
- * of `out` where `out` is that long; else `out` is as it was. It asks for no memory. A call that reads gives
- * places in the bytes that it was passed. Both refuse by one of the numbers below 0. One that reads then fills
- * `fault` too, which only a refusal writes; an array of places holds at most the items before the one that is
- * broken, and all else is as it was. */
+ * of `out` where `out` is that long; else `out` is as it was. A call that reads gives places in the bytes that
+ * it was passed. Both refuse by one of the numbers below 0. One that reads then fills `fault` too, which only a
+ * refusal writes; an array of places holds at most the items before the one that is broken, and all else is as
+ * it was.
+ *
+ * Memory is asked for by pgmsg_read_severity, pgmsg_read_authentication, pgmsg_read_challenge and
+ * pgmsg_read_verifier, and for the words of a fault; by nothing else. */
 
 #ifndef PG_MESSAGE_H
 #define PG_MESSAGE_H
