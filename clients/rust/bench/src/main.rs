@@ -1,0 +1,147 @@
+//! Times pgmsg beside postgres-protocol, by turns in one process. It prints a row a case: the medians of 31
+//! rounds in nanoseconds a message, and their quotient.
+
+mod ours;
+mod theirs;
+
+use std::hint::black_box;
+use std::time::Duration;
+
+const ROUNDS: usize = 31;
+
+/// How long each timing takes at least.
+const LEAST: Duration = Duration::from_millis(5);
+
+/// What both write: a statement's name, its query, the types and the values of its parameters.
+pub struct Query {
+    pub statement: &'static str,
+    pub query: String,
+    pub types: Vec<u32>,
+    pub values: Vec<Vec<u8>>,
+}
+
+#[repr(C)]
+struct Timespec {
+    seconds: i64,
+    nanoseconds: i64,
+}
+
+extern "C" {
+    fn clock_gettime(clock: i32, time: *mut Timespec) -> i32;
+}
+
+/// The processor time of this process so far.
+fn processor_time() -> Duration {
+    const CLOCK_PROCESS_CPUTIME_ID: i32 = 2;
+    let mut time = Timespec {
+        seconds: 0,
+        nanoseconds: 0,
+    };
+    // SAFETY: it is a `timespec` of 64-bit Linux, which the call fills.
+    let status = unsafe { clock_gettime(CLOCK_PROCESS_CPUTIME_ID, &mut time) };
+    assert_eq!(status, 0);
+    Duration::new(time.seconds as u64, time.nanoseconds as u32)
+}
+
+/// The nanoseconds of one of so many calls.
+fn time_of(call: &mut dyn FnMut() -> usize, times: u32) -> f64 {
+    let begin = processor_time();
+    for _ in 0..times {
+        black_box(call());
+    }
+    (processor_time() - begin).as_nanos() as f64 / f64::from(times)
+}
+
+/// As many calls as take long enough.
+fn times_of(call: &mut dyn FnMut() -> usize) -> u32 {
+    let mut times = 1;
+    while time_of(call, times) * f64::from(times) < LEAST.as_nanos() as f64 {
+        times *= 2;
+    }
+    times
+}
+
+fn median(mut all: Vec<f64>) -> f64 {
+    all.sort_by(f64::total_cmp);
+    all[all.len() / 2]
+}
+
+/// Takes turns, and prints the row of a case, of which a call has so many messages.
+fn compare(
+    name: &str,
+    messages: usize,
+    mut ours: impl FnMut() -> usize,
+    mut theirs: impl FnMut() -> usize,
+) {
+    assert_eq!(ours(), theirs(), "{name}: the two don't give the same");
+    let times = times_of(&mut ours).max(times_of(&mut theirs));
+    let (mut of_ours, mut of_theirs) = (Vec::new(), Vec::new());
+    for _ in 0..ROUNDS {
+        of_ours.push(time_of(&mut ours, times) / messages as f64);
+        of_theirs.push(time_of(&mut theirs, times) / messages as f64);
+    }
+    let (ours, theirs) = (median(of_ours), median(of_theirs));
+    println!(
+        "| {name} | {ours:.1} | {theirs:.1} | {:.2} |",
+        ours / theirs
+    );
+}
+
+/// A stream of rows, each of so many cells of 8 bytes.
+fn rows(count: usize, cells: usize) -> Vec<u8> {
+    let mut stream = Vec::new();
+    for _ in 0..count {
+        stream.push(b'D');
+        stream.extend_from_slice(&(6 + 12 * cells as u32).to_be_bytes());
+        stream.extend_from_slice(&(cells as u16).to_be_bytes());
+        for _ in 0..cells {
+            stream.extend_from_slice(b"\0\0\0\x08abcdefgh");
+        }
+    }
+    stream
+}
+
+fn query_of(values: usize, length: usize) -> Query {
+    Query {
+        statement: "s17",
+        query: "x".repeat(86),
+        types: vec![25; 8],
+        values: vec![vec![b'v'; length]; values],
+    }
+}
+
+fn main() {
+    println!("| case | pgmsg, ns | postgres-protocol, ns | quotient |\n|---|---|---|---|");
+    for cells in [5, 50] {
+        let stream = rows(200, cells);
+        let name = format!("row of {cells} cells");
+        let mut reader = ours::Reader::default();
+        compare(
+            &name,
+            200,
+            || reader.read(&stream),
+            || theirs::read(&stream),
+        );
+    }
+    let (mut writer, mut other) = (ours::Writer::default(), theirs::Writer::default());
+    let short = query_of(8, 8);
+    compare(
+        "Parse of 8 types",
+        1,
+        || writer.parse(&short),
+        || other.parse(&short),
+    );
+    compare(
+        "Bind of 8 values, Execute and Sync",
+        1,
+        || writer.run(&short),
+        || other.run(&short),
+    );
+    let long = query_of(2, 4096);
+    compare(
+        "Bind of 2 values of 4 KiB, Execute and Sync",
+        1,
+        || writer.run(&long),
+        || other.run(&long),
+    );
+}

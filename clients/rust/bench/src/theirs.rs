@@ -1,0 +1,61 @@
+//! The calls of postgres-protocol.
+
+use crate::Query;
+use bytes::{BufMut, BytesMut};
+use fallible_iterator::FallibleIterator;
+use postgres_protocol::message::backend::Message;
+use postgres_protocol::message::frontend;
+use postgres_protocol::IsNull;
+
+/// Reads rows off a stream that was copied into a buffer: the sum of the lengths of all cells.
+pub fn read(stream: &[u8]) -> usize {
+    let mut buffer = BytesMut::from(stream);
+    let mut sum = 0;
+    while let Some(message) = Message::parse(&mut buffer).expect("a frame") {
+        let Message::DataRow(row) = message else {
+            panic!("not a row");
+        };
+        let mut ranges = row.ranges();
+        while let Some(range) = ranges.next().expect("a cell") {
+            sum += range.map_or(0, |range| row.buffer()[range].len());
+        }
+    }
+    sum
+}
+
+/// Writes messages into an emptied buffer.
+#[derive(Default)]
+pub struct Writer {
+    buffer: BytesMut,
+}
+
+impl Writer {
+    /// A Parse: how many bytes it has.
+    pub fn parse(&mut self, query: &Query) -> usize {
+        self.buffer.clear();
+        let types = query.types.iter().copied();
+        frontend::parse(query.statement, &query.query, types, &mut self.buffer).expect("a Parse");
+        self.buffer.len()
+    }
+
+    /// A Bind of the unnamed portal, an Execute of it and a Sync: how many bytes they have.
+    pub fn run(&mut self, query: &Query) -> usize {
+        self.buffer.clear();
+        let bound = frontend::bind(
+            "",
+            query.statement,
+            [1],
+            &query.values,
+            |value, buffer| {
+                buffer.put_slice(value);
+                Ok(IsNull::No)
+            },
+            [1],
+            &mut self.buffer,
+        );
+        assert!(bound.is_ok());
+        frontend::execute("", 0, &mut self.buffer).expect("an Execute");
+        frontend::sync(&mut self.buffer);
+        self.buffer.len()
+    }
+}
