@@ -37,7 +37,7 @@ fn a_cancel_request(rt: HostRuntime) -> Result<(), AllocError> {
     assert_all_or_nothing(&rt, rt.alloc(), &cancel, text)
 }
 
-// A cancel request with that many bytes of key adds the length of the whole, or is refused.
+// A cancel request with that many bytes of key is added, in room that is there, or is refused.
 fn assert_key(
     rt: &impl Abort,
     alloc: Global,
@@ -49,7 +49,8 @@ fn assert_key(
         process_id: u32::MAX,
         secret_key: key.as_slice(),
     };
-    let mut buf = Vec::from_slice(alloc, b"\xaa")?;
+    let mut buf = Vec::with_capacity(alloc, length.saturating_add(13))?;
+    buf.push(0xaa)?;
     let result = cancel.encode(&mut buf);
     if is_one {
         assert!(rt; result == Ok(()));
