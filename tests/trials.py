@@ -51,6 +51,8 @@ class Trial:
                 self.show(edit, NOT_APPLIED, edit.why_not or "its crate is not proved")
             else:
                 left.append(edit)
+        # Laws that stand on most come first, since they can stand beside the fewest.
+        left.sort(key=lambda edit: -len(edit.stands_on))
         with tempfile.TemporaryDirectory(prefix="edits-") as self.kept:
             self.begin(proofs)
             while left:

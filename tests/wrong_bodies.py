@@ -2,6 +2,7 @@
 
 import re
 
+import definitions
 import sources
 
 # A constant that only its own file, or its own item, sees.
@@ -13,17 +14,23 @@ class Edit:
 
     Each TEXT stands once in its file, on one line. A line `refused by: FUNCTION` names, by the end of its path, the
     function whose contract refuses an edit that stands in none, as that of a number of an enum. A line
-    `refused by law: NAME` names the proof that no longer holds of a definition.
+    `refused by law: NAME` names what no longer holds of a definition: a proof, also one of a clause as
+    `returns-clause-CLAUSE`, or where the clause itself has no type any more, `ensures-CLAUSE`. Of proofs of one name
+    one is `FOLDER/NAME`.
     """
 
     def __init__(self, crate, file):
         self.crate, self.file, self.name = crate, file, file.stem
         self.why_not, self.changes, self.owners, self.avoids, self.turns = None, {}, set(), set(), 0
+        self.lines, self.stands_on = set(), set()
         try:
             self.read(file.read_text())
             # What changes more than bodies could also refuse what stands beside it.
             self.is_apart = bool(self.refusing)
             self.owners = self.refusing | self.laws or self.changed_functions()
+            self.lines = {(path, number) for path, changed in self.changes.items() for number in changed}
+            if self.laws:
+                self.read_laws(definitions.of(self.crate))
         except (OSError, ValueError) as why:
             self.why_not = str(why)
 
@@ -45,6 +52,16 @@ class Edit:
                 self.laws.add(rest)
         if not self.changes:
             raise ValueError("it changes nothing")
+
+    def read_laws(self, known):
+        """Finds the lines on which the laws stand, and those that have no proof where a clause has no type."""
+        new = [definitions.Part(path, [line], 0, 0) for path, changed in self.changes.items() for line in changed.values()]
+        for law in self.laws:
+            self.stands_on |= known.lines_of(law, new)
+        if not self.lines <= self.stands_on:
+            raise ValueError("the law that it names doesn't stand on the lines that it changes")
+        for law in self.laws:
+            self.lines |= known.beside.get(law, set())
 
     def change(self, path, old, new):
         """Puts a text in the place of another that stands once in the file as it was edited so far."""
@@ -75,9 +92,10 @@ class Edit:
         return found
 
     def touches(self, other):
-        """Whether the two can't stand in one check."""
+        """Whether the two can't stand in one check: of laws, where what one changes could refuse the other."""
         return bool((self.owners | self.avoids) & other.owners or self.owners & other.avoids
-                    or any(self.changes[path].keys() & other.changes.get(path, {}) for path in self.changes))
+                    or self.lines & (other.lines | other.stands_on) or self.stands_on & other.lines
+                    or bool(self.laws) != bool(other.laws))
 
 
 def texts(crate, edits):

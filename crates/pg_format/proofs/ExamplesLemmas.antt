@@ -32,3 +32,8 @@ neither (Some fault) b p q = absurd (cc p)
 -- the faults of three fields, of which the first is also looked up in a list
 pub three_clean : (a b c : Option ProtocolFault) → a ≡ None → b ≡ None → c ≡ None → option_or (option_or a None) (option_or b (option_or c None)) ≡ None
 three_clean a b c p q r = neither (option_or a None) (option_or b (option_or c None)) (neither a None p refl) (neither b (option_or c None) q (neither c None r refl))
+
+-- the faults of one field, where only the second of its tests has one
+pub second_fault : (a : Option ProtocolFault) (fault : ProtocolFault) → a ≡ None → option_or (option_or a (Some fault)) None ≡ Some fault
+second_fault None fault p = refl
+second_fault (Some other) fault p = absurd (cc p)

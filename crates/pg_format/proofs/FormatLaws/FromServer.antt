@@ -7,6 +7,7 @@ use Rattle.pg_format.specs.Format.{Lawful, Total}
 use Rattle.pg_format.specs.Format.Parts.{until_nul, be_u8, be_u32, be_i16}
 use Rattle.pg_format.specs.Format.Sequences.{◌⨾◌}
 use Rattle.pg_format.specs.Format.Tests.{only}
+use Rattle.pg_format.specs.Format.Lists.{many}
 use Rattle.pg_format.specs.Notices.{Field, notice_fault}
 use Rattle.pg_format.specs.Sasl.{first_message_fault, final_message_fault}
 use Rattle.pg_format.specs.Messages.{ok, cleartext_password, md5_password, sasl, sasl_continue, sasl_final, salt_of, mechanisms_of, continued, finished, mechanism_names, asked_by, with_method, authentication, backend_key_data, no_body, columns_of, column_codes, copy_response, data_row, field, notice, notification, parameter_description, parameter_status, Status, idle, transaction, error, status_of, status_letter, ready_for_query, table, table_number, attribute, attribute_number, numbers, column, row_description}
@@ -111,8 +112,11 @@ letter_or_none f =
       | inr not ↦ inl not
     ]
 
+pub lawful_fields : Lawful (many (0 ∷ []) field)
+lawful_fields = lawful_many (0 ∷ []) (lawful_only (λ f. f.0 ≢ 0) (lawful_unsigned 1 tt l⨾ lawful_until_nul)) no_field
+
 pub lawful_notice : Lawful notice
-lawful_notice = lawful_checked notice_fault (lawful_many (0 ∷ []) (lawful_only (λ f. f.0 ≢ 0) (lawful_unsigned 1 tt l⨾ lawful_until_nul)) no_field)
+lawful_notice = lawful_checked notice_fault lawful_fields
 
 field_takes : Takes 1 (be_u8 ⨾ until_nul)
 field_takes = record { takes = λ bytes rest f p. omega (arith, (takes_pair 1 1 (takes_unsigned 1) takes_until_nul).takes bytes rest f p) }

@@ -3,6 +3,7 @@
 
 ghost use Rattle.std.specs.Prelude.{◌≡◌, [], ◌∷◌, ◌++◌, codes, replicate, pos, negsuc, Some, None};
 ghost use Rattle.pg_base.specs.declared.error.ProtocolFault.TheVariants.{BadKeyLength};
+ghost use Rattle.pg_base.specs.declared.error.ProtocolFault.TheVariants.{BodyTooLong, UnknownSeverity};
 ghost use Rattle.pg_base.specs.declared.format.BackendMessageFormat.TheVariants as backend;
 ghost use Rattle.pg_base.specs.declared.format.FrontendMessageFormat.TheVariants as frontend;
 ghost use Rattle.pg_format.specs.Format.{Means, IsFaultOf};
@@ -183,4 +184,42 @@ pub fn examples_without_a_tag()
         (BadKeyLength 257) }
     ensures ssl_request { Means ssl_request (4 ∷ 210 ∷ 22 ∷ 47 ∷ []) 80877103 }
     ensures gss_enc_request { Means gss_enc_request (4 ∷ 210 ∷ 22 ∷ 48 ∷ []) 80877104 }
+{}
+
+/// Errors and notices with a severity that is no word of those that there are.
+pub fn examples_of_severities()
+    ensures error_of_no_severity { IsFaultOf (from_server backend.ErrorResponse).format
+        (86 ∷ codes "INF" ++ 0 ∷ 0 ∷ [])
+        UnknownSeverity }
+    ensures notice_of_no_severity { IsFaultOf (from_server backend.NoticeResponse).format
+        (86 ∷ codes "INF" ++ 0 ∷ 0 ∷ [])
+        UnknownSeverity }
+{}
+
+/// A byte where no body is due: from a server it is ignored, from a client it is a fault.
+pub fn examples_of_no_body()
+    ensures bound_with_a_body { Means (from_server backend.BindComplete).format (7 ∷ []) tt }
+    ensures closed_with_a_body { Means (from_server backend.CloseComplete).format (7 ∷ []) tt }
+    ensures copied_with_a_body { Means (from_server backend.CopyDone).format (7 ∷ []) tt }
+    ensures empty_query_with_a_body { Means (from_server backend.EmptyQueryResponse).format (7 ∷ [])
+        tt }
+    ensures no_data_with_a_body { Means (from_server backend.NoData).format (7 ∷ []) tt }
+    ensures parsed_with_a_body { Means (from_server backend.ParseComplete).format (7 ∷ []) tt }
+    ensures suspended_with_a_body { Means (from_server backend.PortalSuspended).format (7 ∷ []) tt }
+    ensures flush_with_a_body { IsFaultOf (from_client frontend.Flush).format (7 ∷ [])
+        (BodyTooLong 0) }
+    ensures sync_with_a_body { IsFaultOf (from_client frontend.Sync).format (7 ∷ [])
+        (BodyTooLong 0) }
+    ensures terminate_with_a_body { IsFaultOf (from_client frontend.Terminate).format (7 ∷ [])
+        (BodyTooLong 0) }
+    ensures sent_copy_done_with_a_body { IsFaultOf (from_client frontend.CopyDone).format (7 ∷ [])
+        (BodyTooLong 0) }
+{}
+
+/// What is written of a request for authentication: the number of its method, then what it carries.
+pub fn examples_of_writing()
+    ensures cleartext_written { (from_server backend.Authentication).format.Writes cleartext_password ≡
+        0 ∷ 0 ∷ 0 ∷ 3 ∷ [] }
+    ensures md5_written { (from_server backend.Authentication).format.Writes
+        (md5_password (9 ∷ 0 ∷ 8 ∷ 7 ∷ [])) ≡ 0 ∷ 0 ∷ 0 ∷ 5 ∷ 9 ∷ 0 ∷ 8 ∷ 7 ∷ [] }
 {}
