@@ -16,7 +16,8 @@ use std::alloc::Global;
 ///
 /// Memory is asked for once for the answers, and once, at the first message that the spare room
 /// doesn't hold, for all that is left to add; where the second is refused, each message asks for its
-/// own. Where room for the answers is refused, the call is `OutOfMemory` and changes nothing.
+/// own. Where room for the answers is refused, the call is `OutOfMemory` and changes nothing; no
+/// messages need none.
 pub fn encode_all(
     alloc: Global,
     messages: &[TaggedMessage<'_>],
@@ -24,6 +25,7 @@ pub fn encode_all(
 ) -> Result<Vec<Result<(), Error>>, Error>
     ensures run { IfOk result (λ answers. EncodesRun IsLimitAnswer (messages_of messages.now) answers.items buf.old buf.new) }
     ensures memory { IsOkUnless result OutOfMemory }
+    ensures some { OnErr result (0 < length messages.now) }
     ensures err { OnErr result (buf.new ≡ buf.old) }
 {
     encode_run(alloc, messages, false, buf)
@@ -40,6 +42,7 @@ pub fn encode_strict(
     // A reader that is given the kinds gets back each accepted message.
     ensures round_trip { IfOk result (λ answers. EachRoundTrips (messages_of messages.now) answers.items) }
     ensures memory { IsOkUnless result OutOfMemory }
+    ensures some { OnErr result (0 < length messages.now) }
     ensures err { OnErr result (buf.new ≡ buf.old) }
 {
     encode_run(alloc, messages, true, buf)
@@ -55,6 +58,7 @@ fn encode_run(
 ) -> Result<Vec<Result<(), Error>>, Error>
     ensures run { IfOk result (λ answers. EncodesRun (IsAnswerOf strict) (messages_of messages.now) answers.items buf.old buf.new) }
     ensures memory { IsOkUnless result OutOfMemory }
+    ensures some { OnErr result (0 < length messages.now) }
     ensures err { OnErr result (buf.new ≡ buf.old) }
 {
     let mut answers = Vec::with_capacity(alloc, messages.len())?;
