@@ -10,7 +10,7 @@
 //! | `CommandComplete` | [`rows_affected`] |
 //! | `CopyData` | none: the body is the data |
 //! | `CopyInResponse`, `CopyOutResponse` | [`copy_response`] |
-//! | `DataRow` | [`RowIndex::read`] |
+//! | `DataRow` | [`RowIndex::read`], [`places`] |
 //! | `ErrorResponse`, `NoticeResponse` | [`fields`](fn@fields), [`severity`] |
 //! | `NotificationResponse` | [`notification`] |
 //! | `ParameterDescription` | [`parameter_types`] |
@@ -37,7 +37,7 @@ pub use copy::{copy_response, CopyResponse};
 pub use fields::{fields, severity, Field, FieldKind, Fields, Severity};
 pub use frame::{next_frame, Frame, Next};
 pub use kind::Kind;
-pub use row::{Cell, Cells, Row, RowIndex};
+pub use row::{places, Cell, Cells, Row, RowIndex};
 #[cfg(feature = "bytes")]
 pub use shared::{split_frame, SharedFrame};
 pub use status::{

@@ -42,25 +42,41 @@ impl RowIndex {
     /// It allocates only for a row of more cells than any row before.
     #[inline]
     pub fn read<'b>(&mut self, body: &'b [u8]) -> Result<Row<'b, '_>, Fault> {
-        let cells = fill(&mut self.cells, |room| {
-            answer(|fault| {
-                // SAFETY: `body` and `room` are slices, valid for their lengths, and `&mut` keeps
-                // `room` and `fault` apart. A `Cell` is one of the library.
-                unsafe {
-                    sys::pgmsg_read_row(
-                        body.as_ptr(),
-                        body.len(),
-                        room.as_mut_ptr().cast(),
-                        room.len(),
-                        fault,
-                    )
-                }
-            })
-        })?;
-        // The library is proved to give no other place.
-        debug_assert!(cells.iter().all(|cell| cell.is_in(body)));
+        let cells = places(body, &mut self.cells)?;
         Ok(Row { body, cells })
     }
+}
+
+/// The places of the cells of a row in the body of its DataRow, in a vector of the caller, which only
+/// grows.
+///
+/// ```
+/// # use pgmsg::read::places;
+/// let mut room = Vec::new();
+/// let places = places(b"\0\x02\0\0\0\x015\xff\xff\xff\xff", &mut room)?;
+/// assert!(places.iter().map(|place| place.range()).eq([Some(6..7), None]));
+/// # Ok::<(), pgmsg::Fault>(())
+/// ```
+#[inline]
+pub fn places<'r>(body: &[u8], room: &'r mut Vec<Cell>) -> Result<&'r [Cell], Fault> {
+    let cells = fill(room, |room| {
+        answer(|fault| {
+            // SAFETY: `body` and `room` are slices, valid for their lengths, and `&mut` keeps
+            // `room` and `fault` apart. A `Cell` is one of the library.
+            unsafe {
+                sys::pgmsg_read_row(
+                    body.as_ptr(),
+                    body.len(),
+                    room.as_mut_ptr().cast(),
+                    room.len(),
+                    fault,
+                )
+            }
+        })
+    })?;
+    // The library is proved to give no other place.
+    debug_assert!(cells.iter().all(|cell| cell.is_in(body)));
+    Ok(cells)
 }
 
 /// A row: for each column the bytes of its value, or `None` where it is NULL.
