@@ -1,0 +1,4 @@
+//! Messages between client and server.
+
+pub mod backend;
+pub mod frontend;

@@ -1,0 +1,130 @@
+//! What the server asks of a client that opens a session.
+
+use super::items::{iterate, Items};
+use super::Message;
+use crate::lacking::{self, ends, ends_list, refused, text_len};
+use bytes::Bytes;
+use fallible_iterator::FallibleIterator;
+use pgmsg::read::{authentication, Authentication};
+use std::io;
+
+/// The bytes of the number of the method, which all else follows.
+const METHOD: usize = 4;
+
+/// Reads the body of an Authentication.
+pub(super) fn read(body: Bytes) -> io::Result<Message> {
+    let method = lacking::method(&body)?;
+    let fixed = |length, message| ends(&body, length).map(|()| message);
+    match method {
+        0 => fixed(METHOD, Message::AuthenticationOk),
+        2 => fixed(METHOD, Message::AuthenticationKerberosV5),
+        3 => fixed(METHOD, Message::AuthenticationCleartextPassword),
+        5 => AuthenticationMd5PasswordBody::read(&body).map(Message::AuthenticationMd5Password),
+        6 => fixed(METHOD, Message::AuthenticationScmCredential),
+        7 => fixed(METHOD, Message::AuthenticationGss),
+        9 => fixed(METHOD, Message::AuthenticationSspi),
+        _ => read_exchange(method, body),
+    }
+}
+
+/// Reads the body of an Authentication that an exchange is part of.
+fn read_exchange(method: u32, body: Bytes) -> io::Result<Message> {
+    match method {
+        8 => Ok(Message::AuthenticationGssContinue(
+            AuthenticationGssContinueBody(body),
+        )),
+        10 => Ok(Message::AuthenticationSasl(AuthenticationSaslBody(body))),
+        11 => Ok(Message::AuthenticationSaslContinue(
+            AuthenticationSaslContinueBody(body),
+        )),
+        12 => Ok(Message::AuthenticationSaslFinal(
+            AuthenticationSaslFinalBody(body),
+        )),
+        _ => Err(refused("unknown method of authentication")),
+    }
+}
+
+/// The salt of the digest of a password.
+pub struct AuthenticationMd5PasswordBody {
+    salt: [u8; 4],
+}
+
+impl AuthenticationMd5PasswordBody {
+    fn read(body: &[u8]) -> io::Result<AuthenticationMd5PasswordBody> {
+        match authentication(body)? {
+            Authentication::Md5Password { salt } => {
+                ends(body, METHOD + salt.len())?;
+                Ok(AuthenticationMd5PasswordBody { salt })
+            }
+            _ => Err(refused("not a request for an MD5 digest")),
+        }
+    }
+
+    /// The salt.
+    #[inline]
+    pub fn salt(&self) -> [u8; 4] {
+        self.salt
+    }
+}
+
+/// A body that is data after the number of the method.
+macro_rules! data {
+    ($(#[$doc:meta])* $name:ident) => {
+        $(#[$doc])*
+        pub struct $name(Bytes);
+
+        impl $name {
+            /// The data.
+            #[inline]
+            pub fn data(&self) -> &[u8] {
+                self.0.get(METHOD..).unwrap_or_default()
+            }
+        }
+    };
+}
+
+data! {
+    /// Data of an exchange by GSSAPI or SSPI.
+    AuthenticationGssContinueBody
+}
+
+data! {
+    /// The challenge in a SASL exchange.
+    AuthenticationSaslContinueBody
+}
+
+data! {
+    /// The end of a SASL exchange.
+    AuthenticationSaslFinalBody
+}
+
+/// The mechanisms of SASL that the server offers.
+pub struct AuthenticationSaslBody(Bytes);
+
+impl AuthenticationSaslBody {
+    /// The names of the mechanisms.
+    #[inline]
+    pub fn mechanisms(&self) -> SaslMechanisms<'_> {
+        SaslMechanisms {
+            items: Items::new(mechanisms(&self.0)),
+        }
+    }
+}
+
+/// The names of mechanisms of SASL.
+pub struct SaslMechanisms<'a> {
+    items: Items<&'a str>,
+}
+
+iterate!(SaslMechanisms, &'a str);
+
+fn mechanisms(body: &[u8]) -> io::Result<Vec<&str>> {
+    match authentication(body)? {
+        Authentication::Sasl { mechanisms } => {
+            let texts: usize = mechanisms.iter().map(|it| text_len(it.as_bytes())).sum();
+            ends_list(body, METHOD + texts)?;
+            Ok(mechanisms)
+        }
+        _ => Err(refused("not an offer of mechanisms")),
+    }
+}

@@ -1,0 +1,95 @@
+//! The data of a COPY, and how it is spelled.
+
+use super::items::{iterate, Items};
+use crate::lacking::{ends, refused};
+use bytes::Bytes;
+use fallible_iterator::FallibleIterator;
+use pgmsg::read::copy_response;
+use std::io;
+use std::marker::PhantomData;
+
+/// The bytes before the formats of the columns: the format of all, and a count.
+const COUNTED: usize = 3;
+
+/// Data of a COPY.
+pub struct CopyDataBody {
+    storage: Bytes,
+}
+
+impl CopyDataBody {
+    #[inline]
+    pub(super) fn read(storage: Bytes) -> CopyDataBody {
+        CopyDataBody { storage }
+    }
+
+    /// The data.
+    #[inline]
+    pub fn data(&self) -> &[u8] {
+        &self.storage
+    }
+
+    /// The data, without copying it.
+    #[inline]
+    pub fn into_bytes(self) -> Bytes {
+        self.storage
+    }
+}
+
+/// A body that says how the data of a COPY is spelled.
+macro_rules! response {
+    ($(#[$doc:meta])* $name:ident) => {
+        $(#[$doc])*
+        pub struct $name(Bytes);
+
+        impl $name {
+            pub(super) fn read(body: Bytes) -> io::Result<$name> {
+                if body.len() < COUNTED {
+                    return Err(refused("message body is too short"));
+                }
+                Ok($name(body))
+            }
+
+            /// The format of the data: 0 for text, 1 for binary.
+            #[inline]
+            pub fn format(&self) -> u8 {
+                self.0.first().copied().unwrap_or_default()
+            }
+
+            /// The formats of the columns.
+            #[inline]
+            pub fn column_formats(&self) -> ColumnFormats<'_> {
+                ColumnFormats {
+                    items: Items::new(column_formats(&self.0)),
+                    body: PhantomData,
+                }
+            }
+        }
+    };
+}
+
+response! {
+    /// The server waits for the data of a COPY.
+    CopyInResponseBody
+}
+
+response! {
+    /// The server is about to send the data of a COPY.
+    CopyOutResponseBody
+}
+
+/// The formats of columns.
+pub struct ColumnFormats<'a> {
+    items: Items<u16>,
+    body: PhantomData<&'a [u8]>,
+}
+
+iterate!(ColumnFormats, u16);
+
+fn column_formats(body: &[u8]) -> io::Result<Vec<u16>> {
+    let response = copy_response(body)?;
+    if response.count < 0 {
+        return Err(refused("more columns than a table can have"));
+    }
+    ends(body, COUNTED + 2 * response.columns.len())?;
+    Ok(response.columns.iter().map(|code| code.0 as u16).collect())
+}

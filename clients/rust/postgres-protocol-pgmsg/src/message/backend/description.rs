@@ -1,0 +1,134 @@
+//! The columns of a result, and the types of a statement's parameters.
+
+use super::items::{iterate, Items};
+use crate::lacking::{ends, has_count, text_len};
+use crate::Oid;
+use bytes::Bytes;
+use fallible_iterator::FallibleIterator;
+use pgmsg::read::{columns, parameter_types, Column};
+use std::io;
+use std::marker::PhantomData;
+
+/// The bytes of the count before a list.
+const COUNT: usize = 2;
+
+/// The bytes of a column after its name.
+const NUMBERS: usize = 18;
+
+/// The columns of a result.
+pub struct RowDescriptionBody {
+    storage: Bytes,
+}
+
+impl RowDescriptionBody {
+    pub(super) fn read(storage: Bytes) -> io::Result<RowDescriptionBody> {
+        has_count(&storage)?;
+        Ok(RowDescriptionBody { storage })
+    }
+
+    /// The columns.
+    #[inline]
+    pub fn fields(&self) -> Fields<'_> {
+        Fields {
+            items: Items::new(fields(&self.storage)),
+        }
+    }
+}
+
+/// The columns of a result.
+pub struct Fields<'a> {
+    items: Items<Field<'a>>,
+}
+
+iterate!(Fields, Field<'a>);
+
+fn fields(body: &[u8]) -> io::Result<Vec<Field<'_>>> {
+    let columns = columns(body)?;
+    let lengths = columns
+        .iter()
+        .map(|column| text_len(column.name.as_bytes()) + NUMBERS);
+    ends(body, COUNT + lengths.sum::<usize>())?;
+    Ok(columns.into_iter().map(Field).collect())
+}
+
+/// A column of a result.
+pub struct Field<'a>(Column<'a>);
+
+impl<'a> Field<'a> {
+    /// The name of the column.
+    #[inline]
+    pub fn name(&self) -> &'a str {
+        self.0.name
+    }
+
+    /// The object id of the table that the column is of, or 0.
+    #[inline]
+    pub fn table_oid(&self) -> Oid {
+        self.0.table.unwrap_or_default()
+    }
+
+    /// The number of the column in its table, or 0.
+    #[inline]
+    pub fn column_id(&self) -> i16 {
+        self.0.attribute.unwrap_or_default()
+    }
+
+    /// The object id of the type.
+    #[inline]
+    pub fn type_oid(&self) -> Oid {
+        self.0.type_id
+    }
+
+    /// How many bytes a value has, below 0 where that varies.
+    #[inline]
+    pub fn type_size(&self) -> i16 {
+        self.0.type_size
+    }
+
+    /// The modifier of the type.
+    #[inline]
+    pub fn type_modifier(&self) -> i32 {
+        self.0.type_modifier
+    }
+
+    /// The format of the values: 0 for text, 1 for binary.
+    #[inline]
+    pub fn format(&self) -> i16 {
+        self.0.format.0
+    }
+}
+
+/// The types of a statement's parameters.
+pub struct ParameterDescriptionBody {
+    storage: Bytes,
+}
+
+impl ParameterDescriptionBody {
+    pub(super) fn read(storage: Bytes) -> io::Result<ParameterDescriptionBody> {
+        has_count(&storage)?;
+        Ok(ParameterDescriptionBody { storage })
+    }
+
+    /// The object ids of the types.
+    #[inline]
+    pub fn parameters(&self) -> Parameters<'_> {
+        Parameters {
+            items: Items::new(parameters(&self.storage)),
+            body: PhantomData,
+        }
+    }
+}
+
+/// The object ids of types.
+pub struct Parameters<'a> {
+    items: Items<Oid>,
+    body: PhantomData<&'a [u8]>,
+}
+
+iterate!(Parameters, Oid);
+
+fn parameters(body: &[u8]) -> io::Result<Vec<Oid>> {
+    let types = parameter_types(body)?;
+    ends(body, COUNT + 4 * types.len())?;
+    Ok(types)
+}

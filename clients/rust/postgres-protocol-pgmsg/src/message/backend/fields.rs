@@ -1,0 +1,81 @@
+//! The fields of an error or a notice.
+
+use super::items::{iterate, Items};
+use crate::lacking::{ends_list, refused, text_len};
+use bytes::Bytes;
+use fallible_iterator::FallibleIterator;
+use pgmsg::read::fields;
+use std::{io, str};
+
+/// A body that is a list of fields.
+macro_rules! fields {
+    ($(#[$doc:meta])* $name:ident) => {
+        $(#[$doc])*
+        pub struct $name {
+            storage: Bytes,
+        }
+
+        impl $name {
+            pub(super) fn read(storage: Bytes) -> $name {
+                $name { storage }
+            }
+
+            /// The fields.
+            #[inline]
+            pub fn fields(&self) -> ErrorFields<'_> {
+                ErrorFields {
+                    items: Items::new(error_fields(&self.storage)),
+                }
+            }
+        }
+    };
+}
+
+fields! {
+    /// An error.
+    ErrorResponseBody
+}
+
+fields! {
+    /// A notice.
+    NoticeResponseBody
+}
+
+/// The fields of an error or a notice.
+pub struct ErrorFields<'a> {
+    items: Items<ErrorField<'a>>,
+}
+
+iterate!(ErrorFields, ErrorField<'a>);
+
+/// A field of an error or a notice.
+pub struct ErrorField<'a> {
+    letter: u8,
+    value: &'a str,
+}
+
+impl<'a> ErrorField<'a> {
+    /// The letter that says what the field is.
+    #[inline]
+    pub fn type_(&self) -> u8 {
+        self.letter
+    }
+
+    /// The text of the field.
+    #[inline]
+    pub fn value(&self) -> &str {
+        self.value
+    }
+}
+
+fn error_fields(body: &[u8]) -> io::Result<Vec<ErrorField<'_>>> {
+    let fields = fields(body)?;
+    let lengths = fields.iter().map(|field| 1 + text_len(field.value));
+    ends_list(body, lengths.sum())?;
+    let fields = fields.iter().map(|field| {
+        let value = str::from_utf8(field.value).map_err(|_| refused("text is not UTF-8"))?;
+        let letter = field.letter;
+        Ok(ErrorField { letter, value })
+    });
+    fields.collect()
+}

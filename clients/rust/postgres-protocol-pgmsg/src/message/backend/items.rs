@@ -1,0 +1,58 @@
+//! Lists that are read as a whole, and given item by item.
+
+use std::{io, vec};
+
+/// The items of a list, or why it is refused.
+pub(super) struct Items<T> {
+    items: vec::IntoIter<T>,
+    refused: Option<io::Error>,
+}
+
+impl<T> Items<T> {
+    #[inline]
+    pub(super) fn new(read: io::Result<Vec<T>>) -> Items<T> {
+        let (items, refused) = match read {
+            Ok(items) => (items, None),
+            Err(refused) => (Vec::new(), Some(refused)),
+        };
+        Items {
+            items: items.into_iter(),
+            refused,
+        }
+    }
+
+    #[inline]
+    pub(super) fn next(&mut self) -> io::Result<Option<T>> {
+        match self.refused.take() {
+            Some(refused) => Err(refused),
+            None => Ok(self.items.next()),
+        }
+    }
+
+    #[inline]
+    pub(super) fn size_hint(&self) -> (usize, Option<usize>) {
+        self.items.size_hint()
+    }
+}
+
+/// An iterator that gives items.
+macro_rules! iterate {
+    ($name:ident, $item:ty) => {
+        impl<'a> FallibleIterator for $name<'a> {
+            type Item = $item;
+            type Error = io::Error;
+
+            #[inline]
+            fn next(&mut self) -> io::Result<Option<$item>> {
+                self.items.next()
+            }
+
+            #[inline]
+            fn size_hint(&self) -> (usize, Option<usize>) {
+                self.items.size_hint()
+            }
+        }
+    };
+}
+
+pub(super) use iterate;
