@@ -1,0 +1,1 @@
+//! In the place of the crate criterion, which what is built here never uses.

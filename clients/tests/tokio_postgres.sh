@@ -1,0 +1,93 @@
+# The crate with the interface of postgres-protocol, and the tests of tokio-postgres on it and on the original.
+# Sourced by `test`. What it builds takes the crates of Debian.
+
+# The registry, and the crates that are taken from it.
+registry=/usr/share/cargo/registry
+drop_in_crates=(postgres-protocol bytes fallible-iterator)
+driver_crates=(tokio-postgres geo-types futures-executor bit-vec chrono env_logger eui48 serde_json time uuid)
+
+# The port that the driver's tests name.
+driver_port=5433
+
+# Answers whether the registry has some crates, else names the first that it lacks in $lacking.
+has_crates() {
+    for lacking in "$@"; do
+        compgen -G "$registry/$lacking-[0-9]*" > /dev/null || return 1
+    done
+}
+
+# Runs cargo of the folder in another one, over the library that is tested.
+by_debian() {
+    (
+        export PATH="$cargo_folder:$PATH" RUSTC="$cargo_folder/rustc" RUSTDOC="$cargo_folder/rustdoc" \
+            RUSTDOCFLAGS=-Dwarnings CARGO_INCREMENTAL=0 CARGO_PROFILE_DEV_DEBUG=0 CARGO_TARGET_DIR="$target" \
+            PGMSG_LIB_DIR="$(dirname "$(realpath "$LIBRARY")")"
+        cd "$1" || exit 1
+        "$cargo_folder/cargo" "$2" --offline "${@:3}"
+    )
+}
+
+test_drop_in() {
+    local cargo_folder version target=$PWD/out/drop-in source
+    read -r cargo_folder version < <(rust_folders)
+    if [ -z "$cargo_folder" ] || ! has_crates "${drop_in_crates[@]}"; then
+        echo 'left out: the crate postgres-protocol-pgmsg, which needs cargo and librust-postgres-protocol-dev'
+        return
+    fi
+    source=(--config "$PWD/rust/tokio-postgres/.cargo/config.toml")
+    try by_debian rust/postgres-protocol-pgmsg test "${source[@]}" -- --nocapture
+    expect 'postgres-protocol-pgmsg' 0
+    grep -E 'alike' <<< "$output"
+    try by_debian rust/postgres-protocol-pgmsg doc --quiet --no-deps "${source[@]}"
+    expect 'postgres-protocol-pgmsg: documentation without a warning' 0
+    if "$cargo_folder/cargo" clippy --version > /dev/null 2>&1; then
+        try by_debian rust/postgres-protocol-pgmsg clippy --quiet --all-targets "${source[@]}" -- -D warnings
+        expect 'postgres-protocol-pgmsg: clippy without a warning' 0
+    fi
+}
+
+# Runs the driver's tests in a workspace, and leaves how many passed in $count.
+run_driver() {
+    local name=$1 workspace=$2
+    try by_debian "$workspace" test --quiet --all-features
+    count=$(awk '/^test result:/ { passed += $4 } END { print passed + 0 }' <<< "$output")
+    expect "tokio-postgres on $name: $count passed" 0
+}
+
+test_tokio_postgres() {
+    local cargo_folder version target=$PWD/out/drop-in ours
+    read -r cargo_folder version < <(rust_folders)
+    if [ -z "$cargo_folder" ] || ! has_crates "${drop_in_crates[@]}" "${driver_crates[@]}"; then
+        echo 'left out: the tests of tokio-postgres, which need cargo, librust-tokio-postgres-dev and' \
+            'librust-futures-executor-dev'
+        return
+    fi
+    if (exec 3<> "/dev/tcp/127.0.0.1/$driver_port") 2> /dev/null; then
+        echo "left out: the tests of tokio-postgres, which need port $driver_port of this machine"
+        return
+    fi
+    start_driver_server
+    rust/tokio-postgres/prepare
+    rust/tokio-postgres/prepare out/original
+    run_driver pgmsg rust/tokio-postgres
+    ours=$count
+    run_driver postgres-protocol out/original
+    same 'tokio-postgres passes as many tests on pgmsg as on postgres-protocol' "$ours" "$count"
+}
+
+# Starts the server again as the driver's tests ask for it.
+start_driver_server() {
+    as_owner tee -a "$folder/data/postgresql.conf" > /dev/null <<< "port = $driver_port"
+    as_owner tee -a "$folder/data/pg_hba.conf" > /dev/null << 'RULES'
+host all pass_user 127.0.0.1/32 password
+host all md5_user 127.0.0.1/32 md5
+host all scram_user 127.0.0.1/32 scram-sha-256
+RULES
+    halt_server fast
+    run_server
+    export PGPORT=$driver_port
+    sql "SET password_encryption = 'md5'
+        ; CREATE ROLE pass_user LOGIN PASSWORD 'password'; CREATE ROLE md5_user LOGIN PASSWORD 'password'
+        ; SET password_encryption = 'scram-sha-256'; CREATE ROLE scram_user LOGIN PASSWORD 'password'
+        ; CREATE EXTENSION hstore; CREATE EXTENSION citext; CREATE EXTENSION ltree"
+}
