@@ -6,7 +6,7 @@ use Rattle.pg_format.specs.Format.{Format}
 use Rattle.pg_format.specs.Format.Parts.{remaining}
 use Rattle.pg_format.specs.Format.Sequences.{viewed}
 use Rattle.pg_format.specs.Format.Tests.{checked}
-use Rattle.pg_format.specs.Keyed.{last}
+use Rattle.pg_format.specs.Keyed.{last, IsAbsent}
 use Rattle.pg_format.specs.Sasl.{verifier_key, items_in, keyed, final_message_fault}
 use Rattle.pg_receive.specs.Authentication.SaslItems.{base64_value}
 
@@ -16,3 +16,7 @@ verifier_in bytes = last base64_value [] verifier_key (keyed (items_in bytes))
 -- what the data of an AuthenticationSASLFinal says
 abbrev pub verifiers : Format (List ℕ)
 verifiers = viewed verifier_in (checked final_message_fault remaining)
+
+-- memory is needed for a verifier alone
+abbrev pub GivesNoVerifier : List ℕ → Type 0
+GivesNoVerifier bytes = IsAbsent verifier_key (keyed (items_in bytes))

@@ -8,7 +8,7 @@ ghost use Rattle.pg_format.proofs.FormatLaws.Parts.{lawful_remaining};
 ghost use Rattle.pg_format.proofs.FormatLaws.Sequences.{lawful_viewed};
 ghost use Rattle.pg_format.proofs.FormatLaws.Tests.{lawful_checked};
 ghost use Rattle.pg_format.specs.Sasl.{final_message_fault};
-ghost use Rattle.pg_receive.specs.Authentication.SaslFinal.{verifier_in, verifiers};
+ghost use Rattle.pg_receive.specs.Authentication.SaslFinal.{verifier_in, verifiers, GivesNoVerifier};
 ghost use Rattle.pg_receive.specs.Authentication.SaslFinal.Shown.{final_shown};
 
 use crate::message::authentication::sasl_items::{SaslItems, decode_base64, split_key};
@@ -37,7 +37,7 @@ impl ProtocolDecode for AuthenticationSaslFinal {
 
     ghost IsFault = { IsFaultOf verifiers };
 
-    ghost NeedsNoMemory = { λ _. ⊥ };
+    ghost NeedsNoMemory = { GivesNoVerifier };
 
     fn decode(alloc: Global, buf: Bytes) -> Result<Self, Error> {
         let verifier = decode_verifier(alloc, buf.as_slice())?;
@@ -51,7 +51,7 @@ impl ProtocolDecode for AuthenticationSaslFinal {
 
 /// The verifier in the server-final-message that SASL data is.
 pub(crate) fn decode_verifier(alloc: Global, body: &[u8]) -> Result<Vec<u8>, Error>
-    ensures { Decodes (Means verifiers) (IsFaultOf verifiers) (λ _. ⊥) (λ verifier. verifier.items) None body.now result }
+    ensures { Decodes (Means verifiers) (IsFaultOf verifiers) GivesNoVerifier (λ verifier. verifier.items) None body.now result }
 {
     let mut verifier = Vec::new(alloc);
     for item in SaslItems::new(body) {
