@@ -25,8 +25,12 @@ class Due:
             self.changed = {crate: changes.Change(crate, since, lines) for crate in crates.known().values()}
 
     def of(self, crate, edits):
-        """Those of a crate's wrong bodies that are due."""
-        if self.is_all or any(self.changed[it].restates for it in crate.libraries()):
+        """Those of a crate's wrong bodies that are due.
+
+        What the crates below it promise doesn't decide: a body that breaks a promise of its own crate breaks it over
+        any of theirs.
+        """
+        if self.is_all:
             return edits
         # Neighbours, which mostly change one function, come into different shares.
         return [it for number, it in enumerate(edits) if number % SHARES == self.turn or self.changed[crate].concerns(it)]
