@@ -1,5 +1,6 @@
 -- A stream of messages from the server, of which any front may have come. Documentation: "Messaging
 -- Overview".
+pub mod Raw
 use Rattle.std.specs.Prelude.{None, ◌≡◌, ◌+◌, ◌<◌, ◌≤◌, ◌⊎◌, ℕ, ℤ, pos, ◌<ℤ◌, List, [], ◌∷◌, ◌++◌, length}
 use Rattle.pg_base.specs.Cutting.{Begins, Cut}
 use Rattle.pg_base.specs.Format.{IsBackendTag}

@@ -9,7 +9,7 @@ use pg_base::io::i32_at;
 use pg_base::{BackendMessageFormat, ProtocolFault};
 
 /// The length of the shortest message: the length field counts itself.
-const MIN_LENGTH: i32 = 4;
+pub(crate) const MIN_LENGTH: i32 = 4;
 
 /// A whole message at the front of some bytes, where it lies.
 #[derive(Clone, Copy)]

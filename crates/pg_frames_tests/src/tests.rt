@@ -2,6 +2,7 @@
 
 mod laws;
 mod pieces;
+mod raw_frame;
 mod reader;
 
 use pg_base::BackendMessageFormat;

@@ -2,14 +2,18 @@
 
 pub use pg_base::io::{CopyData, CopyDone};
 pub use pg_base::{BackendMessageFormat, FrontendMessageFormat};
-pub use pg_frames::{Frame, FrameReader, StreamEnd, next_frame, read_pieces};
+pub use pg_frames::{
+    Frame, FrameReader, RawFrame, StreamEnd, next_frame, next_raw_frame, read_pieces,
+};
 pub use pg_receive::message::{
     Authentication, AuthenticationMd5Password, AuthenticationSasl, AuthenticationSaslContinue,
     AuthenticationSaslFinal, BackendKeyData, BackendMessage, Cells, ColumnReader, Columns,
     CommandComplete, CopyInResponse, CopyOutResponse, CopyResponseData, DataRow, Field, FieldRef,
     Fields, Notice, Notification, NotificationRef, ParameterDescription, ParameterStatus,
-    ParameterStatusRef, ReadyForQuery, ReceivedMessage, Row, RowDescription, RowIndex, RowReader,
-    SaslMechanisms, TransactionStatus, cell_at, column_at, rows_affected, split_field, split_name,
+    ParameterStatusRef, RawAuthentication, RawKeyData, RawParameterStatus, ReadyForQuery,
+    ReceivedMessage, Row, RowDescription, RowIndex, RowReader, SaslMechanisms, TransactionStatus,
+    cell_at, check_no_body, column_at, command_tag, rows_affected, severity_in, split_field,
+    split_name,
 };
 pub use pg_request::message::{
     CODE_LENGTH, Framed, PROTOCOL_VERSION, counted, parts, put_if_fits, round_trip, values,

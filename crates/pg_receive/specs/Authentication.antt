@@ -1,5 +1,6 @@
 -- What an authentication request says to a client: of SASL data, what its items say.
 pub mod Mechanisms
+pub mod Raw
 pub mod SaslContinue
 pub mod SaslFinal
 pub mod SaslItems

@@ -4,7 +4,14 @@ use Rattle.std.specs.Prelude.{◌≡◌, ℕ, ◌==◌, List, [], ◌∷◌, ◌
 use Rattle.std.specs.Option.{option_or}
 use Rattle.pg_base.specs.Reading.{HoldsNo}
 use Rattle.pg_base.specs.Atoi.{Atoi}
+use Rattle.pg_format.specs.Format.{Format}
+use Rattle.pg_format.specs.Format.Ends.{loosely}
+use Rattle.pg_format.specs.Format.Parts.{until_nul}
 use Rattle.pg_response.specs.Decimal.{leading_decimal}
+
+-- the text of a tag, which the first NUL of the body ends
+abbrev pub tag_text : Format (List ℕ)
+tag_text = loosely until_nul
 
 -- the greatest count of rows
 abbrev pub max_rows : ℕ

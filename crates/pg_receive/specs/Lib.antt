@@ -1,4 +1,5 @@
 pub mod Authentication
+pub mod BackendKeyData
 pub mod CommandComplete
 pub mod Copy
 pub mod CountedItems

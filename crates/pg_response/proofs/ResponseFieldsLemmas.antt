@@ -12,7 +12,7 @@ use Rattle.pg_format.specs.Notices.{Field, read_part, field_fault, notice_fault}
 use Rattle.pg_response.specs.declared.message.response.severity.PgSeverity.{PgSeverity}
 use Rattle.pg_response.specs.declared.message.response.severity.PgSeverity.TheVariants.{Log}
 use Rattle.pg_response.specs.Response.Fields.{BeginsWithField, AreFields, field_of, fields_in}
-use Rattle.pg_response.specs.Response.{NoticeValue, Read, notice_of, notices}
+use Rattle.pg_response.specs.Response.{severities, NoticeValue, Read, notice_of, notices}
 use Rattle.pg_response.proofs.EndedTextsLemmas.{IsMeaning, meanings_clean, meanings_none, meanings_begin, meanings_are, only_meanings, half_as_many}
 
 abbrev Begins : List ℕ → Field → List ℕ → Type 0
@@ -110,3 +110,7 @@ read_means body message code severity localized p =
       message = p.messages i;
       code = p.codes i;
     })
+
+-- how grave a notice is
+pub severity_means : (body : List ℕ) (notice : NoticeValue) → Means notices body notice → Means severities body notice.severity
+severity_means body notice p = (p.0, p.1, ap (λ (n : NoticeValue). n.severity) p.2)

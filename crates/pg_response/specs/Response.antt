@@ -40,6 +40,10 @@ notice_of fields part = record {
 abbrev pub notices : Format NoticeValue
 notices = viewed (λ fields. notice_of fields (read_part fields)) notice
 
+-- how grave it is, and nothing else
+abbrev pub severities : Format PgSeverity
+severities = viewed (λ fields. severity_of (read_part fields)) notice
+
 -- these are the last of the part that is read, and it has no fault
 pub record Read (fields : List Field) (message code : List ℕ) (severity localized : Option PgSeverity) : Type 0 where
   pub clean : first_fault_of field_fault (read_part fields) ≡ None

@@ -2,12 +2,13 @@
 
 ghost use Rattle.std.specs.Prelude.{◌≡◌, ℕ, List};
 ghost use Rattle.pg_base.specs.declared.format.BackendMessageFormat.TheVariants as formats;
-ghost use Rattle.pg_receive.specs.CommandComplete.{row_count};
+ghost use Rattle.pg_receive.specs.CommandComplete.{row_count, tag_text};
+ghost use Rattle.pg_format.specs.Format.{ReadsAs};
 
-use crate::message::BackendMessage;
+use crate::message::{BackendMessage, text_at};
 use bytes::Bytes;
 use memchr::memrchr;
-use pg_base::{BackendMessageFormat, Error};
+use pg_base::{BackendMessageFormat, Error, ProtocolFault};
 use pg_response::message::leading_u64;
 use std::alloc::Global;
 use std::marker::Model;
@@ -59,6 +60,15 @@ impl BackendMessage for CommandComplete {
     }
 
     ghost lawful = { lawful_remaining };
+}
+
+/// The tag of the command whose message has this body: the text that the first NUL ends, as bytes. What
+/// follows the NUL isn't looked at. Refused with `MissingNul` where there is none.
+pub fn command_tag(body: &[u8]) -> Result<&[u8], ProtocolFault>
+    ensures { ReadsAs tag_text (λ tag. tag.now) body.now result }
+{
+    let (tag, _) = text_at(body, 0)?;
+    Ok(tag)
 }
 
 /// How many rows the command had to do with whose message has this body: what

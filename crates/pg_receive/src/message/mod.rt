@@ -5,6 +5,7 @@ mod backend_key_data;
 mod command_complete;
 mod copy;
 mod data_row;
+mod no_body;
 mod notification;
 mod parameter_description;
 mod parameter_status;
@@ -13,18 +14,19 @@ mod row_description;
 
 pub use authentication::{
     Authentication, AuthenticationMd5Password, AuthenticationSasl, AuthenticationSaslContinue,
-    AuthenticationSaslFinal, SaslMechanisms, split_name,
+    AuthenticationSaslFinal, RawAuthentication, SaslMechanisms, split_name,
 };
-pub use backend_key_data::BackendKeyData;
-pub use command_complete::{CommandComplete, rows_affected};
+pub use backend_key_data::{BackendKeyData, RawKeyData};
+pub use command_complete::{CommandComplete, command_tag, rows_affected};
 pub use copy::{CopyInResponse, CopyOutResponse, CopyResponseData};
 pub use data_row::{Cells, DataRow, Row, RowIndex, RowReader, cell_at};
+pub use no_body::check_no_body;
 pub use notification::{Notification, NotificationRef};
 pub use parameter_description::ParameterDescription;
-pub use parameter_status::{ParameterStatus, ParameterStatusRef};
+pub use parameter_status::{ParameterStatus, ParameterStatusRef, RawParameterStatus};
 pub use pg_response::message::{
-    BackendMessage, CopyData, CopyDone, Fields, Notice, PgSeverity, ReceivedMessage, split_field,
-    split_text, str_at, text_at, utf8_text,
+    BackendMessage, CopyData, CopyDone, Fields, Notice, PgSeverity, ReceivedMessage, severity_in,
+    split_field, split_text, str_at, text_at, utf8_text,
 };
 pub use ready_for_query::{ReadyForQuery, TransactionStatus};
 pub use row_description::{ColumnReader, Columns, Field, FieldRef, RowDescription, column_at};

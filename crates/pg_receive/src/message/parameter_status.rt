@@ -5,9 +5,9 @@ ghost use Rattle.pg_base.specs.Decode.{Decodes};
 ghost use Rattle.pg_base.specs.declared.format.BackendMessageFormat.TheVariants as formats;
 ghost use Rattle.pg_format.specs.Format.{Means, IsFaultOf, ReadsAs};
 ghost use Rattle.pg_format.specs.Messages.{parameter_status};
-ghost use Rattle.pg_receive.specs.ParameterStatus.{SettingNeedsNoMemory};
+ghost use Rattle.pg_receive.specs.ParameterStatus.{SettingNeedsNoMemory, raw_parameter_status};
 
-use crate::message::{BackendMessage, str_at};
+use crate::message::{BackendMessage, str_at, text_at};
 use bytes::Bytes;
 use pg_base::{BackendMessageFormat, Error, ProtocolFault};
 use std::alloc::Global;
@@ -74,5 +74,26 @@ impl<'a> ParameterStatusRef<'a> {
         let (name, after) = str_at(body, 0)?;
         let (value, _) = str_at(body, after)?;
         Ok(ParameterStatusRef { name, value })
+    }
+}
+
+/// A setting of the server and its value in the server's encoding, which need not be UTF-8, borrowed
+/// from the body of their message. Documentation: "Message Formats", ParameterStatus (B).
+#[derive(Drop)]
+pub struct RawParameterStatus<'a> {
+    /// The setting.
+    pub name: &'a [u8],
+    /// Its value.
+    pub value: &'a [u8],
+}
+
+impl<'a> RawParameterStatus<'a> {
+    /// Reads a body. Refused with `MissingNul` where a text has no end.
+    pub fn read(body: &'a [u8]) -> Result<RawParameterStatus<'a>, ProtocolFault>
+        ensures { ReadsAs raw_parameter_status (λ status. record { name = status.name.now; value = status.value.now }) body.now result }
+    {
+        let (name, after) = text_at(body, 0)?;
+        let (value, _) = text_at(body, after)?;
+        Ok(RawParameterStatus { name, value })
     }
 }

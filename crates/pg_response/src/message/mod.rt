@@ -11,4 +11,4 @@ pub use parts::{
 };
 pub use pg_base::io::{CopyData, CopyDone};
 pub use received::{BackendMessage, ReceivedMessage};
-pub use response::{Notice, PgSeverity};
+pub use response::{Notice, PgSeverity, severity_in};

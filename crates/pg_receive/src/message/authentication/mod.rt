@@ -1,6 +1,7 @@
 //! What the server asks of a client that opens a session.
 
 mod mechanisms;
+mod raw;
 mod sasl_continue;
 mod sasl_final;
 mod sasl_items;
@@ -19,6 +20,7 @@ use bytes::Bytes;
 pub use mechanisms::{SaslMechanisms, split_name};
 use pg_base::io::{bytes_at, u32_at};
 use pg_base::{BackendMessageFormat, Error, ProtocolFault};
+pub use raw::RawAuthentication;
 pub use sasl_continue::AuthenticationSaslContinue;
 pub use sasl_final::AuthenticationSaslFinal;
 use std::alloc::Global;

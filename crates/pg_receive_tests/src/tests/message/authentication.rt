@@ -1,6 +1,7 @@
 //! Requests for authentication.
 
 mod mechanisms;
+mod raw;
 
 use crate::tests::unless_out_of_memory;
 use bytes::Bytes;

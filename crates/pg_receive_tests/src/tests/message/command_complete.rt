@@ -1,8 +1,8 @@
 //! The end of a command.
 
 use bytes::Bytes;
-use pg_base::Error;
-use pg_receive::message::{BackendMessage, CommandComplete};
+use pg_base::{Error, ProtocolFault};
+use pg_receive::message::{BackendMessage, CommandComplete, command_tag};
 use std::alloc::Global;
 use std::process::Abort;
 
@@ -29,5 +29,17 @@ fn assert_rows(rt: &impl Abort, alloc: Global, tag: &'static [u8], rows: u64) ->
     assert!(rt; tag.len() < 100);
     let done = CommandComplete::decode_body(alloc, Bytes::from_static(tag))?;
     assert!(rt; done.rows_affected() == rows, "at {tag:?}");
+    Ok(())
+}
+
+#[test]
+fn texts_of_tags(rt: HostRuntime) -> Result<(), ProtocolFault> {
+    assert!(rt; command_tag(b"INSERT 0 1214\0")? == b"INSERT 0 1214".as_slice());
+    assert!(rt; command_tag(b"A\0B\0")? == b"A".as_slice());
+    assert!(rt; command_tag(b"\0")? == b"".as_slice());
+    assert!(rt; command_tag(b"\xFF\0")? == b"\xFF".as_slice());
+    let fault = ProtocolFault::MissingNul { at: 0 };
+    assert!(rt; command_tag(b"BEGIN").err() == Some(fault));
+    assert!(rt; command_tag(b"").err() == Some(fault));
     Ok(())
 }

@@ -2,7 +2,9 @@
 
 use bytes::Bytes;
 use pg_base::{Error, ProtocolFault};
-use pg_receive::message::{BackendMessage, ParameterStatus, ParameterStatusRef};
+use pg_receive::message::{
+    BackendMessage, ParameterStatus, ParameterStatusRef, RawParameterStatus,
+};
 use std::alloc::Global;
 use std::process::Abort;
 
@@ -73,4 +75,14 @@ fn broken_texts(rt: HostRuntime) {
 fn assert_broken(rt: &impl Abort, alloc: Global, body: &'static [u8], fault: ProtocolFault) {
     let error = status_of(rt, alloc, body).err();
     assert!(rt; error == Some(Error::from(fault)), "at {body:?}");
+}
+
+#[test]
+fn a_setting_in_another_encoding(rt: HostRuntime) -> Result<(), ProtocolFault> {
+    let status = RawParameterStatus::read(b"name\0caf\xE9\0")?;
+    assert!(rt; status.name == b"name".as_slice());
+    assert!(rt; status.value == b"caf\xE9".as_slice());
+    let fault = RawParameterStatus::read(b"a\0b").err();
+    assert!(rt; fault == Some(ProtocolFault::MissingNul { at: 2 }));
+    Ok(())
 }

@@ -4,12 +4,13 @@ pub(crate) mod letters;
 mod read;
 mod severity;
 
-ghost use Rattle.std.specs.Prelude.{◌≡◌, [], option_copied};
+ghost use Rattle.std.specs.Prelude.{◌≡◌, ◌<◌, ◌≤◌, Err, [], length, option_copied};
+ghost use Rattle.pg_base.specs.declared.error.ProtocolFault.TheVariants.{BodyTooLong};
 ghost use Rattle.pg_base.specs.declared.format.BackendMessageFormat.TheVariants as formats;
 ghost use Rattle.pg_response.specs.Response.FirstPlaces.{AreFirst};
 ghost use Rattle.pg_response.specs.Response.Fields.{fields_in, first_value, first_text};
-ghost use Rattle.pg_response.specs.Response.{NoticeValue, notices};
-ghost use Rattle.pg_format.specs.Format.{Means, IsFaultOf};
+ghost use Rattle.pg_response.specs.Response.{NoticeValue, notices, severities};
+ghost use Rattle.pg_format.specs.Format.{Means, IsFaultOf, ReadsAs};
 ghost use Rattle.pg_format.proofs.FormatLaws.FromServer.{lawful_notice};
 ghost use Rattle.pg_format.proofs.FormatLaws.Sequences.{lawful_viewed};
 ghost use Rattle.pg_format.proofs.FormatLaws.Whole.{one_meaning, meaning_or_fault};
@@ -18,8 +19,8 @@ ghost use Rattle.pg_response.specs.Response.Places.{IsPlaceIn, bytes_in};
 use crate::message::{BackendMessage, Fields, utf8_text};
 use bytes::Bytes;
 use letters::FirstPlaces;
-use pg_base::io::ProtocolDecode;
-use pg_base::{BackendMessageFormat, Error};
+use pg_base::io::{MAX_BODY, ProtocolDecode};
+use pg_base::{BackendMessageFormat, Error, ProtocolFault};
 pub use severity::PgSeverity;
 use std::alloc::Global;
 use std::marker::Model;
@@ -145,6 +146,20 @@ impl BackendMessage for Notice {
     }
 
     ghost lawful = { lawful_viewed _ lawful_notice };
+}
+
+/// How grave the error or notice is whose message has this body: what [`Notice::severity`] gives,
+/// refused for the faults of [`Notice`]. It is `BodyTooLong` where the body has more than
+/// [`MAX_BODY`] bytes.
+pub fn severity_in(body: &[u8]) -> Result<PgSeverity, ProtocolFault>
+    ensures long { MAX_BODY < length body.now → result ≡ Err (BodyTooLong (length body.now)) }
+    ensures answer { length body.now ≤ MAX_BODY → ReadsAs severities (λ severity. severity) body.now result }
+{
+    if body.len() > MAX_BODY {
+        return Err(ProtocolFault::BodyTooLong(body.len()));
+    }
+    let (part, _) = read::read(body)?;
+    Ok(part.severity())
 }
 
 // The text at a place that was found to hold one.

@@ -3,7 +3,7 @@
 use bytes::Bytes;
 use pg_base::io::ProtocolDecode;
 use pg_base::{Error, ProtocolFault};
-use pg_response::message::{Notice, PgSeverity};
+use pg_response::message::{Notice, PgSeverity, severity_in};
 use std::alloc::Global;
 use std::process::Abort;
 
@@ -244,4 +244,18 @@ fn assert_front(
 ) -> Result<(), Error> {
     assert!(rt; len <= BODY.len());
     assert_notice(rt, alloc, &BODY[..len], PgSeverity::Log, message, code)
+}
+
+#[test]
+fn severities_of_bodies(rt: HostRuntime) -> Result<(), ProtocolFault> {
+    assert!(rt; severity_in(b"SERROR\0VPANIC\0\0")? == PgSeverity::Panic);
+    assert!(rt; severity_in(b"SERROR\0\0")? == PgSeverity::Error);
+    assert!(rt; severity_in(b"SFEHLER\0\0")? == PgSeverity::Log);
+    assert!(rt; severity_in(b"Mfoo\0C1\0VERROR\0\0")? == PgSeverity::Log);
+    assert!(rt; severity_in(b"")? == PgSeverity::Log);
+    let fault = severity_in(b"VODD\0\0").err();
+    assert!(rt; fault == Some(ProtocolFault::UnknownSeverity));
+    let fault = severity_in(b"M\xFF\0\0").err();
+    assert!(rt; fault == Some(ProtocolFault::NoticeNotUtf8));
+    Ok(())
 }

@@ -1,0 +1,12 @@
+-- BackendKeyData of a server that speaks protocol 3.2: a key of 4 to 256 bytes. Documentation: "Message
+-- Formats", BackendKeyData (B).
+use Rattle.std.specs.Prelude.{length}
+use Rattle.pg_format.specs.Format.{Format}
+use Rattle.pg_format.specs.Format.Parts.{be_u32, remaining}
+use Rattle.pg_format.specs.Format.Sequences.{◌⨾◌, record_of}
+use Rattle.pg_format.specs.Format.Tests.{checked}
+use Rattle.pg_format.specs.Messages.{Cancel, key_fault}
+
+-- the session and the key are those of the request to cancel
+abbrev pub raw_key_data : Format Cancel
+raw_key_data = record_of (λ c. (c.process_id, c.secret_key)) (be_u32 ⨾ checked (λ key. key_fault (length key)) remaining)
