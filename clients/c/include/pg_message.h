@@ -13,8 +13,8 @@
  * refusal writes; an array of places holds at most the items before the one that is broken, and all else is as
  * it was.
  *
- * Memory is asked for by pgmsg_read_severity, pgmsg_read_authentication, pgmsg_read_challenge and
- * pgmsg_read_verifier, and for the words of a fault; by nothing else. */
+ * Memory is asked for by pgmsg_read_authentication, pgmsg_read_challenge and pgmsg_read_verifier, and for the
+ * words of a fault; by nothing else. */
 
 #ifndef PG_MESSAGE_H
 #define PG_MESSAGE_H
@@ -162,6 +162,18 @@ typedef struct {
     uint32_t process_id;
     uint32_t secret_key;
 } pgmsg_key_data;
+
+/* A request for authentication by any method: its number, and what follows it. */
+typedef struct {
+    uint32_t method;
+    pgmsg_span content;
+} pgmsg_raw_authentication;
+
+/* What a request to cancel has to name, with a key of 4 to 256 bytes. */
+typedef struct {
+    uint32_t process_id;
+    pgmsg_span secret_key;
+} pgmsg_raw_key_data;
 
 /* How the data of a COPY is spelled: 0 for text, 1 for binary. `columns` may be below 0, which
  * means none. */
@@ -341,6 +353,12 @@ ptrdiff_t pgmsg_put_copy_fail(const uint8_t *reason, size_t reason_len, uint8_t 
 int32_t pgmsg_next_frame(const uint8_t *stream, size_t stream_len, pgmsg_frame *frame,
     pgmsg_fault *fault);
 
+/* The message at the front of a stream, of any tag: 1 where it is whole, 0 where more bytes are
+ * needed. Then `tag` is given as soon as there is a byte. Refused where its length is below 4:
+ * then, whatever comes next. */
+int32_t pgmsg_next_raw_frame(const uint8_t *stream, size_t stream_len, pgmsg_frame *frame,
+    pgmsg_fault *fault);
+
 /* The cells of a row, by the body of its DataRow: how many it has. As many as there is room for are
  * written; the rest are read too, so a row is refused for any of its cells. */
 ptrdiff_t pgmsg_read_row(const uint8_t *body, size_t body_len, pgmsg_cell *cells, size_t cells_len,
@@ -385,6 +403,31 @@ uint64_t pgmsg_read_rows_affected(const uint8_t *body, size_t body_len);
 /* The letter of the transaction's status, by the body of a ReadyForQuery: I where none is open, T
  * in one, E in one that has failed. */
 int32_t pgmsg_read_ready(const uint8_t *body, size_t body_len, pgmsg_fault *fault);
+
+/* The text of a command's tag, by the body of its CommandComplete: the bytes before its NUL. 0, or
+ * why it is refused. */
+int32_t pgmsg_read_command_tag(const uint8_t *body, size_t body_len, pgmsg_span *tag,
+    pgmsg_fault *fault);
+
+/* A request for authentication by any method, by the body of an Authentication. A method that
+ * `pgmsg_read_authentication` doesn't know is no fault, and what follows its number isn't looked
+ * at. 0, or why it is refused. */
+int32_t pgmsg_read_raw_authentication(const uint8_t *body, size_t body_len,
+    pgmsg_raw_authentication *authentication, pgmsg_fault *fault);
+
+/* What a request to cancel has to name, by the body of a BackendKeyData of any version: its key has
+ * 4 bytes in protocol 3.0, and up to 256 from 3.2 on. 0, or why it is refused. */
+int32_t pgmsg_read_raw_key_data(const uint8_t *body, size_t body_len, pgmsg_raw_key_data *key,
+    pgmsg_fault *fault);
+
+/* A setting of the server, by the body of its ParameterStatus, in the server's encoding: its texts
+ * need not be UTF-8. 0, or why it is refused. */
+int32_t pgmsg_read_raw_parameter_status(const uint8_t *body, size_t body_len,
+    pgmsg_parameter_status *status, pgmsg_fault *fault);
+
+/* Whether a message has no body, such as a BindComplete or a NoData: 0, or PGMSG_BODY_TOO_LONG
+ * where it has one. */
+int32_t pgmsg_read_no_body(const uint8_t *body, size_t body_len, pgmsg_fault *fault);
 
 /* How the data of a COPY is spelled, by the body of a CopyInResponse or CopyOutResponse: how many
  * columns have a code. As many codes as there is room for are written. */

@@ -11,5 +11,6 @@ int main(void)
     test_read(&tally);
     test_read_faults(&tally);
     test_read_login(&tally);
+    test_read_raw(&tally);
     return report(&tally);
 }

@@ -20,5 +20,6 @@ void test_put_faults(struct tally *tally);
 void test_read(struct tally *tally);
 void test_read_faults(struct tally *tally);
 void test_read_login(struct tally *tally);
+void test_read_raw(struct tally *tally);
 
 #endif

@@ -28,6 +28,9 @@ static void test_small(struct tally *tally)
     pgmsg_frame frame;
     pgmsg_column column;
     pgmsg_key_data key;
+    pgmsg_raw_key_data raw;
+    pgmsg_raw_authentication asked;
+    pgmsg_parameter_status status;
     pgmsg_field field;
     pgmsg_span span;
     static const char columns[] = "\0\1" "id\0" "\0\0\100\1" "\0\1" "\0\0\0\27" "\0\4" "\377\377\377\377" "\0\0";
@@ -41,6 +44,13 @@ static void test_small(struct tally *tally)
     NEEDS_NONE(tally, pgmsg_read_columns(BYTES(columns), &column, 1, &fault) == 1 && column.type_id == 23);
     NEEDS_NONE(tally, pgmsg_read_key_data(BYTES("\0\0\0\1\0\0\0\2"), &key, &fault) == 0 && key.secret_key == 2);
     NEEDS_NONE(tally, pgmsg_read_ready(BYTES("T"), &fault) == 'T');
+    NEEDS_NONE(tally, pgmsg_next_raw_frame(BYTES("v\0\0\0\5!"), &frame, &fault) == 1 && frame.length == 6);
+    NEEDS_NONE(tally, pgmsg_read_command_tag(BYTES("BEGIN\0"), &span, &fault) == 0 && span.len == 5);
+    NEEDS_NONE(tally, pgmsg_read_raw_authentication(BYTES("\0\0\0\13r=ab"), &asked, &fault) == 0 && asked.method == 11);
+    NEEDS_NONE(tally, pgmsg_read_raw_key_data(BYTES("\0\0\0\1secret"), &raw, &fault) == 0 && raw.secret_key.len == 6);
+    NEEDS_NONE(tally, pgmsg_read_raw_parameter_status(BYTES("a\0\351\0"), &status, &fault) == 0 && status.value.len == 1);
+    NEEDS_NONE(tally, pgmsg_read_no_body(BYTES(""), &fault) == 0);
+    NEEDS_NONE(tally, pgmsg_read_severity(BYTES("VPANIC\0\0"), &fault) == 0);
     NEEDS_NONE(tally, pgmsg_read_rows_affected(BYTES("SELECT 12\0")) == 12);
     NEEDS_NONE(tally, pgmsg_read_fields(BYTES("SERROR\0\0"), &field, 1) == 1 && field.letter == 'S');
     NEEDS_NONE(tally, pgmsg_read_mechanisms(BYTES("\0\0\0\12" "A\0" "B\0" "\0"), &span, 1) == 2 && span.at == 4);
@@ -54,6 +64,7 @@ static void test_lengths(struct tally *tally, size_t n)
     pgmsg_cell cell;
     pgmsg_notification notification;
     pgmsg_parameter_status status;
+    pgmsg_span tag;
     memset(body, 0, n + 16);
     body[1] = 1;
     put_number(body + 2, (uint32_t)n);
@@ -64,6 +75,9 @@ static void test_lengths(struct tally *tally, size_t n)
     CHECK(tally, notification.payload.len == n);
     NEEDS_NONE(tally, pgmsg_read_parameter_status(body + 4, n + 3, &status, &fault) == 0);
     CHECK(tally, status.value.len == n);
+    NEEDS_NONE(tally, pgmsg_read_command_tag(body + 6, n + 1, &tag, &fault) == 0 && tag.len == n);
+    memcpy(body, "VPANIC", 7);
+    NEEDS_NONE(tally, pgmsg_read_severity(body, n + 8, &fault) == 0);
     body[1] = 'd';
     put_number(body + 2, (uint32_t)n + 4);
     NEEDS_NONE(tally, pgmsg_next_frame(body + 1, n + 5, &frame, &fault) == 1 && frame.body.len == n);

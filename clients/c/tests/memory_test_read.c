@@ -54,11 +54,6 @@ static ptrdiff_t read_verifier(size_t body_len, pgmsg_fault *fault)
     return pgmsg_read_verifier(body, body_len, first, LONG, fault);
 }
 
-static ptrdiff_t read_severity(size_t body_len, pgmsg_fault *fault)
-{
-    return pgmsg_read_severity(body, body_len, fault);
-}
-
 static ptrdiff_t read_authentication(size_t body_len, pgmsg_fault *fault)
 {
     return pgmsg_read_authentication(body, body_len, &authentication, fault);
@@ -109,34 +104,11 @@ static bool is_mechanism(ptrdiff_t answer, size_t n)
     return answer == 0 && authentication.method == 10;
 }
 
-/* A text of n bytes before the severity. */
-static uint8_t *add_text(size_t n, uint8_t *to)
-{
-    *to++ = 'M';
-    return add(add(to, letters, n), "\0VPANIC\0", 9);
-}
-
-/* As many fields before the severity, of two bytes each. */
-static uint8_t *add_fields(size_t n, uint8_t *to)
-{
-    for (size_t i = 0; i < n; i++)
-        to = add(to, "D", 2);
-    return add(to, "VPANIC\0", 8);
-}
-
-static bool is_panic(ptrdiff_t answer, size_t n)
-{
-    (void)n;
-    return answer == 0;
-}
-
 static const struct kind kinds[] = {
     {"salt", add_salt, read_challenge, is_salt},
     {"nonce", add_nonce, read_challenge, is_nonce},
     {"verifier", add_verifier, read_verifier, is_verifier},
     {"mechanism", add_mechanism, read_authentication, is_mechanism},
-    {"text", add_text, read_severity, is_panic},
-    {"fields", add_fields, read_severity, is_panic},
 };
 
 static void clear(size_t len)

@@ -23,6 +23,11 @@ VIEWS = [
     (lambda body: pgmsg.read_notification(body).payload, b"\0\0\0\1ch\0hi\0", 7, 2),
     (lambda body: pgmsg.read_challenge(body).message, CHALLENGE, 4, len(CHALLENGE) - 4),
     (lambda body: pgmsg.next_frame(body).body, b"Z\0\0\0\x05I", 5, 1),
+    (lambda body: pgmsg.next_raw_frame(body).body, b"v\0\0\0\x05I", 5, 1),
+    (pgmsg.read_command_tag, b"BEGIN\0", 0, 5),
+    (lambda body: pgmsg.read_raw_authentication(body).content, b"\0\0\0\x08ab", 4, 2),
+    (lambda body: pgmsg.read_raw_key_data(body).secret_key, b"\0\0\0\1secret", 4, 6),
+    (lambda body: pgmsg.read_raw_parameter_status(body).value, b"a\0\xe9\0", 2, 1),
     (lambda body: next(pgmsg.frames(body)).body, b"Z\0\0\0\x05I", 5, 1),
 ]
 

@@ -87,6 +87,30 @@ class TestAnswers(unittest.TestCase):
         self.assertEqual(pgmsg.read_copy_response(b"\0\xff\xff"), CopyResponse(0, []))
 
 
+class TestRaw(unittest.TestCase):
+    def test_frames(self):
+        self.assertEqual(pgmsg.next_raw_frame(b"v\0\0\0\6abc"), (ord("v"), b"ab", 7))
+        self.assertEqual(pgmsg.next_raw_frame(b""), (None, 5))
+        self.assertEqual(pgmsg.next_raw_frame(b"\0\0"), (0, 5))
+        self.assertEqual(pgmsg.next_raw_frame(b"D\0\0\1\0\0"), (ord("D"), 257))
+        self.assertRaises(pgmsg.Fault, pgmsg.next_raw_frame, b"v\0\0\0\3")
+
+    def test_tags(self):
+        self.assertEqual(pgmsg.read_command_tag(b"INSERT 0 42\0"), b"INSERT 0 42")
+        self.assertEqual(pgmsg.read_command_tag(b"\xff\0b\0"), b"\xff")
+        self.assertRaises(pgmsg.Fault, pgmsg.read_command_tag, b"BEGIN")
+
+    def test_sessions(self):
+        self.assertEqual(pgmsg.read_raw_authentication(b"\0\0\0\x08token"), (8, b"token"))
+        self.assertEqual(pgmsg.read_raw_key_data(b"\0\0\4\xd2secret"), (1234, b"secret"))
+        self.assertRaises(pgmsg.Fault, pgmsg.read_raw_key_data, b"\0\0\4\xd2" + bytes(257))
+        self.assertEqual(pgmsg.read_raw_parameter_status(b"name\0caf\xe9\0"), (b"name", b"caf\xe9"))
+
+    def test_no_body(self):
+        self.assertIsNone(pgmsg.read_no_body(b""))
+        self.assertRaises(pgmsg.Fault, pgmsg.read_no_body, b"a")
+
+
 class TestAuthentication(unittest.TestCase):
     def test_methods(self):
         for body, method in [(b"\0\0\0\0", Method.OK), (b"\0\0\0\3", Method.CLEARTEXT_PASSWORD),

@@ -1,11 +1,15 @@
 -- What is found at a place.
-use Rattle.std.proofs.Common.{◌≡◌, ℕ, ◌+◌, ◌-◌, ◌≤◌, true, Some, List, [], ◌∷◌, ◌++◌, length, refl, sym, ap, ◌∙◌, arith, append_assoc, length-append}
+use Rattle.std.proofs.Common.{◌≡◌, ℕ, ◌+◌, ◌-◌, ◌≤◌, true, Some, List, [], ◌∷◌, ◌++◌, length, refl, sym, ap, ◌∙◌, arith, append_assoc, append-nil, length-append}
 use Rattle.std.specs.Prelude.{nat_le, slice_range}
 use Rattle.std.proofs.lemmas.Bool.{le-leb}
 use Rattle.std.proofs.lemmas.List.{take_at, drop_at}
 use Rattle.pg_base.specs.Reading.{Text}
 use Rattle.pg_format.specs.Format.{Means}
-use Rattle.pg_format.specs.Messages.{Notification, notification, Setting, parameter_status}
+use Rattle.pg_format.specs.Messages.{Notification, notification, Cancel, Setting, parameter_status}
+use Rattle.pg_receive.specs.Authentication.Raw.{Request, raw_request}
+use Rattle.pg_receive.specs.BackendKeyData.{raw_key_data}
+use Rattle.pg_receive.specs.CommandComplete.{tag_text}
+use Rattle.pg_receive.specs.ParameterStatus.{raw_parameter_status}
 use Rattle.pg_c.specs.Place.{bytes_in}
 
 -- bytes that are there
@@ -43,3 +47,25 @@ setting_at body s p =
     let zero : 0 + length s.name ≡ length s.name = omega arith in
     let at = two_texts body [] body s.name p.1.mid s.value p.0 0 refl refl p.1.first.0 p.1.second.0 in
     (at.0, rw zero at at.1)
+
+pub raw_setting_at : (body : List ℕ) (s : Setting) → Means raw_parameter_status body s
+    → (bytes_in body 0 (length s.name) ≡ Some s.name) × (bytes_in body (length s.name + 1) (length s.value) ≡ Some s.value)
+raw_setting_at body s p =
+    let zero : 0 + length s.name ≡ length s.name = omega arith in
+    let at = two_texts body [] body s.name p.1.mid s.value p.0 0 refl refl p.1.first p.1.second in
+    (at.0, rw zero at at.1)
+
+pub tag_at : (body text : List ℕ) → Means tag_text body text → bytes_in body 0 (length text) ≡ Some text
+tag_at body text p = bytes_are body [] text (0 ∷ p.0) 0 p.1.parts refl
+
+-- all that follows a number of four bytes
+after_number : (body spelled content mid : List ℕ) → body ≡ spelled ++ mid → length spelled ≡ 4 → content ≡ mid → bytes_in body 4 (length content) ≡ Some content
+after_number body spelled content mid parts wide is =
+    let whole : body ≡ spelled ++ (content ++ []) = rw (append-nil content, is) parts in
+    bytes_are body spelled content [] 4 whole wide
+
+pub content_at : (body : List ℕ) (r : Request) → Means raw_request body r → bytes_in body 4 (length r.content) ≡ Some r.content
+content_at body r p = after_number body p.first.spelled r.content p.mid p.first.parts p.first.wide p.second.0
+
+pub key_at : (body : List ℕ) (k : Cancel) → Means raw_key_data body k → bytes_in body 4 (length k.secret_key) ≡ Some k.secret_key
+key_at body k p = after_number body p.first.spelled k.secret_key p.mid p.first.parts p.first.wide p.second.0.0

@@ -1,10 +1,11 @@
 -- Where the message at the front of a stream is.
-use Rattle.std.proofs.Common.{◌≡◌, ℕ, ◌+◌, ℤ, Some, List, ◌∷◌, ◌++◌, length, drop, sym, ap, ◌∙◌, arith, append_assoc, length-append}
+use Rattle.std.proofs.Common.{inl, inr, ◌≡◌, ℕ, ◌+◌, ℤ, Some, List, ◌∷◌, ◌++◌, length, drop, sym, ap, ◌∙◌, arith, append_assoc, length-append}
 use Rattle.std.proofs.lemmas.List.{drop_at}
 use Rattle.pg_base.specs.Cutting.{Begins}
 use Rattle.pg_base.specs.Reading.{Signed}
 use Rattle.pg_base.proofs.ReadingLemmas.{one_signed}
-use Rattle.pg_frames.specs.Stream.{Announces}
+use Rattle.pg_frames.specs.Stream.{Announces, WantsMore}
+use Rattle.pg_frames.specs.Stream.Raw as raw
 use Rattle.pg_c.specs.Place.{bytes_in}
 use Rattle.pg_c.proofs.PlaceLemmas.{bytes_are}
 
@@ -21,3 +22,8 @@ pub announced_is : (bytes : List ℕ) (tag : ℕ) (announced z : ℤ) (rest : Li
 announced_is bytes tag announced z rest p q =
     let after : drop 1 bytes ≡ p.after = ap (drop 1) p.parts in
     (one_signed 4 p.after z announced rest p.rest (rw after at q) p.counted).0
+
+-- a message of a tag that is known wants no less than one of any tag
+pub wants_of_any : (bytes : List ℕ) → WantsMore bytes → raw.WantsMore bytes
+wants_of_any bytes (inl short) = inl short
+wants_of_any bytes (inr g) = inr (record { tag = g.tag; announced = g.announced; announces = g.announces; least = g.least; short = g.short })

@@ -4,6 +4,8 @@ pub mod Columns
 pub mod Copy
 pub mod Fields
 pub mod Frame
+pub mod Raw
+pub mod RawFrame
 pub mod Row
 pub mod Status
 use Rattle.std.specs.Prelude.{◌≡◌, ◌<◌, ◌≤◌, ◌<ℤ◌, ◌⊎◌, ℕ, ℤ, pos, List, Option, Some, map, take, drop, length, Result, Ok, Err}

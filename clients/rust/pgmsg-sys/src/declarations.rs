@@ -179,6 +179,22 @@ pub struct pgmsg_key_data {
     pub secret_key: u32,
 }
 
+/// A request for authentication by any method: its number, and what follows it.
+#[repr(C)]
+#[derive(Clone, Copy, Debug, Default)]
+pub struct pgmsg_raw_authentication {
+    pub method: u32,
+    pub content: pgmsg_span,
+}
+
+/// What a request to cancel has to name, with a key of 4 to 256 bytes.
+#[repr(C)]
+#[derive(Clone, Copy, Debug, Default)]
+pub struct pgmsg_raw_key_data {
+    pub process_id: u32,
+    pub secret_key: pgmsg_span,
+}
+
 /// How the data of a COPY is spelled: 0 for text, 1 for binary. `columns` may be below 0, which
 /// means none.
 #[repr(C)]
@@ -487,6 +503,16 @@ extern "C" {
         fault: *mut pgmsg_fault,
     ) -> i32;
 
+    /// The message at the front of a stream, of any tag: 1 where it is whole, 0 where more bytes
+    /// are needed. Then `tag` is given as soon as there is a byte. Refused where its length is
+    /// below 4: then, whatever comes next.
+    pub fn pgmsg_next_raw_frame(
+        stream: *const u8,
+        stream_len: usize,
+        frame: *mut pgmsg_frame,
+        fault: *mut pgmsg_fault,
+    ) -> i32;
+
     /// The cells of a row, by the body of its DataRow: how many it has. As many as there is room
     /// for are written; the rest are read too, so a row is refused for any of its cells.
     pub fn pgmsg_read_row(
@@ -562,6 +588,47 @@ extern "C" {
     /// The letter of the transaction's status, by the body of a ReadyForQuery: I where none is
     /// open, T in one, E in one that has failed.
     pub fn pgmsg_read_ready(body: *const u8, body_len: usize, fault: *mut pgmsg_fault) -> i32;
+
+    /// The text of a command's tag, by the body of its CommandComplete: the bytes before its NUL.
+    /// 0, or why it is refused.
+    pub fn pgmsg_read_command_tag(
+        body: *const u8,
+        body_len: usize,
+        tag: *mut pgmsg_span,
+        fault: *mut pgmsg_fault,
+    ) -> i32;
+
+    /// A request for authentication by any method, by the body of an Authentication. A method that
+    /// `pgmsg_read_authentication` doesn't know is no fault, and what follows its number isn't
+    /// looked at. 0, or why it is refused.
+    pub fn pgmsg_read_raw_authentication(
+        body: *const u8,
+        body_len: usize,
+        authentication: *mut pgmsg_raw_authentication,
+        fault: *mut pgmsg_fault,
+    ) -> i32;
+
+    /// What a request to cancel has to name, by the body of a BackendKeyData of any version: its
+    /// key has 4 bytes in protocol 3.0, and up to 256 from 3.2 on. 0, or why it is refused.
+    pub fn pgmsg_read_raw_key_data(
+        body: *const u8,
+        body_len: usize,
+        key: *mut pgmsg_raw_key_data,
+        fault: *mut pgmsg_fault,
+    ) -> i32;
+
+    /// A setting of the server, by the body of its ParameterStatus, in the server's encoding: its
+    /// texts need not be UTF-8. 0, or why it is refused.
+    pub fn pgmsg_read_raw_parameter_status(
+        body: *const u8,
+        body_len: usize,
+        status: *mut pgmsg_parameter_status,
+        fault: *mut pgmsg_fault,
+    ) -> i32;
+
+    /// Whether a message has no body, such as a BindComplete or a NoData: 0, or PGMSG_BODY_TOO_LONG
+    /// where it has one.
+    pub fn pgmsg_read_no_body(body: *const u8, body_len: usize, fault: *mut pgmsg_fault) -> i32;
 
     /// How the data of a COPY is spelled, by the body of a CopyInResponse or CopyOutResponse: how
     /// many columns have a code. As many codes as there is room for are written.

@@ -5,19 +5,19 @@
 //!
 //! | kind | function |
 //! |---|---|
-//! | `Authentication` | [`authentication`](fn@authentication) |
-//! | `BackendKeyData` | [`key_data`] |
-//! | `CommandComplete` | [`rows_affected`] |
+//! | `Authentication` | [`authentication`](fn@authentication), of any method [`raw_authentication`] |
+//! | `BackendKeyData` | [`key_data`], of protocol 3.2 [`raw_key_data`] |
+//! | `CommandComplete` | [`command_tag`], [`rows_affected`] |
 //! | `CopyData` | none: the body is the data |
 //! | `CopyInResponse`, `CopyOutResponse` | [`copy_response`] |
 //! | `DataRow` | [`RowIndex::read`], [`places`] |
 //! | `ErrorResponse`, `NoticeResponse` | [`fields`](fn@fields), [`severity`] |
 //! | `NotificationResponse` | [`notification`] |
 //! | `ParameterDescription` | [`parameter_types`] |
-//! | `ParameterStatus` | [`parameter_status`] |
+//! | `ParameterStatus` | [`parameter_status`], not in UTF-8 [`raw_parameter_status`] |
 //! | `ReadyForQuery` | [`ready`] |
 //! | `RowDescription` | [`columns`](fn@columns) |
-//! | any other | none: the body is empty |
+//! | any other | none: the body is empty, as [`no_body`] tests |
 
 mod answer;
 mod authentication;
@@ -26,6 +26,8 @@ mod copy;
 mod fields;
 mod frame;
 mod kind;
+mod raw;
+mod raw_frame;
 mod row;
 #[cfg(feature = "bytes")]
 mod shared;
@@ -37,6 +39,11 @@ pub use copy::{copy_response, CopyResponse};
 pub use fields::{fields, severity, Field, FieldKind, Fields, Severity};
 pub use frame::{next_frame, Frame, Next};
 pub use kind::Kind;
+pub use raw::{
+    command_tag, no_body, raw_authentication, raw_key_data, raw_parameter_status, RawAuthentication,
+    RawKeyData, RawParameterStatus,
+};
+pub use raw_frame::{next_raw_frame, RawFrame, RawNext};
 pub use row::{places, Cell, Cells, Row, RowIndex};
 #[cfg(feature = "bytes")]
 pub use shared::{split_frame, SharedFrame};

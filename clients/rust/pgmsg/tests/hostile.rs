@@ -51,6 +51,7 @@ fn read_all(reader: &mut RowIndex, body: &[u8]) {
     checked(body, ready(body));
     checked(body, severity(body));
     rows_affected(body);
+    read_raw(body);
     match checked(body, authentication(body)) {
         Some(Authentication::Sasl { mechanisms }) => {
             for name in mechanisms {
@@ -63,6 +64,23 @@ fn read_all(reader: &mut RowIndex, body: &[u8]) {
         }
         _ => {}
     }
+}
+
+fn read_raw(body: &[u8]) {
+    if let Some(tag) = checked(body, command_tag(body)) {
+        assert_within(body, tag);
+    }
+    if let Some(request) = checked(body, raw_authentication(body)) {
+        assert_within(body, request.content);
+    }
+    if let Some(key) = checked(body, raw_key_data(body)) {
+        assert_within(body, key.secret_key);
+    }
+    if let Some(status) = checked(body, raw_parameter_status(body)) {
+        assert_within(body, status.name);
+        assert_within(body, status.value);
+    }
+    checked(body, no_body(body));
 }
 
 fn read_lists(reader: &mut RowIndex, body: &[u8]) {

@@ -1,6 +1,6 @@
 //! The fields of an error or a notice, and how grave it is.
 
-ghost use Rattle.std.specs.Prelude.{◌≡◌, ◌≤◌, ◌≤ℤ◌, ⊤, pos, length, OnOk, IfOk, IfErr};
+ghost use Rattle.std.specs.Prelude.{◌≡◌, ◌≤◌, ◌≤ℤ◌, pos, length, OnOk, IfOk, IfErr};
 ghost use Rattle.pg_response.specs.Response.Fields.{fields_in};
 ghost use Rattle.pg_response.specs.Response.Severity.{severity_number};
 ghost use Rattle.pg_format.specs.Format.{IsFaultOf};
@@ -8,15 +8,11 @@ ghost use Rattle.pg_response.specs.Response.{notices};
 ghost use Rattle.pg_response.specs.Received.{max_body};
 ghost use Rattle.pg_c.specs.Read.Fields.{field_in, IsSeverityOf};
 ghost use Rattle.pg_c.specs.Read.{AreGiven, IsBodyFault, RefusesBody};
-ghost use Rattle.pg_c.specs.Refusal.{IsErrorOf};
 
 use crate::place::PgmsgSpan;
-use crate::read::check_body;
 use crate::refusal::{PgmsgFault, report};
-use bytes::Bytes;
-use pg_base::Error;
-use pg_receive::message::{BackendMessage, Notice, PgSeverity};
-use pg_response::message::split_field;
+use pg_base::ProtocolFault;
+use pg_response::message::{PgSeverity, severity_in, split_field};
 use std::alloc::Global;
 
 /// A field of an error or a notice, by its letter.
@@ -57,23 +53,21 @@ pub extern "C" fn pgmsg_read_fields(body: &[u8], fields: &mut [PgmsgField]) -> u
 #[unsafe(no_mangle)]
 pub extern "C" fn pgmsg_read_severity(alloc: Global, body: &[u8], fault: &mut PgmsgFault) -> i32
     ensures severity { pos 0 ≤ℤ result → IsSeverityOf body.now result }
-    ensures fault { RefusesBody notices body.now ⊤ fault.old fault.new result }
+    ensures fault { RefusesBody notices body.now ⊥ fault.old fault.new result }
     ensures within { pos 0 ≤ℤ result → length body.now ≤ max_body }
     ensures untouched { pos 0 ≤ℤ result → fault.new ≡ fault.old }
 {
-    match severity_of(alloc, body) {
+    match severity_of(body) {
         Ok(severity) => severity as i32,
-        Err(error) => report(alloc, error, fault),
+        Err(why) => report(alloc, why.into(), fault),
     }
 }
 
-fn severity_of(alloc: Global, body: &[u8]) -> Result<PgSeverity, Error>
+fn severity_of(body: &[u8]) -> Result<PgSeverity, ProtocolFault>
     ensures severity { IfOk result
         (λ severity. IsSeverityOf body.now (pos (severity_number severity))) }
     ensures within { OnOk result (length body.now ≤ max_body) }
-    ensures fault { IfErr result (IsErrorOf (IsBodyFault (IsFaultOf notices) body.now) ⊤) }
+    ensures fault { IfErr result (IsBodyFault (IsFaultOf notices) body.now) }
 {
-    check_body(body)?;
-    let body = Bytes::copy_from_slice(alloc, body)?;
-    Ok(Notice::decode_body(alloc, body)?.severity())
+    severity_in(body)
 }

@@ -4,7 +4,9 @@ ghost use Rattle.std.specs.Prelude.{◌≡◌, ◌≤◌, ◌<◌, ◌<ℤ◌, �
 ghost use Rattle.pg_base.specs.Cutting.{Begins};
 ghost use Rattle.pg_base.specs.Format.{backend_tag};
 ghost use Rattle.pg_frames.specs.Stream.{WantsMore, IsStreamFault};
+ghost use Rattle.pg_frames.specs.Stream.Raw as raw;
 ghost use Rattle.pg_c.specs.Read.Frame.{IsWhole, Needs};
+ghost use Rattle.pg_c.specs.Read.RawFrame as raw_read;
 ghost use Rattle.pg_c.specs.Refusal.{Refuses};
 
 use crate::place::PgmsgSpan;
@@ -13,8 +15,8 @@ use pg_base::io::i32_at;
 use pg_frames::{Frame, next_frame};
 use std::alloc::Global;
 
-// The bytes before a body: the tag and the length.
-const HEADER: usize = 5;
+/// The bytes before a body: the tag and the length.
+pub(crate) const HEADER: usize = 5;
 
 /// A message at the front of a stream. `length` is how many bytes of the stream it takes; where it isn't
 /// whole, how many are needed at least.
@@ -74,10 +76,11 @@ fn place_of(stream: &[u8], frame: &Frame<'_>) -> PgmsgFrame
     }
 }
 
-// How many bytes the message at the front needs.
-fn needed(stream: &[u8]) -> usize
-    requires { WantsMore stream.now }
-    ensures { Needs stream.now result }
+/// How many bytes the message at the front needs.
+pub(crate) fn needed(stream: &[u8]) -> usize
+    requires { raw.WantsMore stream.now }
+    ensures any { raw_read.Needs stream.now result }
+    ensures known { WantsMore stream.now → Needs stream.now result }
 {
     if stream.len() < HEADER {
         return HEADER;

@@ -9,6 +9,8 @@ mod columns;
 mod copy;
 mod fields;
 mod frame;
+mod raw;
+mod raw_frame;
 mod row;
 mod status;
 

@@ -1,0 +1,97 @@
+/* What drivers read as it is. */
+#include "bytes_test.h"
+
+#include <string.h>
+
+/* Whether a place in a body holds a text. */
+static bool is_at(const void *body, pgmsg_span span, const char *text)
+{
+    return are_bytes((const uint8_t *)body + span.at, span.len, text, strlen(text));
+}
+
+static void test_tags(struct tally *tally)
+{
+    static const char body[] = "INSERT 0 42\0";
+    pgmsg_span tag = {7, 7};
+    pgmsg_fault fault;
+    CHECK(tally, pgmsg_read_command_tag(BYTES(body), &tag, &fault) == 0 && is_at(body, tag, "INSERT 0 42"));
+    CHECK(tally, pgmsg_read_command_tag(BYTES("A\0B\0"), &tag, &fault) == 0 && tag.at == 0 && tag.len == 1);
+    CHECK(tally, pgmsg_read_command_tag(BYTES("\0"), &tag, &fault) == 0 && tag.len == 0);
+    CHECK(tally, pgmsg_read_command_tag(BYTES("\377\0"), &tag, &fault) == 0 && tag.len == 1);
+    CHECK(tally, pgmsg_read_command_tag(BYTES("BEGIN"), &tag, &fault) == PGMSG_MISSING_NUL);
+    CHECK(tally, fault.at == 0 && tag.len == 1);
+}
+
+static void test_requests(struct tally *tally)
+{
+    static const char body[] = "\0\0\0\10" "token";
+    pgmsg_raw_authentication asked;
+    pgmsg_fault fault;
+    CHECK(tally, pgmsg_read_raw_authentication(BYTES(body), &asked, &fault) == 0);
+    CHECK(tally, asked.method == 8 && is_at(body, asked.content, "token"));
+    CHECK(tally, pgmsg_read_raw_authentication(BYTES("\377\0\0\1"), &asked, &fault) == 0);
+    CHECK(tally, asked.method == 0xff000001 && asked.content.at == 4 && asked.content.len == 0);
+    CHECK(tally, pgmsg_read_raw_authentication(BYTES("\0\0\0\13" "r"), &asked, &fault) == 0);
+    CHECK(tally, asked.method == 11 && asked.content.len == 1);
+    CHECK(tally, pgmsg_read_raw_authentication(BYTES("\0\0\0"), &asked, &fault) == PGMSG_SHORT);
+    CHECK(tally, asked.method == 11 && fault.at == 0);
+}
+
+static void test_keys(struct tally *tally)
+{
+    uint8_t body[4 + 257] = {0, 0, 4, 210};
+    pgmsg_raw_key_data key = {7, {7, 7}};
+    pgmsg_fault fault;
+    for (size_t len = 0; len <= 257; len++) {
+        int32_t due = len >= 4 && len <= 256 ? 0 : PGMSG_BAD_KEY_LENGTH;
+        memset(&key, 0xaa, sizeof key);
+        CHECK(tally, pgmsg_read_raw_key_data(body, 4 + len, &key, &fault) == due);
+        if (due == 0)
+            CHECK(tally, key.process_id == 1234 && key.secret_key.at == 4 && key.secret_key.len == len);
+        else
+            CHECK(tally, key.process_id == 0xaaaaaaaa);
+    }
+    CHECK(tally, pgmsg_read_raw_key_data(body, 3, &key, &fault) == PGMSG_SHORT);
+}
+
+static void test_settings(struct tally *tally)
+{
+    static const char body[] = "name\0" "caf\351\0";
+    pgmsg_parameter_status status;
+    pgmsg_fault fault;
+    CHECK(tally, pgmsg_read_raw_parameter_status(BYTES(body), &status, &fault) == 0);
+    CHECK(tally, is_at(body, status.name, "name") && is_at(body, status.value, "caf\351"));
+    CHECK(tally, pgmsg_read_raw_parameter_status(BYTES("a\0b"), &status, &fault) == PGMSG_MISSING_NUL);
+    CHECK(tally, fault.at == 2 && is_at(body, status.name, "name"));
+}
+
+static void test_no_bodies(struct tally *tally)
+{
+    pgmsg_fault fault;
+    CHECK(tally, pgmsg_read_no_body(BYTES(""), &fault) == 0);
+    CHECK(tally, pgmsg_read_no_body(BYTES("\0"), &fault) == PGMSG_BODY_TOO_LONG && fault.at == 0);
+    CHECK(tally, pgmsg_read_no_body(BYTES("ab"), &fault) == PGMSG_BODY_TOO_LONG);
+}
+
+static void test_frames(struct tally *tally)
+{
+    pgmsg_frame frame = {7, {8, 9}, 10};
+    pgmsg_fault fault;
+    CHECK(tally, pgmsg_next_raw_frame(BYTES(""), &frame, &fault) == 0 && frame.tag == 7 && frame.length == 5);
+    CHECK(tally, pgmsg_next_raw_frame(BYTES("v\0\0\0"), &frame, &fault) == 0 && frame.tag == 'v');
+    CHECK(tally, pgmsg_next_raw_frame(BYTES("w\0\0\0\6" "a"), &frame, &fault) == 0 && frame.tag == 'w');
+    CHECK(tally, frame.length == 7 && frame.body.at == 8 && frame.body.len == 9);
+    CHECK(tally, pgmsg_next_raw_frame(BYTES("\0\0\0\0\6" "abc"), &frame, &fault) == 1 && frame.tag == 0);
+    CHECK(tally, frame.length == 7 && frame.body.at == 5 && frame.body.len == 2);
+    CHECK(tally, pgmsg_next_raw_frame(BYTES("v\0\0\0\3"), &frame, &fault) == PGMSG_BAD_LENGTH && frame.tag == 0);
+}
+
+void test_read_raw(struct tally *tally)
+{
+    test_tags(tally);
+    test_requests(tally);
+    test_keys(tally);
+    test_settings(tally);
+    test_no_bodies(tally);
+    test_frames(tally);
+}

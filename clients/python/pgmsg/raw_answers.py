@@ -1,0 +1,93 @@
+"""What drivers read as it is, to judge it by rules of their own."""
+
+from __future__ import annotations
+
+import ctypes
+from typing import TYPE_CHECKING, NamedTuple
+
+from . import _header as header
+from ._library import library
+from ._memory import view_of
+from ._reading import part, read
+
+if TYPE_CHECKING:
+    from _typeshed import ReadableBuffer as Buffer
+
+
+class RawFrame(NamedTuple):
+    """A message: its tag, a view of the bytes after its length, and how many bytes of the stream it takes."""
+
+    tag: int
+    body: memoryview
+    length: int
+
+
+class RawIncomplete(NamedTuple):
+    """The beginning of a message, whose tag is None where it isn't there, and how many bytes the stream needs at least."""
+
+    tag: int | None
+    needed: int
+
+
+class RawAuthentication(NamedTuple):
+    """A request for authentication: the number of its method, and a view of what follows it."""
+
+    method: int
+    content: memoryview
+
+
+class RawKeyData(NamedTuple):
+    """What a request to cancel has to name, with a view of a key of 4 to 256 bytes."""
+
+    process_id: int
+    secret_key: memoryview
+
+
+class RawParameterStatus(NamedTuple):
+    """Views of a setting of the server and of its value, in the server's encoding."""
+
+    name: memoryview
+    value: memoryview
+
+
+def next_raw_frame(stream: Buffer) -> RawFrame | RawIncomplete:
+    """The message at the front of a stream, whatever its tag. A length below 4 is refused."""
+    frame = header.Frame()
+    view = view_of(stream)
+    if not read(library.pgmsg_next_raw_frame, stream, ctypes.byref(frame)):
+        return RawIncomplete(frame.tag if len(view) else None, frame.length)
+    return RawFrame(frame.tag, part(view, frame.body), frame.length)
+
+
+def read_command_tag(body: Buffer) -> memoryview:
+    """The text of a command's tag, without its NUL, by the body of its CommandComplete."""
+    found = header.Span()
+    read(library.pgmsg_read_command_tag, body, ctypes.byref(found))
+    return part(view_of(body), found)
+
+
+def read_raw_authentication(body: Buffer) -> RawAuthentication:
+    """A request for authentication by any method, by the body of its Authentication."""
+    found = header.RawAuthentication()
+    read(library.pgmsg_read_raw_authentication, body, ctypes.byref(found))
+    return RawAuthentication(found.method, part(view_of(body), found.content))
+
+
+def read_raw_key_data(body: Buffer) -> RawKeyData:
+    """What a request to cancel has to name, by the body of a BackendKeyData of any version of the protocol."""
+    found = header.RawKeyData()
+    read(library.pgmsg_read_raw_key_data, body, ctypes.byref(found))
+    return RawKeyData(found.process_id, part(view_of(body), found.secret_key))
+
+
+def read_raw_parameter_status(body: Buffer) -> RawParameterStatus:
+    """A setting of the server, by the body of a ParameterStatus whose texts need not be UTF-8."""
+    found = header.ParameterStatus()
+    read(library.pgmsg_read_raw_parameter_status, body, ctypes.byref(found))
+    view = view_of(body)
+    return RawParameterStatus(part(view, found.name), part(view, found.value))
+
+
+def read_no_body(body: Buffer) -> None:
+    """Refuses a message that has a body, where its kind has none."""
+    read(library.pgmsg_read_no_body, body)
