@@ -134,6 +134,9 @@ impl Message {
     /// for it.
     #[inline]
     pub fn parse(buf: &mut BytesMut) -> io::Result<Option<Message>> {
+        if buf.len() < HEAD {
+            return Ok(make_room(buf, HEAD));
+        }
         let (kind, length) = match next_frame(buf) {
             Ok(Next::Frame(frame)) => (frame.kind, frame.length),
             Ok(Next::Incomplete { needed }) => return Ok(make_room(buf, needed)),
