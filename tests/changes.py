@@ -9,6 +9,9 @@ import sources
 
 HUNK = re.compile(r"@@ -\S+ \+(\d+)(?:,(\d+))? @@")
 
+# What says nothing by itself: an import, a module's name, a comment.
+IMPORT = re.compile(r"^ *(?:(?:pub(?:\([a-z]+\))? |ghost )?(?:use|mod) [^;{\n]*(?:\{[^}]*\})?.*|//.*|--.*)$", re.MULTILINE)
+
 # The files of a proof of one function; the others in proofs/ are for several.
 OF_FUNCTION = ("Answers.antt", "Invariants.antt", "Proof.antt")
 
@@ -68,10 +71,10 @@ class Change:
         return sources.functions(self.crate.name, path, file.read_text())
 
     @functools.cached_property
-    def restates(self):
-        """Whether something that specs or signatures said is gone, or is another now."""
+    def restated(self):
+        """The files of which something that they say outside of functions is gone, or is another now."""
         paths = [path for path in self.parts if path.startswith(("specs/", "src/"))]
-        return not all(self.said_before(path) <= self.said_now(path) for path in paths)
+        return {path for path in paths if not self.said_before(path) <= self.said_now(path)}
 
     def said_before(self, path):
         file = f"crates/{self.crate.name}/{path}"
@@ -82,15 +85,19 @@ class Change:
         return said(self.crate, path, file.read_text() if file.exists() else "")
 
     def concerns(self, edit):
-        """Whether a wrong body of the crate is of what changed, changed itself, or no longer applies."""
-        is_changed = str(edit.file.relative_to(self.crate.folder)) in self.parts
-        return self.restates or is_changed or bool(edit.why_not) or not edit.owners.isdisjoint(self.functions)
+        """Whether a wrong body is of what changed, changed itself, or no longer applies.
+
+        A definition is all functions' of the crate; what a source says outside of functions is of its own.
+        """
+        is_whole = any(path.startswith("specs/") for path in self.restated)
+        is_changed = str(edit.file.relative_to(self.crate.folder)) in self.parts or not self.restated.isdisjoint(edit.changes)
+        return is_whole or is_changed or bool(edit.why_not) or not edit.owners.isdisjoint(self.functions)
 
 
 def said(crate, path, text):
-    """The lines of a file outside of bodies, each head of a function as one."""
+    """The lines of a file outside of functions, without imports and comments."""
     lines = text.split("\n")
     functions = sources.functions(crate.name, path, text) if path.startswith("src/") else []
-    inside = {number for it in functions for number in range(it.first, it.last + 1)}
-    heads = {it.name + "\n".join(lines[it.first : it.body + 1]) for it in functions}
-    return heads | {line for number, line in enumerate(lines) if number not in inside}
+    inside = {number for it in functions for number in range(it.first, max(it.body, it.last) + 1)}
+    outside = "\n".join(line for number, line in enumerate(lines) if number not in inside)
+    return set(IMPORT.sub("", outside).split("\n"))
