@@ -13,8 +13,8 @@
  * refusal writes; an array of places holds at most the items before the one that is broken, and all else is as
  * it was.
  *
- * Memory is asked for by pgmsg_read_authentication, pgmsg_read_challenge and pgmsg_read_verifier, and for the
- * words of a fault; by nothing else. */
+ * Memory is asked for by pgmsg_read_challenge, by pgmsg_read_verifier, by pgmsg_read_authentication for the
+ * data of a SASL exchange, and for the words of a fault; by nothing else. */
 
 #ifndef PG_MESSAGE_H
 #define PG_MESSAGE_H
@@ -434,7 +434,8 @@ int32_t pgmsg_read_no_body(const uint8_t *body, size_t body_len, pgmsg_fault *fa
 ptrdiff_t pgmsg_read_copy_response(const uint8_t *body, size_t body_len,
     pgmsg_copy_response *response, int16_t *codes, size_t codes_len, pgmsg_fault *fault);
 
-/* What the server asks for, by the body of its Authentication. 0, or why it is refused. */
+/* What the server asks for, by the body of its Authentication. 0, or why it is refused. Memory is
+ * asked for where the method is 11 or 12, and for no other. */
 int32_t pgmsg_read_authentication(const uint8_t *body, size_t body_len,
     pgmsg_authentication *authentication, pgmsg_fault *fault);
 

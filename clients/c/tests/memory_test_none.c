@@ -30,6 +30,7 @@ static void test_small(struct tally *tally)
     pgmsg_key_data key;
     pgmsg_raw_key_data raw;
     pgmsg_raw_authentication asked;
+    pgmsg_authentication request;
     pgmsg_parameter_status status;
     pgmsg_field field;
     pgmsg_span span;
@@ -51,6 +52,10 @@ static void test_small(struct tally *tally)
     NEEDS_NONE(tally, pgmsg_read_raw_parameter_status(BYTES("a\0\351\0"), &status, &fault) == 0 && status.value.len == 1);
     NEEDS_NONE(tally, pgmsg_read_no_body(BYTES(""), &fault) == 0);
     NEEDS_NONE(tally, pgmsg_read_severity(BYTES("VPANIC\0\0"), &fault) == 0);
+    NEEDS_NONE(tally, pgmsg_read_authentication(BYTES("\0\0\0\0"), &request, &fault) == 0 && request.method == 0);
+    NEEDS_NONE(tally, pgmsg_read_authentication(BYTES("\0\0\0\3"), &request, &fault) == 0 && request.method == 3);
+    NEEDS_NONE(tally, pgmsg_read_authentication(BYTES("\0\0\0\5" "abcd"), &request, &fault) == 0 && request.salt[3] == 'd');
+    NEEDS_NONE(tally, pgmsg_read_authentication(BYTES("\0\0\0\12" "A\0\0"), &request, &fault) == 0 && request.method == 10);
     NEEDS_NONE(tally, pgmsg_read_rows_affected(BYTES("SELECT 12\0")) == 12);
     NEEDS_NONE(tally, pgmsg_read_fields(BYTES("SERROR\0\0"), &field, 1) == 1 && field.letter == 'S');
     NEEDS_NONE(tally, pgmsg_read_mechanisms(BYTES("\0\0\0\12" "A\0" "B\0" "\0"), &span, 1) == 2 && span.at == 4);

@@ -93,22 +93,17 @@ static bool is_verifier(ptrdiff_t answer, size_t n)
     return answer == (ptrdiff_t)n && memcmp(first, letters, n) == 0;
 }
 
-static uint8_t *add_mechanism(size_t n, uint8_t *to)
-{
-    return add(add(add(to, "\0\0\0\12", 4), letters, n), "\0", 2);
-}
-
-static bool is_mechanism(ptrdiff_t answer, size_t n)
+static bool is_continued(ptrdiff_t answer, size_t n)
 {
     (void)n;
-    return answer == 0 && authentication.method == 10;
+    return answer == 0 && authentication.method == 11;
 }
 
 static const struct kind kinds[] = {
     {"salt", add_salt, read_challenge, is_salt},
     {"nonce", add_nonce, read_challenge, is_nonce},
     {"verifier", add_verifier, read_verifier, is_verifier},
-    {"mechanism", add_mechanism, read_authentication, is_mechanism},
+    {"request", add_nonce, read_authentication, is_continued},
 };
 
 static void clear(size_t len)

@@ -641,7 +641,8 @@ extern "C" {
         fault: *mut pgmsg_fault,
     ) -> isize;
 
-    /// What the server asks for, by the body of its Authentication. 0, or why it is refused.
+    /// What the server asks for, by the body of its Authentication. 0, or why it is refused. Memory
+    /// is asked for where the method is 11 or 12, and for no other.
     pub fn pgmsg_read_authentication(
         body: *const u8,
         body_len: usize,

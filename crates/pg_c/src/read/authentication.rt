@@ -1,6 +1,6 @@
 //! What the server asks of a client that opens a session.
 
-ghost use Rattle.std.specs.Prelude.{◌≡◌, ◌≤◌, ◌<◌, ◌<ℤ◌, ◌≤ℤ◌, ⊤, pos, drop, length, None, OnOk, IfOk, IfErr};
+ghost use Rattle.std.specs.Prelude.{◌≡◌, ◌≢◌, ◌≤◌, ◌<◌, ◌<ℤ◌, ◌≤ℤ◌, ⊤, pos, drop, length, None, OnOk, IfOk, IfErr};
 ghost use Rattle.pg_base.specs.declared.error.Error.TheVariants.{Protocol};
 ghost use Rattle.pg_base.specs.declared.error.ProtocolFault.TheVariants.{UnknownAuthentication};
 ghost use Rattle.pg_base.specs.Sink.{IsGiven};
@@ -10,7 +10,9 @@ ghost use Rattle.pg_receive.specs.Authentication.{requests, sasl_continue, sasl_
 ghost use Rattle.pg_receive.specs.Authentication.SaslContinue.Shown.{continue_shown};
 ghost use Rattle.pg_receive.specs.Authentication.Shown.{authentication_shown};
 ghost use Rattle.pg_response.specs.Received.{max_body};
-ghost use Rattle.pg_c.specs.Read.Authentication.{ReadsAuthentication, ReadsChallenge, ReadsVerifier, IsAskedFault, salt_of};
+ghost use Rattle.pg_c.specs.Read.Authentication.{ReadsAuthentication, ReadsChallenge, ReadsVerifier, IsAskedFault, HasSaslData, salt_of};
+ghost use Rattle.pg_format.specs.Format.Parts.{be_u32, bytes_of};
+ghost use Rattle.pg_format.specs.Format.Places.{IsReadAt, BreaksAt};
 ghost use Rattle.pg_c.specs.Place.{part};
 ghost use Rattle.pg_c.specs.Read.{AreGiven, IsBodyFault, RefusesBody};
 ghost use Rattle.pg_c.specs.Refusal.{Refuses, IsErrorOf};
@@ -19,6 +21,7 @@ use crate::place::PgmsgSpan;
 use crate::read::check_body;
 use crate::refusal::{PgmsgFault, report};
 use bytes::Bytes;
+use pg_base::io::{bytes_at, u32_at};
 use pg_base::{Error, ProtocolFault};
 use pg_receive::message::{
     Authentication, AuthenticationSaslContinue, AuthenticationSaslFinal, BackendMessage, split_name,
@@ -46,7 +49,8 @@ pub struct PgmsgChallenge {
     pub nonce_len: usize,
 }
 
-/// What the server asks for, by the body of its Authentication. 0, or why it is refused.
+/// What the server asks for, by the body of its Authentication. 0, or why it is refused. Memory is asked
+/// for where the method is 11 or 12, and for no other.
 #[unsafe(no_mangle)]
 pub extern "C" fn pgmsg_read_authentication(
     alloc: Global,
@@ -56,18 +60,60 @@ pub extern "C" fn pgmsg_read_authentication(
 ) -> i32
     ensures result { result ≤ℤ pos 0 }
     ensures value { result ≡ pos 0 → ReadsAuthentication body.now authentication.new }
-    ensures fault { RefusesBody requests body.now ⊤ fault.old fault.new result }
+    ensures fault { RefusesBody requests body.now (HasSaslData body.now) fault.old fault.new result }
     ensures within { pos 0 ≤ℤ result → length body.now ≤ max_body }
     ensures untouched { pos 0 ≤ℤ result → fault.new ≡ fault.old }
     ensures kept { result <ℤ pos 0 → authentication.new ≡ authentication.old }
 {
-    match authentication_of(alloc, body) {
+    match asked_of(alloc, body) {
         Ok(asked) => {
-            *authentication = shown(&asked);
+            *authentication = asked;
             0
         }
         Err(error) => report(alloc, error, fault),
     }
+}
+
+// What is asked for. Data of a SASL exchange is copied, and nothing else.
+fn asked_of(alloc: Global, body: &[u8]) -> Result<PgmsgAuthentication, Error>
+    ensures value { IfOk result (ReadsAuthentication body.now) }
+    ensures within { OnOk result (length body.now ≤ max_body) }
+    ensures fault { IfErr result (IsErrorOf (IsBodyFault (IsFaultOf requests) body.now) (HasSaslData body.now)) }
+{
+    check_body(body)?;
+    match u32_at(body, 0)? {
+        11 | 12 => Ok(shown(&authentication_of(alloc, body)?)),
+        method => Ok(plain_request(body, method)?),
+    }
+}
+
+// A request by a method whose data isn't that of a SASL exchange.
+fn plain_request(body: &[u8], method: u32) -> Result<PgmsgAuthentication, ProtocolFault>
+    requires found { be_u32.Reads body.now method (drop 4 body.now) }
+    requires four { 4 ≤ length body.now }
+    requires no_continue { method ≢ 11 }
+    requires no_final { method ≢ 12 }
+    ensures value { IfOk result (ReadsAuthentication body.now) }
+    ensures fault { IfErr result (IsFaultOf requests body.now) }
+{
+    let salt = match method {
+        0 => [0; 4],
+        3 => [0; 4],
+        5 => salt_in(body)?,
+        10 => [0; 4],
+        _ => return Err(ProtocolFault::UnknownAuthentication(method)),
+    };
+    Ok(PgmsgAuthentication { method, salt })
+}
+
+fn salt_in(body: &[u8]) -> Result<[u8; 4], ProtocolFault>
+    requires { 4 ≤ length body.now }
+    ensures salt { IfOk result (λ salt. IsReadAt (bytes_of 4) body.now 4 salt 8) }
+    ensures short { IfErr result (BreaksAt (bytes_of 4) body.now 4) }
+{
+    let mut salt = [0; 4];
+    salt.copy_from_slice(bytes_at(body, METHOD_LENGTH, 4)?);
+    Ok(salt)
 }
 
 fn authentication_of(alloc: Global, body: &[u8]) -> Result<Authentication, Error>
