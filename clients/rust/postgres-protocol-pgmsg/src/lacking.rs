@@ -49,23 +49,6 @@ pub(crate) fn text_len(text: &[u8]) -> usize {
     text.len() + 1
 }
 
-/// The text that is all of a body, without its NUL: the tag of a CommandComplete.
-#[inline]
-pub(crate) fn only_text(body: &[u8]) -> io::Result<&[u8]> {
-    match body.split_last() {
-        Some((0, text)) if !text.contains(&0) => Ok(text),
-        _ => Err(refused("message body isn't one text")),
-    }
-}
-
-/// The number at the front of a body, by which an Authentication names its method.
-pub(crate) fn method(body: &[u8]) -> io::Result<u32> {
-    match *body {
-        [a, b, c, d, ..] => Ok(u32::from_be_bytes([a, b, c, d])),
-        _ => Err(refused("message body is too short")),
-    }
-}
-
 /// The count at the front of a body, which a list is read by later.
 #[inline]
 pub(crate) fn has_count(body: &[u8]) -> io::Result<()> {

@@ -32,7 +32,6 @@
 //! | `describe(b'x', "")`, `close(b'x', "")` | refused: neither a statement nor a portal | written |
 //! | `parse` of 32768 types, `bind` of 32768 values or formats | written: a message counts to 65535 | refused |
 //! | ReadyForQuery `5A 00000005 00`, with no known status | refused | read |
-//! | ParameterStatus `53 00000007 FF 00 00`, which isn't UTF-8 | refused by `Message::parse` | refused by `name` |
 //! | `53 80000000`, a length above 2147483647 | refused by `Message::parse` | waited for |
 //! | CopyInResponse or CopyOutResponse of 32768 columns or more | refused by `column_formats` | read |
 //! | DataRow `44 0000000A 0002 FFFFFFFF`, whose second cell is missing | refused by the first `next` | refused by the second |

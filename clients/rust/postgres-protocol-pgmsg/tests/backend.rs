@@ -58,10 +58,20 @@ fn what_follows_the_last_item_is_refused() {
 #[test]
 fn the_differences_that_the_documentation_names() {
     assert!(is_refused(b"Z\0\0\0\x05\0"));
-    assert!(is_refused(b"S\0\0\0\x07\xff\0\0"));
     assert!(is_refused(b"S\x80\0\0\0"));
     match parsed(b"D\0\0\0\x0a\0\x02\xff\xff\xff\xff") {
         Message::DataRow(body) => assert!(body.ranges().next().is_err()),
+        _ => panic!("another message"),
+    }
+}
+
+#[test]
+fn a_setting_that_is_not_utf8_is_refused_where_it_is_asked_for() {
+    match parsed(b"S\0\0\0\x08\xff\0a\0") {
+        Message::ParameterStatus(body) => {
+            assert!(body.name().is_err());
+            assert_eq!(body.value().expect("no refusal"), "a");
+        }
         _ => panic!("another message"),
     }
 }

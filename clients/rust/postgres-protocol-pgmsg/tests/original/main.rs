@@ -51,9 +51,8 @@ fn is_named(ours: &[String], theirs: &[String]) -> bool {
         .map_or("", |(_, message)| message);
     let is_ready =
         other.starts_with("Ready ") && !["Ready 73", "Ready 84", "Ready 69"].contains(&other);
-    let is_status = other.starts_with("ParameterStatus ") && other.contains("refused");
     let is_long = same > 0 && ours[same - 1] == "refused" && theirs[same].parse::<usize>().is_ok();
-    is_refused && (is_ready || is_status || is_long)
+    is_refused && (is_ready || is_long)
 }
 
 #[test]

@@ -1,8 +1,8 @@
 //! A body by its kind.
 
 use super::*;
-use crate::lacking::ends;
 use bytes::Bytes;
+use pgmsg::read::no_body;
 
 /// Reads the body of a message of a kind.
 #[inline]
@@ -32,7 +32,7 @@ pub(super) fn read(kind: Kind, body: Bytes) -> io::Result<Message> {
 
 /// Reads the body of a message that has none.
 fn read_empty(kind: Kind, body: &[u8]) -> io::Result<Message> {
-    ends(body, 0)?;
+    no_body(body)?;
     match kind {
         Kind::BindComplete => Ok(Message::BindComplete),
         Kind::CloseComplete => Ok(Message::CloseComplete),

@@ -2,10 +2,10 @@
 
 use super::items::{iterate, Items};
 use super::Message;
-use crate::lacking::{self, ends, ends_list, refused, text_len};
+use crate::lacking::{ends, ends_list, refused, text_len};
 use bytes::Bytes;
 use fallible_iterator::FallibleIterator;
-use pgmsg::read::{authentication, Authentication};
+use pgmsg::read::{authentication, raw_authentication, Authentication};
 use std::io;
 
 /// The bytes of the number of the method, which all else follows.
@@ -13,7 +13,7 @@ const METHOD: usize = 4;
 
 /// Reads the body of an Authentication.
 pub(super) fn read(body: Bytes) -> io::Result<Message> {
-    let method = lacking::method(&body)?;
+    let method = raw_authentication(&body)?.method;
     let fixed = |length, message| ends(&body, length).map(|()| message);
     match method {
         0 => fixed(METHOD, Message::AuthenticationOk),

@@ -1,8 +1,10 @@
 //! What a session and a command report of themselves.
 
-use crate::lacking::{ends, only_text, refused, text_len};
+use crate::lacking::{ends, refused, text_len};
 use bytes::Bytes;
-use pgmsg::read::{key_data, notification, parameter_status, ready, TransactionStatus};
+use pgmsg::read::{
+    command_tag, key_data, notification, raw_parameter_status, ready, TransactionStatus,
+};
 use std::{io, str};
 
 fn text(bytes: &[u8]) -> io::Result<&str> {
@@ -46,7 +48,9 @@ pub struct CommandCompleteBody {
 impl CommandCompleteBody {
     #[inline]
     pub(super) fn read(mut storage: Bytes) -> io::Result<CommandCompleteBody> {
-        let length = only_text(&storage)?.len();
+        let tag = command_tag(&storage)?;
+        ends(&storage, text_len(tag))?;
+        let length = tag.len();
         storage.truncate(length);
         Ok(CommandCompleteBody { storage })
     }
@@ -103,12 +107,11 @@ pub struct ParameterStatusBody {
 
 impl ParameterStatusBody {
     pub(super) fn read(body: &Bytes) -> io::Result<ParameterStatusBody> {
-        let read = parameter_status(body)?;
-        let (name, value) = (read.name.as_bytes(), read.value.as_bytes());
-        ends(body, text_len(name) + text_len(value))?;
+        let read = raw_parameter_status(body)?;
+        ends(body, text_len(read.name) + text_len(read.value))?;
         Ok(ParameterStatusBody {
-            name: body.slice_ref(name),
-            value: body.slice_ref(value),
+            name: body.slice_ref(read.name),
+            value: body.slice_ref(read.value),
         })
     }
 
