@@ -41,6 +41,14 @@ fn a_message_without_a_known_tag_is_refused_when_it_is_whole() {
     assert!(is_refused(b"?\0\0\0\x05x"));
 }
 
+/// Whether the first value of a row is refused.
+fn has_refused_row(stream: &[u8]) -> bool {
+    match parsed(stream) {
+        Message::DataRow(body) => body.ranges().next().is_err(),
+        _ => panic!("another message"),
+    }
+}
+
 #[test]
 fn what_follows_the_last_item_is_refused() {
     assert!(is_refused(b"1\0\0\0\x05x"));
@@ -49,20 +57,14 @@ fn what_follows_the_last_item_is_refused() {
     assert!(is_refused(b"A\0\0\0\x0b\0\0\0\x01\0\0x"));
     assert!(is_refused(b"Z\0\0\0\x06IT"));
     assert!(is_refused(b"R\0\0\0\x09\0\0\0\0x"));
-    match parsed(b"D\0\0\0\x07\0\0x") {
-        Message::DataRow(body) => assert!(body.ranges().next().is_err()),
-        _ => panic!("another message"),
-    }
+    assert!(has_refused_row(b"D\0\0\0\x07\0\0x"));
 }
 
 #[test]
 fn the_differences_that_the_documentation_names() {
     assert!(is_refused(b"Z\0\0\0\x05\0"));
     assert!(is_refused(b"S\x80\0\0\0"));
-    match parsed(b"D\0\0\0\x0a\0\x02\xff\xff\xff\xff") {
-        Message::DataRow(body) => assert!(body.ranges().next().is_err()),
-        _ => panic!("another message"),
-    }
+    assert!(has_refused_row(b"D\0\0\0\x0a\0\x02\xff\xff\xff\xff"));
 }
 
 #[test]
