@@ -1,9 +1,18 @@
-"""Writes what was measured into bench/README.md and beside it."""
+"""Writes what was measured as files of text, and the main part of it into bench/README.md."""
 
 import re
 import time
 
 from build import BENCH, output
+
+# What stands above each table in its file.
+HEADS = {
+    "times": """Ours over each other's: the median, the first and the last tenth. A ratio above its aim has stars around it.
+The column "before" is of 2026-11-23, when a checksum of the benchmark was timed with the rest.""",
+    "strict": "The time of encode_strict over that of encode_all.",
+    "instructions": "Instructions a message, counted by callgrind, which can't run Go.",
+    "scale": "One size grows, and the rest stays as it is: in a third of the rounds, in one order.",
+}
 
 
 def processor():
@@ -11,26 +20,28 @@ def processor():
     return names[0] if names else "an unknown processor"
 
 
-def measured(rounds, load, building, measuring):
-    """When and where, with what, and how long it took."""
+def measured(rounds, load):
+    """When and where, and with what."""
     date = time.strftime("%Y-%m-%d")
     rustc = output("rustc", "--version").split()[1]
     return (
         f"Measured on {date} in {rounds} rounds on one core of {processor()}, at a load of"
-        f" {load:.1f}, with rustc {rustc}. The command took {building:.0f} s to build and"
-        f" {measuring:.0f} s to measure."
+        f" {load:.1f}, with rustc {rustc}."
     )
 
 
-def publish(parts, picture):
-    """Each part goes between its markers: <!-- NAME --> and <!-- /NAME -->."""
-    readme = BENCH / "README.md"
-    text = readme.read_text()
-    parts = parts | {"picture": "![Time of each side over the original's](times.svg)"}
+def write(folder, parts, head):
+    """A file for each table, below what holds of all."""
+    folder.mkdir(exist_ok=True)
     for name, part in parts.items():
-        place = re.compile(f"(<!-- {name} -->).*?(<!-- /{name} -->)", re.S)
-        text, count = place.subn(lambda found: f"{found[1]}\n{part}\n{found[2]}", text)
-        if count != 1:
-            raise SystemExit(f"{readme} has no place for {name}")
+        (folder / f"{name}.txt").write_text(f"{head}\n\n{HEADS[name]}\n\n{part}\n")
+
+
+def into_readme(main, when):
+    """The main table goes between its markers."""
+    readme = BENCH / "README.md"
+    place = re.compile("(<!-- main -->\n).*?(<!-- /main -->)", re.S)
+    text, count = place.subn(lambda found: f"{found[1]}{main}\n\n{when}\n{found[2]}", readme.read_text())
+    if count != 1:
+        raise SystemExit(f"{readme} has no place for the main table")
     readme.write_text(text)
-    (BENCH / "times.svg").write_text(picture)

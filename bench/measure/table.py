@@ -5,19 +5,21 @@ from timing import ratio
 
 NONE = ""
 
+OTHERS = ("original", "postgres-protocol", "pgproto3")
 
-def table(heads, lines):
-    """A table of text, in columns of equal width, the first two to the left."""
+
+def table(heads, lines, names=2):
+    """A table of text, in columns of equal width, those of names to the left."""
     widths = [max(map(len, column)) for column in zip(heads, *lines)]
-    rules = ["-" * width if at < 2 else "-" * (width - 1) + ":" for at, width in enumerate(widths)]
+    rules = ["-" * width if at < names else "-" * (width - 1) + ":" for at, width in enumerate(widths)]
     return "\n".join(
-        "| " + " | ".join(aligned(cell, width, at) for at, (cell, width) in enumerate(zip(line, widths))) + " |"
+        "| " + " | ".join(map(aligned, line, widths, (at < names for at in range(len(widths))))) + " |"
         for line in (heads, rules, *lines)
     )
 
 
-def aligned(cell, width, at):
-    return cell.ljust(width) if at < 2 else cell.rjust(width)
+def aligned(cell, width, is_name):
+    return cell.ljust(width) if is_name else cell.rjust(width)
 
 
 def number(value, form="{:.2f}"):
@@ -56,6 +58,17 @@ def times_table(rows):
             compared(row.over("pgproto3"), None),
         ])
     return table(heads, lines)
+
+
+def main_table(rows):
+    """The ways that every side has, without spread and aims."""
+    heads = ["case", "ours, ns", *OTHERS]
+    lines = []
+    for row in rows:
+        if row.how in ("prepared", "stream"):
+            ratios = (row.over(side) for side in OTHERS)
+            lines.append([row.case, f"{row.nanoseconds():.1f}", *(number(found and found[0]) for found in ratios)])
+    return table(heads, lines, 1)
 
 
 def instructions_table(rows):
