@@ -98,12 +98,12 @@ int main(void)
 {
     uint64_t sum = 0;
     make_values();
+    printf("\n| message | the library, ns | C by hand, ns | quotient |\n|---|---|---|---|\n");
     for (size_t i = 0; i < sizeof messages / sizeof *messages; i++) {
         const struct message *message = &messages[i];
         int times = (int)(20000000 / (compare(message) + 100));
         struct turns of = take_turns(by_library, by_hand, message, times, &sum);
-        printf("%s: the library %.1f ns, C by hand %.1f ns, quotient %.2f\n", message->name, of.library, of.hand,
-               of.library / of.hand);
+        printf("| %s | %.1f | %.1f | %.2f |\n", message->name, of.library, of.hand, of.library / of.hand);
     }
     return sum == 0;
 }

@@ -96,8 +96,8 @@ static uint64_t measure(const struct shape *shape)
     uint64_t sum = 0;
     row.len = write_row(row.body, shape);
     struct turns of = take_turns(by_library, by_hand, &row, CELLS_A_ROUND / shape->cells, &sum);
-    printf("%d cells of %d bytes: pgmsg_read_row %.1f ns, C by hand %.1f ns, quotient %.2f\n", shape->cells,
-           shape->len, of.library, of.hand, of.library / of.hand);
+    printf("| %d of %d bytes | %.1f | %.1f | %.2f |\n", shape->cells, shape->len, of.library, of.hand,
+           of.library / of.hand);
     return sum;
 }
 
@@ -105,6 +105,7 @@ int main(void)
 {
     static const struct shape shapes[] = {{5, 8}, {50, 8}, {50, 200}, {1000, 8}};
     uint64_t sum = 0;
+    printf("\n| cells of a row | pgmsg_read_row, ns | C by hand, ns | quotient |\n|---|---|---|---|\n");
     for (size_t i = 0; i < sizeof shapes / sizeof *shapes; i++)
         sum += measure(&shapes[i]);
     return sum == 0;
