@@ -11,11 +11,12 @@ OTHERS = ("original", "postgres-protocol", "pgproto3")
 def table(heads, lines, names=2):
     """A table of text, in columns of equal width, those of names to the left."""
     widths = [max(map(len, column)) for column in zip(heads, *lines)]
-    rules = ["-" * width if at < names else "-" * (width - 1) + ":" for at, width in enumerate(widths)]
-    return "\n".join(
+    rules = "|".join("-" * (width + 1) + "-:"[at >= names] for at, width in enumerate(widths))
+    head, *rest = (
         "| " + " | ".join(map(aligned, line, widths, (at < names for at in range(len(widths))))) + " |"
-        for line in (heads, rules, *lines)
+        for line in (heads, *lines)
     )
+    return "\n".join((head, f"|{rules}|", *rest))
 
 
 def aligned(cell, width, is_name):
