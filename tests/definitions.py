@@ -28,8 +28,6 @@ class Definitions:
     def __init__(self, crate):
         # The names that a file can use, its own and those of its lines `use`, and the modules that it names anew.
         self.named, self.names_in, self.modules_in = {}, {}, {}
-        # By each clause, the lines of all of its function's: what leaves it without a type leaves them without a proof.
-        self.beside = {}
         files = [file for part in ("specs", "proofs", "src") for file in (crate.folder / part).rglob("*")]
         for file in sorted(it for it in files if it.is_file()):
             path = str(file.relative_to(crate.folder))
@@ -64,17 +62,14 @@ class Definitions:
                     self.add(operator, "by its sign", part)
 
     def read_clauses(self, path, lines):
-        """Reads the clauses of a source by the names of their types, and of what proves them."""
+        """Reads the clauses of a source by the names of what proves them."""
         for number, line in enumerate(lines):
             if function := sources.FUNCTION.match(line):
-                name, beside = function[2], set()
+                name = function[2]
             elif clause := CLAUSE.match(line):
                 part = Part(path, lines, number, sources.clause_end(lines, number))
-                self.add(f"ensures-{clause[1]}", None, part)
                 for law in (f"returns-clause-{clause[1]}", f"{name}/returns-clause-{clause[1]}"):
                     self.add(law, "its type", part)
-                beside |= part.lines
-                self.beside[f"ensures-{clause[1]}"] = beside
 
     def add(self, name, case, part):
         """Keeps a part by the words of its name, which an operator may have many of."""

@@ -11,9 +11,12 @@ ANSWER = re.compile(r"(?:\./)?(proofs/\S+?)/\w+\.antt:\d+:\d+: error")
 # An answer that names what the text no longer has says nothing of the contract.
 SHAPE = re.compile(r"has no field|is not in scope|has no `|was not admitted")
 
-# A proof that doesn't hold, or a clause that has no type; and those of which that one leaves nothing known.
-LAW = re.compile(r"(?:\./)?((?:proofs|src)/\S+?):\d+:\d+: error: `(\w\S*)`")
+# A proof that doesn't hold, and those of which that one leaves nothing known.
+LAW = re.compile(r"(?:\./)?(proofs/\S+?):\d+:\d+: error: `(\w\S*)`")
 UNCHECKED = re.compile(r"(?:\./)?proofs/\S+?:\d+:\d+: error: \d+ declarations? that depends? on .* not checked: ")
+
+# A clause or a definition that has no type any more, so that nothing is said of what it means.
+UNTYPED = re.compile(r"(?:\./)?(?:src|specs)/\S+?:\d+:\d+: error: `\w\S*`")
 
 # A line by which the text itself can't be read, of which no goal was tried.
 UNREAD = re.compile(r"(?:\./)?((?:src|specs)/\S+?):(\d+):\d+: error(?:\[[\w-]+\])?: (.*)")
@@ -41,11 +44,10 @@ class Report:
         laws = [(law, line) for line in lines if (law := LAW.match(line))]
         self.laws = {name: line for law, line in laws for name in (law[2], f"{law[1].split('/')[-2]}/{law[2]}")}
         self.unchecked = [line for line in lines if UNCHECKED.match(line)]
+        self.untyped = [line for line in lines if UNTYPED.match(line)]
 
     def verdict(self, function):
         """What the check says of a function and its closures, or of a law, and the line that shows it."""
-        if function in self.laws:
-            return OPEN_GOAL, self.laws[function]
         if "::" not in function:
             return self.verdict_of_law(function)
         each = [self.verdict_of(name) for name in [function, *self.closures(function)]]
@@ -53,7 +55,11 @@ class Report:
         return min(each, key=lambda it: order.index(it[0]))
 
     def verdict_of_law(self, law):
-        """What the check says of a law that isn't refused. Of many that weren't checked it names some."""
+        """What the check says of a law: nothing where a text has no type. Of many that weren't checked it names some."""
+        if self.untyped:
+            return OF_SHAPE, self.untyped[0]
+        if law in self.laws:
+            return OPEN_GOAL, self.laws[law]
         waits = [line for line in self.unchecked if law.split("/")[-1] in re.split(r"[, ]+", line) or re.search(r" and \d+ more$", line)]
         return (WAITS, waits[0]) if waits else (PROVED, "the law holds")
 

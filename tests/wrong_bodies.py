@@ -14,9 +14,8 @@ class Edit:
 
     Each TEXT stands once in its file, on one line. A line `refused by: FUNCTION` names, by the end of its path, the
     function whose contract refuses an edit that stands in none, as that of a number of an enum. A line
-    `refused by law: NAME` names what no longer holds of a definition: a proof, also one of a clause as
-    `returns-clause-CLAUSE`, or where the clause itself has no type any more, `ensures-CLAUSE`. Of proofs of one name
-    one is `FOLDER/NAME`.
+    `refused by law: NAME` names the proof that no longer holds of a definition, that of a clause as
+    `returns-clause-CLAUSE`. Of proofs of one name one is `FOLDER/NAME`.
     """
 
     def __init__(self, crate, file):
@@ -54,14 +53,12 @@ class Edit:
             raise ValueError("it changes nothing")
 
     def read_laws(self, known):
-        """Finds the lines on which the laws stand, and those that have no proof where a clause has no type."""
+        """Finds the lines on which the laws stand."""
         new = [definitions.Part(path, [line], 0, 0) for path, changed in self.changes.items() for line in changed.values()]
         for law in self.laws:
             self.stands_on |= known.lines_of(law, new)
         if not self.lines <= self.stands_on:
             raise ValueError("the law that it names doesn't stand on the lines that it changes")
-        for law in self.laws:
-            self.lines |= known.beside.get(law, set())
 
     def change(self, path, old, new):
         """Puts a text in the place of another that stands once in the file as it was edited so far."""
