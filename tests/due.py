@@ -5,7 +5,7 @@ import subprocess
 import changes
 import crates
 
-# The commit at which all were tried, and by which toolchain.
+# The commit as of which all were tried, and by which toolchain.
 TRIED = crates.TOP / "tests" / "tried"
 
 # Of what didn't change, one part in so many is tried, another one at each commit.
