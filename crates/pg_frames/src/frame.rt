@@ -26,6 +26,8 @@ pub struct Frame<'a> {
 /// `UnknownMessageType` where no message from a server has this tag, then `BadLength` where the
 /// length is below 4; each as soon as five bytes are there, and whatever comes after them. It takes
 /// no memory and copies nothing. Documentation: "Messaging Overview".
+// Inlined, so that the frame isn't written to memory and read again.
+#[inline(always)]
 pub fn next_frame(stream: &[u8]) -> Result<Option<Frame<'_>>, ProtocolFault>
     ensures whole { IfOk result (λ some. IfSome some (λ frame. Begins stream.now (backend_tag frame.format) frame.body.now frame.rest.now)) }
     ensures part { IfOk result (λ some. IfNone some (WantsMore stream.now)) }

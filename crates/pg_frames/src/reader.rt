@@ -145,6 +145,7 @@ impl FrameReader {
     }
 
     // Where all is handed out, lets go of a large block that wasn't needed for what was held.
+    #[inline(always)]
     fn give_back(&mut self)
         ensures { self.new ≡ self.old }
     {

@@ -31,6 +31,7 @@ impl Model for CommandComplete {
 impl CommandComplete {
     /// How many rows the command had to do with: the number after the last space of its body, and 0
     /// where there is none, or one above 18446744073709551615.
+    #[inline(always)]
     pub fn rows_affected(&self) -> u64
         ensures { result ≡ row_count self.now }
     {
@@ -73,6 +74,7 @@ pub fn command_tag(body: &[u8]) -> Result<&[u8], ProtocolFault>
 
 /// How many rows the command had to do with whose message has this body: what
 /// [`CommandComplete::rows_affected`] gives.
+#[inline(always)]
 pub fn rows_affected(tag: &[u8]) -> u64
     ensures { result ≡ row_count tag.now }
 {

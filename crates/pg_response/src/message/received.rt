@@ -54,6 +54,8 @@ impl ReceivedMessage {
     /// It is `WrongFormat` where this is a message of another kind, then `BodyTooLong` where the
     /// body has more than [`MAX_BODY`] bytes. Else it is what `decode_body` gives, and a fault of
     /// the body names the kind of message.
+    // Inlined, so that neither the message nor the answer is copied on its way.
+    #[inline(always)]
     pub fn decode<T: BackendMessage>(self, alloc: Global) -> Result<T, Error>
         ensures { DecodesMessage T.BackendMessage self result }
     {

@@ -104,6 +104,7 @@ impl FirstPlaces {
     }
 
     /// The value of the first field of a letter, in the body that these are places of.
+    #[inline(always)]
     pub(crate) fn value_in<'a>(&self, body: &'a [u8], wanted: u8) -> Option<&'a [u8]>
         requires { AreFirst body.now [] self.now.starts self.now.ends }
         ensures { option_copied result ≡ first_value wanted (fields_in body.now) }
@@ -120,6 +121,8 @@ impl FirstPlaces {
 }
 
 // The slot of a letter among those that are known.
+// Inlined, so that it is known where the letter is.
+#[inline(always)]
 fn slot_of(letter: u8) -> Option<usize>
     ensures known { IfSome result (λ slot. (slot < KNOWN) × (slice_index known_letters slot ≡ letter)) }
     ensures unknown { IfNone result (HoldsNo letter known_letters) }

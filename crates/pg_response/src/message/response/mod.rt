@@ -80,6 +80,8 @@ impl Notice {
 
     /// The first field of a letter, where it is UTF-8. Documentation: "Error and Notice Message
     /// Fields".
+    // Inlined with what it calls, so that a letter that is known is looked up when it is compiled.
+    #[inline(always)]
     pub fn get(&self, wanted: u8) -> Option<&str>
         ensures { option_copied result ≡ first_text wanted self.now.fields }
     {
@@ -87,6 +89,7 @@ impl Notice {
     }
 
     /// As [`Notice::get`], but as bytes, which may be UTF-8 or not.
+    #[inline(always)]
     pub fn get_raw(&self, wanted: u8) -> Option<&[u8]>
         ensures { option_copied result ≡ first_value wanted self.now.fields }
     {
