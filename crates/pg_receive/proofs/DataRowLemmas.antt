@@ -1,5 +1,5 @@
 -- The cells of a row: where they end, and how they are read.
-use Rattle.std.proofs.Common.{◌≡◌, ℕ, zero, suc, ◌+◌, ◌-◌, ◌*◌, ◌<◌, ◌≤◌, ℤ, pos, negsuc, List, [], ◌∷◌, ◌++◌, Option, Some, None, length, get_or, take, drop, false, true, inl, inr, refl, sym, ap, ◌∙◌, arith, length-append, length-take, length-drop}
+use Rattle.std.proofs.Common.{◌≡◌, ℕ, Bool, true, not, Bor, option_copied, zero, suc, ◌+◌, ◌-◌, ◌*◌, ◌<◌, ◌≤◌, ℤ, pos, negsuc, List, [], ◌∷◌, ◌++◌, Option, Some, None, length, get_or, take, drop, false, true, inl, inr, refl, sym, ap, ◌∙◌, arith, length-append, length-take, length-drop}
 use Rattle.std.specs.Prelude.{slice_get, slice_range, is_none, ◌<ℤ◌}
 use Rattle.std.proofs.lemmas.Bool.{cases_lt, both_ways, le-leb}
 use Rattle.std.proofs.lemmas.Int.{ints}
@@ -158,3 +158,13 @@ value_is_after body front value back p =
       wide = read.first.wide;
       parts = read.first.parts ∙ ap (λ (l : List ℕ). read.first.spelled ++ l) bytes;
     }
+
+-- ---- a cell that is missing
+
+pub not_some : (none some : Bool) → some ≡ not none → none ≡ not some
+not_some true some e = rw e refl
+not_some false some e = rw e refl
+
+pub is_none-copied : (cell : Option (Bor (List ℕ))) → is_none (option_copied cell) ≡ is_none cell
+is_none-copied None = refl
+is_none-copied (Some value) = refl

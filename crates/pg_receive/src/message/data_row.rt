@@ -3,6 +3,7 @@
 mod cell;
 mod cell_end;
 mod row;
+mod row_ends;
 mod row_index;
 mod row_reader;
 
@@ -16,9 +17,10 @@ pub use cell::cell_at;
 use cell_end::CellEnd;
 use pg_base::{BackendMessageFormat, Error};
 pub use row::{Cells, Row};
+use row_ends::ends_of;
 pub use row_index::RowIndex;
-use row_index::read_ends;
 pub use row_reader::RowReader;
+use smallvec::SmallVec;
 use std::alloc::Global;
 use std::marker::Model;
 
@@ -34,7 +36,7 @@ const CELL_LENGTH: usize = 4;
 #[derive(Drop)]
 pub struct DataRow {
     storage: Bytes,
-    ends: Vec<CellEnd>,
+    ends: SmallVec<CellEnd, 8>,
 }
 
 impl Model for DataRow {
@@ -98,8 +100,7 @@ impl BackendMessage for DataRow {
     ghost NeedsNoMemory = { RowNeedsNoMemory };
 
     fn decode_body(alloc: Global, buf: Bytes) -> Result<Self, Error> {
-        let mut ends = Vec::new(alloc);
-        read_ends(buf.as_slice(), &mut ends)?;
+        let ends = ends_of(alloc, buf.as_slice())?;
         Ok(DataRow { storage: buf, ends })
     }
 

@@ -88,8 +88,10 @@ fn assert_body<T: BackendMessage + Drop>(
 fn bodies_that_need_memory(rt: HostRuntime) {
     use Needs::{Memory, Nothing};
     let alloc = rt.alloc();
-    assert_body::<DataRow>(&rt, alloc, Memory, b"\0\x01\0\0\0\x01a");
-    assert_body::<DataRow>(&rt, alloc, Nothing, b"\0\0");
+    let nine = b"\0\x09\0\0\0\0\0\0\0\0\0\0\0\0\0\0\0\0\0\0\0\0\0\0\0\0\0\0\0\0\0\0\0\0\0\0\0\0";
+    assert_body::<DataRow>(&rt, alloc, Memory, nine);
+    let eight = b"\0\x08\0\0\0\0\0\0\0\0\0\0\0\0\0\0\0\0\0\0\0\0\0\0\0\0\0\0\0\0\0\0\0\0";
+    assert_body::<DataRow>(&rt, alloc, Nothing, eight);
     let column = b"\0\x01id\0\0\0\x40\x06\0\x01\0\0\0\x17\0\x04\xFF\xFF\xFF\xFF\0\x01";
     assert_body::<RowDescription>(&rt, alloc, Memory, column);
     assert_body::<RowDescription>(&rt, alloc, Nothing, b"\0\0");

@@ -1,12 +1,12 @@
 use Rattle.std.specs.Option.{is_none, is_some}
-use Rattle.std.proofs.Common.{◌≡◌, ℕ, List, Bor, Option, Some, None, Bool, true, false, not, ◌+◌, ◌*◌, ◌<◌, ◌≤◌, length, drop, refl, sym, ap, ◌∙◌, option_copied, arith}
+use Rattle.std.proofs.Common.{◌≡◌, ◌+◌, ◌*◌, ◌<◌, ◌≤◌, length, drop, refl, sym, ap, ◌∙◌, option_copied, arith}
 use Rattle.std.proofs.lemmas.Bool.{false≢true}
 use Rattle.std.proofs.lemmas.Result.{err_from_is_err_and}
 use Rattle.pg_base.proofs.ReadingLemmas.{one_number}
 use Rattle.pg_receive.specs.DataRow.CellEnd.{end_of, cell_to, cells_from, last_end}
 use Rattle.pg_format.specs.Format.Nullable.{cell}
 use Rattle.pg_format.proofs.FormatLaws.Places.{none_at, one_more_at, counted_at, broken_at}
-use Rattle.pg_receive.proofs.DataRowLemmas.{cells_from-push, last_end-push, ends_rise_push, entry_gives, cell_is_wide}
+use Rattle.pg_receive.proofs.DataRowLemmas.{cells_from-push, last_end-push, ends_rise_push, entry_gives, cell_is_wide, not_some, is_none-copied}
 use Rattle.pg_receive.proofs.CountedItemsLemmas.{asks_for_memory}
 use Rattle.pg_receive.proofs.message.data_row.row_index.read_ends.Goals as goal
 
@@ -48,14 +48,6 @@ returns-in_err-cell-clause-answer c =
     let fewer : row._index < n = omega (arith, c.from-count.ensures, c.loop-index-test.true) in
     rw (p.1, p.2) (refl, broken_at cell 4 body n row._index row.at cells c.in_err-cell.field-0.0 c.in_ok-u16_at.ensures.found holds row.invariant.read fewer c.in_err-cell.ensures.broken)
 
-turned : (none some : Bool) → some ≡ not none → none ≡ not some
-turned true some e = rw e refl
-turned false some e = rw e refl
-
-copied_none : (cell : Option (Bor (List ℕ))) → is_none (option_copied cell) ≡ is_none cell
-copied_none None = refl
-copied_none (Some value) = refl
-
 pub loop-index-preserved : goal.loop-index-preserved
 loop-index-preserved c =
     let body = c.args.body.now in
@@ -67,8 +59,8 @@ loop-index-preserved c =
     let read = c.in_ok-cell.ensures.cell in
     let made = c.new.ensures in
     let pushed = c.push_reserved.ensures in
-    let said : c.is_none.result ≡ is_none c.in_ok-cell.cell = turned c.is_none.result (is_some c.in_ok-cell.cell) c.is_none.ensures in
-    let gives : cell_to body row.at entry ≡ found = entry_gives body found row.at end entry read made.end (rw (copied_none c.in_ok-cell.cell) (made.null ∙ said)) in
+    let said : c.is_none.result ≡ is_none c.in_ok-cell.cell = not_some c.is_none.result (is_some c.in_ok-cell.cell) c.is_none.ensures in
+    let gives : cell_to body row.at entry ≡ found = entry_gives body found row.at end entry read made.end (rw (is_none-copied c.in_ok-cell.cell) (made.null ∙ said)) in
     let rises : last_end 2 ends + 4 ≤ end_of entry = omega (arith, row.invariant.last, made.end, cell_is_wide body row.at end found read) in
     record {
       within = read.within;
