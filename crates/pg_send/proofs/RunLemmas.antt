@@ -1,5 +1,5 @@
 -- A run goes on by one message and its answer.
-use Rattle.std.proofs.Common.{add-zero, ◌≡◌, ℕ, ◌+◌, ◌<◌, ◌≤◌, true, false, List, [], ◌∷◌, ◌++◌, length, take, get_or, Option, MatchOption, Bool, Some, None, Ok, Err, OnOk, OnErr, IsErrOf, refl, sym, ap, ◌∙◌, arith, append_assoc, length-append, zero, suc, Vec, Global, vec_len, vec_capacity}
+use Rattle.std.proofs.Common.{add-zero, ◌≡◌, ℕ, ◌+◌, ◌<◌, ◌≤◌, true, false, List, [], ◌∷◌, ◌++◌, length, take, get_or, Option, MatchOption, Bool, Some, None, Ok, Err, OnOk, OnErr, IsErrOf, refl, sym, ap, ◌∙◌, arith, append_assoc, length-append, Vec, Global, vec_len, vec_capacity}
 use Rattle.std.proofs.lemmas.List.{append-nil, map_push, take_more}
 use Rattle.pg_base.specs.declared.error.ProtocolFault.{ProtocolFault}
 use Rattle.pg_base.specs.declared.error.Error.TheVariants.{Protocol, OutOfMemory}

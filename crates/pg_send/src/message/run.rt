@@ -1,6 +1,6 @@
 //! Runs of messages into one buffer.
 
-ghost use Rattle.std.specs.Prelude.{◌≡◌, ◌+◌, ◌<◌, ◌≤◌, [], ◌∷◌, ◌++◌, length, Ok, OnOk, OnErr, IfOk, IsErrOf, IsOkUnless, vec_len, vec_capacity};
+ghost use Rattle.std.specs.Prelude.{◌≡◌, ◌+◌, ◌<◌, ◌≤◌, [], ◌∷◌, ◌++◌, length, replicate, slice_index_or, Ok, OnOk, OnErr, IfOk, IsErrOf, IsOkUnless, vec_len, vec_capacity};
 ghost use Rattle.std.specs.Bool.{OnTrue, OnFalse};
 ghost use Rattle.pg_base.specs.declared.error.Error.TheVariants.{OutOfMemory};
 ghost use Rattle.pg_request.specs.Message.{hint, text, CanRoundTrip, RoundTrips};
@@ -62,57 +62,57 @@ fn encode_run(
     ensures err { OnErr result (buf.new ≡ buf.old) }
 {
     let mut answers = Vec::with_capacity(alloc, messages.len())?;
-    encode_each(messages, strict, &mut answers, buf);
+    let filled = answers.resize(messages.len(), Ok(()));
+    prove!(filled.is_ok());
+    encode_each(messages, strict, answers.as_mut_slice(), buf);
     Ok(answers)
 }
 
-// Adds each message, and collects the answers. The first that is within the limits and doesn't fit
-// asks for the room of all that are left.
+// Adds each message, and sets the answers of those that aren't added. The first that is within the
+// limits and doesn't fit asks for the room of all that are left.
 #[inline(always)]
 fn encode_each(
     messages: &[TaggedMessage<'_>],
     strict: bool,
-    answers: &mut Vec<Result<(), Error>>,
+    answers: &mut [Result<(), Error>],
     buf: &mut Vec<u8>,
 )
-    requires empty { answers.old.items ≡ [] }
-    requires capacity { length messages.now ≤ vec_capacity answers.old }
-    ensures { EncodesRun (IsAnswerOf strict) (messages_of messages.now) answers.new.items buf.old buf.new }
+    requires { answers.old ≡ replicate (length messages.now) (Ok tt) }
+    ensures { EncodesRun (IsAnswerOf strict) (messages_of messages.now) answers.new buf.old buf.new }
 {
     let mut asked = false;
     for index in 0..messages.len() {
         let message = &messages[index];
-        push_answer(
+        encode_one(
             message,
             &messages[index..],
             strict,
             &mut asked,
+            index,
             answers,
             buf,
         );
     }
 }
 
-// Adds a message, and its answer. Each answer is written in its place, since a copy would wait for
-// its parts.
+// Adds a message, or sets its answer. An accepted one is not written, since it is there: it would be
+// copied through memory.
 #[inline(always)]
-fn push_answer(
+fn encode_one(
     message: &TaggedMessage<'_>,
     rest: &[TaggedMessage<'_>],
     strict: bool,
     asked: &mut bool,
-    answers: &mut Vec<Result<(), Error>>,
+    index: usize,
+    answers: &mut [Result<(), Error>],
     buf: &mut Vec<u8>,
 )
-    requires { vec_len answers.old < vec_capacity answers.old }
-    ensures one { AnswersOne (IsAnswerOf strict) (message_of message.now) answers.old.items answers.new.items buf.old buf.new }
-    ensures len { vec_len answers.new ≡ vec_len answers.old + 1 }
-    ensures capacity { vec_capacity answers.new ≡ vec_capacity answers.old }
+    requires index { index < length answers.old }
+    requires accepted { slice_index_or answers.old index (Ok tt) ≡ Ok tt }
+    ensures { AnswersOne (IsAnswerOf strict) (message_of message.now) index answers.old answers.new buf.old buf.new }
 {
-    if put_by_rule(message, strict, buf) {
-        answers.push_reserved(Ok(()));
-    } else {
-        push_unfit(message, rest, strict, asked, answers, buf);
+    if !put_by_rule(message, strict, buf) {
+        encode_unfit(message, rest, strict, asked, index, answers, buf);
     }
 }
 
@@ -125,9 +125,7 @@ fn put_by_rule(message: &TaggedMessage<'_>, strict: bool, buf: &mut Vec<u8>) -> 
     ensures short { OnFalse result (IsAnswerOf strict (message_of message.now) (Ok tt) → vec_capacity buf.old < vec_len buf.old + (hint (message_of message.now) + 5)) }
 {
     if strict {
-        if let Err(_) = message.check_round_trip() {
-            return false;
-        }
+        return message.put_if_read_back(buf);
     }
     message.put_if_fits(buf)
 }
@@ -135,20 +133,19 @@ fn put_by_rule(message: &TaggedMessage<'_>, strict: bool, buf: &mut Vec<u8>) -> 
 // A message that is refused, or for which there was no room.
 #[cold]
 #[inline(never)]
-fn push_unfit(
+fn encode_unfit(
     message: &TaggedMessage<'_>,
     rest: &[TaggedMessage<'_>],
     strict: bool,
     asked: &mut bool,
-    answers: &mut Vec<Result<(), Error>>,
+    index: usize,
+    answers: &mut [Result<(), Error>],
     buf: &mut Vec<u8>,
 )
-    requires { vec_len answers.old < vec_capacity answers.old }
-    ensures one { AnswersOne (IsAnswerOf strict) (message_of message.now) answers.old.items answers.new.items buf.old buf.new }
-    ensures len { vec_len answers.new ≡ vec_len answers.old + 1 }
-    ensures capacity { vec_capacity answers.new ≡ vec_capacity answers.old }
+    requires { index < length answers.old }
+    ensures { AnswersOne (IsAnswerOf strict) (message_of message.now) index answers.old answers.new buf.old buf.new }
 {
-    answers.push_reserved(encode_by_rule(message, rest, strict, asked, buf));
+    answers[index] = encode_by_rule(message, rest, strict, asked, buf);
 }
 
 fn encode_by_rule(

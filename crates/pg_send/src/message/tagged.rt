@@ -103,6 +103,64 @@ impl TaggedMessage<'_> {
         held!(self, message => put_if_fits(message, buf))
     }
 
+    // The same of a message that a reader would get back. One match checks and adds it.
+    #[inline(always)]
+    pub(crate) fn put_if_read_back(&self, buf: &mut Vec<u8>) -> bool
+        ensures encodes { OnTrue result (EncodesMessage (law_of (message_of self.now)) buf.old buf.new (Ok tt)) }
+        ensures range { OnTrue result (IsInRange (message_of self.now)) }
+        ensures can { OnTrue result (CanRoundTrip (message_of self.now)) }
+        ensures same { OnFalse result (buf.new ≡ buf.old) }
+        ensures short { OnFalse result (fault (message_of self.now) ≡ None → CanRoundTrip (message_of self.now) → vec_capacity buf.old < vec_len buf.old + (hint (message_of self.now) + 5)) }
+    {
+        match self {
+            TaggedMessage::Bind(message) => {
+                message.check_round_trip().is_ok() && put_if_fits(message, buf)
+            }
+            TaggedMessage::Close(message) => put_if_fits(message, buf),
+            TaggedMessage::CopyData(message) => put_if_fits(message, buf),
+            TaggedMessage::CopyDone(message) => put_if_fits(message, buf),
+            TaggedMessage::CopyFail(message) => {
+                let message: &CopyFail = message;
+                message.check_round_trip().is_ok() && put_if_fits(message, buf)
+            }
+            TaggedMessage::Describe(message) => put_if_fits(message, buf),
+            TaggedMessage::Execute(message) => put_if_fits(message, buf),
+            TaggedMessage::Flush(message) => put_if_fits(message, buf),
+            TaggedMessage::FunctionCall(message) => put_if_fits(message, buf),
+            TaggedMessage::Parse(message) => {
+                message.check_round_trip().is_ok() && put_if_fits(message, buf)
+            }
+            TaggedMessage::Password(message) => {
+                message.check_round_trip().is_ok() && put_if_fits(message, buf)
+            }
+            TaggedMessage::Query(message) => {
+                message.check_round_trip().is_ok() && put_if_fits(message, buf)
+            }
+            TaggedMessage::RawBind(message) => {
+                message.check_round_trip().is_ok() && put_if_fits(message, buf)
+            }
+            TaggedMessage::RawClose(message) => {
+                message.check_round_trip().is_ok() && put_if_fits(message, buf)
+            }
+            TaggedMessage::RawDescribe(message) => {
+                message.check_round_trip().is_ok() && put_if_fits(message, buf)
+            }
+            TaggedMessage::RawExecute(message) => {
+                message.check_round_trip().is_ok() && put_if_fits(message, buf)
+            }
+            TaggedMessage::RawParse(message) => {
+                message.check_round_trip().is_ok() && put_if_fits(message, buf)
+            }
+            TaggedMessage::SaslInitial(message) => {
+                message.check_round_trip().is_ok() && put_if_fits(message, buf)
+            }
+            TaggedMessage::SaslInitialResponse(message) => put_if_fits(message, buf),
+            TaggedMessage::SaslResponse(message) => put_if_fits(message, buf),
+            TaggedMessage::Sync(message) => put_if_fits(message, buf),
+            TaggedMessage::Terminate(message) => put_if_fits(message, buf),
+        }
+    }
+
     // The frame of what it holds.
     #[cold]
     #[inline(never)]

@@ -1,5 +1,6 @@
-use Rattle.std.proofs.Common.{arith}
-use Rattle.std.proofs.lemmas.List.{take_all}
+use Rattle.std.proofs.Common.{◌≡◌, ◌+◌, ◌<◌, ◌∷◌, [], ◌++◌, length, take, get_or, Ok, refl, ap, ◌∙◌, arith}
+use Rattle.std.proofs.lemmas.Grind.{take-set_at}
+use Rattle.std.proofs.lemmas.List.{take_all, length-set, get_or-set_other}
 use Rattle.pg_send.specs.Run.{IsAnswerOf}
 use Rattle.pg_send.specs.TaggedMessage.{messages_of}
 use Rattle.pg_send.proofs.RunLemmas.{answers_fit, ran_at, run_ran}
@@ -8,20 +9,26 @@ use Rattle.pg_send.proofs.message.run.encode_each.Goals as goal
 pub loop-index-preserved : goal.loop-index-preserved
 loop-index-preserved c =
     let before = c.loop-index.invariant in
-    let one = c.push_answer.ensures.one in
+    let one = c.encode_one.ensures in
     let encodes = one.encodes in
+    let i = c.loop-index.index in
+    let answers = c.loop-index.answers in
+    let within : i < length answers = omega (arith, c.loop-index-test.true, before.one_each) in
+    let found : take (i + 1) c.encode_one.new.answers ≡ take i answers ++ one.answer ∷ [] = ap (take (i + 1)) one.sets ∙ take-set_at answers i (i + 1) one.answer refl within in
     record {
-      run = rw one.adds
-          (ran_at (IsAnswerOf c.args.strict) (answers_fit c.args.strict) c.args.messages.now c.loop-index.index c.index-messages-index.result c.loop-index-test.true c.index-messages-index.is
-          c.loop-index.answers.items one.answer c.args.buf.now.items c.loop-index.buf.items c.push_answer.new.buf.items _ _ _
+      run = rw found
+          (ran_at (IsAnswerOf c.args.strict) (answers_fit c.args.strict) c.args.messages.now i c.index-messages-index.result c.loop-index-test.true c.index-messages-index.is
+          (take i answers) one.answer c.args.buf.now.items c.loop-index.buf.items c.encode_one.new.buf.items _ _ _
           (record { ok = encodes.ok; err = encodes.err; answer = encodes.is; reads = encodes.round_trip; short = λ e. omega (arith, encodes.memory e, c.loop-index.buf.ok.0) })
           (omega (arith, c.args.buf.now.ok.0)) before.grows before.run);
       grows = omega (arith, before.grows, encodes.capacity);
-      one_each = omega (arith, before.one_each, c.push_answer.ensures.len);
-      room = omega (arith, before.room, c.push_answer.ensures.capacity);
+      one_each = ap length one.sets ∙ length-set answers i one.answer ∙ before.one_each;
+      accepted = λ k after last. ap (λ l. get_or l k (Ok (tt {0}))) one.sets ∙ get_or-set_other answers i k one.answer _ (λ e. omega (arith, e, after))
+          ∙ before.accepted k (omega (arith, after)) (omega (arith, last, ap length one.sets, length-set answers i one.answer));
     }
 
 pub returns : goal.returns
 returns c =
-    let run = rw (take_all c.loop-index.index c.args.messages.now c.loop-index-test.false) at c.loop-index.invariant.run in
-    run_ran (IsAnswerOf c.args.strict) (answers_fit c.args.strict) (messages_of c.args.messages.now) c.loop-index.answers.items c.args.buf.now c.loop-index.buf run.answered run.short run.adds run.read c.loop-index.invariant.grows
+    let last = c.loop-index.invariant in
+    let run = rw (take_all c.loop-index.index c.args.messages.now c.loop-index-test.false, take_all c.loop-index.index c.loop-index.answers (omega (arith, last.one_each, c.loop-index-test.false))) at last.run in
+    run_ran (IsAnswerOf c.args.strict) (answers_fit c.args.strict) (messages_of c.args.messages.now) c.loop-index.answers c.args.buf.now c.loop-index.buf run.answered run.short run.adds run.read last.grows
