@@ -6,7 +6,7 @@ use Rattle.pg_receive.specs.DataRow.CellEnd.{end_of, cell_to, cells_from, last_e
 use Rattle.pg_format.specs.Format.Nullable.{cell}
 use Rattle.pg_format.proofs.FormatLaws.Places.{one_more_at, counted_at, broken_at}
 use Rattle.pg_receive.proofs.DataRowLemmas.{cells_from-push, last_end-push, ends_rise_push, entry_gives, cell_is_wide, not_some, is_none-copied}
-use Rattle.pg_receive.proofs.message.data_row.row_ends.ends_of.Goals as goal
+use Rattle.pg_receive.proofs.message.data_row.ends_of.Goals as goal
 
 pub returns-in_err-cell-clause-answer : goal.returns-in_err-cell-clause-answer
 returns-in_err-cell-clause-answer c =

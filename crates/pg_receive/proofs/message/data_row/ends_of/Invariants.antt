@@ -4,7 +4,7 @@ use Rattle.pg_receive.specs.DataRow.CellEnd.{cells_from, last_end, first_cell, E
 use Rattle.pg_format.specs.Format.Lists.{times}
 use Rattle.pg_format.specs.Format.Nullable.{cell}
 use Rattle.pg_format.specs.Format.Places.{IsReadAt}
-use Rattle.pg_receive.proofs.message.data_row.row_ends.ends_of.Given as goal
+use Rattle.pg_receive.proofs.message.data_row.ends_of.Given as goal
 
 abbrev pub invariant-loop-index : goal.invariant-loop-index
 invariant-loop-index l = record {
