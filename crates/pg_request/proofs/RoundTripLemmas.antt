@@ -1,5 +1,5 @@
 -- Whether bytes are just so many values, and whether a text holds a NUL.
-use Rattle.std.proofs.Common.{◌≡◌, ℕ, ◌+◌, ◌-◌, ◌<◌, ◌≤◌, eqb, suc, zero, pos, negsuc, inl, inr, true, List, [], ◌∷◌, ◌++◌, length, take, drop, get_or, refl, sym, ap, ◌∙◌, arith, append_assoc, length-append, ℤ}
+use Rattle.std.proofs.Common.{◌≡◌, ℕ, ◌+◌, ◌-◌, ◌<◌, ◌≤◌, eqb, suc, zero, pos, negsuc, inl, inr, true, List, [], ◌∷◌, ◌++◌, length, take, drop, get_or, refl, sym, ap, ◌∙◌, arith, append_assoc, length-append, ℤ, Some, None}
 use Rattle.std.proofs.lemmas.Bool.{eqb-true, eq-eqb}
 use Rattle.std.proofs.lemmas.List.{append-nil, take-append-drop, take_all, length-take, length-drop}
 use Rattle.std.specs.Int.{w32, FitsUnsignedBits}
@@ -10,7 +10,7 @@ use Rattle.memchr.specs.Find.{Nowhere, Passes, is_byte}
 use Rattle.pg_base.specs.Cutting.{max_length}
 use Rattle.pg_base.specs.Numbers.{be32}
 use Rattle.pg_base.specs.Reading.{Signed, HoldsNo, Value, Values}
-use Rattle.pg_request.specs.BindValues.{null_length}
+use Rattle.pg_request.specs.Values.{value_text}
 use Rattle.pg_base.proofs.CuttingLemmas.{parts_at, int_be32}
 use Rattle.pg_base.proofs.ReadingLemmas.{holds_no}
 use Rattle.pg_base.proofs.RoundTripLemmas.{one_value, value_before}
@@ -102,7 +102,7 @@ pub values_push : (k : ℕ) (bytes value : List ℕ) → Values k bytes [] → V
 values_push zero bytes value h one = rw (← h) ([], one, refl)
 values_push (suc k) bytes value h one = (h.0 ++ value, value_before bytes h.0 value h.1, values_push k h.0 value h.2 one)
 
-pub a_value : (value : List ℕ) → length value ≤ max_length → Value (be32 (length value) ++ value) []
+pub a_value : (value : List ℕ) → length value ≤ max_length → Value (value_text (Some value)) []
 a_value value fits = record {
   field = be32 (length value);
   value = value;
@@ -111,5 +111,5 @@ a_value value fits = record {
   parts = sym (append-nil (be32 (length value) ++ value));
 }
 
-pub a_null : Value (be32 null_length) []
-a_null = record { field = be32 null_length; value = []; wide = refl; counts = inl (refl, refl); parts = refl }
+pub a_null : Value (value_text None) []
+a_null = record { field = value_text None; value = []; wide = refl; counts = inl (refl, refl); parts = refl }

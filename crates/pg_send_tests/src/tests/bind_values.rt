@@ -1,6 +1,6 @@
 //! Values that are collected for a Bind.
 
-use super::refusing::{MANY, refuse_nth, was_refused};
+use super::refusing::{MANY, ran_out, refuse_from, refuse_nth, was_refused};
 use pg_base::Error;
 use pg_base::io::{PortalId, StatementId};
 use pg_send::message::*;
@@ -84,6 +84,69 @@ fn values_without_memory(rt: HostRuntime) {
         }
     }
     panic!(&rt; "requests without end")
+}
+
+#[test]
+fn values_in_just_the_room_for_them(rt: HostRuntime) -> Result<(), Error> {
+    let mut values = BindValues::with_capacity(rt.alloc(), VALUES.len())?;
+    assert!(rt; values.capacity() == VALUES.len());
+    assert_holds(&rt, &values, 0, b"");
+    refuse_from(rt.alloc(), 1);
+    let answer = three_values(&mut values);
+    assert!(rt; !was_refused(rt.alloc()));
+    assert!(rt; answer.is_ok());
+    assert!(rt; values.capacity() == VALUES.len());
+    assert_holds(&rt, &values, 3, VALUES);
+    Ok(())
+}
+
+// In a byte less the last value asks for memory, and where that is refused all stays.
+#[test]
+fn values_in_a_byte_less(rt: HostRuntime) -> Result<(), Error> {
+    let room = VALUES.len() - 1;
+    let mut values = BindValues::with_capacity(rt.alloc(), room)?;
+    refuse_from(rt.alloc(), 1);
+    let answer = three_values(&mut values);
+    if !was_refused(rt.alloc()) {
+        assert_holds(&rt, &values, 3, VALUES);
+        return answer;
+    }
+    assert!(rt; ran_out(answer));
+    assert!(rt; values.capacity() == room);
+    assert_holds(&rt, &values, 2, b"\0\0\0\x02ab\xff\xff\xff\xff");
+    Ok(())
+}
+
+#[test]
+fn room_for_more_values(rt: HostRuntime) -> Result<(), Error> {
+    let mut values = BindValues::new(rt.alloc());
+    assert!(rt; values.capacity() == 0);
+    values.reserve(0)?;
+    push_if_room(&mut values, Some(b"ab"))?;
+    values.reserve(8)?;
+    assert!(rt; values.capacity() >= 14);
+    assert_holds(&rt, &values, 1, b"\0\0\0\x02ab");
+    refuse_from(rt.alloc(), 1);
+    let null = push_if_room(&mut values, None);
+    let empty = push_if_room(&mut values, Some(b""));
+    assert!(rt; !was_refused(rt.alloc()));
+    assert!(rt; null.is_ok() && empty.is_ok());
+    assert_holds(&rt, &values, 3, VALUES);
+    Ok(())
+}
+
+// Room that is refused leaves all as it was.
+#[test]
+fn no_room_for_more_values(rt: HostRuntime) -> Result<(), Error> {
+    let mut values = BindValues::with_capacity(rt.alloc(), VALUES.len())?;
+    three_values(&mut values)?;
+    refuse_from(rt.alloc(), 1);
+    let answer = values.reserve(1);
+    let refused = was_refused(rt.alloc());
+    assert!(rt; ran_out(answer) == refused);
+    assert!(rt; refused == (values.capacity() == VALUES.len()));
+    assert_holds(&rt, &values, 3, VALUES);
+    Ok(())
 }
 
 #[test]

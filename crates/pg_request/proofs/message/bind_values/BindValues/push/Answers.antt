@@ -1,5 +1,5 @@
-use Rattle.std.proofs.Common.{◌++◌, length, arith, append_assoc, add-one}
-use Rattle.pg_base.specs.Numbers.{be32}
+use Rattle.std.proofs.Common.{Some, arith, append_assoc, add-one}
+use Rattle.pg_request.specs.Values.{value_text}
 use Rattle.pg_request.proofs.RoundTripLemmas.{values_push, a_value}
 use Rattle.pg_request.proofs.message.bind_values.BindValues.push.Goals as goal
 
@@ -7,4 +7,4 @@ pub invariant_of-self-2 : goal.invariant_of-self-2
 invariant_of-self-2 c =
     let value = c.args.value.now in
     rw (c.put_slice.ensures.written, c.put_u32.ensures.written, c.reserve.ensures.items, append_assoc, add-one)
-    (values_push c.self.inside.count c.self.inside.bytes.items (be32 (length value) ++ value) c.self.invariant (a_value value (omega (arith, c.if-value-gt-MAX_BODY.false))))
+    (values_push c.self.inside.count c.self.inside.bytes.items (value_text (Some value)) c.self.invariant (a_value value (omega (arith, c.if-value-gt-MAX_BODY.false))))
