@@ -1,5 +1,7 @@
-//! What can be wrong: a fault of the protocol, out of memory, and errors that a server reports.
+//! What can be wrong: a fault of the protocol or of a client's message, out of memory, and errors that a
+//! server reports.
 
 pub use pg_base::{Error, ErrorKind, ProtocolFault};
+pub use pg_read_frontend::FrontendFault;
 pub use pg_receive::error::{PgDatabaseError, PgErrorPosition, error_codes};
 pub use pg_receive::message::PgSeverity;

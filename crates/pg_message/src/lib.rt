@@ -6,16 +6,19 @@
 //! each message that is complete, and read it by [`message::ServerMessage::decode`].
 //!
 //! Everything here stands in a crate below, where its contract is: `pg_base`, `pg_format`, `pg_request`,
-//! `pg_send`, `pg_response`, `pg_receive`, `pg_server_message` and `pg_frames`. The words of the contracts
-//! of `pg_base` are named from here as `Rattle.pg_message.specs.pg_base`, and so are those of the others.
+//! `pg_send`, `pg_response`, `pg_receive`, `pg_server_message`, `pg_frames` and `pg_read_frontend`. The
+//! words of the contracts of `pg_base` are named from here as `Rattle.pg_message.specs.pg_base`, and so are
+//! those of the others.
 #![tactic(auto)]
 
 pub mod error;
+pub mod frontend;
 pub mod io;
 pub mod laws;
 pub mod message;
 
-pub use error::{Error, ErrorKind, PgDatabaseError, ProtocolFault};
+pub use error::{Error, ErrorKind, FrontendFault, PgDatabaseError, ProtocolFault};
+pub use frontend::FrontendMessageRef;
 pub use io::{Oid, PgValueFormat, PortalId, StatementId};
 pub use message::{
     BackendMessage, BackendMessageFormat, FrameReader, FrontendMessage, FrontendMessageFormat,

@@ -1,0 +1,4 @@
+pub mod FormatCodesLemmas
+pub mod MessageLemmas
+pub mod ParameterTypesLemmas
+pub mod ValuesLemmas

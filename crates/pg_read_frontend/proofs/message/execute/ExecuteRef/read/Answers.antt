@@ -1,0 +1,13 @@
+use Rattle.std.proofs.Common.{drop, inr}
+use Rattle.std.proofs.lemmas.Result.{err_from_is_err_and}
+use Rattle.pg_format.specs.Messages.{Execute}
+use Rattle.pg_read_frontend.proofs.MessageLemmas.{◌then◌, trailing}
+use Rattle.pg_read_frontend.proofs.message.execute.ExecuteRef.read.Goals as goal
+
+pub returns-in_err-end_at : goal.returns-in_err-end_at
+returns-in_err-end_at c =
+    let p = err_from_is_err_and c.from_residual-in_err-end_at.result c.from_residual-in_err-end_at.ensures.1 in
+    let all = c.in_ok-portal.ensures then c.in_ok-limit.ensures in
+    let f = trailing c.args.body.now c.in_ok-limit.end c.in_err-end_at.field-0.0 c.in_err-end_at.ensures.trailing in
+    let value : Execute = record { portal = c.in_ok-portal.portal.now; limit = c.in_ok-limit.limit } in
+    rw (p.1, p.2) (f.0, f.1, inr (record { value = value; mid = drop c.in_ok-limit.end c.args.body.now; reads = all.reads; breaks = f.2 }))

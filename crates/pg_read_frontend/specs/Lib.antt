@@ -1,0 +1,12 @@
+pub mod Bind
+pub mod Error
+pub mod Execute
+pub mod FormatCodes
+pub mod FrontendMessageRef
+pub mod FunctionCall
+pub mod Message
+pub mod ParameterTypes
+pub mod Parse
+pub mod Parts
+pub mod Target
+pub mod Values

@@ -1,0 +1,8 @@
+//! The messages that a client sends, read from their bytes: for servers, proxies, poolers and recorders.
+#![tactic(auto)]
+
+mod error;
+pub mod laws;
+pub mod message;
+
+pub use error::FrontendFault;

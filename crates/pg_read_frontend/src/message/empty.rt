@@ -1,0 +1,16 @@
+//! The body of a message that has none.
+
+ghost use Rattle.pg_format.specs.Messages.{empty};
+ghost use Rattle.pg_read_frontend.specs.Message.{ReadsBody};
+
+use crate::error::FrontendFault;
+use crate::message::parts::end_at;
+
+/// Reads the body of a CopyDone, a Flush, a Sync or a Terminate. Refused with `TrailingBytes` where it has
+/// bytes. Documentation: "Message Formats", CopyDone (F & B), Flush (F), Sync (F), Terminate (F).
+pub fn read_empty(body: &[u8]) -> Result<(), FrontendFault>
+    ensures { ReadsBody empty (λ _. tt) body.now result }
+{
+    end_at(body, 0)?;
+    Ok(())
+}

@@ -1,0 +1,28 @@
+//! What a message from a client is, borrowed from its body, and how one is read.
+//!
+//! Names and texts are any bytes but NUL, in the client's encoding. Nothing here asks for memory.
+
+mod bind;
+mod empty;
+mod execute;
+mod format_codes;
+mod frontend_message_ref;
+mod function_call;
+mod parameter_types;
+mod parse;
+mod parts;
+mod target;
+mod text;
+mod values;
+
+pub use bind::BindRef;
+pub use empty::read_empty;
+pub use execute::ExecuteRef;
+pub use format_codes::FormatCodes;
+pub use frontend_message_ref::FrontendMessageRef;
+pub use function_call::FunctionCallRef;
+pub use parameter_types::ParameterTypes;
+pub use parse::ParseRef;
+pub use target::{Target, TargetRef};
+pub use text::read_text;
+pub use values::Values;

@@ -1,0 +1,94 @@
+//! The parts of a body, each with the offset after it.
+
+ghost use Rattle.std.specs.Prelude.{◌≡◌, ◌-◌, ◌≤◌, length, IfOk, IfErr};
+ghost use Rattle.pg_format.specs.Format.Parts.{until_nul, be_u16, be_u32, be_i32, bytes_of};
+ghost use Rattle.pg_read_frontend.specs.declared.error.FrontendFault.TheVariants.{Short};
+ghost use Rattle.pg_read_frontend.specs.Message.{GivesAt};
+ghost use Rattle.pg_read_frontend.specs.Parts.{TrailsAt};
+
+use crate::error::FrontendFault;
+use pg_base::io;
+use pg_response::message as response;
+
+/// So many bytes from an offset on. Refused with `Short` where fewer are there.
+pub(crate) fn bytes_at(
+    body: &[u8],
+    at: usize,
+    needed: usize,
+) -> Result<(&[u8], usize), FrontendFault>
+    requires { at ≤ length body.now }
+    ensures { GivesAt (bytes_of needed) (λ bytes. bytes.now) body.now at result }
+{
+    match io::bytes_at(body, at, needed) {
+        Ok(bytes) => Ok((bytes, at + needed)),
+        Err(_) => Err(short(body, at, needed)),
+    }
+}
+
+/// The number of two bytes at an offset, or `Short`.
+pub(crate) fn u16_at(body: &[u8], at: usize) -> Result<(u16, usize), FrontendFault>
+    requires { at ≤ length body.now }
+    ensures { GivesAt be_u16 (λ n. n) body.now at result }
+{
+    match io::u16_at(body, at) {
+        Ok(n) => Ok((n, at + 2)),
+        Err(_) => Err(short(body, at, 2)),
+    }
+}
+
+/// The number of four bytes at an offset, or `Short`.
+pub(crate) fn u32_at(body: &[u8], at: usize) -> Result<(u32, usize), FrontendFault>
+    requires { at ≤ length body.now }
+    ensures { GivesAt be_u32 (λ n. n) body.now at result }
+{
+    match io::u32_at(body, at) {
+        Ok(n) => Ok((n, at + 4)),
+        Err(_) => Err(short(body, at, 4)),
+    }
+}
+
+/// The signed number of four bytes at an offset, or `Short`.
+pub(crate) fn i32_at(body: &[u8], at: usize) -> Result<(i32, usize), FrontendFault>
+    requires { at ≤ length body.now }
+    ensures { GivesAt be_i32 (λ z. z) body.now at result }
+{
+    match io::i32_at(body, at) {
+        Ok(z) => Ok((z, at + 4)),
+        Err(_) => Err(short(body, at, 4)),
+    }
+}
+
+/// The text at an offset, without its NUL. Refused with `MissingNul` where there is no NUL.
+pub(crate) fn text_at(body: &[u8], at: usize) -> Result<(&[u8], usize), FrontendFault>
+    requires { at ≤ length body.now }
+    ensures { GivesAt until_nul (λ text. text.now) body.now at result }
+{
+    match response::text_at(body, at) {
+        Ok(found) => Ok(found),
+        Err(_) => Err(FrontendFault::MissingNul { at }),
+    }
+}
+
+/// That the body ends at an offset, or `TrailingBytes`.
+pub(crate) fn end_at(body: &[u8], at: usize) -> Result<(), FrontendFault>
+    requires { at ≤ length body.now }
+    ensures end { IfOk result (λ _. at ≡ length body.now) }
+    ensures trailing { IfErr result (TrailsAt body.now at) }
+{
+    if at < body.len() {
+        return Err(FrontendFault::TrailingBytes { at });
+    }
+    Ok(())
+}
+
+// That fewer bytes than are needed follow an offset.
+fn short(body: &[u8], at: usize, needed: usize) -> FrontendFault
+    requires { at ≤ length body.now }
+    ensures { result ≡ Short at needed (length body.now - at) }
+{
+    FrontendFault::Short {
+        at,
+        needed,
+        got: body.len() - at,
+    }
+}

@@ -1,0 +1,13 @@
+//! A message of each kind.
+
+mod bind;
+mod empty;
+mod execute;
+mod format_codes;
+mod frontend_message_ref;
+mod function_call;
+mod parameter_types;
+mod parse;
+mod target;
+mod text;
+mod values;
