@@ -6,9 +6,9 @@
 //! each message that is complete, and read it by [`message::ServerMessage::decode`].
 //!
 //! Everything here stands in a crate below, where its contract is: `pg_base`, `pg_format`, `pg_request`,
-//! `pg_send`, `pg_response`, `pg_receive`, `pg_server_message`, `pg_frames` and `pg_read_frontend`. The
-//! words of the contracts of `pg_base` are named from here as `Rattle.pg_message.specs.pg_base`, and so are
-//! those of the others.
+//! `pg_send`, `pg_response`, `pg_receive`, `pg_server_message`, `pg_frames`, `pg_read_frontend` and
+//! `pg_frontend_laws`. The words of the contracts of `pg_base` are named from here as
+//! `Rattle.pg_message.specs.pg_base`, and so are those of the others.
 #![tactic(auto)]
 
 pub mod error;

@@ -1,15 +1,12 @@
 -- Values of parameters, one after the other.
-use Rattle.std.proofs.Common.{◌≡◌, ℕ, zero, suc, ◌+◌, ◌≤◌, ◌<◌, ℤ, pos, negsuc, List, [], ◌∷◌, ◌++◌, length, take, drop, Option, Some, None, refl, sym, ap, ◌∙◌, arith, inl, inr}
-use Rattle.std.specs.Prelude.{◌<ℤ◌}
-use Rattle.std.proofs.lemmas.Int.{ints}
+use Rattle.std.proofs.Common.{◌≡◌, ℕ, zero, suc, ℤ, pos, negsuc, List, [], ◌∷◌, length, take, drop, Option, Some, None, refl, sym, ap, ◌∙◌, arith}
 use Rattle.std.proofs.lemmas.List.{take_at, drop_at}
 use Rattle.pg_base.specs.declared.error.ProtocolFault.{ProtocolFault}
-use Rattle.pg_base.specs.declared.error.ProtocolFault.TheVariants.{BadLength}
 use Rattle.pg_base.specs.Numbers.{int}
 use Rattle.pg_format.specs.Format.Lists.{AreRead}
 use Rattle.pg_format.specs.Format.Nullable.{value_after, value}
 use Rattle.pg_format.specs.Format.Parts.{be_i32, bytes_of}
-use Rattle.pg_format.specs.Format.Places.{IsReadAt, BreaksAt}
+use Rattle.pg_format.specs.Format.Places.{IsReadAt}
 use Rattle.pg_format.proofs.FormatLaws.Nullable.{lawful_value}
 use Rattle.pg_read_frontend.specs.Values.{value_of, rest_of, first_value, after_first, values_in, HoldsValues}
 
@@ -71,11 +68,3 @@ some_stands body at start end n z found is p q = record {
   within = q.within;
   reads = ((pos n, Some found), record { mid = drop start body; first = rw is at p.reads; second = (found, q.reads, refl) }, refl);
 }
-
-pub short_breaks : (body : List ℕ) (at start n : ℕ) (z : ℤ) (fault : ProtocolFault) → z ≡ pos n → IsReadAt be_i32 body at z start → BreaksAt (bytes_of n) body start fault → BreaksAt value body at fault
-short_breaks body at start n z fault is p q = inr (record { value = pos n; mid = drop start body; reads = rw is at p.reads; breaks = q })
-
-pub length_breaks : (body : List ℕ) (at start : ℕ) (z : ℤ) → z <ℤ negsuc 0 → IsReadAt be_i32 body at z start → BreaksAt value body at (BadLength z)
-length_breaks body at start (pos n) low p = absurd (omega (arith, ints, low))
-length_breaks body at start (negsuc zero) low p = absurd (omega (arith, ints, low))
-length_breaks body at start (negsuc (suc n)) low p = inr (record { value = negsuc (suc n); mid = drop start body; reads = p.reads; breaks = refl })

@@ -1,11 +1,8 @@
 use Rattle.std.proofs.Common.{◌≡◌, ◌≤ℤ◌, ℤ, pos, negsuc, refl, sym, ap, ◌∙◌, arith, rules}
 use Rattle.std.specs.Int.{w32}
-use Rattle.std.specs.Prelude.{◌<ℤ◌}
 use Rattle.std.proofs.lemmas.Int.{to_z-of_z, ints}
-use Rattle.std.proofs.lemmas.Result.{err_from_is_err_and}
 use mir.Val.{SFits, to_z, of_z}
-use Rattle.pg_base.specs.declared.error.ProtocolFault.TheVariants.{BadLength}
-use Rattle.pg_read_frontend.proofs.ValuesLemmas.{null_stands, some_stands, short_breaks, length_breaks}
+use Rattle.pg_read_frontend.proofs.ValuesLemmas.{null_stands, some_stands}
 use Rattle.pg_read_frontend.proofs.message.values.value_at.Goals as goal
 
 from_0 : (z : ℤ) → pos 0 ≤ℤ z → z ≡ pos (of_z w32 z)

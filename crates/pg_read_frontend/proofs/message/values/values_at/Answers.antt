@@ -1,4 +1,4 @@
-use Rattle.std.proofs.Common.{◌≡◌, ◌<◌, ◌+◌, suc, ◌∷◌, [], ◌++◌, ℕ, List, Option, length, drop, refl, option_copied, inl, inr, arith}
+use Rattle.std.proofs.Common.{◌≡◌, ◌<◌, ◌∷◌, [], ◌++◌, ℕ, List, Option, length, drop, refl, option_copied, inr, arith}
 use Rattle.std.proofs.lemmas.Result.{err_from_is_err_and}
 use Rattle.pg_format.specs.Format.Nullable.{value}
 use Rattle.pg_format.proofs.FormatLaws.Places.{one_more_at, items_then_fault}

@@ -1,5 +1,5 @@
 use Rattle.std.proofs.Common.{◌≡◌, suc, ◌-◌, ◌∷◌, length, drop, sym, ap, ◌∙◌, arith, option_copied}
-use Rattle.pg_read_frontend.specs.Values.{values_in, HoldsValues}
+use Rattle.pg_read_frontend.specs.Values.{values_in}
 use Rattle.pg_read_frontend.proofs.MessageLemmas.{from_index}
 use Rattle.pg_read_frontend.proofs.ValuesLemmas.{first_and_others, none_is_broken}
 use Rattle.pg_read_frontend.proofs.message.values.ValuesIterator.next.Goals as goal
