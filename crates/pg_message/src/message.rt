@@ -10,10 +10,10 @@ pub use pg_receive::message::{
     AuthenticationSaslFinal, BackendKeyData, BackendMessage, Cells, ColumnReader, Columns,
     CommandComplete, CopyInResponse, CopyOutResponse, CopyResponseData, DataRow, Field, FieldRef,
     Fields, Notice, Notification, NotificationRef, ParameterDescription, ParameterStatus,
-    ParameterStatusRef, RawAuthentication, RawKeyData, RawParameterStatus, ReadyForQuery,
-    ReceivedMessage, Row, RowDescription, RowIndex, RowReader, SaslMechanisms, TransactionStatus,
-    cell_at, check_no_body, column_at, command_tag, rows_affected, severity_in, split_field,
-    split_name,
+    ParameterStatusRef, RawAuthentication, RawFieldRef, RawKeyData, RawParameterStatus,
+    ReadyForQuery, ReceivedMessage, Row, RowDescription, RowIndex, RowReader, SaslMechanisms,
+    TransactionStatus, cell_at, check_no_body, column_at, command_tag, raw_column_at,
+    rows_affected, severity_in, split_field, split_name,
 };
 pub use pg_request::message::{
     CODE_LENGTH, Framed, PROTOCOL_VERSION, counted, parts, put_if_fits, round_trip, values,

@@ -6,7 +6,10 @@ pub mod CommandCompleteLemmas
 pub mod CopyLemmas
 pub mod CountedItemsLemmas
 pub mod DataRowLemmas
+pub mod LayoutLawsLemmas
+pub mod LayoutLemmas
 pub mod NotificationLemmas
 pub mod ParameterStatusLemmas
 pub mod RowDescriptionColumnsLemmas
 pub mod RowDescriptionLemmas
+pub mod RowDescriptionRawLemmas

@@ -4,6 +4,7 @@ pub mod CommandComplete
 pub mod Copy
 pub mod CountedItems
 pub mod DataRow
+pub mod Layout
 pub mod ParameterDescription
 pub mod ParameterStatus
 pub mod ReadyForQuery

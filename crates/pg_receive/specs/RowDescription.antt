@@ -1,5 +1,6 @@
 -- RowDescription: the columns that its fields are, and where no memory is asked for.
 pub mod Columns
+pub mod Raw
 use Rattle.std.specs.Prelude.{ℕ, List, option_map, string_bytes}
 use Rattle.pg_base.specs.declared.io.Oid.{Oid}
 use Rattle.pg_format.specs.Messages.{Column}

@@ -7,11 +7,14 @@ ghost use Rattle.pg_format.specs.Sasl.{items_in};
 ghost use Rattle.pg_receive.specs.Authentication.Mechanisms.{AreMechanisms, mechanisms_in};
 ghost use Rattle.pg_receive.specs.Authentication.SaslItems.{AreItems};
 ghost use Rattle.pg_receive.specs.CommandComplete.{IsRowsAffected, row_count};
-ghost use Rattle.pg_format.specs.Format.{Means};
+ghost use Rattle.pg_base.specs.declared.format.BackendMessageFormat.{BackendMessageFormat};
+ghost use Rattle.pg_format.specs.Format.{Means, Lawful};
 ghost use Rattle.pg_format.specs.Format.Nullable.{cell};
 ghost use Rattle.pg_format.specs.Messages.{Column, column, data_row, row_description};
 ghost use Rattle.pg_receive.specs.CountedItems.{Reading, Begins, Steps, ReadsBody};
 ghost use Rattle.pg_receive.specs.DataRow.{IsAfter};
+ghost use Rattle.pg_receive.specs.Layout.{layout};
+ghost use Rattle.pg_receive.specs.RowDescription.Raw.{raw_column, raw_row_description};
 
 pub use values::{
     clone_of_key, clone_of_ready, clone_of_status, letter_of_status,
@@ -26,10 +29,16 @@ pub fn cells_are_in_order()
 {}
 
 /// Cells that are read one by one are, at the end, all that the body means, or the body has the fault
-/// that comes after them; and so are columns.
+/// that comes after them; and so are columns, whatever the encoding of their names.
 pub fn what_is_read_one_by_one_is_what_the_body_means()
     ensures cells { (body : List ℕ) (old new : Reading) (cells : List (Option (List ℕ))) → Begins 4 body old → Steps cell old cells new → ReadsBody data_row cell body cells new }
     ensures columns { (body : List ℕ) (old new : Reading) (columns : List Column) → Begins 19 body old → Steps column old columns new → ReadsBody row_description column body columns new }
+    ensures raw_columns { (body : List ℕ) (old new : Reading) (columns : List Column) → Begins 19 body old → Steps raw_column old columns new → ReadsBody raw_row_description raw_column body columns new }
+{}
+
+/// The parts of a body have one end, or one fault, never both.
+pub fn layouts_are_lawful()
+    ensures { (kind : BackendMessageFormat) → Lawful (layout kind).format }
 {}
 
 /// A body of n bytes describes at most (n - 2) / 19 columns.

@@ -108,8 +108,8 @@ fn decode_formats(alloc: Global, body: &[u8]) -> Result<CopyResponseData, Error>
     })
 }
 
-// How many codes follow a count of columns.
-fn code_count(num_columns: i16) -> usize
+/// How many codes follow a count of columns.
+pub(super) fn code_count(num_columns: i16) -> usize
     ensures { result ≡ columns_of num_columns }
 {
     usize::try_from(num_columns).unwrap_or(0)

@@ -5,6 +5,7 @@ mod backend_key_data;
 mod command_complete;
 mod copy;
 mod data_row;
+mod layout;
 mod no_body;
 mod notification;
 mod parameter_description;
@@ -20,6 +21,7 @@ pub use backend_key_data::{BackendKeyData, RawKeyData};
 pub use command_complete::{CommandComplete, command_tag, rows_affected};
 pub use copy::{CopyInResponse, CopyOutResponse, CopyResponseData};
 pub use data_row::{Cells, DataRow, Row, RowIndex, RowReader, cell_at};
+pub use layout::{body_end, check_exact};
 pub use no_body::check_no_body;
 pub use notification::{Notification, NotificationRef};
 pub use parameter_description::ParameterDescription;
@@ -29,4 +31,6 @@ pub use pg_response::message::{
     split_field, split_text, str_at, text_at, utf8_text,
 };
 pub use ready_for_query::{ReadyForQuery, TransactionStatus};
-pub use row_description::{ColumnReader, Columns, Field, FieldRef, RowDescription, column_at};
+pub use row_description::{
+    ColumnReader, Columns, Field, FieldRef, RawFieldRef, RowDescription, column_at, raw_column_at,
+};

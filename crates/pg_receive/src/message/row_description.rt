@@ -2,6 +2,7 @@
 
 mod column_reader;
 mod columns;
+mod raw_columns;
 
 ghost use Rattle.std.specs.Prelude.{◌≡◌, ◌+◌, ◌*◌, ◌≤◌, List, length, map, None};
 ghost use Rattle.pg_base.specs.Decode.{Decodes};
@@ -17,6 +18,7 @@ pub use column_reader::ColumnReader;
 pub use columns::{Columns, FieldRef, column_at};
 use pg_base::io::{MAX_BODY, Oid, bytes_at, u16_at};
 use pg_base::{BackendMessageFormat, Error};
+pub use raw_columns::{RawFieldRef, raw_column_at};
 use std::alloc::Global;
 
 // The offset of the first column, after the count.

@@ -5,6 +5,7 @@ mod backend_key_data;
 mod command_complete;
 mod copy;
 mod data_row;
+mod layout;
 mod no_body;
 mod notification;
 mod parameter_description;

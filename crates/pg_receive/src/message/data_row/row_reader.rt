@@ -1,6 +1,6 @@
 //! The cells of a row, read one by one.
 
-ghost use Rattle.std.specs.Prelude.{◌≡◌, ◌==◌, ◌≤◌, length, option_copied, IfOk, IfErr, MatchOption};
+ghost use Rattle.std.specs.Prelude.{◌≡◌, ◌==◌, ◌≤◌, length, drop, option_copied, IfOk, IfErr, MatchOption};
 ghost use Rattle.pg_format.specs.Format.Nullable.{cell};
 ghost use Rattle.pg_receive.specs.CountedItems.{IsCountFault, Begins, IsRead, NoneIsLeft, NextBreaks};
 
@@ -80,5 +80,12 @@ impl<'a> RowReader<'a> {
         self.at = end;
         self.left -= 1;
         Ok(Some(cell))
+    }
+    /// What follows the cells that were read: nothing at the end, where no cell is left and the server
+    /// sent what it counted.
+    pub fn rest(&self) -> &'a [u8]
+        ensures { result.now ≡ drop self.now.at self.now.body }
+    {
+        &self.body[self.at..]
     }
 }

@@ -1,11 +1,13 @@
 //! The columns of a result, read one by one.
 
-ghost use Rattle.std.specs.Prelude.{◌≡◌, ◌==◌, ◌≤◌, length, IfOk, IfErr, MatchOption};
+ghost use Rattle.std.specs.Prelude.{◌≡◌, ◌==◌, ◌≤◌, length, drop, IfOk, IfErr, MatchOption};
 ghost use Rattle.pg_format.specs.Messages.{column};
 ghost use Rattle.pg_receive.specs.CountedItems.{IsCountFault, Begins, IsRead, NoneIsLeft, NextBreaks};
 ghost use Rattle.pg_receive.specs.RowDescription.Columns.{column_of_ref};
+ghost use Rattle.pg_receive.specs.RowDescription.Raw.{column_of_raw, raw_column};
 
 use crate::message::row_description::columns::{FieldRef, column_at};
+use crate::message::row_description::raw_columns::{RawFieldRef, raw_column_at};
 use crate::message::row_description::{FIRST_COLUMN, LEAST_COLUMN};
 use pg_base::ProtocolFault;
 use pg_base::io::{MAX_BODY, bytes_at, u16_at};
@@ -80,5 +82,27 @@ impl<'a> ColumnReader<'a> {
         self.at = end;
         self.left -= 1;
         Ok(Some(column))
+    }
+    /// The next column, as [`ColumnReader::next_column`], but with a name of any bytes: for a server whose
+    /// encoding isn't UTF-8.
+    pub fn next_raw_column(&mut self) -> Result<Option<RawFieldRef<'a>>, ProtocolFault>
+        ensures column { IfOk result (λ found. MatchOption found (NoneIsLeft self.old self.new) (λ field. IsRead raw_column self.old self.new (column_of_raw field))) }
+        ensures fault { IfErr result (NextBreaks raw_column self.old self.new) }
+    {
+        let Some(left) = self.left.checked_sub(1) else {
+            return Ok(None);
+        };
+        let (column, next) = raw_column_at(self.body, self.at)?;
+        self.at = next;
+        self.left = left;
+        Ok(Some(column))
+    }
+
+    /// What follows the columns that were read: nothing at the end, where no column is left and the
+    /// server sent what it counted.
+    pub fn rest(&self) -> &'a [u8]
+        ensures { result.now ≡ drop self.now.at self.now.body }
+    {
+        &self.body[self.at..]
     }
 }

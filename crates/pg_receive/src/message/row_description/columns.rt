@@ -160,8 +160,8 @@ pub fn column_at(body: &[u8], at: usize) -> Result<(FieldRef<'_>, usize), Protoc
     Ok((field_of(name, numbers)?, after + NUMBERS_LENGTH))
 }
 
-// The column of a name, and of the bytes of the numbers after it.
-fn field_of<'a>(name: &'a str, bytes: &[u8]) -> Result<FieldRef<'a>, ProtocolFault>
+/// The column of a name, and of the bytes of the numbers after it.
+pub(super) fn field_of<'a>(name: &'a str, bytes: &[u8]) -> Result<FieldRef<'a>, ProtocolFault>
     requires { length bytes.now ≡ 18 }
     ensures whole { IsOk result }
     ensures name { IfOk result (λ field. (column_of_ref field).name ≡ name.now) }

@@ -36,6 +36,7 @@ fn assert_three(rt: &impl Abort, reader: &mut RowReader<'_>) {
     assert_next(rt, reader, CUT_SHORT);
     assert_next(rt, reader, CUT_SHORT);
     assert!(rt; reader.len() == 1 && !reader.is_empty());
+    assert!(rt; reader.rest() == b"\0\0\0\x02c".as_slice());
 }
 
 #[test]
@@ -44,6 +45,7 @@ fn a_row_without_cells(rt: HostRuntime) -> Result<(), ProtocolFault> {
     assert!(rt; reader.len() == 0 && reader.is_empty());
     assert_next(&rt, &mut reader, Ok(None));
     assert_next(&rt, &mut reader, Ok(None));
+    assert!(rt; reader.rest() == [1].as_slice());
     Ok(())
 }
 

@@ -1,3 +1,4 @@
+use Rattle.pg_format.specs.Format.Tests.{utf8}
 use Rattle.pg_receive.specs.RowDescription.Columns.{column_of_ref}
 use Rattle.pg_receive.proofs.RowDescriptionLemmas.{length-numbers, column_is_at}
 use Rattle.pg_receive.proofs.message.row_description.columns.column_at.Goals as goal
@@ -12,5 +13,5 @@ returns-clause-column c =
     let found = c.in_ok-numbers.ensures.found in
     let name = c.in_ok-name.name.now in
     let text = c.in_ok-name.ensures in
-    column_is_at c.args.body.now c.args.at c.in_ok-name.after name c.in_ok-numbers.numbers.now (column_of_ref c.in_ok-field_of.field-0) text.found found.0 found.1
+    column_is_at utf8 c.args.body.now c.args.at c.in_ok-name.after name c.in_ok-numbers.numbers.now (column_of_ref c.in_ok-field_of.field-0) text.found found.0 found.1
     c.in_ok-field_of.ensures.name c.in_ok-field_of.ensures.numbers

@@ -1,0 +1,34 @@
+use Rattle.std.proofs.Common.{◌≡◌, ◌+◌, ◌*◌, ◌<◌, ◌≤◌, [], length, arith}
+use Rattle.std.proofs.lemmas.Result.{err_from_is_err_and}
+use Rattle.pg_receive.specs.RowDescription.Raw.{column_of_raw, raw_column}
+use Rattle.pg_format.proofs.FormatLaws.Places.{none_at, one_more_at, broken_at}
+use Rattle.pg_receive.proofs.LayoutLemmas.{counted_end}
+use Rattle.pg_receive.proofs.message.layout.lists.columns_end.Goals as goal
+
+pub loop-index-init : goal.loop-index-init
+loop-index-init c =
+    let within : 2 ≤ length c.args.body.now = omega (arith, c.in_ok-bytes_at.ensures.found.0) in
+    record { within = within; read = ([], none_at raw_column c.args.body.now 2 within) }
+
+pub loop-index-preserved : goal.loop-index-preserved
+loop-index-preserved c =
+    let read = c.loop-index in
+    let more = one_more_at raw_column c.args.body.now read._index 2 read.at c.in_ok-_column.end read.invariant.read.0 (column_of_raw c.in_ok-_column._column) read.invariant.read.1 c.in_ok-_column.ensures.column in
+    record { within = more.within; read = (_, more) }
+
+pub returns-in_err-_column-clause-fault : goal.returns-in_err-_column-clause-fault
+returns-in_err-_column-clause-fault c =
+    let p = err_from_is_err_and c.from_residual-in_err-_column.result c.from_residual-in_err-_column.ensures.1 in
+    let body = c.args.body.now in
+    let n = c.in_ok-u16_at.field-0 in
+    let read = c.loop-index in
+    let holds : 2 + 19 * n ≤ length body = omega (arith, c.from-count.ensures, c.in_ok-bytes_at.ensures.found.0) in
+    let fewer : read._index < n = omega (arith, c.from-count.ensures, c.loop-index-test.true) in
+    rw (p.1, p.2) (broken_at raw_column 19 body n read._index read.at read.invariant.read.0 c.in_err-_column.field-0.0 c.in_ok-u16_at.ensures.found holds read.invariant.read.1 fewer c.in_err-_column.ensures.broken)
+
+pub returns-clause-end : goal.returns-clause-end
+returns-clause-end c =
+    let n = c.in_ok-u16_at.field-0 in
+    let read = c.loop-index in
+    let all : read._index ≡ n = omega (arith, c.from-count.ensures, c.loop-index-test.false, read.auto._index-end) in
+    counted_end raw_column 19 c.args.body.now n read.at read.invariant.read.0 c.in_ok-u16_at.ensures.found (rw all at read.invariant.read.1)

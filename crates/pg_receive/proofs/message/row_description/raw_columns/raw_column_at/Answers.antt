@@ -1,0 +1,17 @@
+use Rattle.pg_format.specs.Format.Parts.{until_nul}
+use Rattle.pg_receive.specs.RowDescription.Raw.{column_of_raw}
+use Rattle.pg_receive.proofs.RowDescriptionLemmas.{length-numbers, column_is_at}
+use Rattle.pg_receive.proofs.message.row_description.raw_columns.raw_column_at.Goals as goal
+
+pub raw_field_of-requires : goal.raw_field_of-requires
+raw_field_of-requires c =
+    let found = c.in_ok-numbers.ensures.found in
+    length-numbers c.args.body.now c.in_ok-numbers.numbers.now c.in_ok-name.after found.0 found.1
+
+pub returns-clause-column : goal.returns-clause-column
+returns-clause-column c =
+    let found = c.in_ok-numbers.ensures.found in
+    let name = c.in_ok-name.name.now in
+    let text = c.in_ok-name.ensures in
+    column_is_at until_nul c.args.body.now c.args.at c.in_ok-name.after name c.in_ok-numbers.numbers.now (column_of_raw c.in_ok-raw_field_of.field-0) text.found found.0 found.1
+    c.in_ok-raw_field_of.ensures.name c.in_ok-raw_field_of.ensures.numbers
