@@ -3,5 +3,5 @@
 
 pub use pg_read_frontend::message::{
     BindRef, ExecuteRef, FormatCodes, FrontendMessageRef, FunctionCallRef, ParameterTypes,
-    ParseRef, Target, TargetRef, Values, read_empty, read_text,
+    ParseRef, SaslInitialRef, Target, TargetRef, Values, read_empty, read_text,
 };

@@ -8,5 +8,6 @@ pub mod Message
 pub mod ParameterTypes
 pub mod Parse
 pub mod Parts
+pub mod SaslInitial
 pub mod Target
 pub mod Values

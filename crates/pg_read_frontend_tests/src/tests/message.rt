@@ -8,6 +8,7 @@ mod frontend_message_ref;
 mod function_call;
 mod parameter_types;
 mod parse;
+mod sasl_initial;
 mod target;
 mod text;
 mod values;
