@@ -6,12 +6,12 @@ ghost use Rattle.pg_request.specs.Bind.{bind_law};
 ghost use Rattle.pg_request.specs.RawBind.{raw_bind_law};
 ghost use Rattle.pg_c.specs.Put.Bind.{bind_of, raw_bind_of};
 
-use crate::put::lists::{put_formats, put_values, values_len};
+use crate::put::lists::{put_formats, put_name, put_raw_formats, put_values, values_len};
 use crate::put::prepared::PgmsgValue;
 use pg_base::io::{PortalId, Sink, StatementId};
 use pg_base::{FrontendMessageFormat, ProtocolFault};
 use pg_request::message::FrontendMessage;
-use pg_request::message::counted::{put_codes, too_many};
+use pg_request::message::counted::too_many;
 use pg_request::message::round_trip::check_ended;
 
 /// As [`pg_request::message::Bind`], with formats of which 0 is text and all others binary.
@@ -135,12 +135,12 @@ impl FrontendMessage for RawBind<'_> {
 
     #[inline(always)]
     fn put_body<S: Sink>(&self, sink: &mut S) {
-        sink.put_text(self.portal);
+        put_name(self.portal, sink);
         sink.put_text(self.statement);
-        put_codes(self.formats, sink);
+        put_raw_formats(self.formats, sink);
         sink.put_u16(self.values.len() as u16);
         put_values(self.values, sink);
-        put_codes(self.result_formats, sink);
+        put_raw_formats(self.result_formats, sink);
     }
 
     ghost use Rattle.std.proofs.Common.{arith};

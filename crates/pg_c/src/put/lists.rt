@@ -4,6 +4,7 @@ ghost use Rattle.std.specs.Prelude.{◌≡◌, ◌+◌, ◌^◌, ◌<◌, ◌≤
 ghost use Rattle.pg_base.specs.Cutting.{max_length};
 ghost use Rattle.pg_base.specs.Numbers.{max_count};
 ghost use Rattle.pg_base.specs.Reading.{Values};
+ghost use Rattle.pg_base.specs.Text.{ended};
 ghost use Rattle.pg_request.specs.Counted.{counted16, counted32};
 ghost use Rattle.pg_request.specs.Frame.{saturated};
 ghost use Rattle.pg_request.specs.Values.{value_text};
@@ -13,6 +14,7 @@ ghost use Rattle.pg_c.specs.Refusal.{fault_number, too_long_number};
 use crate::put::prepared::PgmsgValue;
 use pg_base::ProtocolFault;
 use pg_base::io::{MAX_BODY, Sink};
+use pg_request::message::counted::put_codes;
 use pg_request::message::values::{LENGTH_SIZE, NULL_LENGTH};
 
 // The most values that a Bind can count.
@@ -46,6 +48,24 @@ pub(crate) fn put_formats<S: Sink>(formats: &[u8], sink: &mut S)
     sink.put_u16(formats.len() as u16);
     for format in formats {
         sink.put_u16(code_of(*format));
+    }
+}
+
+/// Adds codes of formats after their count, in room that is there. Mostly one is that of all.
+#[inline(always)]
+pub(crate) fn put_raw_formats<S: Sink>(codes: &[u16], sink: &mut S)
+    requires count { length codes.now ≤ max_count }
+    requires room { length (S.written sink.old) + length (counted16 codes.now) ≤ S.capacity sink.old }
+    ensures written { S.written sink.new ≡ S.written sink.old ++ counted16 codes.now }
+    ensures capacity { S.capacity sink.old ≤ S.capacity sink.new }
+    ensures loan { S.loan sink.new ≡ S.loan sink.old }
+    ensures range { All (λ n. n < 2 ^ 16) codes.now }
+{
+    if let [code] = codes {
+        sink.put_u16(1);
+        sink.put_u16(*code);
+    } else {
+        put_codes(codes, sink);
     }
 }
 
@@ -96,11 +116,8 @@ pub(crate) fn values_len(values: &[PgmsgValue<'_>]) -> usize
 fn value_len(value: &PgmsgValue<'_>) -> usize
     ensures { result ≡ saturated (length (value_text (value_of value.now))) }
 {
-    if value.is_null {
-        LENGTH_SIZE
-    } else {
-        value.bytes.len().saturating_add(LENGTH_SIZE)
-    }
+    let len = if value.is_null { 0 } else { value.bytes.len() };
+    len + LENGTH_SIZE
 }
 
 /// Adds the values, each after its length, in room that is there.
@@ -129,6 +146,38 @@ fn put_value<S: Sink>(value: &PgmsgValue<'_>, sink: &mut S)
         sink.put_u32(NULL_LENGTH);
     } else {
         sink.put_u32(value.bytes.len() as u32);
-        sink.put_slice(value.bytes);
+        put_bytes(value.bytes, sink);
+    }
+}
+
+// Adds bytes, in room that is there. A number is as long as an array, which is copied without a call.
+#[inline(always)]
+fn put_bytes<S: Sink>(bytes: &[u8], sink: &mut S)
+    requires { length (S.written sink.old) + length bytes.now ≤ S.capacity sink.old }
+    ensures written { S.written sink.new ≡ S.written sink.old ++ bytes.now }
+    ensures capacity { S.capacity sink.old ≤ S.capacity sink.new }
+    ensures loan { S.loan sink.new ≡ S.loan sink.old }
+{
+    if let Ok(number) = <[u8; 8]>::try_from(bytes) {
+        sink.put_slice(&number);
+    } else if let Ok(number) = <[u8; 4]>::try_from(bytes) {
+        sink.put_slice(&number);
+    } else {
+        sink.put_slice(bytes);
+    }
+}
+
+/// Adds a name and a NUL, in room that is there. The empty name needs no copy.
+#[inline(always)]
+pub(crate) fn put_name<S: Sink>(name: &[u8], sink: &mut S)
+    requires { length (S.written sink.old) + length (ended name.now) ≤ S.capacity sink.old }
+    ensures written { S.written sink.new ≡ S.written sink.old ++ ended name.now }
+    ensures capacity { S.capacity sink.old ≤ S.capacity sink.new }
+    ensures loan { S.loan sink.new ≡ S.loan sink.old }
+{
+    if name.is_empty() {
+        sink.put_u8(0);
+    } else {
+        sink.put_text(name);
     }
 }
