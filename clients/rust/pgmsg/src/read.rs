@@ -10,7 +10,7 @@
 //! | `CommandComplete` | [`command_tag`], [`rows_affected`] |
 //! | `CopyData` | none: the body is the data |
 //! | `CopyInResponse`, `CopyOutResponse` | [`copy_response`] |
-//! | `DataRow` | [`RowIndex::read`], [`places`] |
+//! | `DataRow` | [`RowIndex::read`], [`places`], [`places_in`] |
 //! | `ErrorResponse`, `NoticeResponse` | [`fields`](fn@fields), [`severity`] |
 //! | `NotificationResponse` | [`notification`] |
 //! | `ParameterDescription` | [`parameter_types`] |
@@ -40,11 +40,11 @@ pub use fields::{fields, severity, Field, FieldKind, Fields, Severity};
 pub use frame::{next_frame, Frame, Next};
 pub use kind::Kind;
 pub use raw::{
-    command_tag, no_body, raw_authentication, raw_key_data, raw_parameter_status, RawAuthentication,
-    RawKeyData, RawParameterStatus,
+    command_tag, no_body, raw_authentication, raw_key_data, raw_parameter_status,
+    RawAuthentication, RawKeyData, RawParameterStatus,
 };
 pub use raw_frame::{next_raw_frame, RawFrame, RawNext};
-pub use row::{places, Cell, Cells, Row, RowIndex};
+pub use row::{places, places_in, Cell, Cells, Row, RowIndex};
 #[cfg(feature = "bytes")]
 pub use shared::{split_frame, SharedFrame};
 pub use status::{

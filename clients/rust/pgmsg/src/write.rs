@@ -1,5 +1,6 @@
 //! Messages to the server.
 
+mod buffer;
 mod copy;
 mod names;
 mod parameters;
@@ -7,18 +8,19 @@ mod prepared;
 mod query;
 mod raw;
 mod session;
+mod values;
 
+pub use buffer::Buffer;
 pub use copy::copy_head;
 pub use names::{Portal, Statement};
 pub use parameters::{Parameters, Value};
 pub use raw::RawParameters;
 pub use session::Mechanism;
+pub use values::Values;
 
 use crate::error::Refusal;
+use buffer::Spare;
 use std::fmt;
-
-/// The least room that is added at once, so that small messages need few allocations.
-const LEAST_GROWTH: usize = 1 << 10;
 
 /// Messages to the server, one after the other, as bytes.
 ///
@@ -36,112 +38,107 @@ const LEAST_GROWTH: usize = 1 << 10;
 /// Once the bytes are sent, [`clear`](Messages::clear) keeps the allocation for the next ones. It
 /// does not overwrite them: a password stays in memory until later messages take its place.
 #[derive(Default)]
-pub struct Messages {
-    /// The messages, and after them the room for more, all of it initialised.
-    room: Vec<u8>,
-    /// The bytes of the messages, at most those of the room.
-    used: usize,
+pub struct Messages<B = Vec<u8>> {
+    buffer: B,
 }
 
 impl Messages {
     /// No messages, and no allocation yet.
     #[inline]
     pub const fn new() -> Messages {
-        Messages {
-            room: Vec::new(),
-            used: 0,
-        }
+        Messages { buffer: Vec::new() }
     }
 
     /// No messages, and room for `capacity` bytes of them.
     pub fn with_capacity(capacity: usize) -> Messages {
-        Messages {
-            room: vec![0; capacity],
-            used: 0,
-        }
-    }
-
-    /// The bytes to send.
-    #[inline]
-    pub fn as_bytes(&self) -> &[u8] {
-        &self.room[..self.used]
-    }
-
-    /// How many bytes there are to send.
-    #[inline]
-    pub fn len(&self) -> usize {
-        self.used
-    }
-
-    /// Whether there is nothing to send.
-    #[inline]
-    pub fn is_empty(&self) -> bool {
-        self.used == 0
+        Messages::from(Vec::with_capacity(capacity))
     }
 
     /// Removes all messages, and keeps the allocation.
     #[inline]
     pub fn clear(&mut self) {
-        self.used = 0;
+        self.buffer.clear();
     }
 
     /// The bytes to send, as a vector, without copying them.
-    pub fn into_bytes(mut self) -> Vec<u8> {
-        self.room.truncate(self.used);
-        self.room
-    }
-
-    /// Appends what a call writes. It calls again with more room where the first room is too small.
-    #[inline]
-    fn put(&mut self, call: impl Fn(&mut [u8]) -> isize) -> Result<&mut Self, Refusal> {
-        let mut length = self.length_of(&call)?;
-        if length > self.room.len() - self.used {
-            self.grow(length)?;
-            length = self.length_of(&call)?;
-        }
-        if length > self.room.len() - self.used {
-            return Err(Refusal::Unexpected(length as i64));
-        }
-        self.used += length;
-        Ok(self)
-    }
-
-    /// The length of the message that a call writes into the spare room where that is long enough.
-    #[inline]
-    fn length_of(&mut self, call: impl Fn(&mut [u8]) -> isize) -> Result<usize, Refusal> {
-        let length = call(&mut self.room[self.used..]);
-        usize::try_from(length).map_err(|_| Refusal::from_number(length))
-    }
-
-    /// Makes room for a message of `length` bytes.
-    #[cold]
-    fn grow(&mut self, length: usize) -> Result<(), Refusal> {
-        let spare = self.room.len() - self.used;
-        let missing = length.saturating_sub(spare).max(LEAST_GROWTH);
-        self.room
-            .try_reserve(missing)
-            .map_err(|_| Refusal::OutOfMemory)?;
-        self.room.resize(self.room.capacity(), 0);
-        Ok(())
+    pub fn into_bytes(self) -> Vec<u8> {
+        self.buffer
     }
 }
 
-/// Messages after these bytes, in their allocation.
+impl<B: Buffer> Messages<B> {
+    /// The bytes to send.
+    #[inline]
+    pub fn as_bytes(&self) -> &[u8] {
+        self.buffer.bytes()
+    }
+
+    /// How many bytes there are to send.
+    #[inline]
+    pub fn len(&self) -> usize {
+        self.as_bytes().len()
+    }
+
+    /// Whether there is nothing to send.
+    #[inline]
+    pub fn is_empty(&self) -> bool {
+        self.as_bytes().is_empty()
+    }
+
+    /// Appends what a call writes. It calls again with more room where the first room is too small.
+    ///
+    /// The call gives a length, and has written as much where there is room for it, as the calls of
+    /// the library do.
+    #[inline]
+    fn put(&mut self, call: impl Fn(Spare<'_>) -> isize) -> Result<&mut Self, Refusal> {
+        let room = self.buffer.spare();
+        let most = room.len();
+        let length = call(room);
+        // A number below 0 is above each length as a `usize`.
+        if length as usize > most {
+            return self.put_in_more(length, call);
+        }
+        // SAFETY: the call has written so many bytes at the front of the room.
+        unsafe { self.buffer.extend(length as usize) };
+        Ok(self)
+    }
+
+    /// Appends what a call writes that gave a length above that of the room, or a refusal.
+    #[cold]
+    fn put_in_more(
+        &mut self,
+        length: isize,
+        call: impl Fn(Spare<'_>) -> isize,
+    ) -> Result<&mut Self, Refusal> {
+        let length = usize::try_from(length).map_err(|_| Refusal::from_number(length))?;
+        self.buffer.reserve(length)?;
+        let room = self.buffer.spare();
+        let most = room.len();
+        let number = call(room);
+        match usize::try_from(number) {
+            Ok(length) if length <= most => {
+                // SAFETY: the call has written so many bytes at the front of the room.
+                unsafe { self.buffer.extend(length) };
+                Ok(self)
+            }
+            _ => Err(Refusal::from_number(number)),
+        }
+    }
+}
+
+/// Messages after the bytes of a buffer, in its allocation.
 ///
 /// ```
 /// # use pgmsg::write::Messages;
-/// let mut messages = Messages::from(b"S\0\0\0\x04".to_vec());
-/// messages.flush()?;
-/// assert_eq!(messages.into_bytes(), b"S\0\0\0\x04H\0\0\0\x04");
+/// let mut bytes = b"S\0\0\0\x04".to_vec();
+/// Messages::from(&mut bytes).flush()?;
+/// assert_eq!(bytes, b"S\0\0\0\x04H\0\0\0\x04");
 /// # Ok::<(), pgmsg::Refusal>(())
 /// ```
-impl From<Vec<u8>> for Messages {
+impl<B: Buffer> From<B> for Messages<B> {
     #[inline]
-    fn from(bytes: Vec<u8>) -> Messages {
-        Messages {
-            used: bytes.len(),
-            room: bytes,
-        }
+    fn from(buffer: B) -> Messages<B> {
+        Messages { buffer }
     }
 }
 
@@ -153,17 +150,17 @@ impl From<Messages> for bytes::Bytes {
     }
 }
 
-impl AsRef<[u8]> for Messages {
+impl<B: Buffer> AsRef<[u8]> for Messages<B> {
     fn as_ref(&self) -> &[u8] {
         self.as_bytes()
     }
 }
 
 /// Shows the length alone, since the bytes may hold a password.
-impl fmt::Debug for Messages {
+impl<B: Buffer> fmt::Debug for Messages<B> {
     fn fmt(&self, f: &mut fmt::Formatter<'_>) -> fmt::Result {
         f.debug_struct("Messages")
-            .field("len", &self.used)
+            .field("len", &self.len())
             .finish_non_exhaustive()
     }
 }
@@ -177,7 +174,7 @@ mod tests {
         let mut messages = Messages::new();
         let refused = messages.put(|out| out.len() as isize + 1).map(|_| ());
         match refused {
-            Err(Refusal::Unexpected(length)) => assert!(length > LEAST_GROWTH as i64),
+            Err(Refusal::Unexpected(length)) => assert!(length > 1),
             other => panic!("{other:?}"),
         }
         assert!(messages.is_empty());

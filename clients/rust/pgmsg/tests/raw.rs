@@ -1,7 +1,7 @@
 //! Messages with names, formats and texts of the caller's, with bytes written by hand in the
 //! layouts of "Message Formats" in the PostgreSQL documentation.
 
-use pgmsg::write::{Messages, RawParameters, Value};
+use pgmsg::write::{Messages, RawParameters, Value, Values};
 use pgmsg::{FormatCode, Refusal};
 use std::num::NonZeroU32;
 
@@ -49,6 +49,63 @@ fn raw_bind() {
     assert_writes!(b"B\0\0\0\x0c\0\0\0\0\0\0\0\0", raw_bind(b"", b"", none));
     assert_refused!(TextHoldsNul, raw_bind(b"a\0b", b"", none));
     assert_refused!(TextHoldsNul, raw_bind(b"", b"a\0b", none));
+}
+
+#[test]
+fn values_of_each_length() {
+    for length in 0..20 {
+        let bytes: Vec<u8> = (1..=length).collect();
+        let values = [Value::new(&bytes), Value::new(&bytes)];
+        let mut messages = Messages::new();
+        let parameters = RawParameters::text(&values);
+        messages
+            .raw_bind(b"", b"", parameters)
+            .expect("it has no fault");
+        let value = [&[0, 0, 0, length][..], &bytes].concat();
+        let head = [b'B', 0, 0, 0, 20 + 2 * length, 0, 0, 0, 0, 0, 2];
+        let expected = [&head[..], &value, &value, b"\0\0"].concat();
+        assert_eq!(messages.as_bytes(), expected);
+    }
+}
+
+/// Adds a value that is a text, NULL, or can't be spelled.
+fn push(values: &mut Values, value: Result<Option<&str>, Refusal>) -> Result<(), Refusal> {
+    values.push(|bytes| {
+        bytes.push(b'<');
+        let value = value?;
+        Ok(value.map(|value| bytes.extend_from_slice(value.as_bytes())))
+    })
+}
+
+#[test]
+fn values_that_are_spelled_one_after_the_other() {
+    let mut values = Values::default();
+    for turn in 0..2 {
+        for value in [Ok(Some("a")), Ok(None), Ok(Some("bc"))] {
+            push(&mut values, value).expect("it can be spelled");
+        }
+        let refused = push(&mut values, Err(Refusal::BadParams));
+        assert_eq!(refused, Err(Refusal::BadParams));
+        let list: Vec<_> = values.list().iter().map(Value::bytes).collect();
+        assert_eq!(list, [Some(&b"<a"[..]), None, Some(b"<bc")], "{turn}");
+        assert_eq!(format!("{values:?}"), "Values { len: 3, .. }");
+        assert_eq!(values.bytes_len(), 5);
+        values.clear();
+        assert!(values.list().is_empty());
+    }
+}
+
+#[test]
+fn values_whose_bytes_were_taken_away_lie_within_the_rest() {
+    let mut values = Values::default();
+    push(&mut values, Ok(Some("abcd"))).expect("it can be spelled");
+    let pushed = values.push(|bytes| {
+        bytes.truncate(2);
+        Ok::<_, Refusal>(Some(()))
+    });
+    assert!(pushed.is_ok());
+    let list: Vec<_> = values.list().iter().map(Value::bytes).collect();
+    assert_eq!(list, [Some(&b"<a"[..]), Some(b"")]);
 }
 
 #[test]

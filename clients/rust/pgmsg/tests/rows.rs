@@ -48,6 +48,21 @@ fn places_of_cells() {
 }
 
 #[test]
+fn places_in_an_array() {
+    let body = b"\0\x03\0\0\0\x02ab\xff\xff\xff\xff\0\0\0\0";
+    for length in 0..5 {
+        let mut room = vec![Cell::default(); length];
+        assert_eq!(places_in(body, &mut room), Ok(3));
+        let given = room.iter().map(|cell| cell.value(body));
+        assert!(given.eq([Some(&b"ab"[..]), None, Some(b""), Some(b"")]
+            .into_iter()
+            .take(length)));
+    }
+    let fault = places_in(b"\0\x01", &mut []).map(|_| ());
+    assert_eq!(fault_of(fault), (Refusal::Short, 2));
+}
+
+#[test]
 fn a_reader_is_used_again() {
     let mut reader = RowIndex::new();
     let wide = b"\0\x02\0\0\0\x01a\0\0\0\x01b";

@@ -65,3 +65,23 @@ fn messages_become_bytes_without_a_copy() {
     assert_eq!(bytes, &b"S\0\0\0\x04"[..]);
     assert_eq!(bytes.as_ptr(), start);
 }
+
+#[test]
+fn messages_are_appended_to_a_buffer_that_is_shared() {
+    let mut buffer = BytesMut::from(&b"x"[..]);
+    for length in 0..300 {
+        Messages::from(&mut buffer)
+            .copy_data(&vec![length as u8; length])
+            .expect("short data has no fault");
+        let message = buffer.split().freeze();
+        assert_eq!(message.len(), 5 + length + usize::from(length == 0));
+        assert!(message[message.len() - length..]
+            .iter()
+            .all(|&byte| byte == length as u8));
+    }
+    let refused = Messages::from(&mut buffer).query("\0").map(drop);
+    assert_eq!(
+        (refused, buffer.is_empty()),
+        (Err(Refusal::TextHoldsNul), true)
+    );
+}

@@ -247,6 +247,18 @@ fn messages_follow_one_another_while_the_buffer_grows() {
 }
 
 #[test]
+fn messages_are_appended_to_the_bytes_of_a_buffer() {
+    let mut bytes = vec![b'x'; 3000];
+    bytes.shrink_to_fit();
+    for _ in 0..2 {
+        let mut messages = Messages::from(&mut bytes);
+        messages.sync().expect("a Sync has no fault");
+        assert!(messages.query("\0").is_err());
+    }
+    assert_eq!(bytes[2999..], *b"xS\0\0\0\x04S\0\0\0\x04");
+}
+
+#[test]
 fn debug_shows_no_password() {
     let mut messages = Messages::new();
     messages.password("secret").expect("the text has no NUL");

@@ -56,6 +56,14 @@ pub(super) fn part(bytes: &[u8], span: sys::pgmsg_span) -> Result<&[u8], Fault> 
         .ok_or_else(|| Fault::unexpected(span.at))
 }
 
+/// The body of a frame that a call gave. The frame ends where its body does.
+#[inline]
+pub(super) fn body_of<'a>(stream: &'a [u8], frame: &sys::pgmsg_frame) -> Result<&'a [u8], Fault> {
+    stream
+        .get(frame.body.at..frame.length)
+        .ok_or_else(|| Fault::unexpected(frame.length))
+}
+
 /// The text at a place, which the library has found to be UTF-8.
 pub(super) fn text(bytes: &[u8], span: sys::pgmsg_span) -> Result<&str, Fault> {
     str::from_utf8(part(bytes, span)?).map_err(|_| Fault::unexpected(span.at))

@@ -1,6 +1,6 @@
 //! The message at the front of a stream.
 
-use super::answer::{answer, part};
+use super::answer::{answer, body_of};
 use super::Kind;
 use crate::error::Fault;
 use crate::sys;
@@ -78,12 +78,9 @@ pub fn next_frame(stream: &[u8]) -> Result<Next<'_>, Fault> {
 
 #[inline]
 fn frame_of<'a>(stream: &'a [u8], frame: &sys::pgmsg_frame) -> Result<Frame<'a>, Fault> {
-    if frame.length > stream.len() {
-        return Err(Fault::unexpected(frame.length));
-    }
     Ok(Frame {
         kind: Kind::from_tag(frame.tag).ok_or_else(|| Fault::unexpected(frame.tag.into()))?,
-        body: part(stream, frame.body)?,
+        body: body_of(stream, frame)?,
         length: frame.length,
     })
 }

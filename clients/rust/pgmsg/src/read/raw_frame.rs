@@ -1,6 +1,6 @@
 //! The message of any tag at the front of a stream.
 
-use super::answer::{answer, part};
+use super::answer::{answer, body_of};
 use crate::error::Fault;
 use crate::sys;
 
@@ -59,12 +59,9 @@ pub fn next_raw_frame(stream: &[u8]) -> Result<RawNext<'_>, Fault> {
             needed: frame.length,
         });
     }
-    if frame.length > stream.len() {
-        return Err(Fault::unexpected(frame.length));
-    }
     Ok(RawNext::Frame(RawFrame {
         tag: frame.tag,
-        body: part(stream, frame.body)?,
+        body: body_of(stream, &frame)?,
         length: frame.length,
     }))
 }

@@ -59,24 +59,37 @@ impl RowIndex {
 /// ```
 #[inline]
 pub fn places<'r>(body: &[u8], room: &'r mut Vec<Cell>) -> Result<&'r [Cell], Fault> {
-    let cells = fill(room, |room| {
-        answer(|fault| {
-            // SAFETY: `body` and `room` are slices, valid for their lengths, and `&mut` keeps
-            // `room` and `fault` apart. A `Cell` is one of the library.
-            unsafe {
-                sys::pgmsg_read_row(
-                    body.as_ptr(),
-                    body.len(),
-                    room.as_mut_ptr().cast(),
-                    room.len(),
-                    fault,
-                )
-            }
-        })
+    fill(room, |room| places_in(body, room))
+}
+
+/// How many cells a row has, by the body of its DataRow. As many places as there is room for are
+/// written.
+///
+/// ```
+/// # use pgmsg::read::{places_in, Cell};
+/// let mut room = [Cell::default(); 8];
+/// let count = places_in(b"\0\x02\0\0\0\x015\xff\xff\xff\xff", &mut room)?;
+/// assert_eq!((count, room[0].range()), (2, Some(6..7)));
+/// # Ok::<(), pgmsg::Fault>(())
+/// ```
+#[inline]
+pub fn places_in(body: &[u8], room: &mut [Cell]) -> Result<usize, Fault> {
+    let count = answer(|fault| {
+        // SAFETY: `body` and `room` are slices, valid for their lengths, and `&mut` keeps `room` and
+        // `fault` apart. A `Cell` is one of the library.
+        unsafe {
+            sys::pgmsg_read_row(
+                body.as_ptr(),
+                body.len(),
+                room.as_mut_ptr().cast(),
+                room.len(),
+                fault,
+            )
+        }
     })?;
     // The library is proved to give no other place.
-    debug_assert!(cells.iter().all(|cell| cell.is_in(body)));
-    Ok(cells)
+    debug_assert!(room.iter().take(count).all(|cell| cell.is_in(body)));
+    Ok(count)
 }
 
 /// A row: for each column the bytes of its value, or `None` where it is NULL.
@@ -85,7 +98,7 @@ pub fn places<'r>(body: &[u8], room: &'r mut Vec<Cell>) -> Result<&'r [Cell], Fa
 #[derive(Clone, Copy)]
 pub struct Row<'b, 'r> {
     body: &'b [u8],
-    /// Each is NULL or lies in the body.
+    /// Each is NULL or lies in the body, as the library is proved to give them.
     cells: &'r [Cell],
 }
 
@@ -106,13 +119,15 @@ impl<'b, 'r> Row<'b, 'r> {
     #[inline]
     pub fn get(&self, index: usize) -> Option<Option<&'b [u8]>> {
         let cell = self.cells.get(index)?;
-        Some(cell.value(self.body))
+        // SAFETY: each cell is NULL or lies in the body.
+        Some(unsafe { cell.value_in(self.body) })
     }
 
     /// The cells in order.
     #[inline]
     pub fn iter(&self) -> Cells<'b, 'r> {
-        Cells::new(self.body, self.cells)
+        // SAFETY: each cell is NULL or lies in the body.
+        unsafe { Cells::new(self.body, self.cells) }
     }
 
     /// The places of the cells in the body.

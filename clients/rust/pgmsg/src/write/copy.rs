@@ -1,6 +1,6 @@
 //! The data of a COPY.
 
-use super::Messages;
+use super::{Buffer, Messages};
 use crate::error::Refusal;
 use crate::sys;
 
@@ -27,13 +27,13 @@ pub fn copy_head(len: usize) -> Result<[u8; 5], Refusal> {
     }
 }
 
-impl Messages {
+impl<B: Buffer> Messages<B> {
     /// Sends data of a COPY: CopyData. The parts need not end where rows end.
     ///
     /// Refused with [`MessageTooLong`](Refusal::MessageTooLong) above 2147483643 bytes.
     #[inline]
     pub fn copy_data(&mut self, data: &[u8]) -> Result<&mut Self, Refusal> {
-        self.put(|out| {
+        self.put(|mut out| {
             // SAFETY: both are slices, valid for their lengths, and `&mut` keeps `out` apart.
             unsafe {
                 sys::pgmsg_put_copy_data(data.as_ptr(), data.len(), out.as_mut_ptr(), out.len())
@@ -44,8 +44,8 @@ impl Messages {
     /// Ends the data of a COPY: CopyDone.
     #[inline]
     pub fn copy_done(&mut self) -> Result<&mut Self, Refusal> {
-        self.put(|out| {
-            // SAFETY: `out` is a slice, valid for its length.
+        self.put(|mut out| {
+            // SAFETY: `out` is room, valid for its length.
             unsafe { sys::pgmsg_put_copy_done(out.as_mut_ptr(), out.len()) }
         })
     }
@@ -55,7 +55,7 @@ impl Messages {
     /// Refused with [`TextHoldsNul`](Refusal::TextHoldsNul) where the reason holds a NUL.
     #[inline]
     pub fn copy_fail(&mut self, reason: &str) -> Result<&mut Self, Refusal> {
-        self.put(|out| {
+        self.put(|mut out| {
             // SAFETY: both are slices, valid for their lengths, and `&mut` keeps `out` apart.
             unsafe {
                 sys::pgmsg_put_copy_fail(reason.as_ptr(), reason.len(), out.as_mut_ptr(), out.len())

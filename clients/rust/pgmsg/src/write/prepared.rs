@@ -1,11 +1,11 @@
 //! Prepared statements and the values of their parameters.
 
 use super::parameters::{codes, values};
-use super::{Messages, Parameters, Portal, Statement};
+use super::{Buffer, Messages, Parameters, Portal, Statement};
 use crate::error::Refusal;
 use crate::sys;
 
-impl Messages {
+impl<B: Buffer> Messages<B> {
     /// Prepares a statement: Parse.
     ///
     /// `types` are the object ids of the parameters' types, from the first parameter on. The
@@ -20,7 +20,7 @@ impl Messages {
         query: &str,
         types: &[u32],
     ) -> Result<&mut Self, Refusal> {
-        self.put(|out| {
+        self.put(|mut out| {
             // SAFETY: all are slices, valid for their lengths, and `&mut` keeps `out` apart.
             unsafe {
                 sys::pgmsg_put_parse(
@@ -63,7 +63,7 @@ impl Messages {
         statement: Statement,
         parameters: Parameters<'_>,
     ) -> Result<&mut Self, Refusal> {
-        self.put(|out| {
+        self.put(|mut out| {
             // SAFETY: all are slices, valid for their lengths, as are those of the values; `&mut`
             // keeps `out` apart. A value is one of the library, and a format one byte.
             unsafe {
@@ -97,7 +97,7 @@ impl Messages {
     /// ```
     #[inline]
     pub fn batch(&mut self, query: &str, parameters: Parameters<'_>) -> Result<&mut Self, Refusal> {
-        self.put(|out| {
+        self.put(|mut out| {
             // SAFETY: all are slices, valid for their lengths, as are those of the values; `&mut`
             // keeps `out` apart. A value is one of the library, and a format one byte.
             unsafe {

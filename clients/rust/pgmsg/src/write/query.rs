@@ -1,17 +1,17 @@
 //! Queries, and what describes, runs and closes statements and portals.
 
-use super::{Messages, Portal, Statement};
+use super::{Buffer, Messages, Portal, Statement};
 use crate::error::Refusal;
 use crate::sys;
 use std::num::NonZeroU32;
 
-impl Messages {
+impl<B: Buffer> Messages<B> {
     /// Runs the statements of a text: Query.
     ///
     /// Refused with [`TextHoldsNul`](Refusal::TextHoldsNul) where the text holds a NUL.
     #[inline]
     pub fn query(&mut self, query: &str) -> Result<&mut Self, Refusal> {
-        self.put(|out| {
+        self.put(|mut out| {
             // SAFETY: both are slices, valid for their lengths, and `&mut` keeps `out` apart.
             unsafe {
                 sys::pgmsg_put_query(query.as_ptr(), query.len(), out.as_mut_ptr(), out.len())
@@ -22,8 +22,8 @@ impl Messages {
     /// Asks for the parameters and the columns of a statement: Describe.
     #[inline]
     pub fn describe_statement(&mut self, statement: Statement) -> Result<&mut Self, Refusal> {
-        self.put(|out| {
-            // SAFETY: `out` is a slice, valid for its length.
+        self.put(|mut out| {
+            // SAFETY: `out` is room, valid for its length.
             unsafe { sys::pgmsg_put_describe_statement(statement.0, out.as_mut_ptr(), out.len()) }
         })
     }
@@ -31,8 +31,8 @@ impl Messages {
     /// Asks for the columns of a portal: Describe.
     #[inline]
     pub fn describe_portal(&mut self, portal: Portal) -> Result<&mut Self, Refusal> {
-        self.put(|out| {
-            // SAFETY: `out` is a slice, valid for its length.
+        self.put(|mut out| {
+            // SAFETY: `out` is room, valid for its length.
             unsafe { sys::pgmsg_put_describe_portal(portal.0, out.as_mut_ptr(), out.len()) }
         })
     }
@@ -55,8 +55,8 @@ impl Messages {
         limit: Option<NonZeroU32>,
     ) -> Result<&mut Self, Refusal> {
         let limit = limit.map_or(0, NonZeroU32::get);
-        self.put(|out| {
-            // SAFETY: `out` is a slice, valid for its length.
+        self.put(|mut out| {
+            // SAFETY: `out` is room, valid for its length.
             unsafe { sys::pgmsg_put_execute(portal.0, limit, out.as_mut_ptr(), out.len()) }
         })
     }
@@ -64,8 +64,8 @@ impl Messages {
     /// Closes a statement: Close.
     #[inline]
     pub fn close_statement(&mut self, statement: Statement) -> Result<&mut Self, Refusal> {
-        self.put(|out| {
-            // SAFETY: `out` is a slice, valid for its length.
+        self.put(|mut out| {
+            // SAFETY: `out` is room, valid for its length.
             unsafe { sys::pgmsg_put_close_statement(statement.0, out.as_mut_ptr(), out.len()) }
         })
     }
@@ -73,8 +73,8 @@ impl Messages {
     /// Closes a portal: Close.
     #[inline]
     pub fn close_portal(&mut self, portal: Portal) -> Result<&mut Self, Refusal> {
-        self.put(|out| {
-            // SAFETY: `out` is a slice, valid for its length.
+        self.put(|mut out| {
+            // SAFETY: `out` is room, valid for its length.
             unsafe { sys::pgmsg_put_close_portal(portal.0, out.as_mut_ptr(), out.len()) }
         })
     }
@@ -82,8 +82,8 @@ impl Messages {
     /// Asks the server to send the answers that it holds back: Flush.
     #[inline]
     pub fn flush(&mut self) -> Result<&mut Self, Refusal> {
-        self.put(|out| {
-            // SAFETY: `out` is a slice, valid for its length.
+        self.put(|mut out| {
+            // SAFETY: `out` is room, valid for its length.
             unsafe { sys::pgmsg_put_flush(out.as_mut_ptr(), out.len()) }
         })
     }
@@ -91,8 +91,8 @@ impl Messages {
     /// Ends a run of messages, which the server answers with ReadyForQuery: Sync.
     #[inline]
     pub fn sync(&mut self) -> Result<&mut Self, Refusal> {
-        self.put(|out| {
-            // SAFETY: `out` is a slice, valid for its length.
+        self.put(|mut out| {
+            // SAFETY: `out` is room, valid for its length.
             unsafe { sys::pgmsg_put_sync(out.as_mut_ptr(), out.len()) }
         })
     }

@@ -1,7 +1,7 @@
 //! Messages whose names, formats and texts are the caller's own bytes.
 
 use super::parameters::values;
-use super::{Messages, Value};
+use super::{Buffer, Messages, Value};
 use crate::error::Refusal;
 use crate::format::FormatCode;
 use crate::sys;
@@ -48,11 +48,11 @@ impl<'a> RawParameters<'a> {
 /// A call of the library that takes some bytes.
 type PutBytes = unsafe extern "C" fn(*const u8, usize, *mut u8, usize) -> isize;
 
-impl Messages {
+impl<B: Buffer> Messages<B> {
     /// Appends what a call of the library writes of some bytes.
     #[inline]
     fn put_bytes(&mut self, call: PutBytes, bytes: &[u8]) -> Result<&mut Self, Refusal> {
-        self.put(|out| {
+        self.put(|mut out| {
             // SAFETY: both are slices, valid for their lengths, and `&mut` keeps `out` apart.
             unsafe { call(bytes.as_ptr(), bytes.len(), out.as_mut_ptr(), out.len()) }
         })
@@ -83,7 +83,7 @@ impl Messages {
         query: &[u8],
         types: &[u32],
     ) -> Result<&mut Self, Refusal> {
-        self.put(|out| {
+        self.put(|mut out| {
             // SAFETY: all are slices, valid for their lengths, and `&mut` keeps `out` apart.
             unsafe {
                 sys::pgmsg_put_raw_parse(
@@ -114,7 +114,7 @@ impl Messages {
         statement: &[u8],
         parameters: RawParameters<'_>,
     ) -> Result<&mut Self, Refusal> {
-        self.put(|out| {
+        self.put(|mut out| {
             // SAFETY: all are slices, valid for their lengths, as are those of the values; `&mut`
             // keeps `out` apart. A value is one of the library, and a code 16 bits.
             unsafe {
@@ -171,7 +171,7 @@ impl Messages {
         limit: Option<NonZeroU32>,
     ) -> Result<&mut Self, Refusal> {
         let limit = limit.map_or(0, NonZeroU32::get);
-        self.put(|out| {
+        self.put(|mut out| {
             // SAFETY: both are slices, valid for their lengths, and `&mut` keeps `out` apart.
             unsafe {
                 sys::pgmsg_put_raw_execute(
@@ -199,7 +199,7 @@ impl Messages {
         formats: &[FormatCode],
         result_format: FormatCode,
     ) -> Result<&mut Self, Refusal> {
-        self.put(|out| {
+        self.put(|mut out| {
             // SAFETY: all are slices, valid for their lengths, as are those of the values; `&mut`
             // keeps `out` apart. A value is one of the library, and a code 16 bits.
             unsafe {
@@ -244,7 +244,7 @@ impl Messages {
         response: Option<&[u8]>,
     ) -> Result<&mut Self, Refusal> {
         let bytes = response.unwrap_or_default();
-        self.put(|out| {
+        self.put(|mut out| {
             // SAFETY: all are slices, valid for their lengths, and `&mut` keeps `out` apart.
             unsafe {
                 sys::pgmsg_put_sasl_mechanism(
@@ -271,7 +271,7 @@ impl Messages {
         process_id: u32,
         secret_key: &[u8],
     ) -> Result<&mut Self, Refusal> {
-        self.put(|out| {
+        self.put(|mut out| {
             // SAFETY: both are slices, valid for their lengths, and `&mut` keeps `out` apart.
             unsafe {
                 sys::pgmsg_put_cancel_request(
@@ -290,8 +290,8 @@ impl Messages {
     /// The server answers with one byte, `G` or `N`, which is no message.
     #[inline]
     pub fn gss_enc_request(&mut self) -> Result<&mut Self, Refusal> {
-        self.put(|out| {
-            // SAFETY: `out` is a slice, valid for its length.
+        self.put(|mut out| {
+            // SAFETY: `out` is room, valid for its length.
             unsafe { sys::pgmsg_put_gss_enc_request(out.as_mut_ptr(), out.len()) }
         })
     }

@@ -1,6 +1,6 @@
 //! How a session begins and ends.
 
-use super::Messages;
+use super::{Buffer, Messages};
 use crate::error::Refusal;
 use crate::sys;
 
@@ -24,7 +24,7 @@ impl Mechanism {
     }
 }
 
-impl Messages {
+impl<B: Buffer> Messages<B> {
     /// Opens a session with these settings, names with values: StartupMessage. The server requires
     /// `user`.
     ///
@@ -41,7 +41,7 @@ impl Messages {
     /// ```
     pub fn startup(&mut self, settings: &[(&str, &str)]) -> Result<&mut Self, Refusal> {
         let settings: Vec<_> = settings.iter().copied().map(setting_of).collect();
-        self.put(|out| {
+        self.put(|mut out| {
             // SAFETY: both are slices, valid for their lengths, as are those that `settings`
             // points to; `&mut` keeps `out` apart.
             unsafe {
@@ -60,8 +60,8 @@ impl Messages {
     /// The server answers with one byte, `S` or `N`, which is no message.
     #[inline]
     pub fn ssl_request(&mut self) -> Result<&mut Self, Refusal> {
-        self.put(|out| {
-            // SAFETY: `out` is a slice, valid for its length.
+        self.put(|mut out| {
+            // SAFETY: `out` is room, valid for its length.
             unsafe { sys::pgmsg_put_ssl_request(out.as_mut_ptr(), out.len()) }
         })
     }
@@ -72,7 +72,7 @@ impl Messages {
     #[inline]
     pub fn password(&mut self, password: &str) -> Result<&mut Self, Refusal> {
         let bytes = password.as_bytes();
-        self.put(|out| {
+        self.put(|mut out| {
             // SAFETY: both are slices, valid for their lengths, and `&mut` keeps `out` apart.
             unsafe {
                 sys::pgmsg_put_password(bytes.as_ptr(), bytes.len(), out.as_mut_ptr(), out.len())
@@ -86,7 +86,7 @@ impl Messages {
     /// hexadecimal digits, and the salt that the server sent.
     #[inline]
     pub fn md5_password(&mut self, digest: &[u8; 16]) -> Result<&mut Self, Refusal> {
-        self.put(|out| {
+        self.put(|mut out| {
             // SAFETY: `digest` is an array of sixteen bytes, and `out` a slice, valid for its
             // length and apart from it.
             unsafe { sys::pgmsg_put_md5_password(digest, out.as_mut_ptr(), out.len()) }
@@ -108,7 +108,7 @@ impl Messages {
         response: &str,
     ) -> Result<&mut Self, Refusal> {
         let plus = mechanism == Mechanism::ScramSha256Plus;
-        self.put(|out| {
+        self.put(|mut out| {
             // SAFETY: both are slices, valid for their lengths, and `&mut` keeps `out` apart.
             unsafe {
                 sys::pgmsg_put_sasl_initial(
@@ -126,7 +126,7 @@ impl Messages {
     #[inline]
     pub fn sasl_response(&mut self, response: &str) -> Result<&mut Self, Refusal> {
         let bytes = response.as_bytes();
-        self.put(|out| {
+        self.put(|mut out| {
             // SAFETY: both are slices, valid for their lengths, and `&mut` keeps `out` apart.
             unsafe {
                 sys::pgmsg_put_sasl_response(
@@ -142,8 +142,8 @@ impl Messages {
     /// Ends the session: Terminate.
     #[inline]
     pub fn terminate(&mut self) -> Result<&mut Self, Refusal> {
-        self.put(|out| {
-            // SAFETY: `out` is a slice, valid for its length.
+        self.put(|mut out| {
+            // SAFETY: `out` is room, valid for its length.
             unsafe { sys::pgmsg_put_terminate(out.as_mut_ptr(), out.len()) }
         })
     }

@@ -24,7 +24,7 @@ pub use status::{
 
 use crate::lacking::{self, HEAD};
 use bytes::{Buf, BytesMut};
-use pgmsg::read::{next_frame, Kind, Next};
+use pgmsg::read::{next_raw_frame, Kind, RawNext};
 use std::io;
 
 /// The most room that is made at once for a message that isn't whole: a server can announce 2 GiB.
@@ -131,25 +131,18 @@ pub enum Message {
 
 impl Message {
     /// Takes the first message off a stream. `None` where it isn't whole: then there is more room
-    /// for it.
+    /// for it, where its length is there.
     #[inline]
     pub fn parse(buf: &mut BytesMut) -> io::Result<Option<Message>> {
-        if buf.len() < HEAD {
-            return Ok(make_room(buf, HEAD));
+        match next_raw_frame(buf) {
+            Ok(RawNext::Frame(frame)) => {
+                let (tag, length) = (frame.tag, frame.length);
+                answer::take(tag, length, buf)
+            }
+            Ok(RawNext::Incomplete { needed: HEAD, .. }) => Ok(None),
+            Ok(RawNext::Incomplete { needed, .. }) => Ok(make_room(buf, needed)),
+            Err(fault) => Err(fault.into()),
         }
-        let (kind, length) = match next_frame(buf) {
-            Ok(Next::Frame(frame)) => (frame.kind, frame.length),
-            Ok(Next::Incomplete { needed }) => return Ok(make_room(buf, needed)),
-            Err(fault) => match lacking::head(buf)? {
-                Some((_, len)) if buf.len() <= len as usize => {
-                    return Ok(make_room(buf, len as usize + 1));
-                }
-                _ => return Err(fault.into()),
-            },
-        };
-        let mut body = buf.split_to(length).freeze();
-        body.advance(HEAD);
-        answer::read(kind, body).map(Some)
     }
 }
 

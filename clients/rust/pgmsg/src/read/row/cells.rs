@@ -23,7 +23,20 @@ impl Cell {
     #[inline]
     pub fn value<'b>(&self, body: &'b [u8]) -> Option<&'b [u8]> {
         let length = usize::try_from(self.0.len).ok()?;
-        body.get(self.start()..)?.get(..length)
+        // A sum that wraps is before its start.
+        body.get(self.start()..self.start().wrapping_add(length))
+    }
+
+    /// The value in the body that the cell was read of, or `None` where it is NULL.
+    ///
+    /// # Safety
+    ///
+    /// The cell is NULL or lies in the body.
+    #[inline]
+    pub(super) unsafe fn value_in<'b>(&self, body: &'b [u8]) -> Option<&'b [u8]> {
+        let length = usize::try_from(self.0.len).ok()?;
+        // SAFETY: the cell lies in the body.
+        Some(unsafe { body.get_unchecked(self.start()..self.start() + length) })
     }
 
     /// Whether it is NULL.
@@ -49,12 +62,16 @@ impl Cell {
 #[derive(Clone, Debug)]
 pub struct Cells<'b, 'r> {
     body: &'b [u8],
+    /// Each is NULL or lies in the body.
     cells: slice::Iter<'r, Cell>,
 }
 
 impl<'b, 'r> Cells<'b, 'r> {
+    /// # Safety
+    ///
+    /// Each cell is NULL or lies in the body.
     #[inline]
-    pub(super) fn new(body: &'b [u8], cells: &'r [Cell]) -> Cells<'b, 'r> {
+    pub(super) unsafe fn new(body: &'b [u8], cells: &'r [Cell]) -> Cells<'b, 'r> {
         Cells {
             body,
             cells: cells.iter(),
@@ -68,7 +85,8 @@ impl<'b> Iterator for Cells<'b, '_> {
     #[inline]
     fn next(&mut self) -> Option<Option<&'b [u8]>> {
         let cell = self.cells.next()?;
-        Some(cell.value(self.body))
+        // SAFETY: as `new` says.
+        Some(unsafe { cell.value_in(self.body) })
     }
 
     #[inline]
@@ -81,7 +99,8 @@ impl DoubleEndedIterator for Cells<'_, '_> {
     #[inline]
     fn next_back(&mut self) -> Option<Self::Item> {
         let cell = self.cells.next_back()?;
-        Some(cell.value(self.body))
+        // SAFETY: as `new` says.
+        Some(unsafe { cell.value_in(self.body) })
     }
 }
 

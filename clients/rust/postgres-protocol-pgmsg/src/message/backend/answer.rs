@@ -1,46 +1,89 @@
-//! A body by its kind.
+//! A message by its tag.
 
 use super::*;
 use bytes::Bytes;
 use pgmsg::read::no_body;
 
-/// Reads the body of a message of a kind.
-#[inline]
-pub(super) fn read(kind: Kind, body: Bytes) -> io::Result<Message> {
-    Ok(match kind {
-        Kind::Authentication => return authentication::read(body),
-        Kind::BackendKeyData => Message::BackendKeyData(BackendKeyDataBody::read(&body)?),
-        Kind::CommandComplete => Message::CommandComplete(CommandCompleteBody::read(body)?),
-        Kind::CopyData => Message::CopyData(CopyDataBody::read(body)),
-        Kind::CopyInResponse => Message::CopyInResponse(CopyInResponseBody::read(body)?),
-        Kind::CopyOutResponse => Message::CopyOutResponse(CopyOutResponseBody::read(body)?),
-        Kind::DataRow => Message::DataRow(DataRowBody::read(body)?),
-        Kind::ErrorResponse => Message::ErrorResponse(ErrorResponseBody::read(body)),
-        Kind::NoticeResponse => Message::NoticeResponse(NoticeResponseBody::read(body)),
-        Kind::NotificationResponse => {
-            Message::NotificationResponse(NotificationResponseBody::read(&body)?)
+/// Takes a message of so many bytes off a stream.
+///
+/// The messages that come most often are read here, each where it is returned, and the others by a
+/// call.
+#[inline(always)]
+pub(super) fn take(tag: u8, length: usize, buf: &mut BytesMut) -> io::Result<Option<Message>> {
+    Ok(Some(match tag {
+        DATA_ROW_TAG => Message::DataRow(DataRowBody::read(body(buf, length))?),
+        COPY_DATA_TAG => Message::CopyData(CopyDataBody::read(body(buf, length))),
+        COMMAND_COMPLETE_TAG => {
+            Message::CommandComplete(CommandCompleteBody::read(body(buf, length))?)
         }
-        Kind::ParameterDescription => {
+        NOTIFICATION_RESPONSE_TAG => {
+            Message::NotificationResponse(NotificationResponseBody::read(body(buf, length))?)
+        }
+        READY_FOR_QUERY_TAG => Message::ReadyForQuery(pass(buf, length, ReadyForQueryBody::read)?),
+        BIND_COMPLETE_TAG => {
+            pass(buf, length, empty)?;
+            Message::BindComplete
+        }
+        PARSE_COMPLETE_TAG => {
+            pass(buf, length, empty)?;
+            Message::ParseComplete
+        }
+        _ => return read(tag, body(buf, length)).map(Some),
+    }))
+}
+
+/// Takes a message of so many bytes off a stream, and gives its body.
+#[inline(always)]
+fn body(buf: &mut BytesMut, length: usize) -> Bytes {
+    let mut body = buf.split_to(length).freeze();
+    body.advance(HEAD);
+    body
+}
+
+/// Takes a message of so many bytes off a stream, and gives what is read of its body, of which nothing
+/// is kept.
+#[inline]
+fn pass<T>(buf: &mut BytesMut, length: usize, read: fn(&[u8]) -> io::Result<T>) -> io::Result<T> {
+    let read = read(buf.get(HEAD..length).unwrap_or_default());
+    buf.advance(length);
+    read
+}
+
+/// Reads the body of a message that has none.
+#[inline]
+fn empty(body: &[u8]) -> io::Result<()> {
+    Ok(no_body(body)?)
+}
+
+/// Reads the body of a message of any other tag.
+#[cold]
+fn read(tag: u8, body: Bytes) -> io::Result<Message> {
+    Ok(match tag {
+        AUTHENTICATION_TAG => return authentication::read(body),
+        BACKEND_KEY_DATA_TAG => Message::BackendKeyData(BackendKeyDataBody::read(&body)?),
+        COPY_IN_RESPONSE_TAG => Message::CopyInResponse(CopyInResponseBody::read(body)?),
+        COPY_OUT_RESPONSE_TAG => Message::CopyOutResponse(CopyOutResponseBody::read(body)?),
+        ERROR_RESPONSE_TAG => Message::ErrorResponse(ErrorResponseBody::read(body)),
+        NOTICE_RESPONSE_TAG => Message::NoticeResponse(NoticeResponseBody::read(body)),
+        PARAMETER_DESCRIPTION_TAG => {
             Message::ParameterDescription(ParameterDescriptionBody::read(body)?)
         }
-        Kind::ParameterStatus => Message::ParameterStatus(ParameterStatusBody::read(&body)?),
-        Kind::ReadyForQuery => Message::ReadyForQuery(ReadyForQueryBody::read(&body)?),
-        Kind::RowDescription => Message::RowDescription(RowDescriptionBody::read(body)?),
-        _ => return read_empty(kind, &body),
+        PARAMETER_STATUS_TAG => Message::ParameterStatus(ParameterStatusBody::read(&body)?),
+        ROW_DESCRIPTION_TAG => Message::RowDescription(RowDescriptionBody::read(body)?),
+        _ => return read_empty(tag, &body),
     })
 }
 
 /// Reads the body of a message that has none.
-fn read_empty(kind: Kind, body: &[u8]) -> io::Result<Message> {
-    no_body(body)?;
-    match kind {
-        Kind::BindComplete => Ok(Message::BindComplete),
-        Kind::CloseComplete => Ok(Message::CloseComplete),
-        Kind::CopyDone => Ok(Message::CopyDone),
-        Kind::EmptyQueryResponse => Ok(Message::EmptyQueryResponse),
-        Kind::NoData => Ok(Message::NoData),
-        Kind::ParseComplete => Ok(Message::ParseComplete),
-        Kind::PortalSuspended => Ok(Message::PortalSuspended),
-        _ => Err(lacking::refused("message of a kind that isn't known")),
-    }
+fn read_empty(tag: u8, body: &[u8]) -> io::Result<Message> {
+    let message = match tag {
+        CLOSE_COMPLETE_TAG => Message::CloseComplete,
+        COPY_DONE_TAG => Message::CopyDone,
+        EMPTY_QUERY_RESPONSE_TAG => Message::EmptyQueryResponse,
+        NO_DATA_TAG => Message::NoData,
+        PORTAL_SUSPENDED_TAG => Message::PortalSuspended,
+        _ => return Err(lacking::refused("message of a kind that isn't known")),
+    };
+    empty(body)?;
+    Ok(message)
 }

@@ -1,13 +1,11 @@
 //! The cells of a row.
 
 use crate::lacking::{ends, has_count};
-use bytes::Bytes;
+use bytes::{Buf, Bytes};
 use fallible_iterator::FallibleIterator;
-use pgmsg::read::{places, Cell as Place};
-use std::cell::Cell;
-use std::io;
-use std::marker::PhantomData;
+use pgmsg::read::{places_in, Cell};
 use std::ops::Range;
+use std::{io, vec};
 
 /// The bytes of the count before the cells.
 const COUNT: usize = 2;
@@ -30,7 +28,10 @@ impl DataRowBody {
     /// Where the values lie in the buffer.
     #[inline]
     pub fn ranges(&self) -> DataRowRanges<'_> {
-        DataRowRanges::of(&self.storage)
+        DataRowRanges {
+            body: &self.storage,
+            left: None,
+        }
     }
 
     /// The bytes that the values lie in.
@@ -40,52 +41,46 @@ impl DataRowBody {
     }
 }
 
-thread_local! {
-    /// Room for the places of a row, which is used again.
-    static ROOM: Cell<Vec<Place>> = const { Cell::new(Vec::new()) };
-}
+/// As many cells as most rows have at most need no allocation for their places.
+const FEW: usize = 16;
 
 /// Where the values of a row lie, `None` where one is NULL.
 pub struct DataRowRanges<'a> {
-    places: Vec<Place>,
-    /// Those that are still to be given.
-    rest: Range<usize>,
-    refused: Option<io::Error>,
-    body: PhantomData<&'a [u8]>,
+    body: &'a [u8],
+    /// The cells that are still to be given, once one was asked for.
+    left: Option<vec::IntoIter<Cell>>,
 }
 
-impl<'a> DataRowRanges<'a> {
-    #[inline]
-    fn of(body: &'a [u8]) -> DataRowRanges<'a> {
-        let mut room = ROOM.try_with(Cell::take).unwrap_or_default();
-        let (count, refused) = match count(body, &mut room) {
-            Ok(count) => (count, None),
-            Err(refused) => (0, Some(refused)),
-        };
-        DataRowRanges {
-            places: room,
-            rest: 0..count,
-            refused,
-            body: PhantomData,
-        }
-    }
-}
-
-/// How many cells a row has, whose places are then in `room`.
+/// The cells of a row, in `few` where there is room for them, else in `many`.
 #[inline]
-fn count(body: &[u8], room: &mut Vec<Place>) -> io::Result<usize> {
-    let places = places(body, room)?;
-    ends(body, end(places))?;
-    Ok(places.len())
+fn read<'c>(body: &[u8], few: &'c mut [Cell], many: &'c mut Vec<Cell>) -> io::Result<&'c [Cell]> {
+    let count = places_in(body, few)?;
+    let cells = match few.get(..count) {
+        Some(cells) => cells,
+        None => {
+            many.resize(count, Cell::default());
+            places_in(body, many)?;
+            many
+        }
+    };
+    ends(body, end(cells))?;
+    Ok(cells)
+}
+
+/// Where a value lies in the buffer, which begins after the count.
+#[inline]
+fn range_of(place: &Cell) -> Option<Range<usize>> {
+    let range = place.range()?;
+    Some(range.start - COUNT..range.end - COUNT)
 }
 
 /// Where a row ends in its body.
 #[inline]
-fn end(places: &[Place]) -> usize {
+fn end(places: &[Cell]) -> usize {
     let nulls = places.iter().rev().take_while(|place| place.is_null());
     let nulls = nulls.count();
     let last = places[..places.len() - nulls].last();
-    last.and_then(Place::range).map_or(COUNT, |range| range.end) + LENGTH * nulls
+    last.and_then(Cell::range).map_or(COUNT, |range| range.end) + LENGTH * nulls
 }
 
 impl FallibleIterator for DataRowRanges<'_> {
@@ -94,26 +89,54 @@ impl FallibleIterator for DataRowRanges<'_> {
 
     #[inline]
     fn next(&mut self) -> io::Result<Option<Option<Range<usize>>>> {
-        if let Some(refused) = self.refused.take() {
-            return Err(refused);
+        if self.left.is_none() {
+            self.left = Some(Vec::new().into_iter());
+            let mut cells = Vec::new();
+            read(self.body, &mut [], &mut cells)?;
+            self.left = Some(cells.into_iter());
         }
-        let place = self.rest.next().and_then(|next| self.places.get(next));
-        Ok(place.map(|place| {
-            let range = place.range()?;
-            Some(range.start - COUNT..range.end - COUNT)
-        }))
+        let next = self.left.as_mut().and_then(Iterator::next);
+        Ok(next.as_ref().map(range_of))
+    }
+
+    // What collects all of them calls this, and then needs no allocation here.
+    #[inline]
+    fn try_fold<B, E, F>(&mut self, mut folded: B, mut fold: F) -> Result<B, E>
+    where
+        E: From<io::Error>,
+        F: FnMut(B, Option<Range<usize>>) -> Result<B, E>,
+    {
+        if self.left.is_some() {
+            while let Some(range) = self.next()? {
+                folded = fold(folded, range)?;
+            }
+            return Ok(folded);
+        }
+        self.left = Some(Vec::new().into_iter());
+        let (mut few, mut many) = ([Cell::default(); FEW], Vec::new());
+        let cells = read(self.body, &mut few, &mut many)?;
+        for (index, cell) in cells.iter().enumerate() {
+            match fold(folded, range_of(cell)) {
+                Ok(next) => folded = next,
+                Err(why) => {
+                    let after = Vec::from(&cells[index + 1..]);
+                    self.left = Some(after.into_iter());
+                    return Err(why);
+                }
+            }
+        }
+        Ok(folded)
     }
 
     #[inline]
     fn size_hint(&self) -> (usize, Option<usize>) {
-        self.rest.size_hint()
-    }
-}
-
-impl Drop for DataRowRanges<'_> {
-    #[inline]
-    fn drop(&mut self) {
-        let room = std::mem::take(&mut self.places);
-        let _ = ROOM.try_with(|kept| kept.set(room));
+        let announced = || {
+            self.body
+                .get(..COUNT)
+                .map_or(0, |count| Buf::get_u16(&mut &count[..]))
+        };
+        let left = self.left.as_ref();
+        let left = left.map_or_else(|| announced().into(), ExactSizeIterator::len);
+        (left, Some(left))
     }
 }

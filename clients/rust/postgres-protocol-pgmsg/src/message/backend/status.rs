@@ -1,11 +1,17 @@
 //! What a session and a command report of themselves.
 
 use crate::lacking::{ends, refused, text_len};
-use bytes::Bytes;
+use bytes::{Buf, Bytes};
 use pgmsg::read::{
     command_tag, key_data, notification, raw_parameter_status, ready, TransactionStatus,
 };
 use std::{io, str};
+
+/// The bytes of a number.
+const NUMBER: usize = 4;
+
+/// The bytes of the end of a text.
+const NUL: usize = 1;
 
 fn text(bytes: &[u8]) -> io::Result<&str> {
     str::from_utf8(bytes).map_err(|_| refused("text is not UTF-8"))
@@ -20,7 +26,7 @@ pub struct BackendKeyDataBody {
 impl BackendKeyDataBody {
     pub(super) fn read(body: &[u8]) -> io::Result<BackendKeyDataBody> {
         let key = key_data(body)?;
-        ends(body, 8)?;
+        ends(body, 2 * NUMBER)?;
         Ok(BackendKeyDataBody {
             process_id: key.process_id as i32,
             secret_key: key.secret_key as i32,
@@ -70,13 +76,19 @@ pub struct NotificationResponseBody {
 }
 
 impl NotificationResponseBody {
-    pub(super) fn read(body: &Bytes) -> io::Result<NotificationResponseBody> {
-        let read = notification(body)?;
-        ends(body, 4 + text_len(read.channel) + text_len(read.payload))?;
+    pub(super) fn read(mut body: Bytes) -> io::Result<NotificationResponseBody> {
+        let read = notification(&body)?;
+        let (process_id, channel, message) = (read.process_id, read.channel, read.payload);
+        ends(&body, NUMBER + text_len(channel) + text_len(message))?;
+        let (channel, message) = (channel.len(), message.len());
+        body.advance(NUMBER);
+        let channel = body.split_to(channel);
+        body.advance(NUL);
+        body.truncate(message);
         Ok(NotificationResponseBody {
-            process_id: read.process_id as i32,
-            channel: body.slice_ref(read.channel),
-            message: body.slice_ref(read.payload),
+            process_id: process_id as i32,
+            channel,
+            message: body,
         })
     }
 

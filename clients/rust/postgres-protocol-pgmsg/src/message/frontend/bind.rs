@@ -1,20 +1,15 @@
 //! Bind, whose values a function of the caller writes.
 
-use super::{append, KEPT};
 use crate::IsNull;
 use bytes::BytesMut;
-use pgmsg::write::{RawParameters, Value};
-use pgmsg::FormatCode;
+use pgmsg::write::{Messages, RawParameters, Values};
+use pgmsg::{FormatCode, Refusal};
 use std::cell::Cell;
 use std::error::Error;
 use std::io;
-use std::ops::Range;
 
-/// As many values as most statements have need no allocation.
-const FEW: usize = 16;
-
-/// What a function that writes a value answers.
-type Written = Result<IsNull, Box<dyn Error + Sync + Send>>;
+/// The most bytes of values whose allocation is kept for the next Bind.
+const KEPT: usize = 1 << 16;
 
 /// Why a Bind is refused.
 #[derive(Debug)]
@@ -44,10 +39,7 @@ impl From<io::Error> for BindError {
 struct Parts {
     formats: Vec<FormatCode>,
     result_formats: Vec<FormatCode>,
-    /// The values one after the other.
-    bytes: BytesMut,
-    /// Where each of them lies, `None` where it is NULL.
-    places: Vec<Option<Range<usize>>>,
+    values: Values<BytesMut>,
 }
 
 thread_local! {
@@ -79,66 +71,43 @@ where
         .unwrap_or_default();
     parts.formats.extend(formats.into_iter().map(FormatCode));
     for value in values {
-        parts.push(|bytes| serializer(value, bytes))?;
+        parts.values.push(|bytes| {
+            let is_null = serializer(value, bytes)?;
+            Ok::<_, BindError>(Some(()).filter(|()| matches!(is_null, IsNull::No)))
+        })?;
     }
     let codes = result_formats.into_iter().map(FormatCode);
     parts.result_formats.extend(codes);
-    parts.write(portal.as_bytes(), statement.as_bytes(), buf)?;
+    let written = parts.write(portal.as_bytes(), statement.as_bytes(), buf);
     parts.keep();
-    Ok(())
+    Ok(written.map_err(io::Error::from)?)
 }
 
 impl Parts {
-    /// Adds a value.
-    #[inline]
-    fn push(&mut self, write: impl FnOnce(&mut BytesMut) -> Written) -> Result<(), BindError> {
-        let start = self.bytes.len();
-        let place = match write(&mut self.bytes)? {
-            IsNull::No => Some(start..self.bytes.len()),
-            IsNull::Yes => None,
-        };
-        self.places.push(place);
-        Ok(())
-    }
-
     /// Appends the message.
-    fn write(&self, portal: &[u8], statement: &[u8], buf: &mut BytesMut) -> io::Result<()> {
-        let value = |place: &Option<Range<usize>>| {
-            let bytes = place.clone().and_then(|place| self.bytes.get(place));
-            Value::from(bytes)
-        };
-        let mut few = [Value::NULL; FEW];
-        let many: Vec<Value<'_>>;
-        let values = match few.get_mut(..self.places.len()) {
-            Some(few) => {
-                for (to, place) in few.iter_mut().zip(&self.places) {
-                    *to = value(place);
-                }
-                few
-            }
-            None => {
-                many = self.places.iter().map(value).collect();
-                &many[..]
-            }
-        };
+    #[inline]
+    fn write(
+        &mut self,
+        portal: &[u8],
+        statement: &[u8],
+        buf: &mut BytesMut,
+    ) -> Result<(), Refusal> {
         let parameters = RawParameters {
-            values,
+            values: self.values.list(),
             formats: &self.formats,
             result_formats: &self.result_formats,
         };
-        append(buf, |messages| {
-            messages.raw_bind(portal, statement, parameters)
-        })
+        Messages::from(buf).raw_bind(portal, statement, parameters)?;
+        Ok(())
     }
 
     /// Keeps the allocations for the next Bind of this thread, unless they are large.
     #[inline]
     fn keep(mut self: Box<Self>) {
-        if self.bytes.capacity() <= KEPT && self.places.capacity() <= KEPT / 16 {
+        if self.values.bytes_len() <= KEPT {
             self.formats.clear();
             self.result_formats.clear();
-            self.bytes.clear();
-            self.places.clear();
+            self.values.clear();
             let _ = PARTS.try_with(|parts| parts.set(Some(self)));
         }
     }

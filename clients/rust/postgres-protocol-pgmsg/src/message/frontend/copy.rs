@@ -1,6 +1,6 @@
 //! The data of a COPY.
 
-use super::{append, append_small};
+use super::{done, surely};
 use bytes::{Buf, BufMut, BytesMut};
 use pgmsg::write::{copy_head, Messages};
 use std::io;
@@ -33,11 +33,11 @@ impl<T: Buf> CopyData<T> {
 /// Ends the data of a COPY: CopyDone.
 #[inline]
 pub fn copy_done(buf: &mut BytesMut) {
-    append_small(buf, Messages::copy_done);
+    surely(Messages::from(buf).copy_done());
 }
 
 /// Makes a COPY fail, for this reason: CopyFail.
 #[inline]
 pub fn copy_fail(message: &str, buf: &mut BytesMut) -> io::Result<()> {
-    append(buf, |messages| messages.copy_fail(message))
+    done(Messages::from(buf).copy_fail(message))
 }

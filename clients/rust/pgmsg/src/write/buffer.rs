@@ -1,0 +1,141 @@
+//! What messages are appended to.
+
+use crate::error::Refusal;
+use std::mem::MaybeUninit;
+
+/// The least room that is added to a vector at once, so that small messages need few allocations.
+const LEAST_GROWTH: usize = 1 << 10;
+
+/// What messages are appended to: a `Vec<u8>`, with the feature `bytes` also a `BytesMut`, or a
+/// `&mut` of one.
+///
+/// No other type can be one.
+pub trait Buffer: Room {}
+
+impl<B: Room> Buffer for B {}
+
+/// Bytes with room after them.
+pub trait Room {
+    /// The bytes.
+    fn bytes(&self) -> &[u8];
+
+    /// Removes all bytes after the first `length`.
+    fn truncate(&mut self, length: usize);
+
+    /// The room after the bytes.
+    fn spare(&mut self) -> Spare<'_>;
+
+    /// Adds the first `length` bytes of the room to the bytes.
+    ///
+    /// # Safety
+    ///
+    /// There is as much room, and so much of it is initialised.
+    unsafe fn extend(&mut self, length: usize);
+
+    /// Makes room for so many bytes more.
+    fn reserve(&mut self, length: usize) -> Result<(), Refusal>;
+}
+
+/// Room in which a call of the library writes.
+pub struct Spare<'a>(&'a mut [MaybeUninit<u8>]);
+
+impl Spare<'_> {
+    #[inline]
+    pub fn as_mut_ptr(&mut self) -> *mut u8 {
+        self.0.as_mut_ptr().cast()
+    }
+
+    #[inline]
+    pub fn len(&self) -> usize {
+        self.0.len()
+    }
+}
+
+impl Room for Vec<u8> {
+    #[inline]
+    fn bytes(&self) -> &[u8] {
+        self
+    }
+
+    #[inline]
+    fn truncate(&mut self, length: usize) {
+        self.truncate(length);
+    }
+
+    #[inline]
+    fn spare(&mut self) -> Spare<'_> {
+        Spare(self.spare_capacity_mut())
+    }
+
+    #[inline]
+    unsafe fn extend(&mut self, length: usize) {
+        // SAFETY: so much of the spare capacity is initialised.
+        unsafe { self.set_len(self.len() + length) }
+    }
+
+    fn reserve(&mut self, length: usize) -> Result<(), Refusal> {
+        self.try_reserve(length.max(LEAST_GROWTH))
+            .map_err(|_| Refusal::OutOfMemory)
+    }
+}
+
+/// Where there is no memory, the program ends, as it does in each call of that crate.
+#[cfg(feature = "bytes")]
+impl Room for bytes::BytesMut {
+    #[inline]
+    fn bytes(&self) -> &[u8] {
+        self
+    }
+
+    #[inline]
+    fn truncate(&mut self, length: usize) {
+        self.truncate(length);
+    }
+
+    #[inline]
+    fn spare(&mut self) -> Spare<'_> {
+        let room = bytes::BufMut::chunk_mut(self);
+        let (start, length) = (room.as_mut_ptr(), room.len());
+        // SAFETY: the two are of a slice that is borrowed for as long, whose bytes need not be
+        // initialised.
+        Spare(unsafe { std::slice::from_raw_parts_mut(start.cast(), length) })
+    }
+
+    #[inline]
+    unsafe fn extend(&mut self, length: usize) {
+        // SAFETY: so much of the spare capacity is initialised.
+        unsafe { self.set_len(self.len() + length) }
+    }
+
+    fn reserve(&mut self, length: usize) -> Result<(), Refusal> {
+        self.reserve(length);
+        Ok(())
+    }
+}
+
+impl<B: Room> Room for &mut B {
+    #[inline]
+    fn bytes(&self) -> &[u8] {
+        (**self).bytes()
+    }
+
+    #[inline]
+    fn truncate(&mut self, length: usize) {
+        (**self).truncate(length);
+    }
+
+    #[inline]
+    fn spare(&mut self) -> Spare<'_> {
+        (**self).spare()
+    }
+
+    #[inline]
+    unsafe fn extend(&mut self, length: usize) {
+        // SAFETY: what is asked for is the same.
+        unsafe { (**self).extend(length) }
+    }
+
+    fn reserve(&mut self, length: usize) -> Result<(), Refusal> {
+        (**self).reserve(length)
+    }
+}
