@@ -374,6 +374,11 @@ ptrdiff_t pgmsg_read_columns(const uint8_t *body, size_t body_len, pgmsg_column 
 ptrdiff_t pgmsg_read_parameter_types(const uint8_t *body, size_t body_len, uint32_t *types,
     size_t types_len, pgmsg_fault *fault);
 
+/* The columns of a result, by the body of its RowDescription, as `pgmsg_read_columns` reads them,
+ * but in the server's encoding: their names need not be UTF-8. */
+ptrdiff_t pgmsg_read_raw_columns(const uint8_t *body, size_t body_len, pgmsg_column *columns,
+    size_t columns_len, pgmsg_fault *fault);
+
 /* The fields of an error or a notice, in order: how many there are. As many as there is room for
  * are written. */
 size_t pgmsg_read_fields(const uint8_t *body, size_t body_len, pgmsg_field *fields,
@@ -453,6 +458,11 @@ int32_t pgmsg_read_challenge(const uint8_t *body, size_t body_len, pgmsg_challen
  * in bytes. It is written where its room is that long. */
 ptrdiff_t pgmsg_read_verifier(const uint8_t *body, size_t body_len, uint8_t *verifier,
     size_t verifier_len, pgmsg_fault *fault);
+
+/* The offset after the last part of a body, by the tag of its message: `body_len` where nothing
+ * follows the parts that the documentation lists. A body is refused where a part can't be read or a
+ * list has no end. Texts are any bytes, and data of a SASL exchange isn't looked at. */
+ptrdiff_t pgmsg_read_end(uint8_t tag, const uint8_t *body, size_t body_len, pgmsg_fault *fault);
 
 #ifdef __cplusplus
 }

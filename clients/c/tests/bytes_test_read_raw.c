@@ -65,12 +65,40 @@ static void test_settings(struct tally *tally)
     CHECK(tally, fault.at == 2 && is_at(body, status.name, "name"));
 }
 
+static void test_columns(struct tally *tally)
+{
+    static const char body[] = "\0\1" "caf\351\0" "\0\0\100\1" "\0\2" "\0\0\0\27" "\0\4" "\377\377\377\377" "\0\1";
+    pgmsg_column column;
+    pgmsg_fault fault;
+    CHECK(tally, pgmsg_read_columns(BYTES(body), &column, 1, &fault) == PGMSG_NOT_UTF8);
+    CHECK(tally, pgmsg_read_raw_columns(BYTES(body), &column, 0, &fault) == 1);
+    CHECK(tally, pgmsg_read_raw_columns(BYTES(body), &column, 1, &fault) == 1 && is_at(body, column.name, "caf\351"));
+    CHECK(tally, column.table == 16385 && column.attribute == 2 && column.type_id == 23 && column.type_size == 4);
+    CHECK(tally, column.type_modifier == -1 && column.format == 1);
+    CHECK(tally, pgmsg_read_raw_columns(body, sizeof(body) - 2, &column, 1, &fault) == PGMSG_SHORT && fault.at == 7);
+}
+
 static void test_no_bodies(struct tally *tally)
 {
     pgmsg_fault fault;
     CHECK(tally, pgmsg_read_no_body(BYTES(""), &fault) == 0);
     CHECK(tally, pgmsg_read_no_body(BYTES("\0"), &fault) == PGMSG_BODY_TOO_LONG && fault.at == 0);
     CHECK(tally, pgmsg_read_no_body(BYTES("ab"), &fault) == PGMSG_BODY_TOO_LONG);
+}
+
+static void test_ends(struct tally *tally)
+{
+    pgmsg_fault fault;
+    CHECK(tally, pgmsg_read_end('Z', BYTES("I"), &fault) == 1 && pgmsg_read_end('Z', BYTES("I!"), &fault) == 1);
+    CHECK(tally, pgmsg_read_end('1', BYTES("!"), &fault) == 0);
+    CHECK(tally, pgmsg_read_end('R', BYTES("\0\0\0\12" "A\0" "\351\0" "\0" "!"), &fault) == 9);
+    CHECK(tally, pgmsg_read_end('R', BYTES("\0\0\0\10" "token"), &fault) == 9);
+    CHECK(tally, pgmsg_read_end('R', BYTES("\0\0\0\12" "A\0"), &fault) == PGMSG_MISSING_NUL && fault.at == 6);
+    CHECK(tally, pgmsg_read_end('N', BYTES("VNOTICE\0" "\0" "!"), &fault) == 9);
+    CHECK(tally, pgmsg_read_end('N', BYTES("VNOTICE\0"), &fault) == PGMSG_SHORT && fault.at == 8);
+    CHECK(tally, pgmsg_read_end('D', BYTES("\0\1" "\377\377\377\377" "!"), &fault) == 6);
+    CHECK(tally, pgmsg_read_end('H', BYTES("\0" "\377\377" "!"), &fault) == 3);
+    CHECK(tally, pgmsg_read_end('v', BYTES(""), &fault) == PGMSG_UNKNOWN_MESSAGE_TYPE);
 }
 
 static void test_frames(struct tally *tally)
@@ -92,6 +120,8 @@ void test_read_raw(struct tally *tally)
     test_requests(tally);
     test_keys(tally);
     test_settings(tally);
+    test_columns(tally);
     test_no_bodies(tally);
+    test_ends(tally);
     test_frames(tally);
 }

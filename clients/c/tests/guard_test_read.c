@@ -24,6 +24,7 @@ static enum side side;
     CALL(raw_frame, pgmsg_next_raw_frame(body, len, ONE(pgmsg_frame), fault))                              \
     CALL(row, pgmsg_read_row(body, len, ITEMS(pgmsg_cell), fault))                                         \
     CALL(columns, pgmsg_read_columns(body, len, ITEMS(pgmsg_column), fault))                               \
+    CALL(raw_columns, pgmsg_read_raw_columns(body, len, ITEMS(pgmsg_column), fault))                        \
     CALL(parameter_types, pgmsg_read_parameter_types(body, len, ITEMS(uint32_t), fault))                   \
     CALL(fields, (ptrdiff_t)pgmsg_read_fields(body, len, ITEMS(pgmsg_field)))                              \
     CALL(severity, pgmsg_read_severity(body, len, fault))                                                  \
@@ -35,6 +36,14 @@ static enum side side;
     CALL(raw_key_data, pgmsg_read_raw_key_data(body, len, ONE(pgmsg_raw_key_data), fault))                 \
     CALL(raw_setting, pgmsg_read_raw_parameter_status(body, len, ONE(pgmsg_parameter_status), fault))      \
     CALL(no_body, pgmsg_read_no_body(body, len, fault))                                                    \
+    CALL(end_of_request, pgmsg_read_end('R', body, len, fault))                                            \
+    CALL(end_of_tag, pgmsg_read_end('C', body, len, fault))                                                \
+    CALL(end_of_codes, pgmsg_read_end('G', body, len, fault))                                              \
+    CALL(end_of_row, pgmsg_read_end('D', body, len, fault))                                                \
+    CALL(end_of_fields, pgmsg_read_end('E', body, len, fault))                                             \
+    CALL(end_of_notification, pgmsg_read_end('A', body, len, fault))                                       \
+    CALL(end_of_types, pgmsg_read_end('t', body, len, fault))                                              \
+    CALL(end_of_columns, pgmsg_read_end('T', body, len, fault))                                            \
     CALL(ready, pgmsg_read_ready(body, len, fault))                                                        \
     CALL(copy_response, pgmsg_read_copy_response(body, len, ONE(pgmsg_copy_response), ITEMS(int16_t), fault)) \
     CALL(authentication, pgmsg_read_authentication(body, len, ONE(pgmsg_authentication), fault))           \
@@ -67,6 +76,7 @@ static const struct body {
     BODY(row, "\0\1" "\177\377\377\377"),
     BODY(columns, "\0\2" "id\0" "\0\0\100\1" "\0\1" "\0\0\0\27" "\0\4" "\377\377\377\377" "\0\0"
                   "n\0" "\0\0\0\0" "\0\0" "\0\0\0\31" "\377\377" "\0\0\0\24" "\0\1"),
+    BODY(raw_columns, "\0\1" "\351\0" "\0\0\100\1" "\0\1" "\0\0\0\27" "\0\4" "\377\377\377\377" "\0\0"),
     BODY(parameter_types, "\0\3" "\0\0\0\27" "\0\0\0\31" "\377\377\377\377"),
     BODY(fields, "SERROR\0" "VERROR\0" "C42P01\0" "Mno\0" "\0"),
     BODY(severity, "SERROR\0" "VPANIC\0" "C42P01\0" "Mno\0" "\0"),
@@ -79,6 +89,15 @@ static const struct body {
     BODY(raw_setting, "name\0" "caf\351\0"),
     BODY(no_body, "a"),
     BODY(raw_request, "\0\0\0\10" "token"),
+    BODY(end_of_request, "\0\0\0\12" "SCRAM-SHA-256\0" "\0" "!"),
+    BODY(end_of_request, "\0\0\0\5" "\1\2\3\4" "!"),
+    BODY(end_of_tag, "BEGIN\0" "!"),
+    BODY(end_of_codes, "\1" "\0\3" "\0\0" "\0\1" "\0\0" "!"),
+    BODY(end_of_row, "\0\2" "\0\0\0\2" "ab" "\377\377\377\377" "!"),
+    BODY(end_of_fields, "VERROR\0" "Mno\0" "\0" "!"),
+    BODY(end_of_notification, "\0\0\4\322" "ch\0" "hi\0" "!"),
+    BODY(end_of_types, "\0\2" "\0\0\0\27" "\0\0\0\31" "!"),
+    BODY(end_of_columns, "\0\1" "\351\0" "\0\0\100\1" "\0\1" "\0\0\0\27" "\0\4" "\377\377\377\377" "\0\0" "!"),
     BODY(ready, "T"),
     BODY(copy_response, "\1" "\0\3" "\0\0" "\0\1" "\0\0"),
     BODY(authentication, "\0\0\0\5" "\1\2\3\4"),

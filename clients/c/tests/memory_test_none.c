@@ -43,6 +43,9 @@ static void test_small(struct tally *tally)
     NEEDS_NONE(tally, pgmsg_next_frame(BYTES("Z\0\0\0\5I"), &frame, &fault) == 1 && frame.length == 6);
     NEEDS_NONE(tally, pgmsg_next_frame(BYTES("D\0"), &frame, &fault) == 0 && frame.length == 5);
     NEEDS_NONE(tally, pgmsg_read_columns(BYTES(columns), &column, 1, &fault) == 1 && column.type_id == 23);
+    NEEDS_NONE(tally, pgmsg_read_raw_columns(BYTES(columns), &column, 1, &fault) == 1 && column.name.len == 2);
+    NEEDS_NONE(tally, pgmsg_read_end('T', BYTES(columns), &fault) == (ptrdiff_t)sizeof(columns) - 1);
+    NEEDS_NONE(tally, pgmsg_read_end('E', BYTES("VLOG\0\0!"), &fault) == 6);
     NEEDS_NONE(tally, pgmsg_read_key_data(BYTES("\0\0\0\1\0\0\0\2"), &key, &fault) == 0 && key.secret_key == 2);
     NEEDS_NONE(tally, pgmsg_read_ready(BYTES("T"), &fault) == 'T');
     NEEDS_NONE(tally, pgmsg_next_raw_frame(BYTES("v\0\0\0\5!"), &frame, &fault) == 1 && frame.length == 6);

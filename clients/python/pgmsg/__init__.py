@@ -53,14 +53,17 @@ from .frames import Frame, Incomplete, Kind, Stream, frames, next_frame
 from .messages import Format, Messages, copy_head
 from .raw_answers import (
     RawAuthentication,
+    RawColumn,
     RawFrame,
     RawIncomplete,
     RawKeyData,
     RawParameterStatus,
     next_raw_frame,
     read_command_tag,
+    read_end,
     read_no_body,
     read_raw_authentication,
+    read_raw_columns,
     read_raw_key_data,
     read_raw_parameter_status,
 )
@@ -70,11 +73,11 @@ __version__ = VERSION
 
 __all__ = [
     "Authentication", "Challenge", "Code", "Column", "CopyResponse", "Fault", "Field", "Format", "Frame", "Incomplete",
-    "KeyData", "Kind", "Messages", "Method", "Notification", "ParameterStatus", "RawAuthentication", "RawFrame",
-    "RawIncomplete", "RawKeyData", "RawParameterStatus", "Row", "Severity", "Stream", "TransactionStatus", "VERSION",
-    "copy_head", "frames", "library", "next_frame", "next_raw_frame", "read_authentication", "read_challenge",
-    "read_columns", "read_command_tag", "read_copy_response", "read_fields", "read_key_data", "read_mechanisms",
-    "read_no_body", "read_notification", "read_parameter_status", "read_parameter_types", "read_raw_authentication",
-    "read_raw_key_data", "read_raw_parameter_status", "read_ready", "read_row", "read_rows_affected", "read_severity",
-    "read_verifier",
+    "KeyData", "Kind", "Messages", "Method", "Notification", "ParameterStatus", "RawAuthentication", "RawColumn",
+    "RawFrame", "RawIncomplete", "RawKeyData", "RawParameterStatus", "Row", "Severity", "Stream", "TransactionStatus",
+    "VERSION", "copy_head", "frames", "library", "next_frame", "next_raw_frame", "read_authentication",
+    "read_challenge", "read_columns", "read_command_tag", "read_copy_response", "read_end", "read_fields",
+    "read_key_data", "read_mechanisms", "read_no_body", "read_notification", "read_parameter_status",
+    "read_parameter_types", "read_raw_authentication", "read_raw_columns", "read_raw_key_data",
+    "read_raw_parameter_status", "read_ready", "read_row", "read_rows_affected", "read_severity", "read_verifier",
 ]

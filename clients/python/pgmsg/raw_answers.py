@@ -7,8 +7,9 @@ from typing import TYPE_CHECKING, NamedTuple
 
 from . import _header as header
 from ._library import library
-from ._memory import view_of
-from ._reading import part, read
+from ._memory import Pins, view_of
+from ._reading import fill, part, read
+from .fault import reported
 
 if TYPE_CHECKING:
     from _typeshed import ReadableBuffer as Buffer
@@ -41,6 +42,18 @@ class RawKeyData(NamedTuple):
 
     process_id: int
     secret_key: memoryview
+
+
+class RawColumn(NamedTuple):
+    """A column of a result, as `Column`, but with a view of its name in the server's encoding."""
+
+    name: memoryview
+    table: int | None
+    attribute: int | None
+    type_id: int
+    type_size: int
+    type_modifier: int
+    format: int
 
 
 class RawParameterStatus(NamedTuple):
@@ -80,12 +93,36 @@ def read_raw_key_data(body: Buffer) -> RawKeyData:
     return RawKeyData(found.process_id, part(view_of(body), found.secret_key))
 
 
+def read_raw_columns(body: Buffer) -> list[RawColumn]:
+    """The columns of a result, by the body of a RowDescription whose names need not be UTF-8."""
+    room, count = fill(header.Column, lambda room, size: read(library.pgmsg_read_raw_columns, body, room, size))
+    view = view_of(body)
+    return [
+        RawColumn(part(view, column.name), column.table or None, column.attribute or None,
+                  column.type_id, column.type_size, column.type_modifier, column.format)
+        for column in room[:count]
+    ]
+
+
 def read_raw_parameter_status(body: Buffer) -> RawParameterStatus:
     """A setting of the server, by the body of a ParameterStatus whose texts need not be UTF-8."""
     found = header.ParameterStatus()
     read(library.pgmsg_read_raw_parameter_status, body, ctypes.byref(found))
     view = view_of(body)
     return RawParameterStatus(part(view, found.name), part(view, found.value))
+
+
+def read_end(tag: int, body: Buffer) -> int:
+    """Where the parts of a body end that the protocol lists, by the tag of its message: its length where nothing follows.
+
+    A list without its end is refused. Texts are any bytes, and data of a SASL exchange isn't looked at.
+    """
+    fault = header.Fault()
+    with Pins() as pins:
+        end: int = library.pgmsg_read_end(tag, *pins.pin(body), ctypes.byref(fault))
+    if end < 0:
+        raise reported(end, fault)
+    return end
 
 
 def read_no_body(body: Buffer) -> None:

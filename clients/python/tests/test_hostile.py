@@ -11,7 +11,7 @@ from pgmsg import Fault, Stream
 
 ROUNDS = 300
 
-READERS = {getattr(pgmsg, name) for name in pgmsg.__all__ if name.startswith("read_")}
+READERS = {getattr(pgmsg, name) for name in pgmsg.__all__ if name.startswith("read_")} - {pgmsg.read_end}
 
 # Bodies that are right, or wrong in one place.
 BODIES = sorted({body for _, body, *_ in test_memory.VIEWS + test_memory.COPIES + test_faults.REPORTED})
@@ -48,7 +48,7 @@ def views_in(answer):
 class TestHostile(unittest.TestCase):
     def test_bodies(self):
         chance = random.Random(1)
-        self.assertEqual(len(READERS), 20)
+        self.assertEqual(len(READERS), 21)
         for _ in range(ROUNDS):
             body = changed(chance, chance.choice(BODIES) if chance.randrange(4) else chance.randbytes(30))
             for call in READERS:
@@ -60,6 +60,16 @@ class TestHostile(unittest.TestCase):
                     for view in views_in(answer):
                         self.assertIs(view.obj, body)
                         self.assertIn(bytes(view), body)
+
+    def test_ends(self):
+        chance = random.Random(3)
+        for _ in range(ROUNDS):
+            body, tag = changed(chance, chance.choice(BODIES)), chance.choice(b"RKCGDENAtSZT1")
+            with self.subTest(tag=tag, body=body):
+                try:
+                    self.assertLessEqual(pgmsg.read_end(tag, body), len(body))
+                except Fault:
+                    continue
 
     def test_streams(self):
         chance = random.Random(2)

@@ -105,10 +105,21 @@ class TestRaw(unittest.TestCase):
         self.assertEqual(pgmsg.read_raw_key_data(b"\0\0\4\xd2secret"), (1234, b"secret"))
         self.assertRaises(pgmsg.Fault, pgmsg.read_raw_key_data, b"\0\0\4\xd2" + bytes(257))
         self.assertEqual(pgmsg.read_raw_parameter_status(b"name\0caf\xe9\0"), (b"name", b"caf\xe9"))
+        body = b"\0\1caf\xe9\0\0\0\x40\1\0\2\0\0\0\x17\0\4\xff\xff\xff\xff\0\1"
+        self.assertEqual(pgmsg.read_raw_columns(body), [(b"caf\xe9", 16385, 2, 23, 4, -1, 1)])
 
     def test_no_body(self):
         self.assertIsNone(pgmsg.read_no_body(b""))
         self.assertRaises(pgmsg.Fault, pgmsg.read_no_body, b"a")
+
+
+    def test_ends(self):
+        for tag, body, end in [(b"Z", b"I!", 1), (b"D", b"\0\1\xff\xff\xff\xff!", 6), (b"E", b"VERROR\0\0!", 8),
+                               (b"A", b"\0\0\0\1a\0\xe9\0!", 8), (b"1", b"!", 0), (b"R", b"\0\0\0\x0bdata", 8)]:
+            self.assertEqual(pgmsg.read_end(tag[0], body), end)
+            self.assertEqual(pgmsg.read_end(tag[0], body[:end]), end)
+        self.assertRaises(pgmsg.Fault, pgmsg.read_end, ord("E"), b"VERROR\0")
+        self.assertRaises(pgmsg.Fault, pgmsg.read_end, ord("v"), b"")
 
 
 class TestAuthentication(unittest.TestCase):

@@ -2,6 +2,7 @@
 pub mod Authentication
 pub mod Columns
 pub mod Copy
+pub mod End
 pub mod Fields
 pub mod Frame
 pub mod Raw

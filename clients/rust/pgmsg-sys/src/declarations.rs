@@ -543,6 +543,16 @@ extern "C" {
         fault: *mut pgmsg_fault,
     ) -> isize;
 
+    /// The columns of a result, by the body of its RowDescription, as `pgmsg_read_columns` reads
+    /// them, but in the server's encoding: their names need not be UTF-8.
+    pub fn pgmsg_read_raw_columns(
+        body: *const u8,
+        body_len: usize,
+        columns: *mut pgmsg_column,
+        columns_len: usize,
+        fault: *mut pgmsg_fault,
+    ) -> isize;
+
     /// The fields of an error or a notice, in order: how many there are. As many as there is room
     /// for are written.
     pub fn pgmsg_read_fields(
@@ -679,6 +689,17 @@ extern "C" {
         body_len: usize,
         verifier: *mut u8,
         verifier_len: usize,
+        fault: *mut pgmsg_fault,
+    ) -> isize;
+
+    /// The offset after the last part of a body, by the tag of its message: `body_len` where
+    /// nothing follows the parts that the documentation lists. A body is refused where a part can't
+    /// be read or a list has no end. Texts are any bytes, and data of a SASL exchange isn't looked
+    /// at.
+    pub fn pgmsg_read_end(
+        tag: u8,
+        body: *const u8,
+        body_len: usize,
         fault: *mut pgmsg_fault,
     ) -> isize;
 }

@@ -16,17 +16,21 @@
 //! | `ParameterDescription` | [`parameter_types`] |
 //! | `ParameterStatus` | [`parameter_status`], not in UTF-8 [`raw_parameter_status`] |
 //! | `ReadyForQuery` | [`ready`] |
-//! | `RowDescription` | [`columns`](fn@columns) |
+//! | `RowDescription` | [`columns`](fn@columns), not in UTF-8 [`raw_columns`] |
 //! | any other | none: the body is empty, as [`no_body`] tests |
+//!
+//! What follows the parts of a body is passed over; [`end`](fn@end) says where it begins.
 
 mod answer;
 mod authentication;
 mod columns;
 mod copy;
+mod end;
 mod fields;
 mod frame;
 mod kind;
 mod raw;
+mod raw_columns;
 mod raw_frame;
 mod row;
 #[cfg(feature = "bytes")]
@@ -36,6 +40,7 @@ mod status;
 pub use authentication::{authentication, Authentication, Challenge};
 pub use columns::{columns, parameter_types, Column};
 pub use copy::{copy_response, CopyResponse};
+pub use end::end;
 pub use fields::{fields, severity, Field, FieldKind, Fields, Severity};
 pub use frame::{next_frame, Frame, Next};
 pub use kind::Kind;
@@ -43,6 +48,7 @@ pub use raw::{
     command_tag, no_body, raw_authentication, raw_key_data, raw_parameter_status,
     RawAuthentication, RawKeyData, RawParameterStatus,
 };
+pub use raw_columns::{raw_columns, RawColumn};
 pub use raw_frame::{next_raw_frame, RawFrame, RawNext};
 pub use row::{places, places_in, Cell, Cells, Row, RowIndex};
 #[cfg(feature = "bytes")]

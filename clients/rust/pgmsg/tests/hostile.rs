@@ -80,7 +80,15 @@ fn read_raw(body: &[u8]) {
         assert_within(body, status.name);
         assert_within(body, status.value);
     }
+    for column in checked(body, raw_columns(body)).into_iter().flatten() {
+        assert_within(body, column.name);
+    }
     checked(body, no_body(body));
+    for tag in b"RKCdGDENAtSZT" {
+        if let Some(at) = checked(body, end(*tag, body)) {
+            assert!(at <= body.len());
+        }
+    }
 }
 
 fn read_lists(reader: &mut RowIndex, body: &[u8]) {

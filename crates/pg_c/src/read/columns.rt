@@ -19,11 +19,11 @@ use pg_base::io::{Oid, bytes_at, u16_at, u32_at};
 use pg_receive::message::{FieldRef, column_at};
 use std::alloc::Global;
 
-// Where the first column or type begins, after the count.
-const FIRST: usize = 2;
+/// Where the first column or type begins, after the count.
+pub(crate) const FIRST: usize = 2;
 
-// The least bytes of a column.
-const LEAST_COLUMN: usize = 19;
+/// The least bytes of a column.
+pub(crate) const LEAST_COLUMN: usize = 19;
 
 const TYPE_LENGTH: usize = 4;
 
@@ -107,7 +107,8 @@ fn place_of(at: usize, field: &FieldRef<'_>) -> PgmsgColumn
     }
 }
 
-fn table_of(id: Option<Oid>) -> u32
+/// The number of a table, 0 for none.
+pub(crate) fn table_of(id: Option<Oid>) -> u32
     ensures { result ≡ option_map_or (λ oid. oid.0) id 0 }
 {
     match id {

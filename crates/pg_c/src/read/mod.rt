@@ -7,9 +7,11 @@
 mod authentication;
 mod columns;
 mod copy;
+mod end;
 mod fields;
 mod frame;
 mod raw;
+mod raw_columns;
 mod raw_frame;
 mod row;
 mod status;

@@ -1,0 +1,69 @@
+//! The columns of a result in the server's encoding.
+
+use super::answer::{answer, fill, part};
+use crate::error::Fault;
+use crate::format::FormatCode;
+use crate::sys;
+
+/// A column of a result whose name is in the server's encoding.
+#[derive(Clone, Copy, Debug, PartialEq, Eq)]
+#[non_exhaustive]
+pub struct RawColumn<'a> {
+    /// The name of the column.
+    pub name: &'a [u8],
+    /// The object id of the table that the column is of, where it is of one.
+    pub table: Option<u32>,
+    /// The number of the column in its table, where it is of one.
+    pub attribute: Option<i16>,
+    /// The object id of the type.
+    pub type_id: u32,
+    /// How many bytes a value of the type has. It is below 0 where that varies.
+    pub type_size: i16,
+    /// The modifier of the type, whose meaning depends on the type.
+    pub type_modifier: i32,
+    /// The format of the values.
+    pub format: FormatCode,
+}
+
+/// Reads the body of a RowDescription, whose names need not be UTF-8.
+///
+/// ```
+/// # use pgmsg::read::raw_columns;
+/// let body = b"\0\x01caf\xe9\0\0\0\x40\x01\0\x02\0\0\0\x17\0\x04\xff\xff\xff\xff\0\x01";
+/// assert_eq!(raw_columns(body)?[0].name, b"caf\xe9");
+/// # Ok::<(), pgmsg::Fault>(())
+/// ```
+pub fn raw_columns(body: &[u8]) -> Result<Vec<RawColumn<'_>>, Fault> {
+    let mut room = Vec::new();
+    let columns = fill(&mut room, |room: &mut [sys::pgmsg_column]| {
+        answer(|fault| {
+            // SAFETY: `body` and `room` are slices, valid for their lengths, and `&mut` keeps `room`
+            // and `fault` apart.
+            unsafe {
+                sys::pgmsg_read_raw_columns(
+                    body.as_ptr(),
+                    body.len(),
+                    room.as_mut_ptr(),
+                    room.len(),
+                    fault,
+                )
+            }
+        })
+    })?;
+    columns
+        .iter()
+        .map(|column| column_of(body, column))
+        .collect()
+}
+
+fn column_of<'a>(body: &'a [u8], column: &sys::pgmsg_column) -> Result<RawColumn<'a>, Fault> {
+    Ok(RawColumn {
+        name: part(body, column.name)?,
+        table: Some(column.table).filter(|&table| table != 0),
+        attribute: Some(column.attribute).filter(|&attribute| attribute != 0),
+        type_id: column.type_id,
+        type_size: column.type_size,
+        type_modifier: column.type_modifier,
+        format: FormatCode(column.format),
+    })
+}
