@@ -1,5 +1,5 @@
 -- Whether bytes are just so many values, and whether a text holds a NUL.
-use Rattle.std.proofs.Common.{◌≡◌, ℕ, ◌+◌, ◌-◌, ◌<◌, ◌≤◌, eqb, suc, zero, pos, negsuc, inl, inr, true, List, [], ◌∷◌, ◌++◌, length, take, drop, get_or, refl, sym, ap, ◌∙◌, arith, append_assoc, length-append, ℤ, Some, None}
+use Rattle.std.proofs.Common.{◌≡◌, ℕ, ◌+◌, ◌-◌, ◌<◌, ◌≤◌, eqb, suc, zero, pos, negsuc, inl, inr, true, List, [], ◌∷◌, ◌++◌, length, take, drop, get_or, refl, sym, ap, ◌∙◌, arith, append_assoc, length-append, ℤ, int_lt, Some, None}
 use Rattle.std.proofs.lemmas.Bool.{eqb-true, eq-eqb}
 use Rattle.std.proofs.lemmas.List.{append-nil, take-append-drop, take_all, length-take, length-drop}
 use Rattle.std.specs.Int.{w32, FitsUnsignedBits}
@@ -69,13 +69,10 @@ from_0 (negsuc n) h = absurd h
 pub cast_length : (z : ℤ) (n : ℕ) → SFits w32 z → FitsUnsignedBits 64 (to_z w32 (of_z w32 z)) → n ≡ nat_abs (to_z w32 (of_z w32 z)) → z ≡ pos n
 cast_length z n in_range fits is = sym (to_z-of_z w32 z in_range) ∙ from_0 (to_z w32 (of_z w32 z)) fits ∙ ap pos (sym is)
 
-negative : (z : ℤ) → (FitsUnsignedBits 64 z → ⊥) → SFits w32 z → ((z ≡ negsuc 0) → ⊥) → (n : ℕ) × (z ≡ negsuc (suc n))
-negative (pos n) unfit small other = absurd (unfit (omega (arith, ints, small)))
-negative (negsuc zero) unfit small other = absurd (other refl)
-negative (negsuc (suc n)) unfit small other = (n, refl)
-
-pub negative_length : (z : ℤ) → SFits w32 z → (FitsUnsignedBits 64 (to_z w32 (of_z w32 z)) → ⊥) → ((z ≡ negsuc 0) → ⊥) → (n : ℕ) × (z ≡ negsuc (suc n))
-negative_length z in_range unfit other = negative z (rw (to_z-of_z w32 z in_range) at unfit) in_range other
+pub below_null : (z : ℤ) → int_lt z (pos 0) ≡ true → ((z ≡ negsuc 0) → ⊥) → (n : ℕ) × (z ≡ negsuc (suc n))
+below_null (pos n) below other = absurd (omega (arith, ints, below))
+below_null (negsuc zero) below other = absurd (other refl)
+below_null (negsuc (suc n)) below other = (n, refl)
 
 -- ---- so many values
 

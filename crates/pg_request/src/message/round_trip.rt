@@ -62,8 +62,12 @@ fn after_value(bytes: &[u8]) -> Option<&[u8]>
         return None;
     };
     let after = &bytes[4..];
-    if len == NULL {
-        return Some(after);
+    // Asked first, since a length is seldom below 0: the conversion then needs no test.
+    if len < 0 {
+        if len == NULL {
+            return Some(after);
+        }
+        return None;
     }
     match usize::try_from(len) {
         Ok(len) => {

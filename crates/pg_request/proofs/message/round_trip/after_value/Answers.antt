@@ -1,9 +1,9 @@
 use Rattle.std.proofs.Common.{pos, negsuc, length, drop, arith, rules, ap, suc}
 use Rattle.std.specs.Int.{w32}
-use Rattle.std.proofs.lemmas.Int.{ints}
+use Rattle.std.proofs.lemmas.Int.{to_z-of_z, ints}
 use mir.Val.{SFits}
 use Rattle.pg_base.specs.Reading.{Signed}
-use Rattle.pg_request.proofs.RoundTripLemmas.{all_after, some_value, negative_value, truncated_value, cast_length, negative_length}
+use Rattle.pg_request.proofs.RoundTripLemmas.{all_after, some_value, negative_value, truncated_value, cast_length, below_null}
 use Rattle.pg_request.proofs.message.round_trip.after_value.Goals as goal
 
 pub returns-then-len-after-clause-none : goal.returns-then-len-after-clause-none
@@ -24,10 +24,10 @@ returns-else-len-after-clause-found c =
     let encoded : Signed 4 bytes (pos n) (drop 4 bytes) = rw is at c.in-Ok.ensures.found in
     rw (all_after 4 bytes, all_after n (drop 4 bytes)) (some_value bytes (drop 4 bytes) n encoded (omega (arith, c.if-len-after.false, ap length (all_after 4 bytes))))
 
-pub returns-in-Err-clause-none : goal.returns-in-Err-clause-none
-returns-in-Err-clause-none c =
+pub returns-then-len-lt0-clause-none : goal.returns-then-len-lt0-clause-none
+returns-then-len-lt0-clause-none c =
     let bytes = c.args.bytes.now in
     let in_range : SFits w32 c.in-Ok.len = search rules in
-    let is = negative_length c.in-Ok.len in_range c.in-Err.ensures (λ e. omega (arith, ints, e, c.if-len.false)) in
+    let is = below_null c.in-Ok.len (rw (to_z-of_z w32 c.in-Ok.len in_range) at c.if-len-lt0.true) (λ e. omega (arith, ints, e, c.if-len.false)) in
     let encoded : Signed 4 bytes (negsuc (suc is.0)) (drop 4 bytes) = rw is.1 at c.in-Ok.ensures.found in
     λ rest v. negative_value bytes (drop 4 bytes) rest is.0 encoded v
