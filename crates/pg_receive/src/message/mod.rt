@@ -15,7 +15,7 @@ mod row_description;
 
 pub use authentication::{
     Authentication, AuthenticationMd5Password, AuthenticationSasl, AuthenticationSaslContinue,
-    AuthenticationSaslFinal, RawAuthentication, SaslMechanisms, split_name,
+    AuthenticationSaslFinal, RawAuthentication, SaslMechanisms, split_name, split_raw_name,
 };
 pub use backend_key_data::{BackendKeyData, RawKeyData};
 pub use command_complete::{CommandComplete, command_tag, rows_affected};

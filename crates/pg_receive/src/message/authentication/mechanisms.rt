@@ -3,6 +3,7 @@
 ghost use Rattle.std.specs.Prelude.{◌≡◌, ℕ, List, [], IfSome, IfNone};
 ghost use Rattle.std.specs.Iterator.{YieldsFirstRef, item_count};
 ghost use Rattle.pg_receive.specs.Authentication.Mechanisms.{BeginsWithName, mechanisms_in};
+ghost use Rattle.pg_receive.specs.Layout.{name};
 
 use crate::message::{split_text, utf8_text};
 use std::marker::Model;
@@ -56,4 +57,17 @@ pub fn split_name(bytes: &[u8]) -> Option<(&str, &[u8])>
         return None;
     }
     Some((utf8_text(text)?, rest))
+}
+
+/// The name of a mechanism at the front of some bytes, as [`split_name`], but of any bytes. Nothing where
+/// the list ends: at an empty name, or one without a NUL.
+pub fn split_raw_name(bytes: &[u8]) -> Option<(&[u8], &[u8])>
+    ensures found { IfSome result (λ split. name.Reads bytes.now split.0.now split.1.now) }
+    ensures none { IfNone result ((text rest : List ℕ) → ¬ (name.Reads bytes.now text rest)) }
+{
+    let (name, rest) = split_text(bytes)?;
+    if name.is_empty() {
+        return None;
+    }
+    Some((name, rest))
 }

@@ -17,7 +17,7 @@ ghost use Rattle.pg_receive.specs.Authentication.{AuthenticationValue, value_of,
 
 use crate::message::BackendMessage;
 use bytes::Bytes;
-pub use mechanisms::{SaslMechanisms, split_name};
+pub use mechanisms::{SaslMechanisms, split_name, split_raw_name};
 use pg_base::io::{bytes_at, u32_at};
 use pg_base::{BackendMessageFormat, Error, ProtocolFault};
 pub use raw::RawAuthentication;

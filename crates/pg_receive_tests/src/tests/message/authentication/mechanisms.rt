@@ -2,7 +2,7 @@
 
 use super::request_of;
 use pg_base::Error;
-use pg_receive::message::{Authentication, SaslMechanisms, split_name};
+use pg_receive::message::{Authentication, SaslMechanisms, split_name, split_raw_name};
 use std::alloc::Global;
 use std::process::Abort;
 
@@ -11,6 +11,14 @@ fn a_name_at_the_front(rt: HostRuntime) {
     let name = split_name(b"SCRAM-SHA-256\0\0");
     assert!(rt; name == Some(("SCRAM-SHA-256", b"\0".as_slice())));
     assert!(rt; split_name(b"\0") == None);
+}
+
+#[test]
+fn a_name_of_any_bytes(rt: HostRuntime) {
+    let name = split_raw_name(b"\xE9\0\0");
+    assert!(rt; name == Some((b"\xE9".as_slice(), b"\0".as_slice())));
+    assert!(rt; split_raw_name(b"\0") == None);
+    assert!(rt; split_raw_name(b"A") == None);
 }
 
 #[test]
