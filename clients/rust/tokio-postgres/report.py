@@ -46,10 +46,8 @@ def quotients(lines):
 
 
 def spread(values):
-    """The median, and the least and the greatest but for the outer tenths."""
-    values = sorted(values)
-    cut = len(values) // 10
-    return statistics.median(values), values[cut], values[-1 - cut]
+    """The median, the least and the greatest."""
+    return statistics.median(values), min(values), max(values)
 
 
 def table(found):
@@ -74,7 +72,7 @@ def bars(found):
 
 
 def legend():
-    yield text(10, 20, "A client on pgmsg over the same as it is, with the middle four fifths", ' class="head"')
+    yield text(10, 20, "A client on pgmsg over the same as it is, with the least and the greatest of all turns", ' class="head"')
     at = LEFT
     for name, colour in COLOURS.items():
         yield f'<rect x="{at}" y="30" width="11" height="11" fill="{colour}"/>'

@@ -28,7 +28,7 @@
 //! # Features
 //!
 //! `bytes` adds what shares allocations by the crate of that name: `read::split_frame`, whose
-//! bodies are `Bytes`, `Cell::share`, and `Bytes::from(messages)`.
+//! bodies are `Bytes`, `Cell::share`, `Bytes::from(messages)`, and messages over a `BytesMut`.
 //!
 //! # Building
 //!

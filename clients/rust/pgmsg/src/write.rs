@@ -35,6 +35,8 @@ use std::fmt;
 /// # Ok::<(), pgmsg::Refusal>(())
 /// ```
 ///
+/// `Messages::from` appends them to a [`Buffer`] that is there, or to a `&mut` of one.
+///
 /// Once the bytes are sent, [`clear`](Messages::clear) keeps the allocation for the next ones. It
 /// does not overwrite them: a password stays in memory until later messages take its place.
 #[derive(Default)]
