@@ -6,7 +6,7 @@ ghost use Rattle.pg_base.specs.Id.{name, next_id, named, statement_prefix, porta
 
 use crate::error::Error;
 use crate::io::Sink;
-use itoa::Buffer;
+use crate::io::decimal::put_decimal;
 use std::alloc::AllocError;
 use std::fmt;
 use std::marker::Model;
@@ -247,23 +247,7 @@ fn put_name<S: Sink>(prefix: &str, number: u32, sink: &mut S)
 {
     if number != 0 {
         sink.put_slice(prefix.as_bytes());
-        put_digits(number, sink);
+        put_decimal(number, sink);
     }
     sink.put_u8(0);
-}
-
-// The digits of a number.
-#[inline(never)]
-fn put_digits<S: Sink>(number: u32, sink: &mut S)
-    requires { length (S.written sink.old) + length (decimal number) ≤ S.capacity sink.old }
-    ensures written { S.written sink.new ≡ S.written sink.old ++ decimal number }
-    ensures capacity { S.capacity sink.old ≤ S.capacity sink.new }
-    ensures loan { S.loan sink.new ≡ S.loan sink.old }
-{
-    let mut digits = Buffer::new();
-    let digits = digits.format(number);
-    // One by one, since a copy of several waits for digits that were just written.
-    for digit in digits.as_bytes() {
-        sink.put_u8(*digit);
-    }
 }

@@ -54,7 +54,11 @@ pub trait Sink {
         ensures loan { loan self.new ≡ loan self.old }
         ensures range { number < 2 ^ 32 }
     {
-        self.put_slice(&number.to_be_bytes());
+        let [highest, higher, lower, lowest] = number.to_be_bytes();
+        self.put_u8(highest);
+        self.put_u8(higher);
+        self.put_u8(lower);
+        self.put_u8(lowest);
     }
 
     /// Adds a text and a NUL.
@@ -84,8 +88,11 @@ impl Sink for Vec<u8> {
 
     #[inline(always)]
     fn put_slice(&mut self, bytes: &[u8]) {
-        let added = self.extend_from_slice(bytes);
-        prove!(added.is_ok());
+        // The room is there. Said here, it spares the code that would ask for more.
+        if bytes.len() <= self.capacity() - self.len() {
+            let added = self.extend_from_slice(bytes);
+            prove!(added.is_ok());
+        }
     }
 }
 
