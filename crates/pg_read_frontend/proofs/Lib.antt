@@ -1,4 +1,6 @@
 pub mod FormatCodesLemmas
 pub mod MessageLemmas
 pub mod ParameterTypesLemmas
+pub mod SettingsLawsLemmas
+pub mod SettingsLemmas
 pub mod ValuesLemmas

@@ -1,6 +1,8 @@
 pub mod Bind
+pub mod CancelRequest
 pub mod Error
 pub mod Execute
+pub mod FirstMessageRef
 pub mod FormatCodes
 pub mod FrontendMessageRef
 pub mod FunctionCall
@@ -9,5 +11,6 @@ pub mod ParameterTypes
 pub mod Parse
 pub mod Parts
 pub mod SaslInitial
+pub mod Settings
 pub mod Target
 pub mod Values

@@ -10,6 +10,8 @@ use std::fmt;
 pub enum FrontendFault {
     /// No message from a client has this tag.
     UnknownTag(u8),
+    /// No first message has this code, and it is no version 3 of the protocol.
+    UnknownCode(u32),
     /// A Describe or a Close names neither a statement, by `S`, nor a portal, by `P`, but has this letter.
     UnknownTarget(u8),
     /// Fewer bytes than are needed at an offset.
@@ -32,6 +34,8 @@ pub enum FrontendFault {
         /// The length.
         length: i32,
     },
+    /// The secret key of a session has fewer than 4 bytes, or more than 256: its length.
+    KeyLength(usize),
     /// Bytes follow the end of the message, from this offset on.
     TrailingBytes {
         at: usize,
@@ -44,6 +48,7 @@ impl fmt::Display for FrontendFault {
     fn fmt<W: fmt::Write>(&self, f: &mut fmt::Formatter<W>) -> fmt::Result {
         match *self {
             FrontendFault::UnknownTag(tag) => write!(f, "unknown message type: {tag}"),
+            FrontendFault::UnknownCode(code) => write!(f, "unknown code: {code}"),
             FrontendFault::UnknownTarget(letter) => {
                 write!(f, "neither a statement nor a portal: {letter}")
             }
@@ -54,6 +59,7 @@ impl fmt::Display for FrontendFault {
             FrontendFault::ValueLength { at, length } => {
                 write!(f, "bad value length at offset {at}: {length}")
             }
+            FrontendFault::KeyLength(length) => write!(f, "bad secret key length: {length}"),
             FrontendFault::TrailingBytes { at } => {
                 write!(f, "expected the end of the message at offset {at}")
             }

@@ -1,7 +1,8 @@
 //! The body of a message that has none.
 
+ghost use Rattle.std.specs.Prelude.{◌≤◌, length};
 ghost use Rattle.pg_format.specs.Messages.{empty};
-ghost use Rattle.pg_read_frontend.specs.Message.{ReadsBody};
+ghost use Rattle.pg_read_frontend.specs.Message.{ReadsBody, ReadsRest};
 
 use crate::error::FrontendFault;
 use crate::message::parts::end_at;
@@ -11,6 +12,14 @@ use crate::message::parts::end_at;
 pub fn read_empty(body: &[u8]) -> Result<(), FrontendFault>
     ensures { ReadsBody empty (λ _. tt) body.now result }
 {
-    end_at(body, 0)?;
+    nothing_at(body, 0)
+}
+
+/// That nothing is left from an offset on.
+pub(crate) fn nothing_at(body: &[u8], at: usize) -> Result<(), FrontendFault>
+    requires { at ≤ length body.now }
+    ensures { ReadsRest empty (λ _. tt) body.now at result }
+{
+    end_at(body, at)?;
     Ok(())
 }

@@ -3,8 +3,10 @@
 //! Names and texts are any bytes but NUL, in the client's encoding. Nothing here asks for memory.
 
 mod bind;
+mod cancel_request;
 mod empty;
 mod execute;
+mod first_message_ref;
 mod format_codes;
 mod frontend_message_ref;
 mod function_call;
@@ -12,19 +14,23 @@ mod parameter_types;
 mod parse;
 mod parts;
 mod sasl_initial;
+mod settings;
 mod target;
 mod text;
 mod values;
 
 pub use bind::BindRef;
+pub use cancel_request::CancelRequestRef;
 pub use empty::read_empty;
 pub use execute::ExecuteRef;
+pub use first_message_ref::FirstMessageRef;
 pub use format_codes::FormatCodes;
 pub use frontend_message_ref::FrontendMessageRef;
 pub use function_call::FunctionCallRef;
 pub use parameter_types::ParameterTypes;
 pub use parse::ParseRef;
 pub use sasl_initial::SaslInitialRef;
+pub use settings::Settings;
 pub use target::{Target, TargetRef};
 pub use text::read_text;
 pub use values::Values;

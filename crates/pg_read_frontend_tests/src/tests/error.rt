@@ -17,6 +17,8 @@ fn each_fault_has_its_words(rt: HostRuntime) -> Result<(), AllocError> {
             FrontendFault::UnknownTarget(b'X'),
             "neither a statement nor a portal: 88",
         ),
+        (FrontendFault::UnknownCode(131072), "unknown code: 131072"),
+        (FrontendFault::KeyLength(3), "bad secret key length: 3"),
         (short, "expected 4 bytes at offset 7, got 1"),
         (
             FrontendFault::MissingNul { at: 3 },
