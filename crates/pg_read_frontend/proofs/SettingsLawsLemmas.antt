@@ -1,5 +1,5 @@
 -- The laws of settings that an empty name ends.
-use Rattle.std.proofs.Common.{◌≡◌, ◌≢◌, ℕ, List, [], ◌∷◌, ◌++◌, length, refl, sym, ap, ◌∙◌, append_assoc}
+use Rattle.std.proofs.Common.{◌≡◌, ◌≢◌, ℕ, List, [], ◌∷◌, length, refl, sym, ◌∙◌, append_assoc}
 use Rattle.pg_base.specs.declared.error.ProtocolFault.{ProtocolFault}
 use Rattle.pg_base.specs.Reading.{BeginsWith}
 use Rattle.pg_format.specs.Format.{Lawful}
