@@ -13,8 +13,7 @@
  * refusal writes; an array of places holds at most the items before the one that is broken, and all else is as
  * it was.
  *
- * Memory is asked for by pgmsg_read_challenge, by pgmsg_read_verifier, by pgmsg_read_authentication for the
- * data of a SASL exchange, and for the words of a fault; by nothing else. */
+ * No call needs memory. The words of a fault alone ask for some, and are left out where there is none. */
 
 #ifndef PG_MESSAGE_H
 #define PG_MESSAGE_H
@@ -32,7 +31,7 @@ extern "C" {
 
 /* Why a call refuses. */
 enum {
-    /* No memory was there. No call that writes returns it. */
+    /* No memory was there. No call of this library returns it. */
     PGMSG_OUT_OF_MEMORY = -1,
     /* More parameter formats than a message can count. */
     PGMSG_TOO_MANY_PARAM_FORMATS = -2,
@@ -420,6 +419,11 @@ int32_t pgmsg_read_command_tag(const uint8_t *body, size_t body_len, pgmsg_span 
 int32_t pgmsg_read_raw_authentication(const uint8_t *body, size_t body_len,
     pgmsg_raw_authentication *authentication, pgmsg_fault *fault);
 
+/* The mechanisms that the server offers, by the body of an Authentication of method 10, in the
+ * server's encoding: their names need not be UTF-8. As many as there is room for are written. */
+size_t pgmsg_read_raw_mechanisms(const uint8_t *body, size_t body_len, pgmsg_span *mechanisms,
+    size_t mechanisms_len);
+
 /* What a request to cancel has to name, by the body of a BackendKeyData of any version: its key has
  * 4 bytes in protocol 3.0, and up to 256 from 3.2 on. 0, or why it is refused. */
 int32_t pgmsg_read_raw_key_data(const uint8_t *body, size_t body_len, pgmsg_raw_key_data *key,
@@ -439,8 +443,7 @@ int32_t pgmsg_read_no_body(const uint8_t *body, size_t body_len, pgmsg_fault *fa
 ptrdiff_t pgmsg_read_copy_response(const uint8_t *body, size_t body_len,
     pgmsg_copy_response *response, int16_t *codes, size_t codes_len, pgmsg_fault *fault);
 
-/* What the server asks for, by the body of its Authentication. 0, or why it is refused. Memory is
- * asked for where the method is 11 or 12, and for no other. */
+/* What the server asks for, by the body of its Authentication. 0, or why it is refused. */
 int32_t pgmsg_read_authentication(const uint8_t *body, size_t body_len,
     pgmsg_authentication *authentication, pgmsg_fault *fault);
 

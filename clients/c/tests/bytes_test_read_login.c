@@ -68,10 +68,34 @@ static void test_verifiers(struct tally *tally)
     CHECK(tally, pgmsg_read_verifier(BYTES("\0\0\0\3"), verifier, 4, &fault) < 0);
 }
 
+/* Base64 of more than one piece: padding stands at its end alone, and what is wrong is found in each. */
+static void test_long_verifiers(struct tally *tally)
+{
+    uint8_t body[6 + 200] = "\0\0\0\14v=", verifier[150];
+    pgmsg_fault fault;
+    for (size_t groups = 1; groups <= 50; groups++) {
+        size_t len = 6 + 4 * groups;
+        memset(body + 6, 'A', 4 * groups);
+        memset(verifier, 0xaa, sizeof verifier);
+        CHECK(tally, pgmsg_read_verifier(body, len, verifier, 3 * groups, &fault) == (ptrdiff_t)(3 * groups));
+        CHECK(tally, verifier[0] == 0 && verifier[3 * groups - 1] == 0);
+        body[len - 1] = '=';
+        CHECK(tally, pgmsg_read_verifier(body, len, verifier, 3 * groups, &fault) == (ptrdiff_t)(3 * groups) - 1);
+        CHECK(tally, pgmsg_read_verifier(body, len - 1, verifier, 3 * groups, &fault) == PGMSG_BASE64);
+        for (size_t at = 6; at + 1 < len; at++) {
+            body[at] = '=';
+            int32_t due = at + 2 == len ? 0 : PGMSG_BASE64;
+            CHECK(tally, pgmsg_read_verifier(body, len, verifier, 0, &fault) == (due ? due : (ptrdiff_t)(3 * groups) - 2));
+            body[at] = 'A';
+        }
+    }
+}
+
 void test_read_login(struct tally *tally)
 {
     test_methods(tally);
     test_mechanisms(tally);
     test_challenges(tally);
     test_verifiers(tally);
+    test_long_verifiers(tally);
 }

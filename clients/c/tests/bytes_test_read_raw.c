@@ -37,6 +37,19 @@ static void test_requests(struct tally *tally)
     CHECK(tally, asked.method == 11 && fault.at == 0);
 }
 
+static void test_mechanisms(struct tally *tally)
+{
+    static const char body[] = "\0\0\0\12" "PLAIN\0" "caf\351\0" "\0";
+    pgmsg_span spans[3] = {{7, 7}, {7, 7}, {7, 7}};
+    CHECK(tally, pgmsg_read_mechanisms(BYTES(body), spans, 3) == 1);
+    CHECK(tally, pgmsg_read_raw_mechanisms(BYTES(body), spans, 3) == 2);
+    CHECK(tally, is_at(body, spans[0], "PLAIN") && is_at(body, spans[1], "caf\351"));
+    CHECK(tally, spans[2].at == 7 && spans[2].len == 7);
+    CHECK(tally, pgmsg_read_raw_mechanisms(BYTES(body), spans + 2, 1) == 2 && is_at(body, spans[2], "PLAIN"));
+    CHECK(tally, pgmsg_read_raw_mechanisms(BYTES("\0\0\0\12" "A"), spans, 3) == 0);
+    CHECK(tally, pgmsg_read_raw_mechanisms(BYTES("\0\0"), spans, 3) == 0);
+}
+
 static void test_keys(struct tally *tally)
 {
     uint8_t body[4 + 257] = {0, 0, 4, 210};
@@ -118,6 +131,7 @@ void test_read_raw(struct tally *tally)
 {
     test_tags(tally);
     test_requests(tally);
+    test_mechanisms(tally);
     test_keys(tally);
     test_settings(tally);
     test_columns(tally);

@@ -49,6 +49,7 @@ static enum side side;
     CALL(authentication, pgmsg_read_authentication(body, len, ONE(pgmsg_authentication), fault))           \
     CALL(raw_request, pgmsg_read_raw_authentication(body, len, ONE(pgmsg_raw_authentication), fault))      \
     CALL(mechanisms, (ptrdiff_t)pgmsg_read_mechanisms(body, len, ITEMS(pgmsg_span)))                       \
+    CALL(raw_mechanisms, (ptrdiff_t)pgmsg_read_raw_mechanisms(body, len, ITEMS(pgmsg_span)))               \
     CALL(challenge, pgmsg_read_challenge(body, len, ONE(pgmsg_challenge), ITEMS(uint8_t), SECOND, fault))  \
     CALL(verifier, pgmsg_read_verifier(body, len, ITEMS(uint8_t), fault))
 
@@ -104,6 +105,7 @@ static const struct body {
     BODY(authentication, "\0\0\0\12" "SCRAM-SHA-256-PLUS\0" "SCRAM-SHA-256\0" "\0"),
     BODY(authentication, "\0\0\0\14" "v=AQID"),
     BODY(mechanisms, "\0\0\0\12" "SCRAM-SHA-256-PLUS\0" "SCRAM-SHA-256\0" "\0"),
+    BODY(raw_mechanisms, "\0\0\0\12" "SCRAM-SHA-256\0" "\351\0" "\0"),
     BODY(challenge, "\0\0\0\13" "r=abc,s=AQID,i=8192"),
     BODY(verifier, "\0\0\0\14" "v=AQIDBAU="),
 };

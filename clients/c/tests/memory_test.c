@@ -1,6 +1,5 @@
 /* Tests the message layer with each of its requests for memory refused in turn, at each size that may take
- * another path: a call that reads then leaves its answer, and one that writes, or that needs no memory to read,
- * does its work with none. */
+ * another path: a call does its work without memory, and a fault has words where there is some. */
 #include "memory_test.h"
 
 uint8_t letters[LONG];

@@ -13,7 +13,11 @@
         CHECK((tally), holds && #call); \
     } while (0)
 
+static const char digits[] = "ABCDEFGHIJKLMNOPQRSTUVWXYZabcdefghijklmnopqrstuvwxyz0123456789+/";
+
+/* A body, and what is given of it. */
 static uint8_t body[2 * LONG];
+static uint8_t first[LONG], second[LONG];
 
 static void put_number(uint8_t *to, uint32_t number)
 {
@@ -62,6 +66,51 @@ static void test_small(struct tally *tally)
     NEEDS_NONE(tally, pgmsg_read_rows_affected(BYTES("SELECT 12\0")) == 12);
     NEEDS_NONE(tally, pgmsg_read_fields(BYTES("SERROR\0\0"), &field, 1) == 1 && field.letter == 'S');
     NEEDS_NONE(tally, pgmsg_read_mechanisms(BYTES("\0\0\0\12" "A\0" "B\0" "\0"), &span, 1) == 2 && span.at == 4);
+    NEEDS_NONE(tally, pgmsg_read_raw_mechanisms(BYTES("\0\0\0\12" "\351\0" "\0"), &span, 1) == 1 && span.len == 1);
+}
+
+static uint8_t *add(uint8_t *to, const void *bytes, size_t len)
+{
+    memcpy(to, bytes, len);
+    return to + len;
+}
+
+/* The letters in base64. */
+static uint8_t *add_base64(uint8_t *to, size_t n)
+{
+    for (size_t i = 0; i < n; i += 3) {
+        uint32_t bits = (uint32_t)letters[i] << 16;
+        bits |= i + 1 < n ? (uint32_t)letters[i + 1] << 8 : 0;
+        bits |= i + 2 < n ? letters[i + 2] : 0;
+        to[0] = (uint8_t)digits[bits >> 18];
+        to[1] = (uint8_t)digits[bits >> 12 & 63];
+        to[2] = (uint8_t)(i + 1 < n ? digits[bits >> 6 & 63] : '=');
+        to[3] = (uint8_t)(i + 2 < n ? digits[bits & 63] : '=');
+        to += 4;
+    }
+    return to;
+}
+
+/* Data of a SASL exchange with a part of n bytes. */
+static void test_sasl(struct tally *tally, size_t n)
+{
+    pgmsg_fault fault;
+    pgmsg_authentication request;
+    pgmsg_challenge challenge;
+    uint8_t *end = add(add_base64(add(body, "\0\0\0\13r=ab,s=", 11), n), ",i=8192", 7);
+    size_t len = (size_t)(end - body);
+    NEEDS_NONE(tally, pgmsg_read_authentication(body, len, &request, &fault) == 0 && request.method == 11);
+    NEEDS_NONE(tally, pgmsg_read_challenge(body, len, &challenge, first, LONG, second, LONG, &fault) == 0);
+    CHECK(tally, challenge.iterations == 8192 && challenge.salt_len == n && challenge.nonce_len == 2);
+    CHECK(tally, memcmp(first, letters, n) == 0 && memcmp(second, "ab", 2) == 0);
+    len = (size_t)(add(add(add(body, "\0\0\0\13r=", 6), letters, n), ",s=AQID", 7) - body);
+    NEEDS_NONE(tally, pgmsg_read_challenge(body, len, &challenge, first, LONG, second, LONG, &fault) == 0);
+    CHECK(tally, challenge.iterations == 4096 && challenge.salt_len == 3 && challenge.nonce_len == n);
+    CHECK(tally, memcmp(second, letters, n) == 0 && memcmp(first, "\1\2\3", 3) == 0);
+    len = (size_t)(add_base64(add(body, "\0\0\0\14v=", 6), n) - body);
+    NEEDS_NONE(tally, pgmsg_read_authentication(body, len, &request, &fault) == 0 && request.method == 12);
+    NEEDS_NONE(tally, pgmsg_read_verifier(body, len, first, LONG, &fault) == (ptrdiff_t)n);
+    CHECK(tally, memcmp(first, letters, n) == 0);
 }
 
 /* Bodies with a part of n bytes. */
@@ -114,6 +163,7 @@ void test_memory_none(struct tally *tally)
     size_t sizes_count = list_sizes(sizes);
     test_small(tally);
     for (size_t i = 0; i < sizes_count; i++) {
+        test_sasl(tally, sizes[i]);
         test_lengths(tally, sizes[i]);
         if (sizes[i] <= MOST_ITEMS)
             test_counts(tally, sizes[i]);

@@ -1,159 +1,10 @@
-/* Messages from the server, with each request for memory refused in turn, and the words of faults. */
+/* The words of faults, with each request for memory refused in turn. */
 #include "memory_test.h"
 #include "refusing.h"
 
-#include <stdio.h>
 #include <string.h>
 
-static const char digits[] = "ABCDEFGHIJKLMNOPQRSTUVWXYZabcdefghijklmnopqrstuvwxyz0123456789+/";
-
-/* A body, and what it answers. */
-static uint8_t body[3 * LONG];
-static uint8_t first[LONG], second[LONG], untouched[LONG];
-static pgmsg_challenge challenge;
-static pgmsg_authentication authentication;
-
-static uint8_t *add(uint8_t *to, const void *bytes, size_t len)
-{
-    memcpy(to, bytes, len);
-    return to + len;
-}
-
-/* The letters in base64. */
-static uint8_t *add_base64(uint8_t *to, size_t n)
-{
-    for (size_t i = 0; i < n; i += 3) {
-        uint32_t bits = (uint32_t)letters[i] << 16;
-        bits |= i + 1 < n ? (uint32_t)letters[i + 1] << 8 : 0;
-        bits |= i + 2 < n ? letters[i + 2] : 0;
-        to[0] = (uint8_t)digits[bits >> 18];
-        to[1] = (uint8_t)digits[bits >> 12 & 63];
-        to[2] = (uint8_t)(i + 1 < n ? digits[bits >> 6 & 63] : '=');
-        to[3] = (uint8_t)(i + 2 < n ? digits[bits & 63] : '=');
-        to += 4;
-    }
-    return to;
-}
-
-/* A body of each kind that needs memory, with a part of n bytes: how long it is, and what reads it. */
-struct kind {
-    const char *name;
-    uint8_t *(*add)(size_t n, uint8_t *to);
-    ptrdiff_t (*read)(size_t body_len, pgmsg_fault *fault);
-    /* Whether the answer is that of n, and what was written too. */
-    bool (*is_read)(ptrdiff_t answer, size_t n);
-};
-
-static ptrdiff_t read_challenge(size_t body_len, pgmsg_fault *fault)
-{
-    return pgmsg_read_challenge(body, body_len, &challenge, first, LONG, second, LONG, fault);
-}
-
-static ptrdiff_t read_verifier(size_t body_len, pgmsg_fault *fault)
-{
-    return pgmsg_read_verifier(body, body_len, first, LONG, fault);
-}
-
-static ptrdiff_t read_authentication(size_t body_len, pgmsg_fault *fault)
-{
-    return pgmsg_read_authentication(body, body_len, &authentication, fault);
-}
-
-static uint8_t *add_salt(size_t n, uint8_t *to)
-{
-    to = add(to, "\0\0\0\13r=ab,s=", 11);
-    return add(add_base64(to, n), ",i=8192", 7);
-}
-
-static bool is_salt(ptrdiff_t answer, size_t n)
-{
-    return answer == 0 && challenge.iterations == 8192 && challenge.salt_len == n && challenge.nonce_len == 2
-        && memcmp(first, letters, n) == 0 && memcmp(second, "ab", 2) == 0;
-}
-
-static uint8_t *add_nonce(size_t n, uint8_t *to)
-{
-    to = add(to, "\0\0\0\13r=", 6);
-    return add(add(to, letters, n), ",s=AQID,i=4096", 14);
-}
-
-static bool is_nonce(ptrdiff_t answer, size_t n)
-{
-    return answer == 0 && challenge.iterations == 4096 && challenge.salt_len == 3 && challenge.nonce_len == n
-        && memcmp(second, letters, n) == 0 && memcmp(first, "\1\2\3", 3) == 0;
-}
-
-static uint8_t *add_verifier(size_t n, uint8_t *to)
-{
-    return add_base64(add(to, "\0\0\0\14v=", 6), n);
-}
-
-static bool is_verifier(ptrdiff_t answer, size_t n)
-{
-    return answer == (ptrdiff_t)n && memcmp(first, letters, n) == 0;
-}
-
-static bool is_continued(ptrdiff_t answer, size_t n)
-{
-    (void)n;
-    return answer == 0 && authentication.method == 11;
-}
-
-static const struct kind kinds[] = {
-    {"salt", add_salt, read_challenge, is_salt},
-    {"nonce", add_nonce, read_challenge, is_nonce},
-    {"verifier", add_verifier, read_verifier, is_verifier},
-    {"request", add_nonce, read_authentication, is_continued},
-};
-
-static void clear(size_t len)
-{
-    memset(first, UNTOUCHED, len);
-    memset(second, UNTOUCHED, len);
-    memset(&challenge, UNTOUCHED, sizeof challenge);
-    memset(&authentication, UNTOUCHED, sizeof authentication);
-}
-
-static bool is_clear(size_t len)
-{
-    return memcmp(first, untouched, len) == 0 && memcmp(second, untouched, len) == 0
-        && memcmp(&challenge, untouched, sizeof challenge) == 0
-        && memcmp(&authentication, untouched, sizeof authentication) == 0;
-}
-
-/* Whether a fault says that memory ran out, at no place, with its words or with none. */
-static bool ran_out(const pgmsg_fault *fault)
-{
-    return fault->number == PGMSG_OUT_OF_MEMORY && fault->at == 0
-        && (fault->words_len == 0 || are_bytes(fault->words, fault->words_len, "out of memory", 13));
-}
-
-/* Reads a body with each request refused in turn, then with none. */
-static void test_kind(struct tally *tally, const struct kind *kind, size_t n)
-{
-    size_t len = (size_t)(kind->add(n, body) - body), nth = 1;
-    unsigned failed = tally->failed;
-    pgmsg_fault fault;
-    clear(n < 4 ? 4 : n);
-    for (; nth < MANY_REQUESTS; nth++) {
-        memset(&fault, UNTOUCHED, sizeof fault);
-        refuse_nth(nth);
-        ptrdiff_t answer = kind->read(len, &fault);
-        if (!was_refused()) {
-            CHECK(tally, kind->is_read(answer, n));
-            CHECK(tally, memcmp(&fault, untouched, sizeof fault) == 0);
-            break;
-        }
-        CHECK(tally, answer == PGMSG_OUT_OF_MEMORY && ran_out(&fault));
-        CHECK(tally, is_clear(n < 4 ? 4 : n));
-    }
-    CHECK(tally, nth > 1 && nth < MANY_REQUESTS);
-    refuse_all();
-    ptrdiff_t answer = kind->read(len, &fault);
-    CHECK(tally, was_refused() && answer == PGMSG_OUT_OF_MEMORY && ran_out(&fault) && fault.words_len == 0);
-    if (tally->failed > failed)
-        fprintf(stderr, "%s of size %zu, at request %zu\n", kind->name, n, nth);
-}
+static uint8_t untouched[sizeof(pgmsg_fault)];
 
 /* Checks that a call refuses by a number, with words but where a request for them is refused. */
 #define REFUSES(tally, expected, offset, text, call)                                                     \
@@ -184,6 +35,9 @@ static void test_faults(struct tally *tally)
     pgmsg_parameter_status status;
     pgmsg_key_data key;
     pgmsg_copy_response response;
+    pgmsg_authentication request;
+    pgmsg_challenge challenge;
+    uint8_t salt, nonce;
     uint32_t type;
     int16_t code;
     REFUSES(tally, PGMSG_UNKNOWN_MESSAGE_TYPE, 0, "unknown message type: 118",
@@ -205,15 +59,16 @@ static void test_faults(struct tally *tally)
     REFUSES(tally, PGMSG_SHORT, 4, "expected 4 bytes at offset 4, got 2",
             pgmsg_read_key_data(BYTES("\0\0\x27\xc6\x89\x52"), &key, &fault));
     REFUSES(tally, PGMSG_UNKNOWN_STATUS, 0, "unknown transaction status: 81", pgmsg_read_ready(BYTES("Q"), &fault));
+    REFUSES(tally, PGMSG_SHORT_SASL_ITEM, 0, "SASL item of fewer than two bytes",
+            pgmsg_read_authentication(BYTES("\0\0\0\13" "r"), &request, &fault));
+    REFUSES(tally, PGMSG_BASE64, 0, "SASL value is not base64",
+            pgmsg_read_challenge(BYTES("\0\0\0\13" "s=*"), &challenge, &salt, 1, &nonce, 1, &fault));
+    REFUSES(tally, PGMSG_UNKNOWN_AUTHENTICATION, 0, "unknown authentication method: 11",
+            pgmsg_read_verifier(BYTES("\0\0\0\13" "r="), &salt, 1, &fault));
 }
 
 void test_memory_read(struct tally *tally)
 {
-    size_t sizes[MOST_SIZES];
-    size_t sizes_count = list_sizes(sizes);
     memset(untouched, UNTOUCHED, sizeof untouched);
-    for (size_t i = 0; i < sizeof kinds / sizeof *kinds; i++)
-        for (size_t j = 0; j < sizes_count; j++)
-            test_kind(tally, &kinds[i], sizes[j]);
     test_faults(tally);
 }

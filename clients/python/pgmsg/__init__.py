@@ -65,6 +65,7 @@ from .raw_answers import (
     read_raw_authentication,
     read_raw_columns,
     read_raw_key_data,
+    read_raw_mechanisms,
     read_raw_parameter_status,
 )
 from .rows import Column, Row, read_columns, read_parameter_types, read_row
@@ -79,5 +80,6 @@ __all__ = [
     "read_challenge", "read_columns", "read_command_tag", "read_copy_response", "read_end", "read_fields",
     "read_key_data", "read_mechanisms", "read_no_body", "read_notification", "read_parameter_status",
     "read_parameter_types", "read_raw_authentication", "read_raw_columns", "read_raw_key_data",
-    "read_raw_parameter_status", "read_ready", "read_row", "read_rows_affected", "read_severity", "read_verifier",
+    "read_raw_mechanisms", "read_raw_parameter_status", "read_ready", "read_row", "read_rows_affected",
+    "read_severity", "read_verifier",
 ]

@@ -8,7 +8,7 @@ from typing import TYPE_CHECKING, NamedTuple
 from . import _header as header
 from ._library import library
 from ._memory import Pins, view_of
-from ._reading import fill, part, read
+from ._reading import ask, fill, part, read
 from .fault import reported
 
 if TYPE_CHECKING:
@@ -84,6 +84,13 @@ def read_raw_authentication(body: Buffer) -> RawAuthentication:
     found = header.RawAuthentication()
     read(library.pgmsg_read_raw_authentication, body, ctypes.byref(found))
     return RawAuthentication(found.method, part(view_of(body), found.content))
+
+
+def read_raw_mechanisms(body: Buffer) -> list[memoryview]:
+    """The names of the mechanisms that the server offers, as `read_mechanisms`, where they need not be UTF-8."""
+    room, count = fill(header.Span, lambda room, size: ask(library.pgmsg_read_raw_mechanisms, body, room, size))
+    view = view_of(body)
+    return [part(view, span) for span in room[:count]]
 
 
 def read_raw_key_data(body: Buffer) -> RawKeyData:

@@ -48,7 +48,7 @@ def views_in(answer):
 class TestHostile(unittest.TestCase):
     def test_bodies(self):
         chance = random.Random(1)
-        self.assertEqual(len(READERS), 21)
+        self.assertEqual(len(READERS), 22)
         for _ in range(ROUNDS):
             body = changed(chance, chance.choice(BODIES) if chance.randrange(4) else chance.randbytes(30))
             for call in READERS:

@@ -26,6 +26,7 @@ VIEWS = [
     (lambda body: pgmsg.next_raw_frame(body).body, b"v\0\0\0\x05I", 5, 1),
     (pgmsg.read_command_tag, b"BEGIN\0", 0, 5),
     (lambda body: pgmsg.read_raw_authentication(body).content, b"\0\0\0\x08ab", 4, 2),
+    (lambda body: pgmsg.read_raw_mechanisms(body)[0], b"\0\0\0\x0a\xe9a\0\0", 4, 2),
     (lambda body: pgmsg.read_raw_key_data(body).secret_key, b"\0\0\0\1secret", 4, 6),
     (lambda body: pgmsg.read_raw_columns(body)[0].name, b"\0\1\xe9\0" + bytes(18), 2, 1),
     (lambda body: pgmsg.read_raw_parameter_status(body).value, b"a\0\xe9\0", 2, 1),

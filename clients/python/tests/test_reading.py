@@ -102,6 +102,8 @@ class TestRaw(unittest.TestCase):
 
     def test_sessions(self):
         self.assertEqual(pgmsg.read_raw_authentication(b"\0\0\0\x08token"), (8, b"token"))
+        self.assertEqual(pgmsg.read_raw_mechanisms(b"\0\0\0\x0aA\0\xff\0\0"), [b"A", b"\xff"])
+        self.assertEqual(pgmsg.read_raw_mechanisms(b"\0\0"), [])
         self.assertEqual(pgmsg.read_raw_key_data(b"\0\0\4\xd2secret"), (1234, b"secret"))
         self.assertRaises(pgmsg.Fault, pgmsg.read_raw_key_data, b"\0\0\4\xd2" + bytes(257))
         self.assertEqual(pgmsg.read_raw_parameter_status(b"name\0caf\xe9\0"), (b"name", b"caf\xe9"))

@@ -22,16 +22,22 @@ pub fn push_answer(alloc: Global, message: TaggedBody, output: &mut String) -> R
     };
     output.push_str(format.name())?;
     let contents = Bytes::from_vec(body)?;
-    match ServerMessage::decode(alloc, ReceivedMessage { format, contents }) {
-        Ok(message) => push_decoded(&message, output)?,
+    match push_message(alloc, ReceivedMessage { format, contents }, output) {
+        Ok(()) => {}
         Err(Error::Protocol { .. }) => output.push_str(" err")?,
         Err(Error::OutOfMemory) => return Err(Fault::OutOfMemory),
     }
     Ok(())
 }
 
-fn push_decoded(message: &ServerMessage, output: &mut String) -> Result<(), AllocError> {
-    match message {
+// Appends what follows the name, or nothing where the body has a fault.
+fn push_message(alloc: Global, message: ReceivedMessage, output: &mut String) -> Result<(), Error> {
+    push_decoded(ServerMessage::decode(alloc, message)?, output)?;
+    Ok(())
+}
+
+fn push_decoded(message: ServerMessage, output: &mut String) -> Result<(), AllocError> {
+    match &message {
         ServerMessage::Authentication(request) => push_ok(request, output),
         ServerMessage::BackendKeyData(key) => push_ok(key, output),
         ServerMessage::CommandComplete(complete) => push_ok(complete, output),

@@ -60,17 +60,22 @@ fn prepared<C: Consumer + Drop>(
         messages.push(message).ok()?;
     }
     for _ in 0..times {
-        for message in messages.iter() {
-            let ReceivedMessage { format, contents } = message;
-            let contents = contents.clone().ok()?;
-            let message = ReceivedMessage {
-                format: *format,
-                contents,
-            };
-            give(alloc, message, &mut consumer)?;
-        }
+        give_clones(alloc, messages.as_slice(), &mut consumer)?;
     }
     reader.is_empty().then_some(consumer.value())
+}
+
+fn give_clones<C: Consumer>(
+    alloc: Global,
+    messages: &[ReceivedMessage],
+    consumer: &mut C,
+) -> Option<()> {
+    for message in messages {
+        let contents = message.contents.clone().ok()?;
+        let format = message.format;
+        give(alloc, ReceivedMessage { format, contents }, consumer)?;
+    }
+    Some(())
 }
 
 fn streamed<C: Consumer + Drop>(
@@ -124,27 +129,32 @@ impl<'a, C: Consumer> Visitor for GiveTo<'a, C> {
 
     #[inline(always)]
     fn visit(self, message: ServerMessage) -> Option<()> {
-        match &message {
-            ServerMessage::DataRow(row) => give_row(row, self.consumer),
-            ServerMessage::RowDescription(description) => give_columns(description, self.consumer),
-            ServerMessage::CommandComplete(complete) => {
-                self.consumer.number(u64::from(b'C'));
-                self.consumer.number(complete.rows_affected());
-            }
-            ServerMessage::ReadyForQuery(ready) => {
-                self.consumer.number(u64::from(b'Z'));
-                self.consumer.number(ready.transaction_status as u64);
-            }
-            ServerMessage::ErrorResponse(error) => give_error(error, self.consumer),
-            ServerMessage::ParameterStatus(status) => {
-                self.consumer.number(u64::from(b'S'));
-                self.consumer.bytes(status.name.as_bytes());
-                self.consumer.bytes(status.value.as_bytes());
-            }
-            _ => return None,
-        }
-        Some(())
+        give_message(&message, self.consumer)
     }
+}
+
+#[inline(always)]
+fn give_message<C: Consumer>(message: &ServerMessage, consumer: &mut C) -> Option<()> {
+    match message {
+        ServerMessage::DataRow(row) => give_row(row, consumer),
+        ServerMessage::RowDescription(description) => give_columns(description, consumer),
+        ServerMessage::CommandComplete(complete) => {
+            consumer.number(u64::from(b'C'));
+            consumer.number(complete.rows_affected());
+        }
+        ServerMessage::ReadyForQuery(ready) => {
+            consumer.number(u64::from(b'Z'));
+            consumer.number(ready.transaction_status as u64);
+        }
+        ServerMessage::ErrorResponse(error) => give_error(error, consumer),
+        ServerMessage::ParameterStatus(status) => {
+            consumer.number(u64::from(b'S'));
+            consumer.bytes(status.name.as_bytes());
+            consumer.bytes(status.value.as_bytes());
+        }
+        _ => return None,
+    }
+    Some(())
 }
 
 #[inline(always)]

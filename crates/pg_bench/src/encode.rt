@@ -5,6 +5,7 @@
 //! out, or `out` is too short.
 
 use crate::script::Script;
+use pg_message::error::Error;
 use pg_message::message::{TaggedMessage, encode_all, encode_strict};
 use std::alloc::Global;
 
@@ -53,44 +54,46 @@ pub extern "C" fn tw_encode_script(
 }
 
 fn prepared(alloc: Global, script: &[u8], times: usize) -> Option<Vec<u8>> {
-    let mut messages = Vec::new(alloc);
-    read_messages(script, &mut messages)?;
+    let messages = messages_of(alloc, script)?;
     let mut buf = Vec::new(alloc);
     for _ in 0..times {
-        buf.clear();
-        for message in messages.iter() {
-            message.encode(&mut buf).ok()?;
-        }
+        encode_each(messages.as_slice(), &mut buf)?;
     }
     Some(buf)
 }
 
 fn all(alloc: Global, script: &[u8], times: usize) -> Option<Vec<u8>> {
-    let mut messages = Vec::new(alloc);
-    read_messages(script, &mut messages)?;
+    let messages = messages_of(alloc, script)?;
     let mut buf = Vec::new(alloc);
     for _ in 0..times {
         buf.clear();
-        let answers = encode_all(alloc, messages.as_slice(), &mut buf).ok()?;
-        if !answers.iter().all(Result::is_ok) {
-            return None;
-        }
+        accepted(encode_all(alloc, messages.as_slice(), &mut buf))?;
     }
     Some(buf)
 }
 
 fn strict(alloc: Global, script: &[u8], times: usize) -> Option<Vec<u8>> {
-    let mut messages = Vec::new(alloc);
-    read_messages(script, &mut messages)?;
+    let messages = messages_of(alloc, script)?;
     let mut buf = Vec::new(alloc);
     for _ in 0..times {
         buf.clear();
-        let answers = encode_strict(alloc, messages.as_slice(), &mut buf).ok()?;
-        if !answers.iter().all(Result::is_ok) {
-            return None;
-        }
+        accepted(encode_strict(alloc, messages.as_slice(), &mut buf))?;
     }
     Some(buf)
+}
+
+fn encode_each(messages: &[TaggedMessage<'_>], buf: &mut Vec<u8>) -> Option<()> {
+    buf.clear();
+    for message in messages {
+        message.encode(buf).ok()?;
+    }
+    Some(())
+}
+
+// Whether every message of a run was accepted.
+fn accepted(run: Result<Vec<Result<(), Error>>, Error>) -> Option<()> {
+    let answers = run.ok()?;
+    answers.iter().all(Result::is_ok).then_some(())
 }
 
 fn scripted(alloc: Global, script: &[u8], times: usize) -> Option<Vec<u8>> {
@@ -100,6 +103,12 @@ fn scripted(alloc: Global, script: &[u8], times: usize) -> Option<Vec<u8>> {
         encode_script(script, &mut buf)?;
     }
     Some(buf)
+}
+
+fn messages_of(alloc: Global, script: &[u8]) -> Option<Vec<TaggedMessage<'_>>> {
+    let mut messages = Vec::new(alloc);
+    read_messages(script, &mut messages)?;
+    Some(messages)
 }
 
 fn read_messages<'a>(script: &'a [u8], messages: &mut Vec<TaggedMessage<'a>>) -> Option<()> {

@@ -7,3 +7,4 @@ pub mod ReadFieldsLemmas
 pub mod ReadFrameLemmas
 pub mod ReadLemmas
 pub mod ReadListsLemmas
+pub mod ReadRowLemmas

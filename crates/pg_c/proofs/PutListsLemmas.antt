@@ -1,14 +1,15 @@
 -- The values and formats of a Bind.
 use Rattle.std.proofs.Common.{◌≡◌, ℕ, ◌+◌, ◌<◌, ◌≤◌, Bool, true, false, List, [], ◌∷◌, length, map, get_or, All, Option, Some, None, refl, arith}
 use Rattle.std.specs.Prelude.{◌||◌, ◌==◌, nat_le, if◌then◌else◌}
-use Rattle.std.specs.List.{list_all}
+use Rattle.std.specs.List.{flat_map, list_all}
 use Rattle.std.proofs.lemmas.Bool.{and_parts, leb-true}
 use Rattle.std.proofs.lemmas.List.Elements.{All-map}
 use Rattle.pg_base.specs.Cutting.{max_length}
 use Rattle.pg_base.specs.Reading.{Value, Values}
 use Rattle.pg_base.proofs.RoundTripLemmas.{value_before}
-use Rattle.pg_request.specs.Values.{value_text}
+use Rattle.pg_request.specs.Values.{value_text, counted_values}
 use Rattle.pg_request.proofs.RoundTripLemmas.{a_value, a_null}
+use Rattle.pg_request.proofs.ValuesLemmas.{length-counted_values}
 use Rattle.pg_c.specs.Put.Lists.{format_of, value_of, fits, values_spelled}
 use Rattle.pg_c.specs.declared.put.prepared.PgmsgValue.{PgmsgValue}
 
@@ -26,6 +27,10 @@ codes_small formats = All-map (λ code. code < 2) format_of formats (λ k d lt. 
 -- the value of no bytes
 abbrev pub none : PgmsgValue
 none = record { bytes = record { ref_ptr = (0, 0); now = [] }; is_null = false }
+
+-- there is room for the count and for the values where there is for both
+pub room_for_counted : (values : List (Option (List ℕ))) (old : List ℕ) (left capacity : ℕ) → length old + (length (counted_values values) + left) ≤ capacity → length old + (2 + (length (flat_map value_text values) + left)) ≤ capacity
+room_for_counted values old left capacity room = omega (arith, length-counted_values values)
 
 fitting : (is_null : Bool) (bytes : List ℕ) → (is_null || nat_le (length bytes + 4) max_length) ≡ true → length (value_text (if is_null then None else Some bytes)) ≤ max_length
 fitting true bytes h = omega arith

@@ -1,12 +1,12 @@
 //! Why a call refuses, as a number and in words.
 
-ghost use Rattle.std.specs.Prelude.{◌≡◌};
+ghost use Rattle.std.specs.Prelude.{◌≡◌, ◌<ℤ◌, pos};
 ghost use Rattle.pg_c.specs.Refusal.{fault_number, refusal_number, fault_place, IsReport};
 
 use pg_base::{Error, ProtocolFault};
 use std::alloc::Global;
 
-/// No memory was there. No call that writes returns it.
+/// No memory was there. No call of this library returns it.
 pub const OUT_OF_MEMORY: i32 = -1;
 
 /// More parameter formats than a message can count.
@@ -132,7 +132,8 @@ fn place_of(error: Error) -> usize
 
 /// Fills the fault with an error, and gives its number.
 pub fn report(alloc: Global, error: Error, fault: &mut PgmsgFault) -> i32
-    ensures { IsReport error fault.old fault.new result }
+    ensures report { IsReport error fault.old fault.new result }
+    ensures below { result <ℤ pos 0 }
 {
     let number = number_of(error);
     fault.number = number;

@@ -25,3 +25,9 @@ pub use pg_send::message::{
     Startup, Sync, TaggedMessage, Terminate, encode_all, encode_frame, encode_strict, write_frame,
 };
 pub use pg_server_message::message::{ServerMessage, ServerMessageRef, Visitor};
+
+// Requests for authentication, borrowed.
+pub use pg_receive::message::{
+    AuthenticationRef, AuthenticationSaslContinueRef, AuthenticationSaslFinalRef, Base64Bytes,
+    split_raw_name,
+};

@@ -3,7 +3,9 @@ use Rattle.std.proofs.Common.{◌≡◌, ◌≢◌, ℕ, ◌*◌, ◌≤◌, Lis
 use Rattle.std.proofs.lemmas.Bool.{cases_Bool}
 use Rattle.std.specs.Str.{is_utf8}
 use Rattle.pg_base.specs.Reading.{HoldsNo, Text}
-use Rattle.pg_receive.specs.Authentication.Mechanisms.{is_name, name_of, mechanisms_in, BeginsWithName, AreMechanisms}
+use Rattle.pg_receive.specs.Authentication.Mechanisms.{is_name, name_of, mechanisms_in, BeginsWithName, AreMechanisms, raw_name_of, raw_mechanisms_in}
+use Rattle.pg_receive.specs.Layout.{name}
+use Rattle.pg_response.specs.EndedTexts.{AreInOrder}
 use Rattle.pg_response.proofs.EndedTextsLemmas.{IsMeaning, meanings_clean, meanings_none, meanings_begin, meanings_are, only_meanings, half_as_many}
 
 name_passes : (name : List ℕ) → name ≢ [] → is_utf8 name ≡ true → is_name name ≡ true
@@ -53,3 +55,32 @@ one_mechanisms bytes names h = only_meanings name_of BeginsWithName name_meaning
 
 pub half_mechanisms : (bytes : List ℕ) → 2 * length (mechanisms_in bytes) ≤ length bytes
 half_mechanisms bytes = half_as_many name_of BeginsWithName name_meaning bytes
+
+-- ---- names of any bytes
+
+raw_begins : (bytes text rest found : List ℕ) → Text bytes text rest → raw_name_of text ≡ Some found → name.Reads bytes found rest
+raw_begins bytes [] rest found h e = cc
+raw_begins bytes (byte ∷ text) rest found h e =
+    let is : byte ∷ text ≡ found = cc in
+    rw (← is) (h, λ f. cc)
+
+raw_passes : (text : List ℕ) → text ≢ [] → raw_name_of text ≡ Some text
+raw_passes [] nonempty = absurd (nonempty refl)
+raw_passes (byte ∷ bytes) nonempty = refl
+
+raw_meaning : IsMeaning raw_name_of name.Reads
+raw_meaning = record {
+  begins = raw_begins;
+  text = λ bytes found rest h. (found, h.0, raw_passes found h.1);
+  empty = refl;
+}
+
+pub raw_mechanisms_at : (bytes found rest : List ℕ) → name.Reads bytes found rest → raw_mechanisms_in bytes ≡ found ∷ raw_mechanisms_in rest
+raw_mechanisms_at bytes found rest h = meanings_begin raw_name_of name.Reads raw_meaning bytes found rest h
+
+none_in_order : (bytes : List ℕ) (names : List (List ℕ)) → AreInOrder name.Reads bytes names → ((found rest : List ℕ) → ¬ name.Reads bytes found rest) → names ≡ []
+none_in_order bytes [] h none = refl
+none_in_order bytes (found ∷ names) h none = absurd (none found h.0 h.1)
+
+pub no_raw_mechanisms : (bytes : List ℕ) → ((found rest : List ℕ) → ¬ name.Reads bytes found rest) → raw_mechanisms_in bytes ≡ []
+no_raw_mechanisms bytes none = none_in_order bytes (raw_mechanisms_in bytes) (meanings_are raw_name_of name.Reads raw_meaning bytes) none

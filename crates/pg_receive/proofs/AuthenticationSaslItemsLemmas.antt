@@ -1,13 +1,10 @@
 -- The pieces between commas.
-use Rattle.std.proofs.Common.{◌≡◌, ◌≢◌, ℕ, List, [], ◌∷◌, ◌++◌, Some, None, Ok, Err, inl, inr, refl, sym, ap, ◌∙◌}
+use Rattle.std.proofs.Common.{◌≡◌, ◌≢◌, ℕ, List, [], ◌∷◌, ◌++◌, inl, inr, refl, sym, ap, ◌∙◌}
 use Rattle.std.specs.List.{onto_first, join_with_byte}
 use Rattle.std.proofs.lemmas.Bool.{cases_eq, eq-eqb, ne_eqb}
 use Rattle.std.proofs.lemmas.List.Splits.{join_with_byte-slice_split}
-use Rattle.base64.specs.Engines.{standard}
-use Rattle.base64.specs.GeneralPurpose.{decoded_of, decode_of}
-use Rattle.base64.specs.declared.decode.DecodeError.{DecodeError}
 use Rattle.pg_base.specs.Reading.{HoldsNo}
-use Rattle.pg_format.specs.Sasl.{items_in, base64_of}
+use Rattle.pg_format.specs.Sasl.{items_in}
 use Rattle.pg_receive.specs.Authentication.SaslItems.{comma, EachHoldsNo, AreItems}
 
 pub items_none : (bytes : List ℕ) → HoldsNo comma bytes → items_in bytes ≡ bytes ∷ []
@@ -54,11 +51,3 @@ joined_items (item ∷ next ∷ items) there clean =
 
 pub one_items : (bytes : List ℕ) (items : List (List ℕ)) → AreItems bytes items → items ≡ items_in bytes
 one_items bytes items h = sym (joined_items items h.some_are_there h.clean) ∙ ap items_in h.joined
-
-pub base64_decodes : (value bytes : List ℕ) → decode_of standard value ≡ Ok bytes → base64_of value ≡ Some bytes
-unfolding base64_of decoded_of
-base64_decodes value bytes e = rw e refl
-
-pub base64_fails : (value : List ℕ) (error : DecodeError) → decode_of standard value ≡ Err error → base64_of value ≡ None
-unfolding base64_of decoded_of
-base64_fails value error e = rw e refl

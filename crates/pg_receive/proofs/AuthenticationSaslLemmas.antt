@@ -1,6 +1,6 @@
 -- What the items that are left still say is what all say.
 use Rattle.std.proofs.Common.{◌≡◌, ℕ, List}
-use Rattle.pg_format.specs.Keyed.{last, IsAbsent, first_fault_of}
+use Rattle.pg_format.specs.Keyed.{last, first_fault_of}
 use Rattle.pg_format.specs.Sasl.{keyed, item_fault}
 
 -- the fault of the items that are left is the first of all
@@ -10,7 +10,3 @@ pub record LeftFaults (base64_key : ℕ) (all left : List (List ℕ)) : Type 0 w
 -- what is seen in the last of a key
 pub record LeftLast {A : Type 0} (view : List ℕ → A) (first : A) (key : ℕ) (all : List (List ℕ)) (default : A) (left : List (List ℕ)) : Type 0 where
   pub is : last view default key (keyed left) ≡ last view first key (keyed all)
-
--- where no item has a key, none of those that are left has it
-pub record LeftAbsent (key : ℕ) (all left : List (List ℕ)) : Type 0 where
-  pub is : IsAbsent key (keyed all) → IsAbsent key (keyed left)

@@ -1,3 +1,4 @@
+pub mod AuthenticationBase64BytesLemmas
 pub mod AuthenticationLemmas
 pub mod AuthenticationMechanismsLemmas
 pub mod AuthenticationSaslItemsLemmas

@@ -1,4 +1,6 @@
 -- What an authentication request says to a client: of SASL data, what its items say.
+pub mod AuthenticationRef
+pub mod Base64Bytes
 pub mod Mechanisms
 pub mod Raw
 pub mod SaslContinue

@@ -1,7 +1,8 @@
 -- Lists after their counts: how one is written element by element, how long it is, and that it is read
 -- as itself.
-use Rattle.std.proofs.Common.{◌≡◌, ℕ, ◌+◌, ◌*◌, ◌^◌, ◌<◌, ◌≤◌, leb, None, List, [], ◌∷◌, ◌++◌, length, take, get_or, map, All, suc, suc-mul, refl, sym, ap, ◌∙◌, arith, append_assoc, length-append}
+use Rattle.std.proofs.Common.{◌≡◌, ℕ, ◌+◌, ◌*◌, ◌^◌, ◌<◌, ◌≤◌, leb, Option, Some, None, List, [], ◌∷◌, ◌++◌, length, take, get_or, map, All, suc, suc-mul, refl, sym, ap, ◌∙◌, arith, append_assoc, length-append}
 use Rattle.std.specs.List.{flat_map}
+use Rattle.std.specs.Option.{option_or}
 use Rattle.pg_base.specs.Numbers.{be16, be32}
 use Rattle.pg_base.specs.declared.io.PgValueFormat.{PgValueFormat}
 use Rattle.pg_base.specs.declared.io.PgValueFormat.TheVariants.{Text, Binary}
@@ -106,3 +107,8 @@ read_counted32 = read_counted be32 4 (2 ^ 32) number_of_be32
 -- a count without a fault is one that two bytes can say
 pub few : (make : ℕ → ProtocolFault) (count : ℕ) → too_many make count ≡ None → count < 2 ^ 16
 few make count e = omega (arith, leb-true count max_count (passed (leb count max_count) (make count) e))
+
+-- of two faults neither is there where the first of them is none
+pub neither : (x y : Option ProtocolFault) → option_or x y ≡ None → (x ≡ None) × (y ≡ None)
+neither None y e = (refl, e)
+neither (Some f) y e = absurd (let clash : Some f ≡ None = e in cc)

@@ -10,7 +10,9 @@ pub mod ParseLemmas
 pub mod PasswordLemmas
 pub mod PowerLemmas
 pub mod RawLemmas
+pub mod RoomLemmas
 pub mod RoundTripLemmas
 pub mod SaslInitialResponseLemmas
+pub mod StartupLemmas
 pub mod TargetLemmas
 pub mod ValuesLemmas

@@ -18,12 +18,12 @@ use Rattle.pg_request.specs.Parse.{parse_count_fault}
 use Rattle.pg_request.specs.Password.Laws.{power_over_covers}
 use Rattle.pg_request.specs.SaslInitialResponse.{mechanism}
 use Rattle.pg_request.proofs.BindLemmas.{read_bind, one_bind}
-use Rattle.pg_request.proofs.CountedLemmas.{few}
+use Rattle.pg_request.proofs.CountedLemmas.{few, neither}
 use Rattle.pg_request.proofs.ExecuteLemmas.{read_execute, one_execute}
 use Rattle.pg_request.proofs.FrameLemmas.{len_fits, no_count_fault, accepted_fits}
 use Rattle.pg_request.proofs.ParseLemmas.{read_parse, one_parse}
 use Rattle.pg_request.proofs.PasswordLemmas.{read_md5, one_md5}
-use Rattle.pg_request.proofs.RawLemmas.{neither, read_raw_parse, read_raw_bind, read_function_call, read_raw_execute, read_raw_target, read_any_sasl}
+use Rattle.pg_request.proofs.RawLemmas.{read_raw_parse, read_raw_bind, read_function_call, read_raw_execute, read_raw_target, read_any_sasl}
 use Rattle.pg_request.proofs.SaslInitialResponseLemmas.{read_sasl_initial, one_sasl_initial}
 use Rattle.pg_request.proofs.TargetLemmas.{read_target, one_target}
 use Rattle.pg_request.proofs.ValuesLemmas.{one_meant}

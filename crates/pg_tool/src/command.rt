@@ -61,21 +61,25 @@ pub fn command_of(alloc: Global, line: &str) -> Result<Option<Command<'_>>, Faul
     };
     match name {
         "bind" => bind_of(alloc, rest),
-        "close" => Ok(close_of(rest)),
         "copydata" => copy_data_of(alloc, rest),
-        "copyfail" => {
-            let text = String::from_str(alloc, rest)?;
-            Ok(Some(Command::CopyFail(CopyFail::new(text))))
-        }
-        "describe" => Ok(describe_of(rest)),
-        "execute" => Ok(execute_of(rest)),
-        "md5" => Ok(md5_of(rest)),
+        "copyfail" => copy_fail_of(alloc, rest),
         "parse" => parse_of(alloc, rest),
-        "password" => Ok(Some(Command::Cleartext(rest))),
-        "query" => Ok(Some(Command::Query(rest))),
-        "sasl" => Ok(Some(Command::Sasl(rest))),
-        "saslinit" => Ok(sasl_init_of(rest)),
-        _ => Ok(None),
+        _ => Ok(small_command(name, rest)),
+    }
+}
+
+// A command that needs no memory.
+fn small_command<'a>(name: &str, rest: &'a str) -> Option<Command<'a>> {
+    match name {
+        "close" => close_of(rest),
+        "describe" => describe_of(rest),
+        "execute" => execute_of(rest),
+        "md5" => md5_of(rest),
+        "password" => Some(Command::Cleartext(rest)),
+        "query" => Some(Command::Query(rest)),
+        "sasl" => Some(Command::Sasl(rest)),
+        "saslinit" => sasl_init_of(rest),
+        _ => None,
     }
 }
 
@@ -193,6 +197,11 @@ fn copy_data_of(alloc: Global, word: &str) -> Result<Option<Command<'_>>, Fault>
         Some(bytes) => Ok(Some(Command::CopyData(bytes))),
         None => Ok(None),
     }
+}
+
+fn copy_fail_of(alloc: Global, reason: &str) -> Result<Option<Command<'_>>, Fault> {
+    let reason = String::from_str(alloc, reason)?;
+    Ok(Some(Command::CopyFail(CopyFail::new(reason))))
 }
 
 fn close_of(line: &str) -> Option<Command<'_>> {

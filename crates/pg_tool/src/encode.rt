@@ -18,16 +18,21 @@ pub fn encode(alloc: Global, input: &[u8]) -> Result<String, Fault> {
     let (strict, lines) = strict_and_lines(input);
     let commands = commands(alloc, lines, 1 + usize::from(strict))?;
     let messages = messages(alloc, commands.as_slice())?;
-    let mut buf = Vec::new(alloc);
+    output_of(alloc, strict, messages.as_slice())
+}
+
+// The answers to a run of messages, and their frames.
+fn output_of(alloc: Global, strict: bool, messages: &[TaggedMessage<'_>]) -> Result<String, Fault> {
+    let mut frames = Vec::new(alloc);
     let run = if strict {
-        encode_strict(alloc, messages.as_slice(), &mut buf)
+        encode_strict(alloc, messages, &mut frames)
     } else {
-        encode_all(alloc, messages.as_slice(), &mut buf)
+        encode_all(alloc, messages, &mut frames)
     };
     let answers = run.map_err(|_| Fault::OutOfMemory)?;
     let mut output = String::new(alloc);
     push_answers(answers.as_slice(), &mut output)?;
-    push_frames(buf.as_slice(), &mut output)?;
+    push_frames(frames.as_slice(), &mut output)?;
     Ok(output)
 }
 
@@ -51,11 +56,16 @@ fn messages<'a>(
 fn commands(alloc: Global, lines: &[u8], first: usize) -> Result<Vec<Command<'_>>, Fault> {
     let mut commands = Vec::new(alloc);
     for (index, line) in Lines::new(lines).enumerate() {
-        let bad = Fault::BadLine(index.saturating_add(first));
-        let line = std::str::from_utf8(line).map_err(|_| bad)?;
-        commands.push(command_of(alloc, line)?.ok_or(bad)?)?;
+        commands.push(command_at(alloc, line, index.saturating_add(first))?)?;
     }
     Ok(commands)
+}
+
+// The command of the line of this number.
+fn command_at(alloc: Global, line: &[u8], number: usize) -> Result<Command<'_>, Fault> {
+    let bad = Fault::BadLine(number);
+    let line = std::str::from_utf8(line).map_err(|_| bad)?;
+    command_of(alloc, line)?.ok_or(bad)
 }
 
 fn push_answers(answers: &[Result<(), Error>], output: &mut String) -> Result<(), AllocError> {

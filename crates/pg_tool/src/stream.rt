@@ -37,16 +37,29 @@ pub fn stream<R: Read, W: Write>(
             Err(error) if error.kind() == io::ErrorKind::Interrupted => continue,
             Err(error) => return Err(Fault::of_read(error)),
         };
-        reader
-            .feed(&piece[..count])
-            .map_err(|_| Fault::OutOfMemory)?;
-        let mut lines = String::new(alloc);
-        let progress = push_lines(alloc, &mut reader, &mut lines);
-        write_text(output, lines.as_str())?;
-        if progress? == Progress::Stopped {
+        if pass_on(alloc, &piece[..count], &mut reader, output)? == Progress::Stopped {
             return Ok(());
         }
     }
+    write_rest(alloc, &reader, output)
+}
+
+// Feeds bytes to the reader, and writes the lines of the messages that are whole with them.
+fn pass_on<W: Write>(
+    alloc: Global,
+    bytes: &[u8],
+    reader: &mut FrameReader,
+    output: &mut W,
+) -> Result<Progress, Fault> {
+    reader.feed(bytes).map_err(|_| Fault::OutOfMemory)?;
+    let mut lines = String::new(alloc);
+    let progress = push_lines(alloc, reader, &mut lines);
+    write_text(output, lines.as_str())?;
+    progress
+}
+
+// The last line: how many bytes are no whole message, where there are any.
+fn write_rest<W: Write>(alloc: Global, reader: &FrameReader, output: &mut W) -> Result<(), Fault> {
     if reader.is_empty() {
         return Ok(());
     }
@@ -65,15 +78,27 @@ fn push_lines(
 ) -> Result<Progress, Fault> {
     loop {
         match reader.next_message() {
-            Ok(Some(message)) => lines.push_str(line_of(alloc, &message)?.as_str())?,
+            Ok(Some(message)) => push_message(alloc, &message, lines)?,
             Ok(None) => return Ok(Progress::WantsMore),
-            Err(Error::Protocol { fault, .. }) => {
-                lines.push_str(format!(in alloc; "{fault}\n")?.as_str())?;
-                return Ok(Progress::Stopped);
-            }
-            Err(Error::OutOfMemory) => return Err(Fault::OutOfMemory),
+            Err(error) => return push_fault(alloc, error, lines),
         }
     }
+}
+
+fn push_message(
+    alloc: Global,
+    message: &ReceivedMessage,
+    lines: &mut String,
+) -> Result<(), AllocError> {
+    lines.push_str(line_of(alloc, message)?.as_str())
+}
+
+fn push_fault(alloc: Global, error: Error, lines: &mut String) -> Result<Progress, Fault> {
+    let Error::Protocol { fault, .. } = error else {
+        return Err(Fault::OutOfMemory);
+    };
+    lines.push_str(format!(in alloc; "{fault}\n")?.as_str())?;
+    Ok(Progress::Stopped)
 }
 
 fn line_of(alloc: Global, message: &ReceivedMessage) -> Result<String, AllocError> {

@@ -5,7 +5,7 @@ use core::mem::MaybeUninit;
 /// The version of this header. `pgmsg_version` has that of the library.
 pub const PGMSG_VERSION: &str = "0.1.0";
 
-/// No memory was there. No call that writes returns it.
+/// No memory was there. No call of this library returns it.
 pub const PGMSG_OUT_OF_MEMORY: i32 = -1;
 
 /// More parameter formats than a message can count.
@@ -618,6 +618,15 @@ extern "C" {
         fault: *mut pgmsg_fault,
     ) -> i32;
 
+    /// The mechanisms that the server offers, by the body of an Authentication of method 10, in the
+    /// server's encoding: their names need not be UTF-8. As many as there is room for are written.
+    pub fn pgmsg_read_raw_mechanisms(
+        body: *const u8,
+        body_len: usize,
+        mechanisms: *mut pgmsg_span,
+        mechanisms_len: usize,
+    ) -> usize;
+
     /// What a request to cancel has to name, by the body of a BackendKeyData of any version: its
     /// key has 4 bytes in protocol 3.0, and up to 256 from 3.2 on. 0, or why it is refused.
     pub fn pgmsg_read_raw_key_data(
@@ -651,8 +660,7 @@ extern "C" {
         fault: *mut pgmsg_fault,
     ) -> isize;
 
-    /// What the server asks for, by the body of its Authentication. 0, or why it is refused. Memory
-    /// is asked for where the method is 11 or 12, and for no other.
+    /// What the server asks for, by the body of its Authentication. 0, or why it is refused.
     pub fn pgmsg_read_authentication(
         body: *const u8,
         body_len: usize,

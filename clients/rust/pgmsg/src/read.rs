@@ -5,7 +5,7 @@
 //!
 //! | kind | function |
 //! |---|---|
-//! | `Authentication` | [`authentication`](fn@authentication), of any method [`raw_authentication`] |
+//! | `Authentication` | [`authentication`](fn@authentication), of any method [`raw_authentication`], names not in UTF-8 [`raw_mechanisms`] |
 //! | `BackendKeyData` | [`key_data`], of protocol 3.2 [`raw_key_data`] |
 //! | `CommandComplete` | [`command_tag`], [`rows_affected`] |
 //! | `CopyData` | none: the body is the data |
@@ -45,7 +45,7 @@ pub use fields::{fields, severity, Field, FieldKind, Fields, Severity};
 pub use frame::{next_frame, Frame, Next};
 pub use kind::Kind;
 pub use raw::{
-    command_tag, no_body, raw_authentication, raw_key_data, raw_parameter_status,
+    command_tag, no_body, raw_authentication, raw_key_data, raw_mechanisms, raw_parameter_status,
     RawAuthentication, RawKeyData, RawParameterStatus,
 };
 pub use raw_columns::{raw_columns, RawColumn};

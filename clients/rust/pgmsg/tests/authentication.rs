@@ -4,7 +4,7 @@
 mod common;
 
 use common::fault_of;
-use pgmsg::read::{authentication, Authentication};
+use pgmsg::read::{authentication, raw_mechanisms, Authentication};
 use pgmsg::Refusal;
 
 #[test]
@@ -28,6 +28,15 @@ fn mechanisms() {
     assert_eq!(offer(b"\0\0\0\x0a\0"), [""; 0]);
     assert_eq!(offer(b"\0\0\0\x0a"), [""; 0]);
     assert_eq!(offer(b"\0\0\0\x0aA\0\xff\0B\0\0"), ["A"]);
+}
+
+#[test]
+fn mechanisms_of_any_bytes() {
+    let offer = |body| raw_mechanisms(body).expect("it has no fault");
+    let names = [&b"A"[..], b"\xff", b"B"];
+    assert_eq!(offer(b"\0\0\0\x0aA\0\xff\0B\0\0C\0"), names);
+    assert_eq!(offer(b"\0\0\0\x0aA"), [b""; 0]);
+    assert_eq!(offer(b"\0\0\0"), [b""; 0]);
 }
 
 #[test]

@@ -73,6 +73,9 @@ fn read_raw(body: &[u8]) {
     if let Some(request) = checked(body, raw_authentication(body)) {
         assert_within(body, request.content);
     }
+    for name in checked(body, raw_mechanisms(body)).unwrap_or_default() {
+        assert_within(body, name);
+    }
     if let Some(key) = checked(body, raw_key_data(body)) {
         assert_within(body, key.secret_key);
     }

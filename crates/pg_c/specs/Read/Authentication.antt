@@ -3,7 +3,6 @@ use Rattle.std.specs.Prelude.{◌≡◌, ◌≢◌, ◌⊎◌, ℕ, ℤ, pos, Li
 use Rattle.pg_base.specs.declared.error.ProtocolFault.{ProtocolFault}
 use Rattle.pg_base.specs.declared.error.ProtocolFault.TheVariants.{UnknownAuthentication}
 use Rattle.pg_format.specs.Format.{Means, IsFaultOf}
-use Rattle.pg_format.specs.Format.Parts.{be_u32}
 use Rattle.pg_receive.specs.Authentication.{AuthenticationValue, accepted, cleartext_password, md5_password, sasl, sasl_continue, sasl_final, method_of, requests}
 use Rattle.pg_receive.specs.Authentication.SaslContinue.{ContinueValue}
 use Rattle.pg_base.specs.Sink.{IsGiven}
@@ -53,7 +52,3 @@ pub record IsOtherMethod (method : ℕ) (body : List ℕ) (fault : ProtocolFault
 -- what is wrong with the body of a request by this method
 abbrev pub IsAskedFault : ℕ → List ℕ → ProtocolFault → Type 0
 IsAskedFault method body fault = IsBodyFault (IsFaultOf requests) body fault ⊎ IsOtherMethod method body fault
-
--- the body is of a SASL exchange that has begun
-abbrev pub HasSaslData : List ℕ → Type 0
-HasSaslData body = (method : ℕ) × (rest : List ℕ) × be_u32.Reads body method rest × ((method ≡ 11) ⊎ (method ≡ 12))

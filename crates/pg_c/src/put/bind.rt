@@ -6,13 +6,13 @@ ghost use Rattle.pg_request.specs.Bind.{bind_law};
 ghost use Rattle.pg_request.specs.RawBind.{raw_bind_law};
 ghost use Rattle.pg_c.specs.Put.Bind.{bind_of, raw_bind_of};
 
+use crate::put::check_name;
 use crate::put::lists::{put_formats, put_name, put_raw_formats, put_values, values_len};
 use crate::put::prepared::PgmsgValue;
 use pg_base::io::{PortalId, Sink, StatementId};
 use pg_base::{FrontendMessageFormat, ProtocolFault};
 use pg_request::message::FrontendMessage;
 use pg_request::message::counted::too_many;
-use pg_request::message::round_trip::check_ended;
 
 /// As [`pg_request::message::Bind`], with formats of which 0 is text and all others binary.
 #[derive(Drop)]
@@ -92,8 +92,8 @@ impl RawBind<'_> {
         ensures ok { OnOk result (raw_bind_law (raw_bind_of self.now.portal.now self.now.statement.now self.now.formats.now self.now.values.now self.now.result_formats.now)).CanRoundTrip }
         ensures fault { IfErr result (λ fault. ((raw_bind_law (raw_bind_of self.now.portal.now self.now.statement.now self.now.formats.now self.now.values.now self.now.result_formats.now)).round_trip_fault ≡ Some fault) × ¬ (raw_bind_law (raw_bind_of self.now.portal.now self.now.statement.now self.now.formats.now self.now.values.now self.now.result_formats.now)).CanRoundTrip) }
     {
-        check_ended(self.portal)?;
-        check_ended(self.statement)
+        check_name(self.portal)?;
+        check_name(self.statement)
     }
 }
 

@@ -13,22 +13,26 @@ mod parse;
 mod prepared;
 mod query;
 mod raw;
+mod room;
 mod session;
 mod startup;
 mod then;
 
 ghost use Rattle.std.specs.Prelude.{◌≡◌, ◌+◌, ◌<◌, ◌≤◌, length, pos, true, false, IfOk, IfErr, OnOk};
 ghost use Rattle.std.specs.Str.{is_utf8};
-ghost use Rattle.pg_base.specs.declared.error.ProtocolFault.TheVariants.{NotUtf8};
+ghost use Rattle.pg_base.specs.declared.error.ProtocolFault.TheVariants.{NotUtf8, TextHoldsNul};
 ghost use Rattle.pg_base.specs.Cutting.{max_length};
+ghost use Rattle.pg_base.specs.Reading.{HoldsNo};
 ghost use Rattle.pg_base.specs.Sink.{IsGiven};
 ghost use Rattle.pg_request.specs.Frame.{IsMeasured};
 ghost use Rattle.pg_c.specs.Put.{CannotRoundTrip, IsSound, IsDue, IsWritten, PutsLaw};
 
+use crate::put::room::write_frame;
 use crate::refusal::number_of;
 use pg_base::io::{Text, write_text};
 use pg_base::{Error, ProtocolFault};
-use pg_request::message::{FrontendMessage, write_frame};
+use pg_request::message::FrontendMessage;
+use pg_request::message::round_trip::check_ended;
 use pg_response::message::utf8_text;
 
 /// The bytes before a body: the tag and the length.
@@ -81,6 +85,18 @@ pub(crate) fn sound_len<F: FrontendMessage>(
     let len = message.checked_body_len()?;
     round_trip?;
     Ok(len)
+}
+
+/// Refuses a name that holds a NUL with `TextHoldsNul`. The empty one isn't searched.
+#[inline(always)]
+pub(crate) fn check_name(name: &[u8]) -> Result<(), ProtocolFault>
+    ensures ok { OnOk result (HoldsNo 0 name.now) }
+    ensures fault { IfErr result (λ fault. (fault ≡ TextHoldsNul) × ¬ (HoldsNo 0 name.now)) }
+{
+    if name.is_empty() {
+        return Ok(());
+    }
+    check_ended(name)
 }
 
 /// Writes a text of `len` bytes, and gives its length.

@@ -5,6 +5,7 @@ ghost use Rattle.pg_request.specs.Parse.{parse_law};
 ghost use Rattle.pg_request.specs.RawParse.{raw_parse_law};
 ghost use Rattle.pg_c.specs.Put.Parse.{parse_fields, raw_parse_fields};
 
+use crate::put::check_name;
 use crate::put::lists::put_types;
 use pg_base::io::{Sink, StatementId};
 use pg_base::{FrontendMessageFormat, ProtocolFault};
@@ -84,7 +85,7 @@ impl RawParse<'_> {
         ensures ok { OnOk result (raw_parse_law (raw_parse_fields self.now)).CanRoundTrip }
         ensures fault { IfErr result (λ fault. ((raw_parse_law (raw_parse_fields self.now)).round_trip_fault ≡ Some fault) × ¬ (raw_parse_law (raw_parse_fields self.now)).CanRoundTrip) }
     {
-        check_ended(self.statement)?;
+        check_name(self.statement)?;
         check_ended(self.query)
     }
 }

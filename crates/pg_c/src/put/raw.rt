@@ -13,7 +13,7 @@ use crate::put::bind::RawBind;
 use crate::put::function_call::FunctionCall;
 use crate::put::parse::RawParse;
 use crate::put::prepared::PgmsgValue;
-use crate::put::{put, put_text};
+use crate::put::{check_name, put, put_text};
 use crate::refusal::number_of;
 use pg_request::message::{
     CODE_LENGTH, CancelRequest, GssEncRequest, Password, RawClose, RawDescribe, RawExecute,
@@ -164,7 +164,7 @@ pub extern "C" fn pgmsg_put_raw_execute(portal: &[u8], limit: u32, out: &mut [u8
     ensures { PutsMessage (message.RawExecute (record { portal = portal.now; limit = limit })) out.old out.new result }
 {
     let execute = RawExecute { portal, limit };
-    put(&execute, execute.check_round_trip(), out)
+    put(&execute, check_name(portal), out)
 }
 
 /// Calls a function by its object id. Formats are as in `pgmsg_put_raw_bind`. The answer is a

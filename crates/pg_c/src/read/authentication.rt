@@ -1,30 +1,26 @@
 //! What the server asks of a client that opens a session.
 
-ghost use Rattle.std.specs.Prelude.{◌≡◌, ◌≢◌, ◌≤◌, ◌<◌, ◌<ℤ◌, ◌≤ℤ◌, ⊤, pos, drop, length, None, OnOk, IfOk, IfErr};
-ghost use Rattle.pg_base.specs.declared.error.Error.TheVariants.{Protocol};
+ghost use Rattle.std.specs.Prelude.{◌≡◌, ◌≤◌, ◌<◌, ◌<ℤ◌, ◌≤ℤ◌, pos, drop, length, OnOk, IfOk, IfErr};
 ghost use Rattle.pg_base.specs.declared.error.ProtocolFault.TheVariants.{UnknownAuthentication};
 ghost use Rattle.pg_base.specs.Sink.{IsGiven};
 ghost use Rattle.pg_receive.specs.Authentication.Mechanisms.{mechanisms_in};
-ghost use Rattle.pg_format.specs.Format.{Means, IsFaultOf};
+ghost use Rattle.pg_format.specs.Format.{Means};
 ghost use Rattle.pg_receive.specs.Authentication.{requests, sasl_continue, sasl_final, method_of};
-ghost use Rattle.pg_receive.specs.Authentication.SaslContinue.Shown.{continue_shown};
-ghost use Rattle.pg_receive.specs.Authentication.Shown.{authentication_shown};
+ghost use Rattle.pg_receive.specs.Authentication.AuthenticationRef.{authentication_borrowed};
+ghost use Rattle.pg_receive.specs.Authentication.SaslContinue.Shown.{continue_borrowed};
 ghost use Rattle.pg_response.specs.Received.{max_body};
-ghost use Rattle.pg_c.specs.Read.Authentication.{ReadsAuthentication, ReadsChallenge, ReadsVerifier, IsAskedFault, HasSaslData, salt_of};
-ghost use Rattle.pg_format.specs.Format.Parts.{be_u32, bytes_of};
-ghost use Rattle.pg_format.specs.Format.Places.{IsReadAt, BreaksAt};
+ghost use Rattle.pg_c.specs.Read.Authentication.{ReadsAuthentication, ReadsChallenge, ReadsVerifier, IsAskedFault, salt_of};
 ghost use Rattle.pg_c.specs.Place.{part};
-ghost use Rattle.pg_c.specs.Read.{AreGiven, IsBodyFault, RefusesBody};
-ghost use Rattle.pg_c.specs.Refusal.{Refuses, IsErrorOf};
+ghost use Rattle.pg_c.specs.Read.{AreGiven, ReadsBody, RefusesBody};
+ghost use Rattle.pg_c.specs.Refusal.{Refuses};
 
 use crate::place::PgmsgSpan;
 use crate::read::check_body;
 use crate::refusal::{PgmsgFault, report};
-use bytes::Bytes;
-use pg_base::io::{bytes_at, u32_at};
-use pg_base::{Error, ProtocolFault};
+use pg_base::ProtocolFault;
 use pg_receive::message::{
-    Authentication, AuthenticationSaslContinue, AuthenticationSaslFinal, BackendMessage, split_name,
+    AuthenticationRef, AuthenticationSaslContinueRef, AuthenticationSaslFinalRef, Base64Bytes,
+    split_name,
 };
 use std::alloc::Global;
 
@@ -49,8 +45,7 @@ pub struct PgmsgChallenge {
     pub nonce_len: usize,
 }
 
-/// What the server asks for, by the body of its Authentication. 0, or why it is refused. Memory is asked
-/// for where the method is 11 or 12, and for no other.
+/// What the server asks for, by the body of its Authentication. 0, or why it is refused.
 #[unsafe(no_mangle)]
 pub extern "C" fn pgmsg_read_authentication(
     alloc: Global,
@@ -60,83 +55,38 @@ pub extern "C" fn pgmsg_read_authentication(
 ) -> i32
     ensures result { result ≤ℤ pos 0 }
     ensures value { result ≡ pos 0 → ReadsAuthentication body.now authentication.new }
-    ensures fault { RefusesBody requests body.now (HasSaslData body.now) fault.old fault.new result }
+    ensures fault { RefusesBody requests body.now ⊥ fault.old fault.new result }
     ensures within { pos 0 ≤ℤ result → length body.now ≤ max_body }
     ensures untouched { pos 0 ≤ℤ result → fault.new ≡ fault.old }
     ensures kept { result <ℤ pos 0 → authentication.new ≡ authentication.old }
 {
-    match asked_of(alloc, body) {
+    match asked_of(body) {
         Ok(asked) => {
-            *authentication = asked;
+            *authentication = shown(&asked);
             0
         }
-        Err(error) => report(alloc, error, fault),
+        Err(why) => report(alloc, why.into(), fault),
     }
 }
 
-// What is asked for. Data of a SASL exchange is copied, and nothing else.
-fn asked_of(alloc: Global, body: &[u8]) -> Result<PgmsgAuthentication, Error>
-    ensures value { IfOk result (ReadsAuthentication body.now) }
-    ensures within { OnOk result (length body.now ≤ max_body) }
-    ensures fault { IfErr result (IsErrorOf (IsBodyFault (IsFaultOf requests) body.now) (HasSaslData body.now)) }
+fn asked_of(body: &[u8]) -> Result<AuthenticationRef<'_>, ProtocolFault>
+    ensures { ReadsBody requests authentication_borrowed body.now result }
 {
     check_body(body)?;
-    match u32_at(body, 0)? {
-        11 | 12 => Ok(shown(&authentication_of(alloc, body)?)),
-        method => Ok(plain_request(body, method)?),
-    }
+    AuthenticationRef::read(body)
 }
 
-// A request by a method whose data isn't that of a SASL exchange.
-fn plain_request(body: &[u8], method: u32) -> Result<PgmsgAuthentication, ProtocolFault>
-    requires found { be_u32.Reads body.now method (drop 4 body.now) }
-    requires four { 4 ≤ length body.now }
-    requires no_continue { method ≢ 11 }
-    requires no_final { method ≢ 12 }
-    ensures value { IfOk result (ReadsAuthentication body.now) }
-    ensures fault { IfErr result (IsFaultOf requests body.now) }
-{
-    let salt = match method {
-        0 => [0; 4],
-        3 => [0; 4],
-        5 => salt_in(body)?,
-        10 => [0; 4],
-        _ => return Err(ProtocolFault::UnknownAuthentication(method)),
-    };
-    Ok(PgmsgAuthentication { method, salt })
-}
-
-fn salt_in(body: &[u8]) -> Result<[u8; 4], ProtocolFault>
-    requires { 4 ≤ length body.now }
-    ensures salt { IfOk result (λ salt. IsReadAt (bytes_of 4) body.now 4 salt 8) }
-    ensures short { IfErr result (BreaksAt (bytes_of 4) body.now 4) }
-{
-    let mut salt = [0; 4];
-    salt.copy_from_slice(bytes_at(body, METHOD_LENGTH, 4)?);
-    Ok(salt)
-}
-
-fn authentication_of(alloc: Global, body: &[u8]) -> Result<Authentication, Error>
-    ensures value { IfOk result (λ asked. Means requests body.now (authentication_shown asked)) }
-    ensures within { OnOk result (length body.now ≤ max_body) }
-    ensures fault { IfErr result (IsErrorOf (IsBodyFault (IsFaultOf requests) body.now) ⊤) }
-{
-    check_body(body)?;
-    let body = Bytes::copy_from_slice(alloc, body)?;
-    Authentication::decode_body(alloc, body)
-}
-
-fn shown(asked: &Authentication) -> PgmsgAuthentication
-    ensures method { result.method ≡ method_of (authentication_shown asked.now) }
-    ensures salt { result.salt ≡ salt_of (authentication_shown asked.now) }
+fn shown(asked: &AuthenticationRef<'_>) -> PgmsgAuthentication
+    ensures method { result.method ≡ method_of (authentication_borrowed asked.now) }
+    ensures salt { result.salt ≡ salt_of (authentication_borrowed asked.now) }
 {
     let (method, salt) = match asked {
-        Authentication::Ok => (0, [0; 4]),
-        Authentication::CleartextPassword => (3, [0; 4]),
-        Authentication::Md5Password(password) => (5, password.salt),
-        Authentication::Sasl(_) => (10, [0; 4]),
-        Authentication::SaslContinue(_) => (11, [0; 4]),
-        Authentication::SaslFinal(_) => (12, [0; 4]),
+        AuthenticationRef::Ok => (0, [0; 4]),
+        AuthenticationRef::CleartextPassword => (3, [0; 4]),
+        AuthenticationRef::Md5Password(password) => (5, password.salt),
+        AuthenticationRef::Sasl(_) => (10, [0; 4]),
+        AuthenticationRef::SaslContinue(_) => (11, [0; 4]),
+        AuthenticationRef::SaslFinal(_) => (12, [0; 4]),
     };
     PgmsgAuthentication { method, salt }
 }
@@ -184,39 +134,27 @@ pub extern "C" fn pgmsg_read_challenge(
     ensures value { result ≡ pos 0
         → ReadsChallenge body.now challenge.new salt.old salt.new nonce.old nonce.new }
     ensures fault { result <ℤ pos 0
-        → Refuses (IsAskedFault 11 body.now) ⊤ fault.old fault.new result }
+        → Refuses (IsAskedFault 11 body.now) ⊥ fault.old fault.new result }
     ensures within { pos 0 ≤ℤ result → length body.now ≤ max_body }
     ensures untouched { pos 0 ≤ℤ result → fault.new ≡ fault.old }
     ensures kept { result <ℤ pos 0
         → (challenge.new ≡ challenge.old) × (salt.new ≡ salt.old) × (nonce.new ≡ nonce.old) }
 {
-    match challenge_of(alloc, body) {
+    match challenge_of(body) {
         Ok(read) => {
             *challenge = lengths_of(&read);
-            give(read.salt.as_slice(), salt);
-            give(read.nonce.as_bytes(), nonce);
+            give(&read.salt, salt);
+            give_text(read.nonce.as_bytes(), nonce);
             0
         }
-        Err(error) => report(alloc, error, fault),
+        Err(why) => report(alloc, why.into(), fault),
     }
 }
 
-// Copies a text to the front of the room where it has that much, and gives its length.
-fn give(text: &[u8], out: &mut [u8]) -> isize
-    requires { length text.now < 9223372036854775808 }
-    ensures length { result ≡ pos (length text.now) }
-    ensures given { IsGiven text.now out.old out.new }
-{
-    if text.len() <= out.len() {
-        out[..text.len()].copy_from_slice(text);
-    }
-    text.len() as isize
-}
-
-fn lengths_of(challenge: &AuthenticationSaslContinue) -> PgmsgChallenge
-    ensures iterations { result.iterations ≡ (continue_shown challenge.now).iterations }
-    ensures salt { result.salt_len ≡ length (continue_shown challenge.now).salt }
-    ensures nonce { result.nonce_len ≡ length (continue_shown challenge.now).nonce }
+fn lengths_of(challenge: &AuthenticationSaslContinueRef<'_>) -> PgmsgChallenge
+    ensures iterations { result.iterations ≡ (continue_borrowed challenge.now).iterations }
+    ensures salt { result.salt_len ≡ length (continue_borrowed challenge.now).salt }
+    ensures nonce { result.nonce_len ≡ length (continue_borrowed challenge.now).nonce }
 {
     PgmsgChallenge {
         iterations: challenge.iterations,
@@ -225,15 +163,37 @@ fn lengths_of(challenge: &AuthenticationSaslContinue) -> PgmsgChallenge
     }
 }
 
-fn challenge_of(alloc: Global, body: &[u8]) -> Result<AuthenticationSaslContinue, Error>
-    ensures value { IfOk result
-        (λ challenge. Means requests body.now (sasl_continue (continue_shown challenge))) }
-    ensures within { OnOk result (length body.now ≤ max_body) }
-    ensures fault { IfErr result (IsErrorOf (IsAskedFault 11 body.now) ⊤) }
+// Copies bytes to the front of the room where it has that much, and gives their length.
+fn give(bytes: &Base64Bytes<'_>, out: &mut [u8]) -> isize
+    ensures length { result ≡ pos (length bytes.now) }
+    ensures given { IsGiven bytes.now out.old out.new }
 {
-    match authentication_of(alloc, body)? {
-        Authentication::SaslContinue(challenge) => Ok(challenge),
-        other => Err(unexpected(&other)),
+    if bytes.len() <= out.len() {
+        bytes.copy_to(&mut out[..bytes.len()]);
+    }
+    bytes.len() as isize
+}
+
+// Copies a text to the front of the room where it has that much.
+fn give_text(text: &[u8], out: &mut [u8])
+    ensures { IsGiven text.now out.old out.new }
+{
+    if text.len() <= out.len() {
+        out[..text.len()].copy_from_slice(text);
+    }
+}
+
+fn challenge_of(body: &[u8]) -> Result<AuthenticationSaslContinueRef<'_>, ProtocolFault>
+    ensures value { IfOk result
+        (λ challenge. Means requests body.now (sasl_continue (continue_borrowed challenge))) }
+    ensures within { OnOk result (length body.now ≤ max_body) }
+    ensures fault { IfErr result (IsAskedFault 11 body.now) }
+{
+    check_body(body)?;
+    match AuthenticationRef::read(body) {
+        Ok(AuthenticationRef::SaslContinue(challenge)) => Ok(challenge),
+        Ok(other) => Err(unexpected(&other)),
+        Err(fault) => Err(fault),
     }
 }
 
@@ -248,32 +208,33 @@ pub extern "C" fn pgmsg_read_verifier(
 ) -> isize
     ensures value { pos 0 ≤ℤ result → ReadsVerifier body.now verifier.old verifier.new result }
     ensures fault { result <ℤ pos 0
-        → Refuses (IsAskedFault 12 body.now) ⊤ fault.old fault.new result }
+        → Refuses (IsAskedFault 12 body.now) ⊥ fault.old fault.new result }
     ensures within { pos 0 ≤ℤ result → length body.now ≤ max_body }
     ensures untouched { pos 0 ≤ℤ result → fault.new ≡ fault.old }
     ensures kept { result <ℤ pos 0 → verifier.new ≡ verifier.old }
 {
-    match verifier_of(alloc, body) {
-        Ok(end) => give(end.verifier.as_slice(), verifier),
-        Err(error) => report(alloc, error, fault) as isize,
+    match verifier_of(body) {
+        Ok(end) => give(&end.verifier, verifier),
+        Err(why) => report(alloc, why.into(), fault) as isize,
     }
 }
 
-fn verifier_of(alloc: Global, body: &[u8]) -> Result<AuthenticationSaslFinal, Error>
-    ensures value { IfOk result (λ end. Means requests body.now (sasl_final end.verifier.items)) }
+fn verifier_of(body: &[u8]) -> Result<AuthenticationSaslFinalRef<'_>, ProtocolFault>
+    ensures value { IfOk result (λ end. Means requests body.now (sasl_final end.verifier)) }
     ensures within { OnOk result (length body.now ≤ max_body) }
-    ensures fault { IfErr result (IsErrorOf (IsAskedFault 12 body.now) ⊤) }
+    ensures fault { IfErr result (IsAskedFault 12 body.now) }
 {
-    match authentication_of(alloc, body)? {
-        Authentication::SaslFinal(end) => Ok(end),
-        other => Err(unexpected(&other)),
+    check_body(body)?;
+    match AuthenticationRef::read(body) {
+        Ok(AuthenticationRef::SaslFinal(end)) => Ok(end),
+        Ok(other) => Err(unexpected(&other)),
+        Err(fault) => Err(fault),
     }
 }
 
 // What was asked is not what the caller reads.
-fn unexpected(asked: &Authentication) -> Error
-    ensures { result
-        ≡ Protocol None (UnknownAuthentication (method_of (authentication_shown asked.now))) }
+fn unexpected(asked: &AuthenticationRef<'_>) -> ProtocolFault
+    ensures { result ≡ UnknownAuthentication (method_of (authentication_borrowed asked.now)) }
 {
-    ProtocolFault::UnknownAuthentication(shown(asked).method).into()
+    ProtocolFault::UnknownAuthentication(shown(asked).method)
 }

@@ -1,15 +1,18 @@
-//! What drivers read as it is: the text of a tag, a request by any method, a key of any length that a
-//! server has, a setting in the encoding of the server, and that a message has no body.
+//! What drivers read as it is: the text of a tag, a request by any method, names of mechanisms and a
+//! setting in the encoding of the server, a key of any length that a server has, and that a message has
+//! no body.
 
-ghost use Rattle.std.specs.Prelude.{◌≡◌, ◌≤◌, ◌<ℤ◌, ◌≤ℤ◌, pos, length};
+ghost use Rattle.std.specs.Prelude.{◌≡◌, ◌≤◌, ◌<ℤ◌, ◌≤ℤ◌, pos, drop, length};
 ghost use Rattle.pg_format.specs.Format.{Means};
 ghost use Rattle.pg_format.specs.Messages.{empty};
+ghost use Rattle.pg_receive.specs.Authentication.Mechanisms.{raw_mechanisms_in};
 ghost use Rattle.pg_receive.specs.Authentication.Raw.{raw_request};
 ghost use Rattle.pg_receive.specs.BackendKeyData.{raw_key_data};
 ghost use Rattle.pg_receive.specs.CommandComplete.{tag_text};
 ghost use Rattle.pg_receive.specs.ParameterStatus.{raw_parameter_status};
 ghost use Rattle.pg_response.specs.Received.{max_body};
-ghost use Rattle.pg_c.specs.Read.{ReadsBody, RefusesBody};
+ghost use Rattle.pg_c.specs.Place.{part};
+ghost use Rattle.pg_c.specs.Read.{AreGiven, ReadsBody, RefusesBody};
 ghost use Rattle.pg_c.specs.Read.Raw.{ReadsTag, ReadsRequest, ReadsKey, ReadsRawSetting};
 
 use crate::place::PgmsgSpan;
@@ -18,7 +21,7 @@ use crate::read::status::PgmsgParameterStatus;
 use crate::refusal::{PgmsgFault, report};
 use pg_base::ProtocolFault;
 use pg_receive::message::{
-    RawAuthentication, RawKeyData, RawParameterStatus, check_no_body, command_tag,
+    RawAuthentication, RawKeyData, RawParameterStatus, check_no_body, command_tag, split_raw_name,
 };
 use std::alloc::Global;
 
@@ -115,6 +118,34 @@ fn request_of(body: &[u8]) -> Result<RawAuthentication<'_>, ProtocolFault>
 {
     check_body(body)?;
     RawAuthentication::read(body)
+}
+
+/// The mechanisms that the server offers, by the body of an Authentication of method 10, in the server's
+/// encoding: their names need not be UTF-8. As many as there is room for are written.
+#[unsafe(no_mangle)]
+pub extern "C" fn pgmsg_read_raw_mechanisms(body: &[u8], mechanisms: &mut [PgmsgSpan]) -> usize
+    ensures count { result ≡ length (raw_mechanisms_in (drop 4 body.now)) }
+    ensures given { AreGiven (part body.now) (raw_mechanisms_in (drop 4 body.now))
+        mechanisms.old mechanisms.new }
+{
+    if body.len() < NUMBER_LENGTH {
+        return 0;
+    }
+    let mut rest = &body[NUMBER_LENGTH..];
+    let mut at = NUMBER_LENGTH;
+    let mut count: usize = 0;
+    while let Some((name, after)) = split_raw_name(rest) {
+        if count < mechanisms.len() {
+            mechanisms[count] = PgmsgSpan {
+                at,
+                len: name.len(),
+            };
+        }
+        at += name.len() + 1;
+        count += 1;
+        rest = after;
+    }
+    count
 }
 
 /// What a request to cancel has to name, by the body of a BackendKeyData of any version: its key has 4

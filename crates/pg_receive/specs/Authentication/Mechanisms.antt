@@ -25,3 +25,13 @@ pub record BeginsWithName (bytes name rest : List ℕ) : Type 0 where
 -- these are the names: each begins what the ones before it leave, and no other begins the rest
 abbrev pub AreMechanisms : List ℕ → List (List ℕ) → Type 0
 AreMechanisms bytes names = AreInOrder BeginsWithName bytes names
+
+-- ---- names of any bytes
+
+abbrev pub raw_name_of : List ℕ → Option (List ℕ)
+raw_name_of [] = None
+raw_name_of (byte ∷ bytes) = Some (byte ∷ bytes)
+
+-- the texts up to the first that is empty
+abbrev pub raw_mechanisms_in : List ℕ → List (List ℕ)
+raw_mechanisms_in bytes = meanings_of raw_name_of (texts_in bytes)

@@ -14,8 +14,10 @@ mod ready_for_query;
 mod row_description;
 
 pub use authentication::{
-    Authentication, AuthenticationMd5Password, AuthenticationSasl, AuthenticationSaslContinue,
-    AuthenticationSaslFinal, RawAuthentication, SaslMechanisms, split_name, split_raw_name,
+    Authentication, AuthenticationMd5Password, AuthenticationRef, AuthenticationSasl,
+    AuthenticationSaslContinue, AuthenticationSaslContinueRef, AuthenticationSaslFinal,
+    AuthenticationSaslFinalRef, Base64Bytes, RawAuthentication, SaslMechanisms, split_name,
+    split_raw_name,
 };
 pub use backend_key_data::{BackendKeyData, RawKeyData};
 pub use command_complete::{CommandComplete, command_tag, rows_affected};

@@ -1,6 +1,6 @@
 //! What drivers read as it is, to judge it by rules of their own.
 
-use super::answer::{answer, part};
+use super::answer::{answer, fill, part};
 use crate::error::Fault;
 use crate::sys;
 
@@ -56,6 +56,26 @@ pub fn raw_authentication(body: &[u8]) -> Result<RawAuthentication<'_>, Fault> {
         method: read.method,
         content: part(body, read.content)?,
     })
+}
+
+/// The names of the mechanisms that the server offers, which need not be UTF-8, by the body of an
+/// Authentication of method 10.
+///
+/// ```
+/// # use pgmsg::read::raw_mechanisms;
+/// assert_eq!(raw_mechanisms(b"\0\0\0\x0aPLAIN\0caf\xe9\0\0")?, [&b"PLAIN"[..], b"caf\xe9"]);
+/// # Ok::<(), pgmsg::Fault>(())
+/// ```
+pub fn raw_mechanisms(body: &[u8]) -> Result<Vec<&[u8]>, Fault> {
+    let mut room = Vec::new();
+    let places = fill(&mut room, |room: &mut [sys::pgmsg_span]| {
+        // SAFETY: both are slices, valid for their lengths, and `&mut` keeps `room` apart.
+        let count = unsafe {
+            sys::pgmsg_read_raw_mechanisms(body.as_ptr(), body.len(), room.as_mut_ptr(), room.len())
+        };
+        Ok(count)
+    })?;
+    places.iter().map(|&place| part(body, place)).collect()
 }
 
 /// What a request to cancel has to name, with a key of 4 to 256 bytes.

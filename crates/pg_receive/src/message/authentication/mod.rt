@@ -1,5 +1,7 @@
 //! What the server asks of a client that opens a session.
 
+mod authentication_ref;
+mod base64_bytes;
 mod mechanisms;
 mod raw;
 mod sasl_continue;
@@ -16,13 +18,15 @@ ghost use Rattle.pg_receive.specs.Authentication.Mechanisms.{mechanisms_in};
 ghost use Rattle.pg_receive.specs.Authentication.{AuthenticationValue, value_of, requests, IsNoSaslData};
 
 use crate::message::BackendMessage;
+pub use authentication_ref::AuthenticationRef;
+pub use base64_bytes::Base64Bytes;
 use bytes::Bytes;
 pub use mechanisms::{SaslMechanisms, split_name, split_raw_name};
 use pg_base::io::{bytes_at, u32_at};
 use pg_base::{BackendMessageFormat, Error, ProtocolFault};
 pub use raw::RawAuthentication;
-pub use sasl_continue::AuthenticationSaslContinue;
-pub use sasl_final::AuthenticationSaslFinal;
+pub use sasl_continue::{AuthenticationSaslContinue, AuthenticationSaslContinueRef};
+pub use sasl_final::{AuthenticationSaslFinal, AuthenticationSaslFinalRef};
 use std::alloc::Global;
 use std::marker::Model;
 

@@ -1,19 +1,20 @@
 //! The challenge of a server in a SASL exchange.
 
-ghost use Rattle.std.specs.Prelude.{◌≡◌, [], ◌∷◌, None, Some, OnOk};
+ghost use Rattle.std.specs.Prelude.{◌≡◌, [], ◌∷◌, None, Some, OnOk, IfErr};
 ghost use Rattle.pg_base.specs.Decode.{Decodes};
 ghost use Rattle.pg_format.specs.Keyed.{plain, last};
 ghost use Rattle.pg_format.specs.Sasl.{keyed, item_fault, nonce_key, salt_key, first_message_fault};
 ghost use Rattle.pg_receive.specs.Authentication.SaslItems.{base64_value};
 ghost use Rattle.pg_receive.specs.Authentication.SaslContinue.{ContinueValue, challenge_in, challenges, iterations_key, iterations_of};
-ghost use Rattle.pg_format.specs.Format.{Means, IsFaultOf};
+ghost use Rattle.pg_format.specs.Format.{Means, IsFaultOf, ReadsAs};
 ghost use Rattle.pg_format.proofs.FormatLaws.Whole.{one_meaning, meaning_or_fault};
 ghost use Rattle.pg_format.proofs.FormatLaws.Parts.{lawful_remaining};
 ghost use Rattle.pg_format.proofs.FormatLaws.Sequences.{lawful_viewed};
 ghost use Rattle.pg_format.proofs.FormatLaws.Tests.{lawful_checked};
-ghost use Rattle.pg_receive.specs.Authentication.SaslContinue.Shown.{continue_shown};
+ghost use Rattle.pg_receive.specs.Authentication.SaslContinue.Shown.{continue_shown, continue_borrowed};
 
-use crate::message::authentication::sasl_items::{SaslItems, decode_base64, split_key};
+use crate::message::authentication::base64_bytes::Base64Bytes;
+use crate::message::authentication::sasl_items::{SaslItems, split_key};
 use crate::message::utf8_text;
 use bytes::Bytes;
 use pg_base::io::ProtocolDecode;
@@ -64,24 +65,81 @@ impl ProtocolDecode for AuthenticationSaslContinue {
     ghost never_both = { meaning_or_fault (lawful_viewed challenge_in (lawful_checked first_message_fault lawful_remaining)) };
 }
 
+/// The challenge that SASL data is.
+pub(crate) fn decode_challenge(
+    alloc: Global,
+    body: &[u8],
+) -> Result<AuthenticationSaslContinue, Error>
+    ensures { Decodes (Means challenges) (IsFaultOf challenges) (λ _. ⊥) continue_shown None body.now result }
+{
+    match AuthenticationSaslContinueRef::read(body) {
+        Ok(challenge) => Ok(AuthenticationSaslContinue {
+            salt: challenge.salt.to_vec(alloc)?,
+            iterations: challenge.iterations,
+            nonce: String::from_str(alloc, challenge.nonce)?,
+            message: String::from_str(alloc, challenge.message)?,
+        }),
+        Err(fault) => Err(fault.into()),
+    }
+}
+
+/// An [`AuthenticationSaslContinue`] that is borrowed from the data of its message.
+#[derive(Drop)]
+pub struct AuthenticationSaslContinueRef<'a> {
+    /// Empty where none is given.
+    pub salt: Base64Bytes<'a>,
+    /// 4096 where no number is given, or one that is below 0 or above 4294967295.
+    pub iterations: u32,
+    /// Empty where none is given.
+    pub nonce: &'a str,
+    /// The challenge as a whole.
+    pub message: &'a str,
+}
+
+impl<'a> AuthenticationSaslContinueRef<'a> {
+    /// Reads SASL data, which follows the number of the method. Its value and its faults are those of
+    /// [`AuthenticationSaslContinue`].
+    pub fn read(data: &'a [u8]) -> Result<AuthenticationSaslContinueRef<'a>, ProtocolFault>
+        ensures { ReadsAs challenges continue_borrowed «data».now result }
+    {
+        let mut challenge = Challenge {
+            salt: Base64Bytes::empty(),
+            iterations: DEFAULT_ITERATIONS,
+            nonce: &[],
+        };
+        for item in SaslItems::new(data) {
+            challenge.take(item)?;
+        }
+        let nonce = utf8_text(challenge.nonce).ok_or(ProtocolFault::NotUtf8)?;
+        let message = utf8_text(data).ok_or(ProtocolFault::NotUtf8)?;
+        Ok(AuthenticationSaslContinueRef {
+            salt: challenge.salt,
+            iterations: challenge.iterations,
+            nonce,
+            message,
+        })
+    }
+}
+
 // What the items of a challenge say.
 #[derive(Drop)]
 struct Challenge<'a> {
-    salt: Vec<u8>,
+    salt: Base64Bytes<'a>,
     iterations: u32,
     nonce: &'a [u8],
 }
 
 impl<'a> Challenge<'a> {
-    fn take(&mut self, alloc: Global, item: &'a [u8]) -> Result<(), Error>
-        ensures answer { Decodes (λ item _. item_fault salt_key item ≡ None) (λ item fault. item_fault salt_key item ≡ Some fault) (λ _. ⊥) (λ done. done) None item.now result }
-        ensures salt { OnOk result (self.new.salt.items ≡ last base64_value self.old.salt.items salt_key (keyed (item.now ∷ []))) }
+    fn take(&mut self, item: &'a [u8]) -> Result<(), ProtocolFault>
+        ensures ok { OnOk result (item_fault salt_key item.now ≡ None) }
+        ensures fault { IfErr result (λ fault. item_fault salt_key item.now ≡ Some fault) }
+        ensures salt { OnOk result (self.new.salt ≡ last base64_value self.old.salt salt_key (keyed (item.now ∷ []))) }
         ensures iterations { OnOk result (self.new.iterations ≡ last iterations_of self.old.iterations iterations_key (keyed (item.now ∷ []))) }
         ensures nonce { OnOk result (self.new.nonce.now ≡ last plain self.old.nonce.now nonce_key (keyed (item.now ∷ []))) }
     {
         let (key, value) = split_key(item)?;
         match key {
-            SALT => self.salt = decode_base64(alloc, value)?,
+            SALT => self.salt = Base64Bytes::read(value)?,
             ITERATIONS => {
                 self.iterations = leading_u32(value).unwrap_or(DEFAULT_ITERATIONS);
             }
@@ -90,29 +148,4 @@ impl<'a> Challenge<'a> {
         }
         Ok(())
     }
-}
-
-/// The challenge that SASL data is.
-pub(crate) fn decode_challenge(
-    alloc: Global,
-    body: &[u8],
-) -> Result<AuthenticationSaslContinue, Error>
-    ensures { Decodes (Means challenges) (IsFaultOf challenges) (λ _. ⊥) continue_shown None body.now result }
-{
-    let mut challenge = Challenge {
-        salt: Vec::new(alloc),
-        iterations: DEFAULT_ITERATIONS,
-        nonce: &[],
-    };
-    for item in SaslItems::new(body) {
-        challenge.take(alloc, item)?;
-    }
-    let nonce = utf8_text(challenge.nonce).ok_or(ProtocolFault::NotUtf8)?;
-    let message = utf8_text(body).ok_or(ProtocolFault::NotUtf8)?;
-    Ok(AuthenticationSaslContinue {
-        salt: challenge.salt,
-        iterations: challenge.iterations,
-        nonce: String::from_str(alloc, nonce)?,
-        message: String::from_str(alloc, message)?,
-    })
 }

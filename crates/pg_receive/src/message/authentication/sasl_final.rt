@@ -2,7 +2,7 @@
 
 ghost use Rattle.std.specs.Prelude.{ℕ, List, None};
 ghost use Rattle.pg_base.specs.Decode.{Decodes};
-ghost use Rattle.pg_format.specs.Format.{Means, IsFaultOf};
+ghost use Rattle.pg_format.specs.Format.{Means, IsFaultOf, ReadsAs};
 ghost use Rattle.pg_format.proofs.FormatLaws.Whole.{one_meaning, meaning_or_fault};
 ghost use Rattle.pg_format.proofs.FormatLaws.Parts.{lawful_remaining};
 ghost use Rattle.pg_format.proofs.FormatLaws.Sequences.{lawful_viewed};
@@ -11,10 +11,11 @@ ghost use Rattle.pg_format.specs.Sasl.{final_message_fault};
 ghost use Rattle.pg_receive.specs.Authentication.SaslFinal.{verifier_in, verifiers, GivesNoVerifier};
 ghost use Rattle.pg_receive.specs.Authentication.SaslFinal.Shown.{final_shown};
 
-use crate::message::authentication::sasl_items::{SaslItems, decode_base64, split_key};
+use crate::message::authentication::base64_bytes::Base64Bytes;
+use crate::message::authentication::sasl_items::{SaslItems, split_key};
 use bytes::Bytes;
-use pg_base::Error;
 use pg_base::io::ProtocolDecode;
+use pg_base::{Error, ProtocolFault};
 use std::alloc::Global;
 
 const VERIFIER: u8 = b'v';
@@ -53,12 +54,33 @@ impl ProtocolDecode for AuthenticationSaslFinal {
 pub(crate) fn decode_verifier(alloc: Global, body: &[u8]) -> Result<Vec<u8>, Error>
     ensures { Decodes (Means verifiers) (IsFaultOf verifiers) GivesNoVerifier (λ verifier. verifier.items) None body.now result }
 {
-    let mut verifier = Vec::new(alloc);
-    for item in SaslItems::new(body) {
-        let (key, value) = split_key(item)?;
-        if key == VERIFIER {
-            verifier = decode_base64(alloc, value)?;
-        }
+    let verifier = AuthenticationSaslFinalRef::read(body)?.verifier;
+    if verifier.is_empty() {
+        return Ok(Vec::new(alloc));
     }
-    Ok(verifier)
+    Ok(verifier.to_vec(alloc)?)
+}
+
+/// An [`AuthenticationSaslFinal`] that is borrowed from the data of its message.
+#[derive(Drop)]
+pub struct AuthenticationSaslFinalRef<'a> {
+    /// Empty where none is given.
+    pub verifier: Base64Bytes<'a>,
+}
+
+impl<'a> AuthenticationSaslFinalRef<'a> {
+    /// Reads SASL data, which follows the number of the method. Its value and its faults are those of
+    /// [`AuthenticationSaslFinal`].
+    pub fn read(data: &'a [u8]) -> Result<AuthenticationSaslFinalRef<'a>, ProtocolFault>
+        ensures { ReadsAs verifiers (λ final. final.verifier) «data».now result }
+    {
+        let mut verifier = Base64Bytes::empty();
+        for item in SaslItems::new(data) {
+            let (key, value) = split_key(item)?;
+            if key == VERIFIER {
+                verifier = Base64Bytes::read(value)?;
+            }
+        }
+        Ok(AuthenticationSaslFinalRef { verifier })
+    }
 }

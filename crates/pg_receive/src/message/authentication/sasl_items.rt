@@ -1,18 +1,14 @@
 //! The items of SASL data.
 
-ghost use Rattle.std.specs.Prelude.{◌≡◌, ℕ, List, [], ◌∷◌, Some, None, IfOk, IfErr};
+ghost use Rattle.std.specs.Prelude.{◌≡◌, ℕ, List, [], ◌∷◌, IfOk, IfErr};
 ghost use Rattle.std.specs.Iterator.{YieldsFirstRef, item_count};
 ghost use Rattle.std.specs.Option.{option_map_or};
-ghost use Rattle.pg_base.specs.Decode.{Decodes};
-ghost use Rattle.pg_base.specs.declared.error.ProtocolFault.TheVariants.{ShortSaslItem, Base64};
-ghost use Rattle.pg_format.specs.Sasl.{items_in, base64_of};
+ghost use Rattle.pg_base.specs.declared.error.ProtocolFault.TheVariants.{ShortSaslItem};
+ghost use Rattle.pg_format.specs.Sasl.{items_in};
 ghost use Rattle.pg_receive.specs.Authentication.SaslItems.{IsShortItem};
 
-use base64::DecodeAllocError;
-use base64::engine::general_purpose::STANDARD;
 use memchr::memchr;
-use pg_base::{Error, ProtocolFault};
-use std::alloc::Global;
+use pg_base::ProtocolFault;
 use std::marker::Model;
 
 /// The pieces of SASL data between commas, in order.
@@ -67,16 +63,5 @@ pub(crate) fn split_key(item: &[u8]) -> Result<(u8, &[u8]), ProtocolFault>
     match item {
         [key, _, value @ ..] => Ok((*key, value)),
         _ => Err(ProtocolFault::ShortSaslItem),
-    }
-}
-
-/// The bytes that a value is the base64 of.
-pub(crate) fn decode_base64(alloc: Global, value: &[u8]) -> Result<Vec<u8>, Error>
-    ensures { Decodes (λ value bytes. base64_of value ≡ Some bytes) (λ value fault. (base64_of value ≡ None) × (fault ≡ Base64)) (λ _. ⊥) (λ bytes. bytes.items) None value.now result }
-{
-    match STANDARD.decode(alloc, value) {
-        Ok(bytes) => Ok(bytes),
-        Err(DecodeAllocError::OutOfMemory) => Err(Error::OutOfMemory),
-        Err(DecodeAllocError::DecodeError(_)) => Err(ProtocolFault::Base64.into()),
     }
 }

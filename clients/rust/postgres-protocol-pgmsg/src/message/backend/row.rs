@@ -51,18 +51,26 @@ pub struct DataRowRanges<'a> {
     left: Option<vec::IntoIter<Cell>>,
 }
 
+/// How many cells a row says it has.
+#[inline]
+fn announced(body: &[u8]) -> usize {
+    body.get(..COUNT)
+        .map_or(0, |mut count| count.get_u16().into())
+}
+
 /// The cells of a row, in `few` where there is room for them, else in `many`.
 #[inline]
 fn read<'c>(body: &[u8], few: &'c mut [Cell], many: &'c mut Vec<Cell>) -> io::Result<&'c [Cell]> {
-    let count = places_in(body, few)?;
-    let cells = match few.get(..count) {
-        Some(cells) => cells,
-        None => {
-            many.resize(count, Cell::default());
-            places_in(body, many)?;
-            many
-        }
+    let count = announced(body);
+    let room = if count <= few.len() {
+        few
+    } else {
+        // A row of more is refused.
+        many.resize(count.min(body.len() / LENGTH), Cell::default());
+        many
     };
+    let count = places_in(body, room)?;
+    let cells = &room[..count];
     ends(body, end(cells))?;
     Ok(cells)
 }
@@ -130,13 +138,8 @@ impl FallibleIterator for DataRowRanges<'_> {
 
     #[inline]
     fn size_hint(&self) -> (usize, Option<usize>) {
-        let announced = || {
-            self.body
-                .get(..COUNT)
-                .map_or(0, |count| Buf::get_u16(&mut &count[..]))
-        };
         let left = self.left.as_ref();
-        let left = left.map_or_else(|| announced().into(), ExactSizeIterator::len);
+        let left = left.map_or_else(|| announced(self.body), ExactSizeIterator::len);
         (left, Some(left))
     }
 }

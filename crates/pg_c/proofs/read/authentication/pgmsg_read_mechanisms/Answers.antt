@@ -1,7 +1,7 @@
 use Rattle.std.proofs.Common.{◌≡◌, ℕ, ◌-◌, ◌<◌, ◌≤◌, List, [], length, take, drop, refl, sym, arith}
 use Rattle.std.proofs.lemmas.List.{take-append-drop, length-take-le, length-drop, take_all, drop_all}
 use Rattle.pg_receive.specs.Authentication.Mechanisms.{mechanisms_in}
-use Rattle.pg_receive.proofs.AuthenticationMechanismsLemmas.{no_mechanisms_clean}
+use Rattle.pg_receive.proofs.AuthenticationMechanismsLemmas.{mechanisms_at, no_mechanisms_clean}
 use Rattle.pg_c.specs.Place.{part}
 use Rattle.std.specs.Prelude.{slice_range}
 use Rattle.pg_c.proofs.ReadLemmas.{none_given}
@@ -14,11 +14,12 @@ pub loop-name-preserved : goal.loop-name-preserved
 loop-name-preserved c =
     let read = c.loop-name in
     let next = c.in-Some in
+    let first = mechanisms_at read.rest.now next.name.now next.after.now next.ensures.found in
     elim c.if-count-mechanisms.branch [
       | then-count-mechanisms w ↦ rw w.mechanisms-is
-          (one_more_name c.args.body.now _ read.rest.now read.at read.count c.args.mechanisms.now read.mechanisms next.name.now next.after.now read.invariant next.ensures.found w.if-count-mechanisms.true)
+          (one_more_name mechanisms_in c.args.body.now _ read.rest.now read.at read.count c.args.mechanisms.now read.mechanisms next.name.now next.after.now read.invariant next.ensures.found.text first w.if-count-mechanisms.true)
       | else-count-mechanisms w ↦ rw w.mechanisms-is
-          (no_more_name c.args.body.now _ read.rest.now read.at read.count c.args.mechanisms.now read.mechanisms next.name.now next.after.now read.invariant next.ensures.found (omega (arith, w.if-count-mechanisms.false)))
+          (no_more_name mechanisms_in c.args.body.now _ read.rest.now read.at read.count c.args.mechanisms.now read.mechanisms next.name.now next.after.now read.invariant next.ensures.found.text first (omega (arith, w.if-count-mechanisms.false)))
     ]
 
 pub loop-name-init : goal.loop-name-init
