@@ -47,9 +47,13 @@ class Crate:
         """Where its checks keep what they proved."""
         return self.folder / "out/incremental"
 
+    def is_program(self):
+        """Whether it is a program."""
+        return self.root == "src/main.rt"
+
     def has_tests(self):
         """Whether it has unit tests."""
-        return any("#[test]" in file.read_text() for file in (self.folder / "src").rglob("*.rt"))
+        return (self.folder / "tests").exists()
 
     def is_older(self, made):
         """Whether a file that was made of the crate is missing, or some source is not older than it."""
@@ -164,9 +168,13 @@ def build_one(crate, jobs):
     return run.stdout if run.returncode else ""
 
 
-def archive(crate):
-    """The static library of a crate, proved and built where that is not done; what was proved stays beside it."""
-    build([crate])
+def archive(crate, is_ready=False):
+    """The static library of a crate, proved and built where that is not done; what was proved stays beside it.
+
+    What it stands on is built too, but where that is ready: a library that another run built may have an older time.
+    """
+    if not is_ready:
+        build([crate])
     made = crate.folder / "out" / f"lib{crate.name}.a"
     with locked([crate]):
         if crate.is_older(made):

@@ -1,4 +1,4 @@
-"""Which wrong bodies the merge gate tries: those of what changed since all were tried, and a share of the others."""
+"""Which wrong bodies the merge gate tries: those of what changed since all were tried, and all of some crates."""
 
 import subprocess
 
@@ -8,19 +8,20 @@ import crates
 # The commit as of which all were tried, and by which toolchain.
 TRIED = crates.TOP / "tests" / "tried"
 
-# Of what didn't change, one part in so many is tried, another one at each commit.
-SHARES = 4
+# The crates are in so many sets of about as many wrong bodies; all of one set are tried, another one at each commit.
+SHARES = 5
 
 
 class Due:
-    """What is due at this commit."""
+    """What is due at this commit, of the wrong bodies of each crate."""
 
-    def __init__(self):
+    def __init__(self, edits):
         since, toolchain = TRIED.read_text().splitlines()[1:]
         # A clone without its history tries all.
         self.is_all = not is_ancestor(since) or toolchain != printed("rt", "version")
         if not self.is_all:
-            self.turn = int(changes.git("rev-list", "--count", "HEAD")) % SHARES
+            turn = int(changes.git("rev-list", "--count", "HEAD")) % SHARES
+            self.whole = shares({crate: len(its) for crate, its in edits.items()})[turn]
             lines = changes.changed(since)
             self.changed = {crate: changes.Change(crate, since, lines) for crate in crates.known().values()}
 
@@ -30,10 +31,17 @@ class Due:
         What the crates below it promise doesn't decide: a body that breaks a promise of its own crate breaks it over
         any of theirs.
         """
-        if self.is_all:
+        if self.is_all or crate in self.whole:
             return edits
-        # Neighbours, which mostly change one function, come into different shares.
-        return [it for number, it in enumerate(edits) if number % SHARES == self.turn or self.changed[crate].concerns(it)]
+        return list(filter(self.changed[crate].concerns, edits))
+
+
+def shares(counts):
+    """Sets of crates with about as many wrong bodies, given how many each has."""
+    sets = [[] for _ in range(SHARES)]
+    for crate in sorted(counts, key=counts.get, reverse=True):
+        min(sets, key=lambda it: sum(map(counts.get, it))).append(crate)
+    return sets
 
 
 def is_ancestor(commit):

@@ -48,7 +48,7 @@ def functions(crate, path, text):
 
 def module(crate, path):
     """The path of a source's module, from its crate's name on."""
-    parts = path.removeprefix("src/").removesuffix(".rt").split("/")
+    parts = path.removeprefix("src/").removesuffix(".in").removesuffix(".rt").split("/")
     if parts[-1] in ("mod", "lib", "main"):
         parts.pop()
     return [crate, *parts]

@@ -22,14 +22,48 @@ FOLDERS = ("edits", "must-fail")
 SELF_TEST = crates.TOP / "tests" / "self_test"
 
 
+# Of so many edits of a crate, most of its functions are proved anyway.
+MANY = 20
+
+# No more checks at a time than there are processors for.
+PROCESSORS = threading.BoundedSemaphore(crates.processors())
+
+
+class Known:
+    """What is proved of a crate before its edits, of which there are so many: once for all that try some of them."""
+
+    def __init__(self, crate, edits, proofs):
+        self.crate, self.edits, self.proofs = crate, edits, proofs
+        self.lock, self.folder = threading.Lock(), None
+
+    def is_proved(self):
+        """Waits until the crate is proved, where that is done meanwhile; whether it is."""
+        return self.proofs is None or self.proofs.have(self.crate)
+
+    def copy(self, to):
+        """Copies it to a folder."""
+        with self.lock:
+            if not self.folder:
+                self.folder = tempfile.TemporaryDirectory(prefix="proved-")
+                self.fill()
+        shutil.copytree(self.folder.name, to, dirs_exist_ok=True)
+
+    def fill(self):
+        """Takes what earlier checks proved; of a static library, what its build did; of many edits' crate, all of it."""
+        if self.crate.is_static:
+            crates.archive(self.crate, is_ready=self.proofs is not None)
+        if self.crate.kept().exists():
+            shutil.copytree(self.crate.kept(), self.folder.name, dirs_exist_ok=True)
+        elif self.edits > MANY:
+            with PROCESSORS:
+                self.crate.check({}, [], self.folder.name)
+
+
 class Trial:
-    """The edits of one crate, tried in turn over what its earlier checks proved."""
+    """Some edits of a crate, tried in turn over what is known of it and what its earlier checks proved."""
 
-    # No more checks at a time than there are processors for.
-    turns = threading.BoundedSemaphore(crates.processors())
-
-    def __init__(self, crate, edits):
-        self.crate, self.edits, self.checks, self.kept = crate, edits, 0, None
+    def __init__(self, known, edits):
+        self.known, self.crate, self.edits, self.checks, self.kept = known, known.crate, edits, 0, None
         self.passed, self.failed = 0, 0
 
     def show(self, edit, verdict, why):
@@ -42,9 +76,9 @@ class Trial:
             self.failed += 1
             print(f"FAILED {label}: {verdict}: {why}", flush=True)
 
-    def run(self, proofs):
+    def run(self):
         """Shows a verdict for each edit, once its crate is proved."""
-        is_proved = proofs is None or proofs.have(self.crate)
+        is_proved = self.known.is_proved()
         left = []
         for edit in self.edits:
             if edit.why_not or not is_proved:
@@ -54,18 +88,12 @@ class Trial:
         # Laws that stand on most come first, since they can stand beside the fewest.
         left.sort(key=lambda edit: -len(edit.stands_on))
         with tempfile.TemporaryDirectory(prefix="edits-") as self.kept:
-            self.begin(proofs)
+            if left:
+                self.known.copy(self.kept)
             while left:
                 batch = batch_of(left)
                 again = self.together(batch) if len(batch) > 1 else self.alone(batch[0])
                 left = [edit for edit in left if edit not in batch] + again
-
-    def begin(self, proofs):
-        """Begins with what earlier checks proved; of a static library, with what its build did."""
-        if self.crate.is_static and not proofs:
-            crates.archive(self.crate)
-        if self.crate.kept().exists():
-            shutil.copytree(self.crate.kept(), self.kept, dirs_exist_ok=True)
 
     def check(self, edits):
         """The report of a check of the functions that these edits change."""
@@ -73,7 +101,7 @@ class Trial:
         functions = sorted({owner.partition("::")[2] for edit in edits for owner in edit.owners - edit.laws})
         # A law is checked with all that is.
         only = [] if any(edit.laws for edit in edits) else [word for function in functions for word in ("--only", function)]
-        with self.turns:
+        with PROCESSORS:
             return report.Report(self.crate.check(wrong_bodies.texts(self.crate, edits), only, self.kept))
 
     def together(self, batch):
@@ -169,7 +197,7 @@ def run(trials, proofs=None):
     if not proofs:
         crates.build([trial.crate for trial in trials])
     with ThreadPoolExecutor(max(1, len(trials))) as pool:
-        list(pool.map(lambda trial: trial.run(proofs), trials))
+        list(pool.map(Trial.run, trials))
     passed, failed, checks = (sum(getattr(trial, it) for trial in trials) for it in ("passed", "failed", "checks"))
     print(f"{passed + failed} edits in {checks} checks and {time.monotonic() - begun:.0f} seconds")
     print(f"{passed} passed, {failed} failed")

@@ -5,8 +5,6 @@
 
 mod error;
 mod load;
-#[cfg(test)]
-mod tests;
 
 pub use error::LoadError;
 pub use load::{Load, encode_rows};

@@ -2,7 +2,5 @@
 #![tactic(auto)]
 
 pub mod copy_load;
-#[cfg(test)]
-mod first;
 pub mod listen;
 pub mod record;

@@ -6,8 +6,6 @@
 mod error;
 mod event;
 mod session;
-#[cfg(test)]
-mod tests;
 
 pub use error::SessionError;
 pub use event::Event;

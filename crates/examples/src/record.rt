@@ -3,7 +3,5 @@
 //! Hand each piece of the stream to a [`Recorder`], and read [`Recorder::lines`].
 
 mod recorder;
-#[cfg(test)]
-mod tests;
 
 pub use recorder::Recorder;

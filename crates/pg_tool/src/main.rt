@@ -33,6 +33,3 @@ fn main(rt: HostRuntime) -> ExitCode {
         &mut errors,
     ))
 }
-
-#[cfg(test)]
-mod tests;

@@ -1,0 +1,56 @@
+// Has each request for memory of a test refused in turn: at each, a child goes on without that memory to the end of
+// the test, before the test itself goes on with it. Each may end as README.md says.
+#include "grants.h"
+
+#include <stdio.h>
+#include <stdlib.h>
+#include <string.h>
+#include <sys/wait.h>
+#include <unistd.h>
+
+// How a test ends whose result is an error; a failed assertion ends by a signal.
+#define RESULT_IS_AN_ERROR 101
+
+// What the address sanitizer runs where nothing takes the place of its functions of two underscores.
+void *___interceptor_malloc(size_t size);
+void *___interceptor_realloc(void *old, size_t size);
+
+// The test, once it has begun; none in a child.
+static const char *test;
+
+__attribute__((constructor)) static void begin(int count, char **arguments) {
+    if (count == 2 && strcmp(arguments[1], "--list")) test = arguments[1];
+}
+
+static int may_end(int status) {
+    return WIFEXITED(status) && (WEXITSTATUS(status) == 0 || WEXITSTATUS(status) == RESULT_IS_AN_ERROR);
+}
+
+// Ends as a child did that mustn't.
+static void end_as(int status) {
+    fprintf(stderr, "%s, with request %zu refused:\n", test, requests);
+    if (WIFSIGNALED(status)) raise(WTERMSIG(status));
+    _exit(WIFEXITED(status) && WEXITSTATUS(status) ? WEXITSTATUS(status) : 2);
+}
+
+// Whether this request is refused, as it is in the child alone.
+static int is_refused_again(void) {
+    if (!test) return 0;
+    pid_t child = fork();
+    if (child == 0) {
+        test = NULL;
+        return 1;
+    }
+    int status;
+    if (child < 0 || waitpid(child, &status, 0) < 0) _exit(2);
+    if (!may_end(status)) end_as(status);
+    return 0;
+}
+
+void *__interceptor_malloc(size_t size) {
+    return grants(size) ? ___interceptor_malloc(given(size)) : refused();
+}
+
+void *__interceptor_realloc(void *old, size_t size) {
+    return grants(size) ? ___interceptor_realloc(old, size) : refused();
+}
