@@ -47,6 +47,10 @@ class Crate:
         """Where its checks keep what they proved."""
         return self.folder / "out/incremental"
 
+    def place_of_proof(self):
+        """What is locked while a static library is proved for its build, beside a run of `rt ci`, which locks its folder."""
+        return self.folder / "src"
+
     def is_program(self):
         """Whether it is a program."""
         return self.root == "src/main.rt"
@@ -64,20 +68,23 @@ class Crate:
         sources = [path for part in parts if part.exists() for path in [part, *part.rglob("*")]]
         return max(path.stat().st_ctime for path in [TOP / "crates.txt", *sources]) >= made.stat().st_mtime
 
-    def check(self, texts, flags, kept):
-        """The lines of a check of a copy with these texts in place of its own, over what `kept` holds."""
+    def check(self, texts, flags, kept, jobs=1, before=()):
+        """The lines of a check of a copy with these texts in place of its own, over what `kept` holds.
+
+        The words `before` the compiler's are those of a command that runs it.
+        """
         with tempfile.TemporaryDirectory(prefix="check-") as copy:
             for part in PARTS:
                 if (self.folder / part).exists():
                     shutil.copytree(self.folder / part, f"{copy}/{part}")
             for path, text in texts.items():
                 pathlib.Path(copy, path).write_text(text)
-            run = self.run("check", "--incremental", kept, "--jobs", "1", *flags, folder=copy)
+            run = self.run("check", "--incremental", kept, "--jobs", str(jobs), *flags, folder=copy, before=before)
         return run.stdout.splitlines()
 
-    def run(self, verb, *flags, folder=None):
+    def run(self, verb, *flags, folder=None, before=()):
         """A compiler's call over the libraries that are built, in its folder or in a copy of that."""
-        return subprocess.run([*self.command(verb), *flags], cwd=folder or self.folder, stdin=subprocess.DEVNULL,
+        return subprocess.run([*before, *self.command(verb), *flags], cwd=folder or self.folder, stdin=subprocess.DEVNULL,
                               stdout=subprocess.PIPE, stderr=subprocess.STDOUT, text=True, errors="replace")
 
     def command(self, verb):
@@ -119,7 +126,7 @@ def build(crates, report=lambda crate, done, total: None):
         if crate.is_older(crate.built() / "format") or not set(left).isdisjoint(crate.libraries()):
             left.append(crate)
     total = len(left)
-    with locked(left), ThreadPoolExecutor(processors()) as pool:
+    with locked([crate.folder for crate in left]), ThreadPoolExecutor(processors()) as pool:
         while left or running:
             for crate, jobs in startable(left, running.values()):
                 running[pool.submit(build_one, crate, jobs)] = crate, jobs
@@ -132,10 +139,10 @@ def build(crates, report=lambda crate, done, total: None):
 
 
 @contextlib.contextmanager
-def locked(crates):
-    """Waits for each rt that works in a crate's folder, and keeps others out."""
+def locked(folders):
+    """Waits for whatever works in these folders, as each rt does in a crate's, and keeps others out."""
     with contextlib.ExitStack() as held:
-        for folder in sorted(crate.folder for crate in crates):
+        for folder in sorted(folders):
             opened = os.open(folder, os.O_RDONLY)
             held.callback(os.close, opened)
             fcntl.flock(opened, fcntl.LOCK_EX)
@@ -168,15 +175,11 @@ def build_one(crate, jobs):
     return run.stdout if run.returncode else ""
 
 
-def archive(crate, is_ready=False):
-    """The static library of a crate, proved and built where that is not done; what was proved stays beside it.
-
-    What it stands on is built too, but where that is ready: a library that another run built may have an older time.
-    """
-    if not is_ready:
-        build([crate])
+def archive(crate):
+    """The static library of a crate, proved and built where that is not done; what was proved stays beside it."""
+    build([crate])
     made = crate.folder / "out" / f"lib{crate.name}.a"
-    with locked([crate]):
+    with locked([crate.folder, crate.place_of_proof()]):
         if crate.is_older(made):
             # What fails must leave no library of older sources.
             made.unlink(missing_ok=True)

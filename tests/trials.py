@@ -25,8 +25,9 @@ SELF_TEST = crates.TOP / "tests" / "self_test"
 # Of so many edits of a crate, most of its functions are proved anyway.
 MANY = 20
 
-# No more checks at a time than there are processors for.
+# No more checks at a time than there are processors for, which they leave to whatever else runs.
 PROCESSORS = threading.BoundedSemaphore(crates.processors())
+NICE = ("nice", "-n", "19")
 
 
 class Known:
@@ -36,9 +37,14 @@ class Known:
         self.crate, self.edits, self.proofs = crate, edits, proofs
         self.lock, self.folder = threading.Lock(), None
 
-    def is_proved(self):
-        """Waits until the crate is proved, where that is done meanwhile; whether it is."""
-        return self.proofs is None or self.proofs.have(self.crate)
+    def can_begin(self):
+        """Waits until what is needed is proved, where that is done meanwhile; whether it is."""
+        needed = self.crate.libraries() if self.serves_build() else [self.crate]
+        return self.proofs is None or all(map(self.proofs.have, needed))
+
+    def serves_build(self):
+        """Whether the build of a static library will take it, since a run of `rt ci` leaves nothing of one."""
+        return self.proofs is not None and self.crate.is_static
 
     def copy(self, to):
         """Copies it to a folder."""
@@ -49,14 +55,17 @@ class Known:
         shutil.copytree(self.folder.name, to, dirs_exist_ok=True)
 
     def fill(self):
-        """Takes what earlier checks proved; of a static library, what its build did; of many edits' crate, all of it."""
-        if self.crate.is_static:
-            crates.archive(self.crate, is_ready=self.proofs is not None)
-        if self.crate.kept().exists():
-            shutil.copytree(self.crate.kept(), self.folder.name, dirs_exist_ok=True)
+        """Takes what earlier checks proved, else proves a crate of many edits, and one that serves its build."""
+        kept = self.crate.kept()
+        if kept.exists():
+            shutil.copytree(kept, self.folder.name, dirs_exist_ok=True)
+        elif self.serves_build():
+            with crates.locked([self.crate.place_of_proof()]), PROCESSORS:
+                self.crate.check({}, [], self.folder.name, jobs=2)
+                shutil.copytree(self.folder.name, kept)
         elif self.edits > MANY:
             with PROCESSORS:
-                self.crate.check({}, [], self.folder.name)
+                self.crate.check({}, [], self.folder.name, before=NICE)
 
 
 class Trial:
@@ -78,17 +87,17 @@ class Trial:
 
     def run(self):
         """Shows a verdict for each edit, once its crate is proved."""
-        is_proved = self.known.is_proved()
+        can_begin = self.known.can_begin()
         left = []
         for edit in self.edits:
-            if edit.why_not or not is_proved:
+            if edit.why_not or not can_begin:
                 self.show(edit, NOT_APPLIED, edit.why_not or "its crate is not proved")
             else:
                 left.append(edit)
         # Laws that stand on most come first, since they can stand beside the fewest.
         left.sort(key=lambda edit: -len(edit.stands_on))
         with tempfile.TemporaryDirectory(prefix="edits-") as self.kept:
-            if left:
+            if left or can_begin and self.known.serves_build():
                 self.known.copy(self.kept)
             while left:
                 batch = batch_of(left)
@@ -102,7 +111,7 @@ class Trial:
         # A law is checked with all that is.
         only = [] if any(edit.laws for edit in edits) else [word for function in functions for word in ("--only", function)]
         with PROCESSORS:
-            return report.Report(self.crate.check(wrong_bodies.texts(self.crate, edits), only, self.kept))
+            return report.Report(self.crate.check(wrong_bodies.texts(self.crate, edits), only, self.kept, before=NICE))
 
     def together(self, batch):
         """Judges a batch by one check; returns what is to be tried again."""
@@ -193,7 +202,7 @@ def due(edit):
 def run(trials, proofs=None):
     """Runs trials beside each other, each once it has its proofs; returns whether each edit had the verdict that is due."""
     begun = time.monotonic()
-    trials = [trial for trial in trials if trial.edits]
+    trials = [trial for trial in trials if trial.edits or trial.known.serves_build()]
     if not proofs:
         crates.build([trial.crate for trial in trials])
     with ThreadPoolExecutor(max(1, len(trials))) as pool:
