@@ -24,9 +24,9 @@ abbrev pub IsBodyFault : (List ℕ → ProtocolFault → Type 0) → List ℕ �
 IsBodyFault IsFault body fault = ((max_body < length body) × (fault ≡ BodyTooLong (length body))) ⊎ ((length body ≤ max_body) × IsFault body fault)
 
 -- a result below 0 refuses the body, for its fault
-abbrev pub RefusesBody : {V : Type 0} → Format V → List ℕ → Type 0 → PgmsgFault → PgmsgFault → ℤ → Type 0
-RefusesBody g body AsksForMemory old new result =
-    result <ℤ pos 0 → Refuses (IsBodyFault (IsFaultOf g) body) AsksForMemory old new result
+abbrev pub RefusesBody : {V : Type 0} → Format V → List ℕ → PgmsgFault → PgmsgFault → ℤ → Type 0
+RefusesBody g body old new result =
+    result <ℤ pos 0 → Refuses (IsBodyFault (IsFaultOf g) body) old new result
 
 -- what is read of a body: a value that it means, or its fault
 abbrev pub ReadsBody : {A V : Type 0} → Format V → (A → V) → List ℕ → Result A ProtocolFault → Type 0

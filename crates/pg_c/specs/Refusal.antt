@@ -56,13 +56,13 @@ pub record IsReport (error : Error) (old fault : PgmsgFault) (result : ℤ) : Ty
   pub words : (fault.words_len ≡ 0) ⊎ (take fault.words_len fault.words ≡ error_words error)
   pub rest : drop fault.words_len fault.words ≡ drop fault.words_len old.words
 
--- a fault that the bytes have, of no message read as a kind; or out of memory
-abbrev pub IsErrorOf : (ProtocolFault → Type 0) → Type 0 → Error → Type 0
-IsErrorOf IsFault AsksForMemory (Protocol reading fault) = (reading ≡ None) × IsFault fault
-IsErrorOf IsFault AsksForMemory OutOfMemory = AsksForMemory
+-- a fault that the bytes have, of no message read as a kind; never out of memory
+abbrev pub IsErrorOf : (ProtocolFault → Type 0) → Error → Type 0
+IsErrorOf IsFault (Protocol reading fault) = (reading ≡ None) × IsFault fault
+IsErrorOf IsFault OutOfMemory = ⊥
 
--- a call that reads refuses for a fault that the bytes have; memory ran out only where it was asked for
-pub record Refuses (IsFault : ProtocolFault → Type 0) (AsksForMemory : Type 0) (old fault : PgmsgFault) (result : ℤ) : Type 0 where
+-- a call that reads refuses for a fault that the bytes have
+pub record Refuses (IsFault : ProtocolFault → Type 0) (old fault : PgmsgFault) (result : ℤ) : Type 0 where
   pub error : Error
-  pub is : IsErrorOf IsFault AsksForMemory error
+  pub is : IsErrorOf IsFault error
   pub report : IsReport error old fault result

@@ -55,7 +55,7 @@ pub extern "C" fn pgmsg_read_authentication(
 ) -> i32
     ensures result { result ≤ℤ pos 0 }
     ensures value { result ≡ pos 0 → ReadsAuthentication body.now authentication.new }
-    ensures fault { RefusesBody requests body.now ⊥ fault.old fault.new result }
+    ensures fault { RefusesBody requests body.now fault.old fault.new result }
     ensures within { pos 0 ≤ℤ result → length body.now ≤ max_body }
     ensures untouched { pos 0 ≤ℤ result → fault.new ≡ fault.old }
     ensures kept { result <ℤ pos 0 → authentication.new ≡ authentication.old }
@@ -134,7 +134,7 @@ pub extern "C" fn pgmsg_read_challenge(
     ensures value { result ≡ pos 0
         → ReadsChallenge body.now challenge.new salt.old salt.new nonce.old nonce.new }
     ensures fault { result <ℤ pos 0
-        → Refuses (IsAskedFault 11 body.now) ⊥ fault.old fault.new result }
+        → Refuses (IsAskedFault 11 body.now) fault.old fault.new result }
     ensures within { pos 0 ≤ℤ result → length body.now ≤ max_body }
     ensures untouched { pos 0 ≤ℤ result → fault.new ≡ fault.old }
     ensures kept { result <ℤ pos 0
@@ -208,7 +208,7 @@ pub extern "C" fn pgmsg_read_verifier(
 ) -> isize
     ensures value { pos 0 ≤ℤ result → ReadsVerifier body.now verifier.old verifier.new result }
     ensures fault { result <ℤ pos 0
-        → Refuses (IsAskedFault 12 body.now) ⊥ fault.old fault.new result }
+        → Refuses (IsAskedFault 12 body.now) fault.old fault.new result }
     ensures within { pos 0 ≤ℤ result → length body.now ≤ max_body }
     ensures untouched { pos 0 ≤ℤ result → fault.new ≡ fault.old }
     ensures kept { result <ℤ pos 0 → verifier.new ≡ verifier.old }

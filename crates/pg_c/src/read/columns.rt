@@ -52,7 +52,7 @@ pub extern "C" fn pgmsg_read_columns(
 ) -> isize
     ensures columns { pos 0 ≤ℤ result
         → ReadsItems row_description (column_in body.now) body.now columns.old columns.new result }
-    ensures fault { RefusesBody row_description body.now ⊥ fault.old fault.new result }
+    ensures fault { RefusesBody row_description body.now fault.old fault.new result }
     ensures within { pos 0 ≤ℤ result → length body.now ≤ max_body }
     ensures front { result <ℤ pos 0
         → GivesFront column (column_in body.now) body.now 2 columns.old columns.new }
@@ -129,7 +129,7 @@ pub extern "C" fn pgmsg_read_parameter_types(
     ensures types { pos 0 ≤ℤ result
         → ReadsItems parameter_description (λ number. Some number) body.now
         types.old types.new result }
-    ensures fault { RefusesBody parameter_description body.now ⊥ fault.old fault.new result }
+    ensures fault { RefusesBody parameter_description body.now fault.old fault.new result }
     ensures within { pos 0 ≤ℤ result → length body.now ≤ max_body }
     ensures front { result <ℤ pos 0
         → GivesFront be_u32 (λ number. Some number) body.now 2 types.old types.new }

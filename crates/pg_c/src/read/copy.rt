@@ -42,7 +42,7 @@ pub extern "C" fn pgmsg_read_copy_response(
 ) -> isize
     ensures formats { pos 0 ≤ℤ result
         → ReadsFormats body.now response.new codes.old codes.new result }
-    ensures fault { RefusesBody copy_response body.now ⊥ fault.old fault.new result }
+    ensures fault { RefusesBody copy_response body.now fault.old fault.new result }
     ensures within { pos 0 ≤ℤ result → length body.now ≤ max_body }
     ensures front { result <ℤ pos 0
         → GivesFront be_i16 (λ code. Some code) body.now 3 codes.old codes.new }

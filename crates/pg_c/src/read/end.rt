@@ -27,7 +27,7 @@ pub extern "C" fn pgmsg_read_end(
 ) -> isize
     ensures end { pos 0 ≤ℤ result → GivesEnd tag body.now result }
     ensures fault { result <ℤ pos 0
-        → Refuses (IsEndFault tag body.now) ⊥ fault.old fault.new result }
+        → Refuses (IsEndFault tag body.now) fault.old fault.new result }
     ensures within { pos 0 ≤ℤ result → length body.now ≤ max_body }
     ensures untouched { pos 0 ≤ℤ result → fault.new ≡ fault.old }
 {

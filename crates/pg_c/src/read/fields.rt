@@ -53,7 +53,7 @@ pub extern "C" fn pgmsg_read_fields(body: &[u8], fields: &mut [PgmsgField]) -> u
 #[unsafe(no_mangle)]
 pub extern "C" fn pgmsg_read_severity(alloc: Global, body: &[u8], fault: &mut PgmsgFault) -> i32
     ensures severity { pos 0 ≤ℤ result → IsSeverityOf body.now result }
-    ensures fault { RefusesBody notices body.now ⊥ fault.old fault.new result }
+    ensures fault { RefusesBody notices body.now fault.old fault.new result }
     ensures within { pos 0 ≤ℤ result → length body.now ≤ max_body }
     ensures untouched { pos 0 ≤ℤ result → fault.new ≡ fault.old }
 {

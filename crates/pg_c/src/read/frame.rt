@@ -43,7 +43,7 @@ pub extern "C" fn pgmsg_next_frame(
     ensures part_alone { result ≡ pos 0
         → (frame.new.tag ≡ frame.old.tag) × (frame.new.body ≡ frame.old.body) }
     ensures fault { result <ℤ pos 0
-        → Refuses (IsStreamFault stream.now) ⊥ fault.old fault.new result }
+        → Refuses (IsStreamFault stream.now) fault.old fault.new result }
     ensures untouched { pos 0 ≤ℤ result → fault.new ≡ fault.old }
     ensures kept { result <ℤ pos 0 → frame.new ≡ frame.old }
 {

@@ -55,7 +55,7 @@ pub extern "C" fn pgmsg_read_command_tag(
 ) -> i32
     ensures result { result ≤ℤ pos 0 }
     ensures value { result ≡ pos 0 → ReadsTag body.now tag.new }
-    ensures fault { RefusesBody tag_text body.now ⊥ fault.old fault.new result }
+    ensures fault { RefusesBody tag_text body.now fault.old fault.new result }
     ensures within { pos 0 ≤ℤ result → length body.now ≤ max_body }
     ensures untouched { pos 0 ≤ℤ result → fault.new ≡ fault.old }
     ensures kept { result <ℤ pos 0 → tag.new ≡ tag.old }
@@ -91,7 +91,7 @@ pub extern "C" fn pgmsg_read_raw_authentication(
 ) -> i32
     ensures result { result ≤ℤ pos 0 }
     ensures value { result ≡ pos 0 → ReadsRequest body.now authentication.new }
-    ensures fault { RefusesBody raw_request body.now ⊥ fault.old fault.new result }
+    ensures fault { RefusesBody raw_request body.now fault.old fault.new result }
     ensures within { pos 0 ≤ℤ result → length body.now ≤ max_body }
     ensures untouched { pos 0 ≤ℤ result → fault.new ≡ fault.old }
     ensures kept { result <ℤ pos 0 → authentication.new ≡ authentication.old }
@@ -159,7 +159,7 @@ pub extern "C" fn pgmsg_read_raw_key_data(
 ) -> i32
     ensures result { result ≤ℤ pos 0 }
     ensures value { result ≡ pos 0 → ReadsKey body.now key.new }
-    ensures fault { RefusesBody raw_key_data body.now ⊥ fault.old fault.new result }
+    ensures fault { RefusesBody raw_key_data body.now fault.old fault.new result }
     ensures within { pos 0 ≤ℤ result → length body.now ≤ max_body }
     ensures untouched { pos 0 ≤ℤ result → fault.new ≡ fault.old }
     ensures kept { result <ℤ pos 0 → key.new ≡ key.old }
@@ -199,7 +199,7 @@ pub extern "C" fn pgmsg_read_raw_parameter_status(
 ) -> i32
     ensures result { result ≤ℤ pos 0 }
     ensures value { result ≡ pos 0 → ReadsRawSetting body.now status.new }
-    ensures fault { RefusesBody raw_parameter_status body.now ⊥ fault.old fault.new result }
+    ensures fault { RefusesBody raw_parameter_status body.now fault.old fault.new result }
     ensures within { pos 0 ≤ℤ result → length body.now ≤ max_body }
     ensures untouched { pos 0 ≤ℤ result → fault.new ≡ fault.old }
     ensures kept { result <ℤ pos 0 → status.new ≡ status.old }
@@ -236,7 +236,7 @@ fn setting_of(body: &[u8]) -> Result<RawParameterStatus<'_>, ProtocolFault>
 pub extern "C" fn pgmsg_read_no_body(alloc: Global, body: &[u8], fault: &mut PgmsgFault) -> i32
     ensures result { result ≤ℤ pos 0 }
     ensures value { result ≡ pos 0 → Means empty body.now tt }
-    ensures fault { RefusesBody empty body.now ⊥ fault.old fault.new result }
+    ensures fault { RefusesBody empty body.now fault.old fault.new result }
     ensures within { pos 0 ≤ℤ result → length body.now ≤ max_body }
     ensures untouched { pos 0 ≤ℤ result → fault.new ≡ fault.old }
 {

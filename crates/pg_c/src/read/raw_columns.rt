@@ -28,7 +28,7 @@ pub extern "C" fn pgmsg_read_raw_columns(
 ) -> isize
     ensures columns { pos 0 ≤ℤ result
         → ReadsItems raw_row_description (column_in body.now) body.now columns.old columns.new result }
-    ensures fault { RefusesBody raw_row_description body.now ⊥ fault.old fault.new result }
+    ensures fault { RefusesBody raw_row_description body.now fault.old fault.new result }
     ensures within { pos 0 ≤ℤ result → length body.now ≤ max_body }
     ensures front { result <ℤ pos 0
         → GivesFront raw_column (column_in body.now) body.now 2 columns.old columns.new }

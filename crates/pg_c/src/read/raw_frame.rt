@@ -28,7 +28,7 @@ pub extern "C" fn pgmsg_next_raw_frame(
     ensures part_tag { result ≡ pos 0 → frame.new.tag ≡ get_or stream.now 0 frame.old.tag }
     ensures part_alone { result ≡ pos 0 → frame.new.body ≡ frame.old.body }
     ensures fault { result <ℤ pos 0
-        → Refuses (HasBadLength stream.now) ⊥ fault.old fault.new result }
+        → Refuses (HasBadLength stream.now) fault.old fault.new result }
     ensures untouched { pos 0 ≤ℤ result → fault.new ≡ fault.old }
     ensures kept { result <ℤ pos 0 → frame.new ≡ frame.old }
 {

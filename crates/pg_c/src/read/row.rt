@@ -43,7 +43,7 @@ pub extern "C" fn pgmsg_read_row(
 ) -> isize
     ensures row { pos 0 ≤ℤ result
         → ReadsItems data_row (cell_in body.now) body.now cells.old cells.new result }
-    ensures fault { RefusesBody data_row body.now ⊥ fault.old fault.new result }
+    ensures fault { RefusesBody data_row body.now fault.old fault.new result }
     ensures within { pos 0 ≤ℤ result → length body.now ≤ max_body }
     ensures front { result <ℤ pos 0
         → GivesFront cell (cell_in body.now) body.now 2 cells.old cells.new }
@@ -155,7 +155,7 @@ fn read_rest(
         → ReadsItems data_row (cell_in body.now) body.now before cells.new result }
     ensures fault { (before : List PgmsgCell)
         → GivesItems cell (cell_in body.now) body.now 2 start first before cells.old
-        → RefusesBody data_row body.now ⊥ fault.old fault.new result }
+        → RefusesBody data_row body.now fault.old fault.new result }
     ensures front { result <ℤ pos 0 → (before : List PgmsgCell)
         → GivesItems cell (cell_in body.now) body.now 2 start first before cells.old
         → GivesFront cell (cell_in body.now) body.now 2 before cells.new }

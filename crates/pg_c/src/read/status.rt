@@ -53,7 +53,7 @@ pub extern "C" fn pgmsg_read_notification(
 ) -> i32
     ensures result { result ≤ℤ pos 0 }
     ensures value { result ≡ pos 0 → ReadsNotification body.now notification.new }
-    ensures fault { RefusesBody page.notification body.now ⊥ fault.old fault.new result }
+    ensures fault { RefusesBody page.notification body.now fault.old fault.new result }
     ensures within { pos 0 ≤ℤ result → length body.now ≤ max_body }
     ensures untouched { pos 0 ≤ℤ result → fault.new ≡ fault.old }
     ensures kept { result <ℤ pos 0 → notification.new ≡ notification.old }
@@ -100,7 +100,7 @@ pub extern "C" fn pgmsg_read_parameter_status(
 ) -> i32
     ensures result { result ≤ℤ pos 0 }
     ensures value { result ≡ pos 0 → ReadsSetting body.now status.new }
-    ensures fault { RefusesBody page.parameter_status body.now ⊥ fault.old fault.new result }
+    ensures fault { RefusesBody page.parameter_status body.now fault.old fault.new result }
     ensures within { pos 0 ≤ℤ result → length body.now ≤ max_body }
     ensures untouched { pos 0 ≤ℤ result → fault.new ≡ fault.old }
     ensures kept { result <ℤ pos 0 → status.new ≡ status.old }
@@ -143,7 +143,7 @@ pub extern "C" fn pgmsg_read_key_data(
     ensures value { result ≡ pos 0
         → Means page.backend_key_data body.now
         (record { process_id = key.new.process_id; secret_key = key.new.secret_key }) }
-    ensures fault { RefusesBody page.backend_key_data body.now ⊥ fault.old fault.new result }
+    ensures fault { RefusesBody page.backend_key_data body.now fault.old fault.new result }
     ensures within { pos 0 ≤ℤ result → length body.now ≤ max_body }
     ensures untouched { pos 0 ≤ℤ result → fault.new ≡ fault.old }
     ensures kept { result <ℤ pos 0 → key.new ≡ key.old }
@@ -183,7 +183,7 @@ pub extern "C" fn pgmsg_read_rows_affected(body: &[u8]) -> u64
 #[unsafe(no_mangle)]
 pub extern "C" fn pgmsg_read_ready(alloc: Global, body: &[u8], fault: &mut PgmsgFault) -> i32
     ensures value { pos 0 ≤ℤ result → IsStatusLetter body.now result }
-    ensures fault { RefusesBody page.ready_for_query body.now ⊥ fault.old fault.new result }
+    ensures fault { RefusesBody page.ready_for_query body.now fault.old fault.new result }
     ensures within { pos 0 ≤ℤ result → length body.now ≤ max_body }
     ensures untouched { pos 0 ≤ℤ result → fault.new ≡ fault.old }
 {
