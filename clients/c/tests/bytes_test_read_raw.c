@@ -88,7 +88,7 @@ static void test_columns(struct tally *tally)
     CHECK(tally, pgmsg_read_raw_columns(BYTES(body), &column, 1, &fault) == 1 && is_at(body, column.name, "caf\351"));
     CHECK(tally, column.table == 16385 && column.attribute == 2 && column.type_id == 23 && column.type_size == 4);
     CHECK(tally, column.type_modifier == -1 && column.format == 1);
-    CHECK(tally, pgmsg_read_raw_columns(body, sizeof(body) - 2, &column, 1, &fault) == PGMSG_SHORT && fault.at == 7);
+    CHECK(tally, pgmsg_read_raw_columns((const uint8_t *)body, sizeof(body) - 2, &column, 1, &fault) == PGMSG_SHORT && fault.at == 7);
 }
 
 static void test_no_bodies(struct tally *tally)
