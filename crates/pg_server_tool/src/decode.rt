@@ -1,0 +1,64 @@
+//! Lines that hold a body from a client, and what each reads as.
+
+use crate::message::{push_first, push_tagged};
+use pg_lines::{Fault, Lines, TaggedBody, hex_bytes, tagged_body};
+use pg_message::error::FrontendFault;
+use pg_message::frontend::{FirstMessageRef, FrontendMessageRef};
+use std::alloc::{AllocError, Global};
+
+/// The word in place of a tag on the line of a first message.
+const FIRST: &str = "first";
+
+/// What a line spells.
+#[derive(Drop)]
+enum ClientBody {
+    /// The body of a first message, which has no tag.
+    First(Vec<u8>),
+    /// The body of any other.
+    Tagged(TaggedBody),
+}
+
+/// A line for each line of input: the message and its fields, or the words of its fault.
+pub fn decode(alloc: Global, input: &[u8]) -> Result<String, Fault> {
+    let mut output = String::new(alloc);
+    for (index, line) in Lines::new(input).enumerate() {
+        let body = body_of(alloc, line)?;
+        let body = body.ok_or(Fault::BadLine(index.saturating_add(1)))?;
+        push_line(&body, &mut output)?;
+    }
+    Ok(output)
+}
+
+// The body that a line spells, where it fits a form.
+fn body_of(alloc: Global, line: &[u8]) -> Result<Option<ClientBody>, Fault> {
+    match first_word(line) {
+        Some(word) => Ok(hex_bytes(alloc, word)?.map(|body| ClientBody::First(body))),
+        None => Ok(tagged_body(alloc, line)?.map(|body| ClientBody::Tagged(body))),
+    }
+}
+
+// What follows `first` on a line that begins with it.
+fn first_word(line: &[u8]) -> Option<&str> {
+    let (front, word) = std::str::from_utf8(line).ok()?.split_once(' ')?;
+    (front == FIRST).then_some(word)
+}
+
+fn push_line(body: &ClientBody, output: &mut String) -> Result<(), AllocError> {
+    match body {
+        ClientBody::First(body) => match FirstMessageRef::read(body.as_slice()) {
+            Ok(message) => push_first(message, output)?,
+            Err(fault) => push_fault(fault, output)?,
+        },
+        ClientBody::Tagged(TaggedBody { tag, body }) => {
+            match FrontendMessageRef::read(*tag, body.as_slice()) {
+                Ok(message) => push_tagged(message, output)?,
+                Err(fault) => push_fault(fault, output)?,
+            }
+        }
+    }
+    output.push('\n')
+}
+
+fn push_fault(fault: FrontendFault, output: &mut String) -> Result<(), AllocError> {
+    write!(output, "{fault}")
+}

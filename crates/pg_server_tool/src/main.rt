@@ -1,0 +1,30 @@
+//! Reads messages from PostgreSQL clients that are given as lines of text.
+#![tactic(auto)]
+
+mod command;
+mod decode;
+mod message;
+mod word;
+
+use pg_lines::Fault;
+use std::env;
+use std::process::ExitCode;
+
+fn main(rt: HostRuntime) -> ExitCode {
+    let mut errors = rt.stderr();
+    let Ok(mut args) = env::args(&rt) else {
+        return ExitCode::from(Fault::Input.report(&mut errors));
+    };
+    // the program's own name
+    args.next();
+    let Ok(words) = args.collect::<Vec<String>>(rt.alloc()) else {
+        return ExitCode::from(Fault::OutOfMemory.report(&mut errors));
+    };
+    ExitCode::from(command::start(
+        rt.alloc(),
+        words.as_slice(),
+        &mut rt.stdin(),
+        &mut rt.stdout(),
+        &mut errors,
+    ))
+}

@@ -1,0 +1,105 @@
+//! The words of a message: its name and its fields in the order of its body.
+
+use crate::word::{Setting, Value, push_list};
+use pg_lines::Hex;
+use pg_message::frontend::{
+    BindRef, FirstMessageRef, FormatCodes, FrontendMessageRef, FunctionCallRef, ParseRef, Target,
+    TargetRef, Values,
+};
+use std::alloc::AllocError;
+
+/// The version of the protocol that a Startup has, without the minor one.
+const MAJOR_VERSION: u16 = 3;
+
+/// Adds the words of a first message.
+pub fn push_first(message: FirstMessageRef<'_>, output: &mut String) -> Result<(), AllocError> {
+    match message {
+        FirstMessageRef::Startup { minor, settings } => {
+            write!(output, "startup {MAJOR_VERSION}.{minor} ")?;
+            push_list(
+                settings.map(|(name, value)| Setting { name, value }),
+                output,
+            )
+        }
+        FirstMessageRef::CancelRequest(request) => write!(
+            output,
+            "cancelrequest {} {}",
+            request.process_id,
+            Hex(request.secret_key)
+        ),
+        FirstMessageRef::SslRequest => output.push_str("sslrequest"),
+        FirstMessageRef::GssEncRequest => output.push_str("gssencrequest"),
+    }
+}
+
+/// Adds the words of a message that has a tag.
+pub fn push_tagged(message: FrontendMessageRef<'_>, output: &mut String) -> Result<(), AllocError> {
+    match message {
+        FrontendMessageRef::Bind(bind) => push_bind(bind, output),
+        FrontendMessageRef::Close(target) => push_target("close", &target, output),
+        FrontendMessageRef::CopyData(data) => push_bytes("copydata", data, output),
+        FrontendMessageRef::CopyDone => output.push_str("copydone"),
+        FrontendMessageRef::CopyFail(reason) => push_bytes("copyfail", reason, output),
+        FrontendMessageRef::Describe(target) => push_target("describe", &target, output),
+        FrontendMessageRef::Execute(execute) => {
+            push_bytes("execute", execute.portal, output)?;
+            write!(output, " {}", execute.limit.cast_signed())
+        }
+        FrontendMessageRef::Flush => output.push_str("flush"),
+        FrontendMessageRef::FunctionCall(call) => push_call(call, output),
+        FrontendMessageRef::Parse(parse) => push_parse(parse, output),
+        FrontendMessageRef::PasswordPolymorphic(body) => push_bytes("password", body, output),
+        FrontendMessageRef::Query(text) => push_bytes("query", text, output),
+        FrontendMessageRef::Sync => output.push_str("sync"),
+        FrontendMessageRef::Terminate => output.push_str("terminate"),
+    }
+}
+
+// A name, and bytes.
+fn push_bytes(name: &str, bytes: &[u8], output: &mut String) -> Result<(), AllocError> {
+    write!(output, "{name} {}", Hex(bytes))
+}
+
+fn push_target(name: &str, target: &TargetRef<'_>, output: &mut String) -> Result<(), AllocError> {
+    let letter = match target.target {
+        Target::Statement => 'S',
+        Target::Portal => 'P',
+    };
+    write!(output, "{name} {letter} {}", Hex(target.name))
+}
+
+fn push_bind(bind: BindRef<'_>, output: &mut String) -> Result<(), AllocError> {
+    write!(output, "bind {} {} ", Hex(bind.portal), Hex(bind.statement))?;
+    push_codes(bind.formats, output)?;
+    output.push(' ')?;
+    push_values(bind.values, output)?;
+    output.push(' ')?;
+    push_codes(bind.result_formats, output)
+}
+
+fn push_call(call: FunctionCallRef<'_>, output: &mut String) -> Result<(), AllocError> {
+    write!(output, "functioncall {} ", call.object_id.0)?;
+    push_codes(call.formats, output)?;
+    output.push(' ')?;
+    push_values(call.arguments, output)?;
+    write!(output, " {}", call.result_format.cast_signed())
+}
+
+fn push_parse(parse: ParseRef<'_>, output: &mut String) -> Result<(), AllocError> {
+    write!(
+        output,
+        "parse {} {} ",
+        Hex(parse.statement),
+        Hex(parse.query)
+    )?;
+    push_list(parse.types.map(|oid| oid.0), output)
+}
+
+// Format codes, as the signed numbers that the standard has.
+fn push_codes(codes: FormatCodes<'_>, output: &mut String) -> Result<(), AllocError> {
+    push_list(codes.map(|code| code.cast_signed()), output)
+}
+
+fn push_values(values: Values<'_>, output: &mut String) -> Result<(), AllocError> {
+    push_list(values.map(|value| Value(value)), output)
+}
