@@ -1,5 +1,5 @@
 -- A message that is written is read back.
-use Rattle.std.proofs.Common.{◌≡◌, ℕ, List, [], Result, Ok, Err, None, refl, append-nil, inl, inr, rules}
+use Rattle.std.proofs.Common.{◌≡◌, ℕ, List, [], Result, Ok, Err, None, refl, inl, inr, rules}
 use Rattle.std.specs.Prelude.{MatchResult}
 use Rattle.pg_base.specs.declared.format.FrontendMessageFormat.{FrontendMessageFormat}
 use Rattle.pg_base.specs.Format.{frontend_tag}
@@ -7,13 +7,14 @@ use Rattle.pg_format.specs.Format.{Format, Lawful, AreBytes, Means}
 use Rattle.pg_format.proofs.FormatLaws.FromClient as client
 use Rattle.pg_request.specs.Message as message
 use Rattle.pg_request.specs.Message.{Message, law_of, tag, body, fault, IsInRange, CanRoundTrip}
-use Rattle.pg_request.specs.Page.{IsWritten, line, Meant}
-use Rattle.pg_request.proofs.PageLemmas.{written}
+use Rattle.pg_request.specs.Page.{line, Meant}
+use Rattle.pg_request.proofs.MessageLemmas.{reads_itself}
+use Rattle.pg_request.proofs.PageLemmas.{means}
 use Rattle.pg_read_frontend.specs.declared.error.FrontendFault.{FrontendFault}
 use Rattle.pg_read_frontend.specs.declared.message.frontend_message_ref.FrontendMessageRef.{FrontendMessageRef}
 use Rattle.pg_read_frontend.specs.FrontendMessageRef.{Answer, Reads, ReadsKind, ReadsTagged}
 use Rattle.pg_read_frontend.specs.Message.{ReadsBody}
-use Rattle.pg_frontend_laws.specs.Laws.{IsRead, IsReadBack}
+use Rattle.pg_frontend_laws.specs.Laws.{IsRead, IsReadBack, IsReadByTag}
 
 -- kinds with one tag are one kind
 one_tag : (a b : FrontendMessageFormat) → frontend_tag a ≡ frontend_tag b → a ≡ b
@@ -27,13 +28,11 @@ module _ {A V : Type 0} {case : A → FrontendMessageRef} {g : Format V} {shown 
       record { value = value; is_case = answers; is = rw same at is }
   by_answer v is means (Err fault) reads answers = absurd (lawful.never_both _ bytes [] v reads.0 means reads.2)
 
-  is_read : (v : V) × Is v × IsWritten g bytes v → Reads case g shown bytes result → IsRead case shown Is result
-  is_read w p =
-      let means : Means g bytes w.0 = rw w.2.is (rw append-nil at (lawful.written w.0 [] w.2.fits)) in
-      by_answer w.0 w.1 means p.answer p.reads p.is
+  is_read : (v : V) × Is v × Means g bytes v → Reads case g shown bytes result → IsRead case shown Is result
+  is_read w p = by_answer w.0 w.1 w.2 p.answer p.reads p.is
 
 -- as its kind
-by_kind : (m : Message) (result : Answer) → (v : (line m).Value) × Meant m v × IsWritten (line m).format (body m) v → ReadsKind (law_of m).format (body m) result → IsReadBack m result
+by_kind : (m : Message) (result : Answer) → (v : (line m).Value) × Meant m v × Means (line m).format (body m) v → ReadsKind (law_of m).format (body m) result → IsReadBack m result
 by_kind (message.Bind b) result w p = is_read client.lawful_bind (Meant (message.Bind b)) (body (message.Bind b)) result w p
 by_kind (message.CleartextPassword text) result w p = p
 by_kind (message.Close t) result w p = is_read client.lawful_targeted (Meant (message.Close t)) (body (message.Close t)) result w p
@@ -58,8 +57,15 @@ by_kind (message.SaslResponse bytes) result w p = p
 by_kind message.Sync result w p = (is_read client.lawful_empty (Meant message.Sync) (body message.Sync) result w p).is_case
 by_kind message.Terminate result w p = (is_read client.lawful_empty (Meant message.Terminate) (body message.Terminate) result w p).is_case
 
-pub read_back : (m : Message) (result : Answer) → fault m ≡ None → IsInRange m → CanRoundTrip m → AreBytes (body m) → ReadsTagged (tag m) (body m) result → IsReadBack m result
-read_back m result accepted in_range can h (inl known) =
+by_tag : (m : Message) (result : Answer) → (v : (line m).Value) × Meant m v × Means (line m).format (body m) v → ReadsTagged (tag m) (body m) result → IsReadBack m result
+by_tag m result w (inl known) =
     let kind : known.format ≡ (law_of m).format = one_tag known.format (law_of m).format known.tagged in
-    by_kind m result (written m accepted in_range can h) (rw kind at known.reads)
-read_back m result accepted in_range can h (inr unknown) = absurd (unknown.none (law_of m).format refl)
+    by_kind m result w (rw kind at known.reads)
+by_tag m result w (inr unknown) = absurd (unknown.none (law_of m).format refl)
+
+-- what a reader that is given the kind gets back, one that has the tag alone gets back too
+pub read_by_tag : (m : Message) → (law_of m).Reads (body m) → AreBytes (body m) → IsReadByTag m (tag m, body m)
+read_by_tag m reads h result p = by_tag m result (means m (body m) h reads) p
+
+pub read_back : (m : Message) → fault m ≡ None → IsInRange m → CanRoundTrip m → AreBytes (body m) → IsReadByTag m (tag m, body m)
+read_back m accepted in_range can h = read_by_tag m (reads_itself m accepted in_range can) h

@@ -1,5 +1,5 @@
 -- What is read of a message that was written.
-use Rattle.std.specs.Prelude.{◌≡◌, Ok}
+use Rattle.std.specs.Prelude.{◌≡◌, ℕ, List, Ok}
 use Rattle.pg_request.specs.Message as message
 use Rattle.pg_request.specs.Message.{Message, body}
 use Rattle.pg_request.specs.Page.{MeantByBind, Meant}
@@ -7,7 +7,7 @@ use Rattle.pg_read_frontend.specs.declared.message.frontend_message_ref.Frontend
 use Rattle.pg_read_frontend.specs.declared.message.frontend_message_ref.FrontendMessageRef.TheVariants as messages
 use Rattle.pg_read_frontend.specs.Bind.{shown_bind}
 use Rattle.pg_read_frontend.specs.Execute.{shown_execute}
-use Rattle.pg_read_frontend.specs.FrontendMessageRef.{Answer, Gives}
+use Rattle.pg_read_frontend.specs.FrontendMessageRef.{Answer, Gives, ReadsTagged}
 use Rattle.pg_read_frontend.specs.FunctionCall.{shown_call}
 use Rattle.pg_read_frontend.specs.Parse.{shown_parse}
 use Rattle.pg_read_frontend.specs.Target.{shown_targeted}
@@ -43,3 +43,7 @@ IsReadBack (message.SaslInitialResponse s) result = Gives messages.PasswordPolym
 IsReadBack (message.SaslResponse bytes) result = Gives messages.PasswordPolymorphic bytes result
 IsReadBack message.Sync result = result ≡ Ok messages.Sync
 IsReadBack message.Terminate result = result ≡ Ok messages.Terminate
+
+-- what a reader answers to a frame's tag and body alone is the message
+abbrev pub IsReadByTag : Message → ℕ × List ℕ → Type 0
+IsReadByTag m frame = (result : Answer) → ReadsTagged frame.0 frame.1 result → IsReadBack m result

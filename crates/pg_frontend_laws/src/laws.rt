@@ -3,11 +3,10 @@
 ghost use Rattle.std.specs.Prelude.{◌≡◌, None};
 ghost use Rattle.pg_format.specs.Format.{AreBytes};
 ghost use Rattle.pg_request.specs.Message.{Message, tag, body, fault, IsInRange, CanRoundTrip};
-ghost use Rattle.pg_read_frontend.specs.FrontendMessageRef.{Answer, ReadsTagged};
-ghost use Rattle.pg_frontend_laws.specs.Laws.{IsReadBack};
+ghost use Rattle.pg_frontend_laws.specs.Laws.{IsReadByTag};
 
 /// A message within the limits that can make the round trip is read, from its tag and body alone, as
 /// itself: numbered names as their texts, and passwords and SASL's messages as their bytes.
 pub fn own_messages_are_read()
-    ensures { (m : Message) (result : Answer) → fault m ≡ None → IsInRange m → CanRoundTrip m → AreBytes (body m) → ReadsTagged (tag m) (body m) result → IsReadBack m result }
+    ensures { (m : Message) → fault m ≡ None → IsInRange m → CanRoundTrip m → AreBytes (body m) → IsReadByTag m (tag m, body m) }
 {}

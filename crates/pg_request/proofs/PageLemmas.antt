@@ -166,7 +166,7 @@ pub one : (m : Message) (v w : (line m).Value) → Meant m v → Meant m w → v
 one (message.Bind b) v w p q = one_bind b v w p q
 one m v w p q = p ∙ sym q
 
-means : (m : Message) (bytes : List ℕ) → AreBytes bytes → (law_of m).Reads bytes → (v : (line m).Value) × Meant m v × Means (line m).format bytes v
+pub means : (m : Message) (bytes : List ℕ) → AreBytes bytes → (law_of m).Reads bytes → (v : (line m).Value) × Meant m v × Means (line m).format bytes v
 means (message.Bind b) bytes h p = bind_means bytes b h p
 means (message.CleartextPassword text) bytes h p = (text, refl, (p, refl))
 means (message.Close target) bytes h p = (target_value target, refl, target_means bytes target p)

@@ -7,6 +7,7 @@ use Rattle.pg_base.specs.Cutting.{IsCutInto}
 use Rattle.pg_base.specs.Encode.{IsAnswer}
 use Rattle.pg_request.specs.Frame as law
 use Rattle.pg_request.specs.Message.{Message, law_of, tag, body, hint, fault, text, CanRoundTrip, RoundTrips}
+use Rattle.pg_frontend_laws.specs.Laws.{IsReadByTag}
 
 abbrev pub Answer : Type 0
 Answer = Result (Unit {0}) Error
@@ -119,3 +120,23 @@ pub record EncodesRun (IsAnswerTo : Message → Answer → Type 0) (ms : List Me
   pub room : RanOutWhereShort (vec_capacity old) (vec_len old) ms answers
   pub spare : vec_len old + run_room ms answers ≤ vec_capacity old → NoneRanOut answers
   pub capacity : vec_capacity old ≤ vec_capacity new
+
+-- ---- what a reader of tags makes of a run
+
+-- a frame that is read by its tag as the message, where that can make the round trip
+abbrev pub IsReadIfItCan : Message → ℕ × List ℕ → Type 0
+IsReadIfItCan m frame = CanRoundTrip m → IsReadByTag m frame
+
+-- one frame an accepted message, each as it must be of its message
+abbrev pub AreFrames : (Message → ℕ × List ℕ → Type 0) → List Message → List Answer → List (ℕ × List ℕ) → Type 0
+AreFrames IsFrameOf [] answers frames = frames ≡ []
+AreFrames IsFrameOf (m ∷ ms) [] frames = frames ≡ []
+AreFrames IsFrameOf (m ∷ ms) (Ok _ ∷ answers) [] = ⊥
+AreFrames IsFrameOf (m ∷ ms) (Ok _ ∷ answers) (frame ∷ frames) = IsFrameOf m frame × AreFrames IsFrameOf ms answers frames
+AreFrames IsFrameOf (m ∷ ms) (Err _ ∷ answers) frames = AreFrames IsFrameOf ms answers frames
+
+-- tags and lengths cut the bytes into frames, and into no others; each is read by its tag as its message
+pub record AreReadByTag (IsFrameOf : Message → ℕ × List ℕ → Type 0) (ms : List Message) (answers : List Answer) (bytes : List ℕ) : Type 0 where
+  pub frames : List (ℕ × List ℕ)
+  pub cut : IsCutInto bytes frames
+  pub read : AreFrames IsFrameOf ms answers frames

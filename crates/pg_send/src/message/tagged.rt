@@ -1,9 +1,10 @@
 //! Any message that has a tag.
 
-ghost use Rattle.std.specs.Prelude.{◌≡◌, ◌+◌, ◌<◌, ◌≤◌, ◌++◌, length, Some, None, Ok, OnOk, IfErr, vec_len, vec_capacity};
+ghost use Rattle.std.specs.Prelude.{◌≡◌, ◌+◌, ◌<◌, ◌≤◌, [], ◌∷◌, ◌++◌, length, drop, Some, None, Ok, OnOk, IfErr, vec_len, vec_capacity};
 ghost use Rattle.std.specs.Bool.{OnTrue, OnFalse};
 ghost use Rattle.pg_request.specs.Frame.{EncodesMessage, room_or_fault};
 ghost use Rattle.pg_request.specs.Message.{law_of, body, fault, hint, text, IsInRange, CanRoundTrip, round_trip_fault, RoundTrips};
+ghost use Rattle.pg_send.specs.Run.{IsReadIfItCan, AreReadByTag};
 ghost use Rattle.pg_send.specs.TaggedMessage.{message_of};
 
 use crate::message::{
@@ -83,6 +84,17 @@ impl TaggedMessage<'_> {
         ensures range { OnOk result (IsInRange (message_of self.now)) }
         // A reader that is given the kind gets the message back from its body, and no other.
         ensures round_trip { OnOk result (CanRoundTrip (message_of self.now) → RoundTrips (message_of self.now)) }
+        // So does one that is given the tag and the body of its frame alone.
+        ensures by_tag { AreReadByTag IsReadIfItCan (message_of self.now ∷ []) (result ∷ []) (drop (length buf.old.items) buf.new.items) }
+    {
+        self.put_or_encode(buf)
+    }
+
+    // Adds it in the spare room where that holds it, else by a call that may ask for memory.
+    #[inline(always)]
+    fn put_or_encode(&self, buf: &mut Vec<u8>) -> Result<(), Error>
+        ensures encodes { EncodesMessage (law_of (message_of self.now)) buf.old buf.new result }
+        ensures range { OnOk result (IsInRange (message_of self.now)) }
     {
         if self.put_if_fits(buf) {
             return Ok(());

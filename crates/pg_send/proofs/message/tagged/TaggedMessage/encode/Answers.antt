@@ -1,12 +1,13 @@
-use Rattle.std.proofs.Common.{Ok}
+use Rattle.std.proofs.Common.{arith}
 use Rattle.pg_send.specs.TaggedMessage.{message_of}
 use Rattle.pg_request.proofs.MessageLemmas.{round_trips_if_ok}
+use Rattle.pg_send.proofs.RunLemmas.{message_by_tag}
 use Rattle.pg_send.proofs.message.tagged.TaggedMessage.encode.Goals as goal
 
 pub returns-clause-round_trip : goal.returns-clause-round_trip
 returns-clause-round_trip c =
-    round_trips_if_ok (message_of c.args.self.now) c.encode_held.result c.encode_held.ensures.encodes.encodes.answer c.encode_held.ensures.range
+    round_trips_if_ok (message_of c.args.self.now) c.put_or_encode.result c.put_or_encode.ensures.encodes.encodes.answer c.put_or_encode.ensures.range
 
-pub returns-then-put_if_fits-clause-round_trip : goal.returns-then-put_if_fits-clause-round_trip
-returns-then-put_if_fits-clause-round_trip c =
-    round_trips_if_ok (message_of c.args.self.now) (Ok tt) c.if-put_if_fits.ensures.encodes.encodes.answer c.if-put_if_fits.ensures.range
+pub returns-clause-by_tag : goal.returns-clause-by_tag
+returns-clause-by_tag c =
+    message_by_tag (message_of c.args.self.now) c.put_or_encode.result c.args.buf.now c.put_or_encode.new.buf c.put_or_encode.ensures.encodes (λ i within. omega (arith, c.type_inv.buf i, within)) (returns-clause-round_trip c)
