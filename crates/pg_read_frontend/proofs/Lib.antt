@@ -1,3 +1,4 @@
+pub mod ErrorLemmas
 pub mod FormatCodesLemmas
 pub mod MessageLemmas
 pub mod ParameterTypesLemmas

@@ -17,8 +17,10 @@ fault_words (faults.MissingNul at) = codes "expected NUL after offset " ++ decim
 fault_words (faults.ValueLength at length) = codes "bad value length at offset " ++ (decimal at ++ (codes ": " ++ signed_decimal length))
 fault_words (faults.KeyLength length) = codes "bad secret key length: " ++ decimal length
 fault_words (faults.TrailingBytes at) = codes "expected the end of the message at offset " ++ decimal at
+fault_words (faults.BadLength length) = codes "bad message length: " ++ signed_decimal length
+fault_words (faults.FirstTooLong length limit) = codes "expected a first message of at most " ++ (decimal limit ++ (codes " bytes, got " ++ decimal length))
 
--- a fault of a body, as the page has it; a value of a bad length stands at the offset, and no body has an unknown tag or code
+-- a fault of a body, as the page has it; a value of a bad length stands at the offset, and no body has an unknown tag or code, or the length of its message
 abbrev pub IsOnPage : List ℕ → FrontendFault → ProtocolFault → Type 0
 IsOnPage body (faults.UnknownTag tag) fault = ⊥
 IsOnPage body (faults.UnknownCode code) fault = ⊥
@@ -28,3 +30,5 @@ IsOnPage body (faults.MissingNul at) fault = fault ≡ page.MissingNul at
 IsOnPage body (faults.ValueLength at length) fault = (fault ≡ page.BadLength length) × BreaksAt value body at fault
 IsOnPage body (faults.KeyLength length) fault = fault ≡ page.BadKeyLength length
 IsOnPage body (faults.TrailingBytes at) fault = fault ≡ page.BodyTooLong at
+IsOnPage body (faults.BadLength length) fault = ⊥
+IsOnPage body (faults.FirstTooLong length limit) fault = ⊥

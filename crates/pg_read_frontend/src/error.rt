@@ -5,7 +5,8 @@ ghost use Rattle.pg_read_frontend.specs.Error.{fault_words};
 
 use std::fmt;
 
-/// Why a message from a client is refused. Offsets are in bytes, and count from the start of the body.
+/// Why a message from a client is refused. Offsets and lengths are in bytes; an offset counts from the start of
+/// the body.
 #[derive(Clone, Copy, Debug, PartialEq, Eq)]
 pub enum FrontendFault {
     /// No message from a client has this tag.
@@ -40,6 +41,16 @@ pub enum FrontendFault {
     TrailingBytes {
         at: usize,
     },
+    /// The length of a message on the stream is below 4, by which it counts itself; or, of a first message,
+    /// below 8, by which it counts the code too.
+    BadLength(i32),
+    /// A first message is longer than its reader takes.
+    FirstTooLong {
+        /// Its length, which counts itself.
+        length: usize,
+        /// The greatest that is taken.
+        limit: usize,
+    },
 }
 
 impl fmt::Display for FrontendFault {
@@ -62,6 +73,13 @@ impl fmt::Display for FrontendFault {
             FrontendFault::KeyLength(length) => write!(f, "bad secret key length: {length}"),
             FrontendFault::TrailingBytes { at } => {
                 write!(f, "expected the end of the message at offset {at}")
+            }
+            FrontendFault::BadLength(length) => write!(f, "bad message length: {length}"),
+            FrontendFault::FirstTooLong { length, limit } => {
+                write!(
+                    f,
+                    "expected a first message of at most {limit} bytes, got {length}"
+                )
             }
         }
     }

@@ -99,8 +99,8 @@ impl<'a> FrontendMessageRef<'a> {
     }
 }
 
-// The kind of message that a tag opens.
-fn format_of(tag: u8) -> Option<FrontendMessageFormat>
+/// The kind of message that a tag opens, or `None` where no message from a client has it.
+pub fn format_of(tag: u8) -> Option<FrontendMessageFormat>
     ensures known { IfSome result (λ format. frontend_tag format ≡ tag) }
     ensures unknown { IfNone result ((format : FrontendMessageFormat) → frontend_tag format ≢ tag) }
 {

@@ -25,7 +25,7 @@ pub use empty::read_empty;
 pub use execute::ExecuteRef;
 pub use first_message_ref::FirstMessageRef;
 pub use format_codes::FormatCodes;
-pub use frontend_message_ref::FrontendMessageRef;
+pub use frontend_message_ref::{FrontendMessageRef, format_of};
 pub use function_call::FunctionCallRef;
 pub use parameter_types::ParameterTypes;
 pub use parse::ParseRef;

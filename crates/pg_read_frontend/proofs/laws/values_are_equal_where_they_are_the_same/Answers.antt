@@ -1,20 +1,6 @@
-use Rattle.std.proofs.Common.{◌≡◌, true, false, rules}
-use Rattle.pg_read_frontend.specs.declared.error.FrontendFault.{FrontendFault}
-use Rattle.pg_read_frontend.specs.declared.error.FrontendFault.TheVariants as faults
-use Rattle.pg_read_frontend.specs.contracts.error.FrontendFaultPartialEq.TheImpl as faults-eq
 use Rattle.pg_read_frontend.specs.contracts.error.FrontendFaultEq.TheImpl.Laws as faults-law
+use Rattle.pg_read_frontend.proofs.ErrorLemmas.{same_faults}
 use Rattle.pg_read_frontend.proofs.laws.values_are_equal_where_they_are_the_same.Goals as goal
-
-same_faults : (a b : FrontendFault) → faults-eq.ghosts.eq a b ≡ true → a ≡ b
-same_faults (faults.UnknownTag n) (faults.UnknownTag m) e = search rules
-same_faults (faults.UnknownCode n) (faults.UnknownCode m) e = search rules
-same_faults (faults.UnknownTarget n) (faults.UnknownTarget m) e = search rules
-same_faults (faults.Short k l m) (faults.Short n o p) e = search rules
-same_faults (faults.MissingNul n) (faults.MissingNul m) e = search rules
-same_faults (faults.ValueLength k l) (faults.ValueLength m n) e = search rules
-same_faults (faults.KeyLength n) (faults.KeyLength m) e = search rules
-same_faults (faults.TrailingBytes n) (faults.TrailingBytes m) e = search rules
-same_faults a b e = absurd (let clash : false ≡ true = e in cc)
 
 pub returns-clause-faults : goal.returns-clause-faults
 returns-clause-faults c a b = (same_faults a b, λ e. rw (← e) (faults-law.laws-law.refl a))
