@@ -1,0 +1,5 @@
+pub mod Error
+pub mod Frame
+pub mod Message
+pub mod Pieces
+pub mod Reader
