@@ -1,8 +1,13 @@
 //! What a client sends, as a server, a proxy or a recorder reads it: its first by
-//! [`FirstMessageRef::read`], any other by [`FrontendMessageRef::read`].
+//! [`FirstMessageRef::read`], any other by [`FrontendMessageRef::read`]; both out of a stream by
+//! [`FrontendFrameReader`].
 
+pub use pg_frontend_frames::{
+    ClientMessage, ClientMessageKind, ClientMessageRef, ClientStreamEnd, Expects, FrontendFrame,
+    FrontendFrameReader, MAX_FIRST_LENGTH, next_frontend_frame, read_client_pieces,
+};
 pub use pg_read_frontend::message::{
     BindRef, CancelRequestRef, ExecuteRef, FirstMessageRef, FormatCodes, FrontendMessageRef,
     FunctionCallRef, ParameterTypes, ParseRef, SaslInitialRef, Settings, Target, TargetRef, Values,
-    read_empty, read_text,
+    format_of, read_empty, read_text,
 };

@@ -4,6 +4,7 @@
 pub use pg_base::laws as base;
 pub use pg_format::laws as formats;
 pub use pg_frames::laws as frames;
+pub use pg_frontend_frames::laws as frontend_frames;
 pub use pg_frontend_laws::laws as frontend;
 pub use pg_read_frontend::laws as read_frontend;
 pub use pg_receive::laws as receive;

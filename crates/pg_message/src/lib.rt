@@ -6,8 +6,8 @@
 //! each message that is complete, and read it by [`message::ServerMessage::decode`].
 //!
 //! Everything here stands in a crate below, where its contract is: `pg_base`, `pg_format`, `pg_request`,
-//! `pg_send`, `pg_response`, `pg_receive`, `pg_server_message`, `pg_frames`, `pg_read_frontend` and
-//! `pg_frontend_laws`. The words of the contracts of `pg_base` are named from here as
+//! `pg_send`, `pg_response`, `pg_receive`, `pg_server_message`, `pg_frames`, `pg_read_frontend`,
+//! `pg_frontend_laws` and `pg_frontend_frames`. The words of the contracts of `pg_base` are named from here as
 //! `Rattle.pg_message.specs.pg_base`, and so are those of the others.
 #![tactic(auto)]
 
