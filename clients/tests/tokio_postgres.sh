@@ -58,8 +58,8 @@ test_tokio_postgres() {
     local cargo_folder version target=$PWD/out/drop-in ours
     read -r cargo_folder version < <(rust_folders)
     if [ -z "$cargo_folder" ] || ! has_crates "${drop_in_crates[@]}" "${driver_crates[@]}"; then
-        echo 'left out: the tests of tokio-postgres, which need cargo, librust-tokio-postgres-dev,' \
-            'librust-futures-executor-dev and librust-env-logger-dev'
+        echo 'left out: the tests of tokio-postgres, which need cargo, librust-tokio-postgres-dev and' \
+            'librust-futures-executor-dev, with the packages that they recommend'
         return
     fi
     if (exec 3<> "/dev/tcp/127.0.0.1/$driver_port") 2> /dev/null; then
