@@ -82,3 +82,8 @@ def written(line):
 def made(kind, random):
     """The line of a message of a kind."""
     return " ".join([kind, *(field.word(field.make(random)) for field in KINDS[kind][1])])
+
+
+def changed(data, at, how):
+    """Bytes with another one at an offset."""
+    return data[:at] + bytes([data[at] ^ how]) + data[at + 1 :]

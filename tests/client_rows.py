@@ -91,6 +91,27 @@ BAD = [
     b"first", b"first ", b"first  04d2162f", b"first 04d2162", b"first 04d2162f -", b"First 04d2162f", b"53 \xff", b"first \xff",
 ]
 
+# Streams from the start of a connection, and the lines of each.
+STREAMS = [
+    (b"", []),
+    (b"\0\0\0", ["rest 3"]),
+    (b"\0\0\0\x08" + SSL + b"\0\0\0\x09" + VERSION + b"\0S\0\0\0\4X\0\0\0\4", ["sslrequest", "startup 3.0 -", "sync", "terminate"]),
+    (b"\0\0\0\x08" + GSS_ENC + b"\0\0\0\x10" + CANCEL + b"\0\0\0\7\1\2\3\4", ["gssencrequest", "cancelrequest 7 01020304"]),
+    (b"\0\0\0\x09" + VERSION + b"\0Q\0\0\0\5AQ\0\0\0\5\0", ["startup 3.0 -", "expected NUL after offset 0", "query -"]),
+    (b"\0\0\0\x09" + SSL + b"\0\0\0\0\x09" + VERSION + b"\0", ["expected the end of the message at offset 4", "startup 3.0 -"]),
+    (b"\0\0\0\x08\0\2\0\0H\0\0\0\4c\0\0\0", ["unknown code: 131072", "flush", "rest 4"]),
+    (b"\0\0\0\x09" + VERSION + b"\0d\x7f\xff\xff\xff\0", ["startup 3.0 -", "rest 6"]),
+    (b"\0\0\x27\x10" + VERSION + b"a\0" + b"b" * 9988 + b"\0\0p\0\0\0\4", ["startup 3.0 61=" + "62" * 9988, "password -"]),
+    # faults
+    (b"\0\0\x27\x11", ["expected a first message of at most 10000 bytes, got 10001"]),
+    (b"\0\0\0\x08" + SSL + b"S\0\0\0\4", ["sslrequest", "expected a first message of at most 10000 bytes, got 1392508928"]),
+    (b"\0\0\0\7" + SSL, ["bad message length: 7"]),
+    (b"\x80\0\0\0", ["bad message length: -2147483648"]),
+    (b"\0\0\0\x09" + VERSION + b"\0S\0\0\0\3", ["startup 3.0 -", "bad message length: 3"]),
+    (b"\0\0\0\x09" + VERSION + b"\0Z\0\0\0\4S\0\0\0\4", ["startup 3.0 -", "unknown message type: 90"]),
+    (b"\0\0\0\x09" + VERSION + b"\0Z\0\0\0", ["startup 3.0 -", "rest 4"]),
+]
+
 # Lines of `pg_tool encode`, and what is printed of the message that each names.
 ENCODED = [
     ("bind 0 1 1 2 00000002abcdffffffff 0,1", "bind - 73716c785f735f31 1 xabcd,null 0,1"),

@@ -1,11 +1,12 @@
 //! The command that the program is started with, over any input and output.
 
 use crate::decode::decode;
+use crate::stream::stream;
 use pg_lines::{Fault, read_all, write_text};
 use std::alloc::Global;
 use std::io::{Read, Write};
 
-const USAGE: &str = "usage: pg_server_tool decode";
+const USAGE: &str = "usage: pg_server_tool decode|stream";
 
 /// The exit status of a wrong argument.
 const WRONG_USAGE: u8 = 2;
@@ -15,6 +16,8 @@ const WRONG_USAGE: u8 = 2;
 pub enum Command {
     /// Reads bodies by their tags, and first messages without one.
     Decode,
+    /// Finds the messages in raw bytes.
+    Stream,
 }
 
 /// Runs the program with the words after its name, and gives its exit status: 0, 1 for a bad line,
@@ -37,8 +40,8 @@ pub fn start<R: Read, W: Write, E: Write>(
     }
 }
 
-/// Runs a command. `Decode` reads all input, and then writes all output, and nothing where a line is
-/// bad.
+/// Runs a command. `Stream` writes the line of each message as soon as it is whole. `Decode` reads all
+/// input, and then writes all output, and nothing where a line is bad.
 pub fn run<R: Read, W: Write>(
     alloc: Global,
     command: Command,
@@ -50,6 +53,7 @@ pub fn run<R: Read, W: Write>(
             let lines = decode(alloc, read_all(alloc, input)?.as_slice())?;
             write_text(output, lines.as_str())
         }
+        Command::Stream => stream(alloc, input, output),
     }
 }
 
@@ -63,6 +67,7 @@ fn command_of(args: &[String]) -> Option<Command> {
     }
     match word.as_str() {
         "decode" => Some(Command::Decode),
+        "stream" => Some(Command::Stream),
         _ => None,
     }
 }

@@ -1,10 +1,10 @@
 //! Lines that hold a body from a client, and what each reads as.
 
-use crate::message::{push_first, push_tagged};
+use crate::message::push_line;
 use pg_lines::{Fault, Lines, TaggedBody, hex_bytes, tagged_body};
 use pg_message::error::FrontendFault;
-use pg_message::frontend::{FirstMessageRef, FrontendMessageRef};
-use std::alloc::{AllocError, Global};
+use pg_message::frontend::{ClientMessageRef, FirstMessageRef, FrontendMessageRef};
+use std::alloc::Global;
 
 /// The word in place of a tag on the line of a first message.
 const FIRST: &str = "first";
@@ -18,13 +18,26 @@ enum ClientBody {
     Tagged(TaggedBody),
 }
 
+impl ClientBody {
+    fn read(&self) -> Result<ClientMessageRef<'_>, FrontendFault> {
+        match self {
+            ClientBody::First(body) => {
+                Ok(ClientMessageRef::First(FirstMessageRef::read(body.as_slice())?))
+            }
+            ClientBody::Tagged(TaggedBody { tag, body }) => Ok(ClientMessageRef::Tagged(
+                FrontendMessageRef::read(*tag, body.as_slice())?,
+            )),
+        }
+    }
+}
+
 /// A line for each line of input: the message and its fields, or the words of its fault.
 pub fn decode(alloc: Global, input: &[u8]) -> Result<String, Fault> {
     let mut output = String::new(alloc);
     for (index, line) in Lines::new(input).enumerate() {
         let body = body_of(alloc, line)?;
         let body = body.ok_or(Fault::BadLine(index.saturating_add(1)))?;
-        push_line(&body, &mut output)?;
+        push_line(body.read(), &mut output)?;
     }
     Ok(output)
 }
@@ -41,24 +54,4 @@ fn body_of(alloc: Global, line: &[u8]) -> Result<Option<ClientBody>, Fault> {
 fn first_word(line: &[u8]) -> Option<&str> {
     let (front, word) = std::str::from_utf8(line).ok()?.split_once(' ')?;
     (front == FIRST).then_some(word)
-}
-
-fn push_line(body: &ClientBody, output: &mut String) -> Result<(), AllocError> {
-    match body {
-        ClientBody::First(body) => match FirstMessageRef::read(body.as_slice()) {
-            Ok(message) => push_first(message, output)?,
-            Err(fault) => push_fault(fault, output)?,
-        },
-        ClientBody::Tagged(TaggedBody { tag, body }) => {
-            match FrontendMessageRef::read(*tag, body.as_slice()) {
-                Ok(message) => push_tagged(message, output)?,
-                Err(fault) => push_fault(fault, output)?,
-            }
-        }
-    }
-    output.push('\n')
-}
-
-fn push_fault(fault: FrontendFault, output: &mut String) -> Result<(), AllocError> {
-    write!(output, "{fault}")
 }

@@ -1,9 +1,10 @@
-//! Reads messages from PostgreSQL clients that are given as lines of text.
+//! Reads messages from PostgreSQL clients that are given as lines of text, and finds them in a stream.
 #![tactic(auto)]
 
 mod command;
 mod decode;
 mod message;
+mod stream;
 mod word;
 
 use pg_lines::Fault;

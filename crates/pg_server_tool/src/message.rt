@@ -2,17 +2,31 @@
 
 use crate::word::{Setting, Value, push_list};
 use pg_lines::Hex;
+use pg_message::error::FrontendFault;
 use pg_message::frontend::{
-    BindRef, FirstMessageRef, FormatCodes, FrontendMessageRef, FunctionCallRef, ParseRef, Target,
-    TargetRef, Values,
+    BindRef, ClientMessageRef, FirstMessageRef, FormatCodes, FrontendMessageRef, FunctionCallRef,
+    ParseRef, Target, TargetRef, Values,
 };
 use std::alloc::AllocError;
 
 /// The version of the protocol that a Startup has, without the minor one.
 const MAJOR_VERSION: u16 = 3;
 
-/// Adds the words of a first message.
-pub fn push_first(message: FirstMessageRef<'_>, output: &mut String) -> Result<(), AllocError> {
+/// Adds the line of a message: its words, or those of its fault.
+pub fn push_line(
+    message: Result<ClientMessageRef<'_>, FrontendFault>,
+    output: &mut String,
+) -> Result<(), AllocError> {
+    match message {
+        Ok(ClientMessageRef::First(message)) => push_first(message, output)?,
+        Ok(ClientMessageRef::Tagged(message)) => push_tagged(message, output)?,
+        Err(fault) => write!(output, "{fault}")?,
+    }
+    output.push('\n')
+}
+
+// The words of a first message.
+fn push_first(message: FirstMessageRef<'_>, output: &mut String) -> Result<(), AllocError> {
     match message {
         FirstMessageRef::Startup { minor, settings } => {
             write!(output, "startup {MAJOR_VERSION}.{minor} ")?;
@@ -32,8 +46,8 @@ pub fn push_first(message: FirstMessageRef<'_>, output: &mut String) -> Result<(
     }
 }
 
-/// Adds the words of a message that has a tag.
-pub fn push_tagged(message: FrontendMessageRef<'_>, output: &mut String) -> Result<(), AllocError> {
+// The words of a message that has a tag.
+fn push_tagged(message: FrontendMessageRef<'_>, output: &mut String) -> Result<(), AllocError> {
     match message {
         FrontendMessageRef::Bind(bind) => push_bind(bind, output),
         FrontendMessageRef::Close(target) => push_target("close", &target, output),

@@ -1,4 +1,4 @@
-//! Words that a line of `decode` is made of.
+//! Words that a line of output is made of.
 
 ghost use Rattle.std.specs.Iterator.{IsFinite};
 

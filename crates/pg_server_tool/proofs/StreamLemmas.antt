@@ -1,0 +1,21 @@
+-- A message that is taken from a stream leaves fewer bytes of it.
+use Rattle.std.proofs.Common.{ℕ, ◌<◌, List, ◌++◌, length, ap, arith, length-append}
+use Rattle.pg_message.specs.pg_frontend_frames.declared.frame.Expects.{Expects}
+use Rattle.pg_message.specs.pg_frontend_frames.declared.frame.Expects.TheVariants as expects
+use Rattle.pg_message.specs.pg_frontend_frames.declared.message.ClientMessage.{ClientMessage}
+use Rattle.pg_message.specs.pg_frontend_frames.declared.message.ClientMessageKind.{ClientMessageKind}
+use Rattle.pg_message.specs.pg_frontend_frames.declared.message.ClientMessageKind.TheVariants as kinds
+use Rattle.pg_message.specs.pg_frontend_frames.Frame.{BeginsWith}
+use Rattle.pg_message.specs.pg_frontend_frames.Reader.{Reading, Takes}
+
+rest_is_shorter : (limit : ℕ) (state : Expects) (bytes : List ℕ) (kind : ClientMessageKind) (body rest : List ℕ) (next : Expects) → BeginsWith limit state bytes kind body rest next → length rest < length bytes
+rest_is_shorter limit expects.First bytes kinds.First body rest next p =
+    omega (arith, ap length p.0.parts, length-append (p.0.field ++ body) rest, length-append p.0.field body, p.0.wide)
+rest_is_shorter limit expects.First bytes (kinds.Tagged format) body rest next p = absurd p
+rest_is_shorter limit expects.Tagged bytes kinds.First body rest next p = absurd p
+rest_is_shorter limit expects.Tagged bytes (kinds.Tagged format) body rest next p =
+    omega (arith, ap length p.0.parts, length-append (p.0.field ++ body) rest, length-append p.0.field body, p.0.wide)
+
+pub leaves_fewer : (old : Reading) (message : ClientMessage) (new : Reading) → Takes old message new → length new.bytes < length old.bytes
+leaves_fewer old message new p =
+    rest_is_shorter old.limit old.expects old.bytes message.kind message.contents new.bytes new.expects p.begins
