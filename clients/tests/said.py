@@ -1,0 +1,80 @@
+#!/usr/bin/env python3
+"""Keeps what clients say to a server, and compares it with what pg_server_tool reads of it.
+
+    said.py keep FOLDER PORT    passes connections on to a port of this machine, and keeps what each client says in a file
+                                of the folder; prints its own port
+    said.py read FOLDER         PG_SERVER_TOOL must read each file as messages and nothing else, which a model apart from
+                                the crates writes as the same bytes; prints each kind
+"""
+
+import collections
+import contextlib
+import itertools
+import os
+import pathlib
+import socket
+import subprocess
+import sys
+import threading
+
+sys.path.insert(0, str(pathlib.Path(__file__).resolve().parents[2] / "tests"))
+import client_model as model  # noqa: E402
+
+PIECE = 65536
+
+
+def keep(folder, port):
+    """Passes connections on until it is killed."""
+    listener = socket.create_server(("127.0.0.1", 0))
+    print(listener.getsockname()[1], flush=True)
+    for number in itertools.count():
+        client, _ = listener.accept()
+        server = socket.create_connection(("127.0.0.1", port))
+        said = open(folder / f"{number:04}", "wb", buffering=0)
+        for way in (client, server, said), (server, client, None):
+            threading.Thread(target=pass_on, args=way, daemon=True).start()
+
+
+def pass_on(source, target, said):
+    """Passes bytes on to their end, and keeps them where there is a file for them."""
+    with contextlib.suppress(OSError):
+        while data := source.recv(PIECE):
+            if said:
+                said.write(data)
+            target.sendall(data)
+    with contextlib.suppress(OSError):
+        target.shutdown(socket.SHUT_WR)
+
+
+def frame(line):
+    """The bytes of the message that a line has."""
+    if not model.is_message(line):
+        raise ValueError(f"no message: {line[:200]}")
+    tag, body = model.written(line)
+    return (tag or b"") + (len(body) + 4).to_bytes(4, "big") + body
+
+
+def read(folder):
+    """Reads each file and writes it again."""
+    kinds = collections.Counter()
+    for file in sorted(folder.iterdir()):
+        said = file.read_bytes()
+        run = subprocess.run([os.environ["PG_SERVER_TOOL"], "stream"], input=said, stdout=subprocess.PIPE, check=True)
+        lines = run.stdout.decode().splitlines()
+        if b"".join(map(frame, lines)) != said:
+            raise ValueError(f"{file.name} is written otherwise: {' '.join(line.split()[0] for line in lines)}")
+        kinds.update(line.split()[0] for line in lines)
+    print(" ".join(sorted(kinds)))
+    print(f"{kinds.total()} messages of {len(list(folder.iterdir()))} connections", file=sys.stderr)
+
+
+def main():
+    command, folder, *port = sys.argv[1:]
+    if command == "keep":
+        keep(pathlib.Path(folder), int(port[0]))
+    else:
+        read(pathlib.Path(folder))
+
+
+if __name__ == "__main__":
+    main()

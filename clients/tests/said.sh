@@ -1,0 +1,102 @@
+# What clients say to a server: read by pg_server_tool, and written again. Sourced by `test`.
+
+# Leaves its process in $listening, its port in $said_port, and what precedes a command that is listened to in $aloud.
+start_listening() {
+    mkdir "$work/said"
+    tests/said.py keep "$work/said" "$PGPORT" > "$work/said_port" &
+    listening=$!
+    await test -s "$work/said_port"
+    said_port=$(cat "$work/said_port")
+    aloud=(env PGHOST=127.0.0.1 PGPORT="$said_port")
+}
+
+# Interrupts a client that is at work, and waits for its end.
+interrupt() {
+    sleep 1
+    kill -INT "$1"
+    reap "$1"
+}
+
+# Queries, a COPY, functions of large objects, a login by SCRAM, a query that is cancelled, a COPY that is given up.
+say_by_psql() {
+    local psql=("${aloud[@]}" "$bin/psql" -X -q)
+    "${psql[@]}" -c 'CREATE TABLE said (a text)' -c '\copy said from stdin' <<< 'one'
+    "${psql[@]}" -c "\\lo_import $work/said_port" > /dev/null
+    [ -n "$(sql "SELECT FROM pg_roles WHERE rolname = 'by_scram'")" ] || make_users
+    PGPASSWORD="pass word '1" "${psql[@]}" -U by_scram -d postgres -c 'SELECT 1' > /dev/null
+    "${psql[@]}" -c 'SELECT pg_sleep(20)' 2> /dev/null &
+    interrupt $!
+    sleep 3 | "${psql[@]}" -c '\copy said from stdin' 2> /dev/null &
+    interrupt $!
+}
+
+say_by_pgbench() {
+    local mode
+    "${aloud[@]}" "$bin/pgbench" -i -q -s 1 2> /dev/null
+    for mode in simple extended prepared; do
+        "${aloud[@]}" "$bin/pgbench" -n -M "$mode" -t 20 > /dev/null 2>&1
+    done
+}
+
+# Debian's drivers for its Python, where they are there.
+say_by_python() {
+    local driver
+    for driver in asyncpg psycopg2; do
+        if /usr/bin/python3 -c "import $driver" 2> /dev/null; then
+            try "${aloud[@]}" /usr/bin/python3 "tests/said_$driver.py"
+            expect "$driver speaks" 0
+        else
+            echo "left out: what $driver says, since there is no python3-$driver"
+        fi
+    done
+}
+
+# Each case of the program that times tokio-postgres.
+say_by_tokio_postgres() {
+    local cargo_folder version case target=$PWD/out/drop-in
+    read -r cargo_folder version < <(rust_folders)
+    if [ -z "$cargo_folder" ] || ! has_crates "${drop_in_crates[@]}" "${driver_crates[@]}"; then
+        echo 'left out: what tokio-postgres says, which needs what its tests need'
+        return
+    fi
+    rust/tokio-postgres/prepare out/original
+    try by_debian out/original build --quiet --package end-to-end
+    expect 'a program on tokio-postgres' 0
+    for case in select-1 select-1000 insert insert-pipelined copy-in copy-out listen; do
+        try "$target/debug/end-to-end" "$case" 2 "host=127.0.0.1 port=$said_port user=postgres"
+        expect "tokio-postgres speaks: $case" 0
+    done
+}
+
+# What psql and pgbench say at least.
+said_kinds="bind
+cancelrequest
+copydata
+copydone
+copyfail
+describe
+execute
+functioncall
+parse
+password
+query
+sslrequest
+startup
+sync
+terminate"
+
+test_said() {
+    if [ -z "${PG_SERVER_TOOL:-}" ]; then
+        echo 'left out: what clients say, since PG_SERVER_TOOL names no pg_server_tool'
+        return
+    fi
+    start_listening
+    say_by_psql
+    say_by_pgbench
+    say_by_python
+    say_by_tokio_postgres
+    kill "$listening"
+    try tests/said.py read "$work/said"
+    expect "what clients say is read, and written as the same bytes: $errors" 0
+    same 'each kind of message is said' "$(comm -23 <(echo "$said_kinds") <(tr ' ' '\n' <<< "$output" | sort))" ''
+}
