@@ -9,7 +9,7 @@ import crates
 TRIED = crates.TOP / "tests" / "tried"
 
 # The crates are in so many sets of about as many wrong bodies; all of one set are tried, another one at each commit.
-SHARES = 5
+SHARES = 6
 
 
 class Due:
