@@ -1,18 +1,24 @@
 # What clients say to a server: read by pg_server_tool, and written again. Sourced by `test`.
 
-# Leaves its process in $listening, its port in $said_port, and what precedes a command that is listened to in $aloud.
-start_listening() {
-    mkdir "$work/said"
-    tests/said.py keep "$work/said" "$PGPORT" > "$work/said_port" &
-    listening=$!
-    await test -s "$work/said_port"
-    said_port=$(cat "$work/said_port")
+# Leaves the process that keeps what is said in $keeping, its port in $said_port, what precedes a client in $aloud.
+start_keeping() {
+    mkdir "$work/connections"
+    tests/said.py keep "$work/connections" "$PGPORT" > "$work/port_of_keeper" &
+    keeping=$!
+    await test -s "$work/port_of_keeper"
+    said_port=$(cat "$work/port_of_keeper")
     aloud=(env PGHOST=127.0.0.1 PGPORT="$said_port")
 }
 
-# Interrupts a client that is at work, and waits for its end.
+# Whether the server is at work on a query that begins with these words.
+is_running() {
+    [ -n "$(sql "SELECT 1 FROM pg_stat_activity WHERE state = 'active' AND pid <> pg_backend_pid() AND query ILIKE '$1%'")" ]
+}
+
+# Interrupts a client once the server is at work on its query, and waits for its end.
 interrupt() {
-    sleep 1
+    await is_running "$2"
+    sleep 0.5
     kill -INT "$1"
     reap "$1"
 }
@@ -21,13 +27,13 @@ interrupt() {
 say_by_psql() {
     local psql=("${aloud[@]}" "$bin/psql" -X -q)
     "${psql[@]}" -c 'CREATE TABLE said (a text)' -c '\copy said from stdin' <<< 'one'
-    "${psql[@]}" -c "\\lo_import $work/said_port" > /dev/null
-    [ -n "$(sql "SELECT FROM pg_roles WHERE rolname = 'by_scram'")" ] || make_users
+    "${psql[@]}" -c "\\lo_import $work/port_of_keeper" > /dev/null
+    [ -n "$(sql "SELECT 1 FROM pg_roles WHERE rolname = 'by_scram'")" ] || make_users
     PGPASSWORD="pass word '1" "${psql[@]}" -U by_scram -d postgres -c 'SELECT 1' > /dev/null
-    "${psql[@]}" -c 'SELECT pg_sleep(20)' 2> /dev/null &
-    interrupt $!
-    sleep 3 | "${psql[@]}" -c '\copy said from stdin' 2> /dev/null &
-    interrupt $!
+    "${psql[@]}" -c 'SELECT pg_sleep(60)' 2> /dev/null &
+    interrupt $! 'SELECT pg_sleep'
+    sleep 30 | "${psql[@]}" -c '\copy said from stdin' 2> /dev/null &
+    interrupt $! 'COPY%said'
 }
 
 say_by_pgbench() {
@@ -90,13 +96,13 @@ test_said() {
         echo 'left out: what clients say, since PG_SERVER_TOOL names no pg_server_tool'
         return
     fi
-    start_listening
+    start_keeping
     say_by_psql
     say_by_pgbench
     say_by_python
     say_by_tokio_postgres
-    kill "$listening"
-    try tests/said.py read "$work/said"
+    kill "$keeping"
+    try tests/said.py read "$work/connections"
     expect "what clients say is read, and written as the same bytes: $errors" 0
     same 'each kind of message is said' "$(comm -23 <(echo "$said_kinds") <(tr ' ' '\n' <<< "$output" | sort))" ''
 }
