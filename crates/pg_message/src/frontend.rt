@@ -9,5 +9,5 @@ pub use pg_frontend_frames::{
 pub use pg_read_frontend::message::{
     BindRef, CancelRequestRef, ExecuteRef, FirstMessageRef, FormatCodes, FrontendMessageRef,
     FunctionCallRef, ParameterTypes, ParseRef, SaslInitialRef, Settings, Target, TargetRef, Values,
-    format_of, read_empty, read_text,
+    format_of, read_empty, read_text, utf8_text,
 };

@@ -1,6 +1,7 @@
 //! What a message from a client is, borrowed from its body, and how one is read.
 //!
-//! Names and texts are any bytes but NUL, in the client's encoding. Nothing here asks for memory.
+//! Names and texts are any bytes but NUL, in the client's encoding; [`utf8_text`] gives one as `&str`, where it is
+//! UTF-8. Nothing here asks for memory.
 
 mod bind;
 mod cancel_request;
@@ -29,6 +30,7 @@ pub use frontend_message_ref::{FrontendMessageRef, format_of};
 pub use function_call::FunctionCallRef;
 pub use parameter_types::ParameterTypes;
 pub use parse::ParseRef;
+pub use pg_response::message::utf8_text;
 pub use sasl_initial::SaslInitialRef;
 pub use settings::Settings;
 pub use target::{Target, TargetRef};
