@@ -1,5 +1,6 @@
-"""Which wrong bodies the merge gate tries: those of what changed since all were tried, and all of some crates."""
+"""Which wrong bodies the merge gate tries: those of what changed since all were tried, and a share of all."""
 
+import math
 import subprocess
 
 import changes
@@ -8,7 +9,7 @@ import crates
 # The commit as of which all were tried, and by which toolchain.
 TRIED = crates.TOP / "tests" / "tried"
 
-# The crates are in so many sets of about as many wrong bodies; all of one set are tried, another one at each commit.
+# The wrong bodies are in so many sets of about as many; all of one set are tried, of another one at each commit.
 SHARES = 6
 
 
@@ -21,7 +22,7 @@ class Due:
         self.is_all = not is_ancestor(since) or toolchain != printed("rt", "version")
         if not self.is_all:
             turn = int(changes.git("rev-list", "--count", "HEAD")) % SHARES
-            self.whole = shares({crate: len(its) for crate, its in edits.items()})[turn]
+            self.share = set(shares(edits.values())[turn])
             lines = changes.changed(since)
             self.changed = {crate: changes.Change(crate, since, lines) for crate in crates.known().values()}
 
@@ -31,16 +32,22 @@ class Due:
         What the crates below it promise doesn't decide: a body that breaks a promise of its own crate breaks it over
         any of theirs.
         """
-        if self.is_all or crate in self.whole:
+        if self.is_all:
             return edits
-        return list(filter(self.changed[crate].concerns, edits))
+        return [edit for edit in edits if edit in self.share or self.changed[crate].concerns(edit)]
 
 
-def shares(counts):
-    """Sets of crates with about as many wrong bodies, given how many each has."""
+def shares(crates):
+    """Sets of about as many wrong bodies, those of a crate together where they are no more than a set has."""
+    crates = list(crates)
+    most = math.ceil(sum(map(len, crates)) / SHARES)
+    parts = []
+    for edits in crates:
+        count = math.ceil(len(edits) / most)
+        parts += [edits[part::count] for part in range(count)]
     sets = [[] for _ in range(SHARES)]
-    for crate in sorted(counts, key=counts.get, reverse=True):
-        min(sets, key=lambda it: sum(map(counts.get, it))).append(crate)
+    for part in sorted(parts, key=len, reverse=True):
+        min(sets, key=len).extend(part)
     return sets
 
 

@@ -22,20 +22,17 @@ FOLDERS = ("edits", "must-fail")
 SELF_TEST = crates.TOP / "tests" / "self_test"
 
 
-# Of so many edits of a crate, most of its functions are proved anyway.
-MANY = 20
-
 # No more checks at a time than there are processors for, which they leave to whatever else runs.
 PROCESSORS = threading.BoundedSemaphore(crates.processors())
 NICE = ("nice", "-n", "19")
 
 
 class Known:
-    """What is proved of a crate before its edits, of which there are so many: once for all that try some of them."""
+    """What is proved of a crate before its edits: once for all that try some of them."""
 
-    def __init__(self, crate, edits, proofs):
-        self.crate, self.edits, self.proofs = crate, edits, proofs
-        self.lock, self.folder = threading.Lock(), None
+    def __init__(self, crate, proofs):
+        self.crate, self.proofs = crate, proofs
+        self.lock, self.folder, self.is_there = threading.Lock(), None, threading.Event()
 
     def can_begin(self):
         """Waits until what is needed is proved, where that is done meanwhile; whether it is."""
@@ -47,25 +44,33 @@ class Known:
         return self.proofs is not None and self.crate.is_static
 
     def copy(self, to):
-        """Copies it to a folder."""
+        """Copies it to a folder. Where there is nothing yet, the first that asks goes on without it and keeps what its
+        first check proves for the others, which wait for that."""
         with self.lock:
-            if not self.folder:
+            is_first = self.folder is None
+            if is_first:
                 self.folder = tempfile.TemporaryDirectory(prefix="proved-")
                 self.fill()
+        if not is_first:
+            self.is_there.wait()
         shutil.copytree(self.folder.name, to, dirs_exist_ok=True)
 
     def fill(self):
-        """Takes what earlier checks proved, else proves a crate of many edits, and one that serves its build."""
+        """Takes what earlier checks proved, else proves a crate that serves its build."""
         kept = self.crate.kept()
         if kept.exists():
-            shutil.copytree(kept, self.folder.name, dirs_exist_ok=True)
+            self.keep(kept)
         elif self.serves_build():
             with crates.locked([self.crate.place_of_proof()]), PROCESSORS:
                 self.crate.check({}, [], self.folder.name, jobs=2)
                 shutil.copytree(self.folder.name, kept)
-        elif self.edits > MANY:
-            with PROCESSORS:
-                self.crate.check({}, [], self.folder.name, before=NICE)
+            self.is_there.set()
+
+    def keep(self, proved):
+        """Keeps what checks proved in a folder, where there is nothing yet."""
+        if not self.is_there.is_set():
+            shutil.copytree(proved, self.folder.name, dirs_exist_ok=True)
+            self.is_there.set()
 
 
 class Trial:
@@ -99,10 +104,14 @@ class Trial:
         with tempfile.TemporaryDirectory(prefix="edits-") as self.kept:
             if left or can_begin and self.known.serves_build():
                 self.known.copy(self.kept)
-            while left:
-                batch = batch_of(left)
-                again = self.together(batch) if len(batch) > 1 else self.alone(batch[0])
-                left = [edit for edit in left if edit not in batch] + again
+            try:
+                while left:
+                    batch = batch_of(left)
+                    again = self.together(batch) if len(batch) > 1 else self.alone(batch[0])
+                    left = [edit for edit in left if edit not in batch] + again
+            finally:
+                # Where a check broke off, others wait no longer.
+                self.known.is_there.set()
 
     def check(self, edits):
         """The report of a check of the functions that these edits change."""
@@ -111,7 +120,9 @@ class Trial:
         # A law is checked with all that is.
         only = [] if any(edit.laws for edit in edits) else [word for function in functions for word in ("--only", function)]
         with PROCESSORS:
-            return report.Report(self.crate.check(wrong_bodies.texts(self.crate, edits), only, self.kept, before=NICE))
+            said = self.crate.check(wrong_bodies.texts(self.crate, edits), only, self.kept, before=NICE)
+        self.known.keep(self.kept)
+        return report.Report(said)
 
     def together(self, batch):
         """Judges a batch by one check; returns what is to be tried again."""
