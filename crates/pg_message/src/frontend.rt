@@ -11,3 +11,4 @@ pub use pg_read_frontend::message::{
     FunctionCallRef, ParameterTypes, ParseRef, SaslInitialRef, Settings, Target, TargetRef, Values,
     format_of, read_empty, read_text, utf8_text,
 };
+pub use pg_read_frontend::parts;

@@ -4,5 +4,6 @@
 mod error;
 pub mod laws;
 pub mod message;
+pub mod parts;
 
 pub use error::FrontendFault;

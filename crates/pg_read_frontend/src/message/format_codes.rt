@@ -63,8 +63,8 @@ impl<'a> Iterator for FormatCodes<'a> {
     }
 }
 
-/// The codes after their count, which is at an offset.
-pub(crate) fn codes_at(body: &[u8], at: usize) -> Result<(FormatCodes<'_>, usize), FrontendFault>
+/// The codes after their count, which is at an offset within a body.
+pub fn codes_at(body: &[u8], at: usize) -> Result<(FormatCodes<'_>, usize), FrontendFault>
     requires { at ≤ length body.now }
     ensures { GivesAt format_codes (λ codes. codes) body.now at result }
 {

@@ -64,8 +64,8 @@ impl<'a> Iterator for ParameterTypes<'a> {
     }
 }
 
-/// The types after their count, which is at an offset.
-pub(crate) fn types_at(body: &[u8], at: usize) -> Result<(ParameterTypes<'_>, usize), FrontendFault>
+/// The types after their count, which is at an offset within a body.
+pub fn types_at(body: &[u8], at: usize) -> Result<(ParameterTypes<'_>, usize), FrontendFault>
     requires { at ≤ length body.now }
     ensures { GivesAt (counted_least 4 be_u32) (λ types. types) body.now at result }
 {

@@ -10,12 +10,8 @@ use crate::error::FrontendFault;
 use pg_base::io;
 use pg_response::message as response;
 
-/// So many bytes from an offset on. Refused with `Short` where fewer are there.
-pub(crate) fn bytes_at(
-    body: &[u8],
-    at: usize,
-    needed: usize,
-) -> Result<(&[u8], usize), FrontendFault>
+/// So many bytes from an offset within a body on. Refused with `Short` where fewer are there.
+pub fn bytes_at(body: &[u8], at: usize, needed: usize) -> Result<(&[u8], usize), FrontendFault>
     requires { at ≤ length body.now }
     ensures { GivesAt (bytes_of needed) (λ bytes. bytes.now) body.now at result }
 {
@@ -25,8 +21,8 @@ pub(crate) fn bytes_at(
     }
 }
 
-/// The number of two bytes at an offset, or `Short`.
-pub(crate) fn u16_at(body: &[u8], at: usize) -> Result<(u16, usize), FrontendFault>
+/// The number of two bytes at an offset within a body, or `Short`.
+pub fn u16_at(body: &[u8], at: usize) -> Result<(u16, usize), FrontendFault>
     requires { at ≤ length body.now }
     ensures { GivesAt be_u16 (λ n. n) body.now at result }
 {
@@ -36,8 +32,8 @@ pub(crate) fn u16_at(body: &[u8], at: usize) -> Result<(u16, usize), FrontendFau
     }
 }
 
-/// The number of four bytes at an offset, or `Short`.
-pub(crate) fn u32_at(body: &[u8], at: usize) -> Result<(u32, usize), FrontendFault>
+/// The number of four bytes at an offset within a body, or `Short`.
+pub fn u32_at(body: &[u8], at: usize) -> Result<(u32, usize), FrontendFault>
     requires { at ≤ length body.now }
     ensures { GivesAt be_u32 (λ n. n) body.now at result }
 {
@@ -47,8 +43,8 @@ pub(crate) fn u32_at(body: &[u8], at: usize) -> Result<(u32, usize), FrontendFau
     }
 }
 
-/// The signed number of four bytes at an offset, or `Short`.
-pub(crate) fn i32_at(body: &[u8], at: usize) -> Result<(i32, usize), FrontendFault>
+/// The signed number of four bytes at an offset within a body, or `Short`.
+pub fn i32_at(body: &[u8], at: usize) -> Result<(i32, usize), FrontendFault>
     requires { at ≤ length body.now }
     ensures { GivesAt be_i32 (λ z. z) body.now at result }
 {
@@ -58,8 +54,8 @@ pub(crate) fn i32_at(body: &[u8], at: usize) -> Result<(i32, usize), FrontendFau
     }
 }
 
-/// The text at an offset, without its NUL. Refused with `MissingNul` where there is no NUL.
-pub(crate) fn text_at(body: &[u8], at: usize) -> Result<(&[u8], usize), FrontendFault>
+/// The text at an offset within a body, without its NUL. Refused with `MissingNul` where there is no NUL.
+pub fn text_at(body: &[u8], at: usize) -> Result<(&[u8], usize), FrontendFault>
     requires { at ≤ length body.now }
     ensures { GivesAt until_nul (λ text. text.now) body.now at result }
 {
@@ -70,7 +66,7 @@ pub(crate) fn text_at(body: &[u8], at: usize) -> Result<(&[u8], usize), Frontend
 }
 
 /// That the body ends at an offset, or `TrailingBytes`.
-pub(crate) fn end_at(body: &[u8], at: usize) -> Result<(), FrontendFault>
+pub fn end_at(body: &[u8], at: usize) -> Result<(), FrontendFault>
     requires { at ≤ length body.now }
     ensures end { IfOk result (λ _. at ≡ length body.now) }
     ensures trailing { IfErr result (TrailsAt body.now at) }

@@ -70,8 +70,8 @@ impl<'a> Iterator for Values<'a> {
     }
 }
 
-/// The values after their count, which is at an offset.
-pub(crate) fn values_at(body: &[u8], at: usize) -> Result<(Values<'_>, usize), FrontendFault>
+/// The values after their count, which is at an offset within a body.
+pub fn values_at(body: &[u8], at: usize) -> Result<(Values<'_>, usize), FrontendFault>
     requires { at ≤ length body.now }
     ensures { GivesAt (counted value) (λ values. values) body.now at result }
 {
@@ -86,8 +86,8 @@ pub(crate) fn values_at(body: &[u8], at: usize) -> Result<(Values<'_>, usize), F
     Ok((Values { bytes, left }, end))
 }
 
-/// The value at an offset, nothing for NULL. Refused with `ValueLength` where its length is below -1.
-pub(crate) fn value_at(body: &[u8], at: usize) -> Result<(Option<&[u8]>, usize), FrontendFault>
+/// The value at an offset within a body, nothing for NULL. Refused with `ValueLength` where its length is below -1.
+pub fn value_at(body: &[u8], at: usize) -> Result<(Option<&[u8]>, usize), FrontendFault>
     requires { at ≤ length body.now }
     ensures { GivesAt value option_copied body.now at result }
 {
