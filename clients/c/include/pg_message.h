@@ -45,7 +45,7 @@ enum {
     PGMSG_WRONG_FORMAT = -6,
     /* A received body is longer than a length field can say. */
     PGMSG_BODY_TOO_LONG = -7,
-    /* No message from the server that is known here has this tag. */
+    /* No message that is known here, from a server or from a client, has this tag. */
     PGMSG_UNKNOWN_MESSAGE_TYPE = -8,
     /* A method of authentication that isn't known here. */
     PGMSG_UNKNOWN_AUTHENTICATION = -9,
@@ -65,7 +65,7 @@ enum {
     PGMSG_SHORT_SASL_ITEM = -16,
     /* A value of SASL data is not base64. */
     PGMSG_BASE64 = -17,
-    /* The length of a message is below 4. */
+    /* The length of a message is below 4, or that of a client's first message below 8. */
     PGMSG_BAD_LENGTH = -18,
     /* A text to be sent holds a NUL, or the name of a setting is empty. */
     PGMSG_TEXT_HOLDS_NUL = -19,
@@ -73,6 +73,16 @@ enum {
     PGMSG_BAD_PARAMS = -20,
     /* A session's secret key has fewer than 4 or more than 256 bytes. */
     PGMSG_BAD_KEY_LENGTH = -21,
+    /* No first message has this code. */
+    PGMSG_UNKNOWN_CODE = -22,
+    /* A Describe or a Close names neither a statement nor a portal. */
+    PGMSG_UNKNOWN_TARGET = -23,
+    /* A value has a length below -1. */
+    PGMSG_BAD_VALUE_LENGTH = -24,
+    /* Bytes follow the end of a message. */
+    PGMSG_TRAILING_BYTES = -25,
+    /* A first message is longer than the caller takes. */
+    PGMSG_FIRST_TOO_LONG = -26,
 };
 
 /* What is wrong with bytes that were read. `number` is what the call returned. `at` is an offset in
@@ -95,6 +105,12 @@ typedef struct {
     size_t at;
     size_t len;
 } pgmsg_span;
+
+/* A list in the bytes that were passed: `count` items, of which the first is at `at`. */
+typedef struct {
+    size_t at;
+    size_t count;
+} pgmsg_list;
 
 /* The name of a setting and its value, in UTF-8. */
 typedef struct {

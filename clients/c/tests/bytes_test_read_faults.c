@@ -56,13 +56,15 @@ static void words_of_numbers(struct tally *tally)
         "message is too long", "message of another kind", "message body is too long", "unknown message type",
         "unknown authentication method", "unknown transaction status", "unknown severity", "message body is too short",
         "text has no NUL", "text is not UTF-8", "text of an error or a notice is not UTF-8",
-        "SASL item of fewer than two bytes", "SASL value is not base64", "message length is below 4", "text holds NUL",
-        "values can't be counted", "secret key is too short or too long", "unknown error",
+        "SASL item of fewer than two bytes", "SASL value is not base64", "message length is too small", "text holds NUL",
+        "values can't be counted", "secret key is too short or too long", "unknown code of a first message",
+        "neither a statement nor a portal", "value length is below -1", "bytes follow the end of a message",
+        "first message is too long", "unknown error",
     };
     int32_t count = sizeof words / sizeof words[0];
     for (int32_t i = 0; i < count; i++)
         CHECK(tally, is_text(pgmsg_strerror(-1 - i), words[i]));
-    CHECK(tally, count == 1 - PGMSG_BAD_KEY_LENGTH);
+    CHECK(tally, count == 1 - PGMSG_FIRST_TOO_LONG);
     CHECK(tally, is_text(pgmsg_strerror(INT32_MIN), "unknown error"));
     CHECK(tally, is_text(pgmsg_strerror(0), "no error"));
     CHECK(tally, is_text(pgmsg_strerror(INT32_MAX), "no error"));

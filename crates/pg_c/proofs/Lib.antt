@@ -8,3 +8,4 @@ pub mod ReadFrameLemmas
 pub mod ReadLemmas
 pub mod ReadListsLemmas
 pub mod ReadRowLemmas
+pub mod RefusalLemmas

@@ -1,3 +1,4 @@
+pub mod Client
 pub mod Place
 pub mod Put
 pub mod Read

@@ -1,5 +1,9 @@
 -- What a place in some bytes says: nothing where it isn't in them.
 use Rattle.std.specs.Prelude.{ℕ, ◌+◌, List, Option, Some, None, length, nat_le, slice_range, if◌then◌else◌}
+use Rattle.pg_format.specs.Format.{Format}
+use Rattle.pg_format.specs.Format.Lists.{times}
+use Rattle.pg_format.specs.Format.Places.{IsReadAt}
+use Rattle.pg_c.specs.declared.place.PgmsgList.{PgmsgList}
 use Rattle.pg_c.specs.declared.place.PgmsgSpan.{PgmsgSpan}
 
 abbrev pub bytes_in : List ℕ → ℕ → ℕ → Option (List ℕ)
@@ -7,3 +11,8 @@ bytes_in bytes at len = if nat_le (at + len) (length bytes) then Some (slice_ran
 
 abbrev pub part : List ℕ → PgmsgSpan → Option (List ℕ)
 part bytes span = bytes_in bytes span.at span.len
+
+-- so many items stand from an offset on, and these are they
+pub record StandAt {X : Type 0} (g : Format X) (bytes : List ℕ) (list : PgmsgList) (items : List X) : Type 0 where
+  pub end : ℕ
+  pub read : IsReadAt (times list.count g) bytes list.at items end

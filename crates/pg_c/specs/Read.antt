@@ -19,9 +19,13 @@ use Rattle.pg_format.specs.Format.Places.{IsReadAt}
 use Rattle.pg_c.specs.Refusal.{Refuses}
 use Rattle.pg_c.specs.declared.refusal.PgmsgFault.{PgmsgFault}
 
+-- a body that is longer than any
+abbrev pub IsTooLong : List ℕ → ProtocolFault → Type 0
+IsTooLong body fault = (max_body < length body) × (fault ≡ BodyTooLong (length body))
+
 -- a body that is longer than any, or has a fault
 abbrev pub IsBodyFault : (List ℕ → ProtocolFault → Type 0) → List ℕ → ProtocolFault → Type 0
-IsBodyFault IsFault body fault = ((max_body < length body) × (fault ≡ BodyTooLong (length body))) ⊎ ((length body ≤ max_body) × IsFault body fault)
+IsBodyFault IsFault body fault = IsTooLong body fault ⊎ ((length body ≤ max_body) × IsFault body fault)
 
 -- a result below 0 refuses the body, for its fault
 abbrev pub RefusesBody : {V : Type 0} → Format V → List ℕ → PgmsgFault → PgmsgFault → ℤ → Type 0

@@ -1,10 +1,13 @@
 -- The numbers by which a call refuses, and what is reported of a fault.
-use Rattle.std.specs.Prelude.{◌≡◌, ◌⊎◌, ℕ, ℤ, negsuc, None, take, drop}
+use Rattle.std.specs.Prelude.{◌≡◌, ◌⊎◌, ℕ, ℤ, negsuc, List, None, take, drop}
 use Rattle.pg_base.specs.Error.{error_words}
 use Rattle.pg_base.specs.declared.error.ProtocolFault.{ProtocolFault}
 use Rattle.pg_base.specs.declared.error.ProtocolFault.TheVariants as faults
 use Rattle.pg_base.specs.declared.error.Error.{Error}
 use Rattle.pg_base.specs.declared.error.Error.TheVariants.{Protocol, OutOfMemory}
+use Rattle.pg_read_frontend.specs.Error.{fault_words}
+use Rattle.pg_read_frontend.specs.declared.error.FrontendFault.{FrontendFault}
+use Rattle.pg_read_frontend.specs.declared.error.FrontendFault.TheVariants as client
 use Rattle.pg_c.specs.declared.refusal.PgmsgFault.{PgmsgFault}
 
 -- the number of any message or value that is too long
@@ -48,13 +51,40 @@ abbrev pub fault_place : Error → ℕ
 fault_place (Protocol reading fault) = place_in fault
 fault_place OutOfMemory = 0
 
--- an error is reported with its number, its offset and its words, or without words; what follows the words is as it was
-pub record IsReport (error : Error) (old fault : PgmsgFault) (result : ℤ) : Type 0 where
-  pub returned : result ≡ refusal_number error
-  pub number : fault.number ≡ refusal_number error
-  pub at : fault.at ≡ fault_place error
-  pub words : (fault.words_len ≡ 0) ⊎ (take fault.words_len fault.words ≡ error_words error)
+-- the same of what is wrong with a message from a client
+abbrev pub client_number : FrontendFault → ℤ
+client_number (client.UnknownTag tag) = negsuc 7
+client_number (client.UnknownCode code) = negsuc 21
+client_number (client.UnknownTarget letter) = negsuc 22
+client_number (client.Short at needed got) = negsuc 11
+client_number (client.MissingNul at) = negsuc 12
+client_number (client.ValueLength at length) = negsuc 23
+client_number (client.KeyLength length) = negsuc 20
+client_number (client.TrailingBytes at) = negsuc 24
+client_number (client.BadLength length) = negsuc 17
+client_number (client.FirstTooLong length limit) = negsuc 25
+
+abbrev pub client_place : FrontendFault → ℕ
+client_place (client.Short at needed got) = at
+client_place (client.MissingNul at) = at
+client_place (client.ValueLength at length) = at
+client_place (client.TrailingBytes at) = at
+client_place fault = 0
+
+-- a number is reported with an offset and words, or without words; what follows the words is as it was
+pub record IsReportOf (is : ℤ) (place : ℕ) (said : List ℕ) (old fault : PgmsgFault) (result : ℤ) : Type 0 where
+  pub returned : result ≡ is
+  pub number : fault.number ≡ is
+  pub at : fault.at ≡ place
+  pub words : (fault.words_len ≡ 0) ⊎ (take fault.words_len fault.words ≡ said)
   pub rest : drop fault.words_len fault.words ≡ drop fault.words_len old.words
+
+-- that of an error, and of what is wrong with a message from a client
+abbrev pub IsReport : Error → PgmsgFault → PgmsgFault → ℤ → Type 0
+IsReport error = IsReportOf (refusal_number error) (fault_place error) (error_words error)
+
+abbrev pub IsClientReport : FrontendFault → PgmsgFault → PgmsgFault → ℤ → Type 0
+IsClientReport fault = IsReportOf (client_number fault) (client_place fault) (fault_words fault)
 
 -- a fault that the bytes have, of no message read as a kind; never out of memory
 abbrev pub IsErrorOf : (ProtocolFault → Type 0) → Error → Type 0
@@ -66,3 +96,9 @@ pub record Refuses (IsFault : ProtocolFault → Type 0) (old fault : PgmsgFault)
   pub error : Error
   pub is : IsErrorOf IsFault error
   pub report : IsReport error old fault result
+
+-- the same for a fault of a client's
+pub record RefusesClient (IsFault : FrontendFault → Type 0) (old fault : PgmsgFault) (result : ℤ) : Type 0 where
+  pub why : FrontendFault
+  pub is : IsFault why
+  pub report : IsClientReport why old fault result

@@ -29,10 +29,15 @@ refusals =
     codes "text of an error or a notice is not UTF-8" ∷
     codes "SASL item of fewer than two bytes" ∷
     codes "SASL value is not base64" ∷
-    codes "message length is below 4" ∷
+    codes "message length is too small" ∷
     codes "text holds NUL" ∷
     codes "values can't be counted" ∷
-    codes "secret key is too short or too long" ∷ []
+    codes "secret key is too short or too long" ∷
+    codes "unknown code of a first message" ∷
+    codes "neither a statement nor a portal" ∷
+    codes "value length is below -1" ∷
+    codes "bytes follow the end of a message" ∷
+    codes "first message is too long" ∷ []
 
 -- negsuc n is -n - 1
 abbrev pub words_of : ℤ → List ℕ

@@ -5,6 +5,7 @@
 //! the C header of the exports here.
 #![tactic(auto)]
 
+pub mod client;
 pub mod place;
 pub mod put;
 pub mod read;

@@ -1,10 +1,12 @@
 //! Why a call refuses, as a number and in words.
 
-ghost use Rattle.std.specs.Prelude.{◌≡◌, ◌<ℤ◌, pos};
-ghost use Rattle.pg_c.specs.Refusal.{fault_number, refusal_number, fault_place, IsReport};
+ghost use Rattle.std.specs.Prelude.{◌≡◌, ◌<ℤ◌, ℕ, List, pos, IfOk, string_bytes};
+ghost use Rattle.pg_c.specs.Refusal.{fault_number, refusal_number, fault_place, IsReport, IsReportOf};
+ghost use Rattle.pg_c.specs.Refusal.{client_number, client_place, IsClientReport};
 
 use pg_base::{Error, ProtocolFault};
-use std::alloc::Global;
+use pg_read_frontend::FrontendFault;
+use std::alloc::{AllocError, Global};
 
 /// No memory was there. No call of this library returns it.
 pub const OUT_OF_MEMORY: i32 = -1;
@@ -27,7 +29,7 @@ pub const WRONG_FORMAT: i32 = -6;
 /// A received body is longer than a length field can say.
 pub const BODY_TOO_LONG: i32 = -7;
 
-/// No message from the server that is known here has this tag.
+/// No message that is known here, from a server or from a client, has this tag.
 pub const UNKNOWN_MESSAGE_TYPE: i32 = -8;
 
 /// A method of authentication that isn't known here.
@@ -57,7 +59,7 @@ pub const SHORT_SASL_ITEM: i32 = -16;
 /// A value of SASL data is not base64.
 pub const BASE64: i32 = -17;
 
-/// The length of a message is below 4.
+/// The length of a message is below 4, or that of a client's first message below 8.
 pub const BAD_LENGTH: i32 = -18;
 
 /// A text to be sent holds a NUL, or the name of a setting is empty.
@@ -68,6 +70,21 @@ pub const BAD_PARAMS: i32 = -20;
 
 /// A session's secret key has fewer than 4 or more than 256 bytes.
 pub const BAD_KEY_LENGTH: i32 = -21;
+
+/// No first message has this code.
+pub const UNKNOWN_CODE: i32 = -22;
+
+/// A Describe or a Close names neither a statement nor a portal.
+pub const UNKNOWN_TARGET: i32 = -23;
+
+/// A value has a length below -1.
+pub const BAD_VALUE_LENGTH: i32 = -24;
+
+/// Bytes follow the end of a message.
+pub const TRAILING_BYTES: i32 = -25;
+
+/// A first message is longer than the caller takes.
+pub const FIRST_TOO_LONG: i32 = -26;
 
 /// What is wrong with bytes that were read. `number` is what the call returned. `at` is an offset
 /// in them, where the fault has one, else 0. `words` are `words_len` bytes of ASCII, none where
@@ -135,11 +152,59 @@ pub fn report(alloc: Global, error: Error, fault: &mut PgmsgFault) -> i32
     ensures report { IsReport error fault.old fault.new result }
     ensures below { result <ℤ pos 0 }
 {
-    let number = number_of(error);
+    let words = error.to_string(alloc);
+    fill(number_of(error), place_of(error), &words, fault)
+}
+
+// The number of what is wrong with a message from a client.
+fn number_of_client(fault: FrontendFault) -> i32
+    ensures { result ≡ client_number fault }
+{
+    match fault {
+        FrontendFault::UnknownTag(_) => UNKNOWN_MESSAGE_TYPE,
+        FrontendFault::UnknownCode(_) => UNKNOWN_CODE,
+        FrontendFault::UnknownTarget(_) => UNKNOWN_TARGET,
+        FrontendFault::Short { .. } => SHORT,
+        FrontendFault::MissingNul { .. } => MISSING_NUL,
+        FrontendFault::ValueLength { .. } => BAD_VALUE_LENGTH,
+        FrontendFault::KeyLength(_) => BAD_KEY_LENGTH,
+        FrontendFault::TrailingBytes { .. } => TRAILING_BYTES,
+        FrontendFault::BadLength(_) => BAD_LENGTH,
+        FrontendFault::FirstTooLong { .. } => FIRST_TOO_LONG,
+    }
+}
+
+// The offset that it names, 0 where it names none.
+fn place_of_client(fault: FrontendFault) -> usize
+    ensures { result ≡ client_place fault }
+{
+    match fault {
+        FrontendFault::Short { at, .. }
+        | FrontendFault::MissingNul { at }
+        | FrontendFault::ValueLength { at, .. }
+        | FrontendFault::TrailingBytes { at } => at,
+        _ => 0,
+    }
+}
+
+/// Fills the fault with what is wrong with a message from a client, and gives its number.
+pub fn report_client(alloc: Global, why: FrontendFault, fault: &mut PgmsgFault) -> i32
+    ensures report { IsClientReport why fault.old fault.new result }
+    ensures below { result <ℤ pos 0 }
+{
+    let words = why.to_string(alloc);
+    fill(number_of_client(why), place_of_client(why), &words, fault)
+}
+
+// Fills the fault, with words where there are some and it has room for them, and gives the number.
+fn fill(number: i32, at: usize, words: &Result<String, AllocError>, fault: &mut PgmsgFault) -> i32
+    ensures { (said : List ℕ) → IfOk words.now (λ text. string_bytes text ≡ said)
+        → IsReportOf number at said fault.old fault.new result }
+{
     fault.number = number;
-    fault.at = place_of(error);
+    fault.at = at;
     fault.words_len = 0;
-    if let Ok(words) = error.to_string(alloc) {
+    if let Ok(words) = words {
         if words.len() <= fault.words.len() {
             fault.words[..words.len()].copy_from_slice(words.as_bytes());
             fault.words_len = words.len();

@@ -4,10 +4,11 @@ ghost use Rattle.std.specs.Prelude.{◌≡◌, ◌<◌, codes, length};
 ghost use Rattle.pg_c.specs.Words.{ended, room, words_of};
 
 use crate::refusal::{
-    BAD_KEY_LENGTH, BAD_LENGTH, BAD_PARAMS, BASE64, BODY_TOO_LONG, MESSAGE_TOO_LONG, MISSING_NUL,
-    NOT_UTF8, NOTICE_NOT_UTF8, OUT_OF_MEMORY, SHORT, SHORT_SASL_ITEM, TEXT_HOLDS_NUL,
-    TOO_MANY_PARAM_FORMATS, TOO_MANY_PARAM_TYPES, TOO_MANY_RESULT_FORMATS, UNKNOWN_AUTHENTICATION,
-    UNKNOWN_MESSAGE_TYPE, UNKNOWN_SEVERITY, UNKNOWN_STATUS, WRONG_FORMAT,
+    BAD_KEY_LENGTH, BAD_LENGTH, BAD_PARAMS, BAD_VALUE_LENGTH, BASE64, BODY_TOO_LONG,
+    FIRST_TOO_LONG, MESSAGE_TOO_LONG, MISSING_NUL, NOT_UTF8, NOTICE_NOT_UTF8, OUT_OF_MEMORY, SHORT,
+    SHORT_SASL_ITEM, TEXT_HOLDS_NUL, TOO_MANY_PARAM_FORMATS, TOO_MANY_PARAM_TYPES,
+    TOO_MANY_RESULT_FORMATS, TRAILING_BYTES, UNKNOWN_AUTHENTICATION, UNKNOWN_CODE,
+    UNKNOWN_MESSAGE_TYPE, UNKNOWN_SEVERITY, UNKNOWN_STATUS, UNKNOWN_TARGET, WRONG_FORMAT,
 };
 
 /// The version of the library, and of the header with it.
@@ -72,10 +73,15 @@ fn words(number: i32) -> &'static str
         NOTICE_NOT_UTF8 => "text of an error or a notice is not UTF-8",
         SHORT_SASL_ITEM => "SASL item of fewer than two bytes",
         BASE64 => "SASL value is not base64",
-        BAD_LENGTH => "message length is below 4",
+        BAD_LENGTH => "message length is too small",
         TEXT_HOLDS_NUL => "text holds NUL",
         BAD_PARAMS => "values can't be counted",
         BAD_KEY_LENGTH => "secret key is too short or too long",
+        UNKNOWN_CODE => "unknown code of a first message",
+        UNKNOWN_TARGET => "neither a statement nor a portal",
+        BAD_VALUE_LENGTH => "value length is below -1",
+        TRAILING_BYTES => "bytes follow the end of a message",
+        FIRST_TOO_LONG => "first message is too long",
         0.. => "no error",
         _ => "unknown error",
     }

@@ -26,7 +26,7 @@ pub const PGMSG_WRONG_FORMAT: i32 = -6;
 /// A received body is longer than a length field can say.
 pub const PGMSG_BODY_TOO_LONG: i32 = -7;
 
-/// No message from the server that is known here has this tag.
+/// No message that is known here, from a server or from a client, has this tag.
 pub const PGMSG_UNKNOWN_MESSAGE_TYPE: i32 = -8;
 
 /// A method of authentication that isn't known here.
@@ -56,7 +56,7 @@ pub const PGMSG_SHORT_SASL_ITEM: i32 = -16;
 /// A value of SASL data is not base64.
 pub const PGMSG_BASE64: i32 = -17;
 
-/// The length of a message is below 4.
+/// The length of a message is below 4, or that of a client's first message below 8.
 pub const PGMSG_BAD_LENGTH: i32 = -18;
 
 /// A text to be sent holds a NUL, or the name of a setting is empty.
@@ -67,6 +67,21 @@ pub const PGMSG_BAD_PARAMS: i32 = -20;
 
 /// A session's secret key has fewer than 4 or more than 256 bytes.
 pub const PGMSG_BAD_KEY_LENGTH: i32 = -21;
+
+/// No first message has this code.
+pub const PGMSG_UNKNOWN_CODE: i32 = -22;
+
+/// A Describe or a Close names neither a statement nor a portal.
+pub const PGMSG_UNKNOWN_TARGET: i32 = -23;
+
+/// A value has a length below -1.
+pub const PGMSG_BAD_VALUE_LENGTH: i32 = -24;
+
+/// Bytes follow the end of a message.
+pub const PGMSG_TRAILING_BYTES: i32 = -25;
+
+/// A first message is longer than the caller takes.
+pub const PGMSG_FIRST_TOO_LONG: i32 = -26;
 
 /// What is wrong with bytes that were read. `number` is what the call returned. `at` is an offset
 /// in them, where the fault has one, else 0. `words` are `words_len` bytes of ASCII, none where
@@ -93,6 +108,14 @@ pub struct pgmsg_text {
 pub struct pgmsg_span {
     pub at: usize,
     pub len: usize,
+}
+
+/// A list in the bytes that were passed: `count` items, of which the first is at `at`.
+#[repr(C)]
+#[derive(Clone, Copy, Debug, Default)]
+pub struct pgmsg_list {
+    pub at: usize,
+    pub count: usize,
 }
 
 /// The name of a setting and its value, in UTF-8.

@@ -43,7 +43,7 @@ pub enum Refusal {
     ShortSaslItem,
     /// A value of SASL data is not base64.
     Base64,
-    /// The length of the message is below 4.
+    /// The length of the message is below 4, or that of a client's first message below 8.
     BadLength,
     /// A text to be sent holds a NUL, where the server would end it, or the name of a setting is empty.
     TextHoldsNul,
@@ -76,7 +76,7 @@ const KNOWN: &[(i32, Refusal, &str)] = &[
     (sys::PGMSG_NOTICE_NOT_UTF8, Refusal::NoticeNotUtf8, "text of an error or a notice is not UTF-8"),
     (sys::PGMSG_SHORT_SASL_ITEM, Refusal::ShortSaslItem, "SASL item has fewer than two bytes"),
     (sys::PGMSG_BASE64, Refusal::Base64, "SASL value is not base64"),
-    (sys::PGMSG_BAD_LENGTH, Refusal::BadLength, "message length is below 4"),
+    (sys::PGMSG_BAD_LENGTH, Refusal::BadLength, "message length is too small"),
     (sys::PGMSG_TEXT_HOLDS_NUL, Refusal::TextHoldsNul, "text holds a NUL"),
     (sys::PGMSG_BAD_PARAMS, Refusal::BadParams, "too many values for a Bind"),
     (sys::PGMSG_BAD_KEY_LENGTH, Refusal::BadKeyLength, "secret key of fewer than 4 or more than 256 bytes"),

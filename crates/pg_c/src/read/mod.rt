@@ -9,16 +9,16 @@ mod columns;
 mod copy;
 mod end;
 mod fields;
-mod frame;
+pub(crate) mod frame;
 mod raw;
 mod raw_columns;
 mod raw_frame;
-mod row;
+pub(crate) mod row;
 mod status;
 
-ghost use Rattle.std.specs.Prelude.{◌≡◌, ◌≤◌, ◌<◌, length, OnOk, IfErr};
+ghost use Rattle.std.specs.Prelude.{◌≤◌, length, OnOk, IfErr};
 ghost use Rattle.pg_response.specs.Received.{max_body};
-ghost use Rattle.pg_base.specs.declared.error.ProtocolFault.TheVariants.{BodyTooLong};
+ghost use Rattle.pg_c.specs.Read.{IsTooLong};
 
 use pg_base::ProtocolFault;
 use pg_base::io::MAX_BODY;
@@ -26,8 +26,7 @@ use pg_base::io::MAX_BODY;
 /// Whether a message can have a body of this length.
 pub(crate) fn check_body(body: &[u8]) -> Result<(), ProtocolFault>
     ensures ok { OnOk result (length body.now ≤ max_body) }
-    ensures err { IfErr result
-        (λ fault. (max_body < length body.now) × (fault ≡ BodyTooLong (length body.now))) }
+    ensures err { IfErr result (IsTooLong body.now) }
 {
     if body.len() > MAX_BODY {
         return Err(ProtocolFault::BodyTooLong(body.len()));

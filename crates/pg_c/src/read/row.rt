@@ -200,8 +200,8 @@ fn rest_of(
     Ok(())
 }
 
-// The place of the cell from one offset to another.
-fn place_of(at: usize, value: Option<&[u8]>, end: usize) -> PgmsgCell
+/// The place of the cell from one offset to another.
+pub(crate) fn place_of(at: usize, value: Option<&[u8]>, end: usize) -> PgmsgCell
     requires wide { at + 4 ≤ end }
     requires short { end ≤ MAX_BODY }
     ensures { (body : List ℕ) → IsReadAt cell body at (option_copied value.entry) end
