@@ -85,6 +85,18 @@ enum {
     PGMSG_FIRST_TOO_LONG = -26,
 };
 
+/* The kinds of a first message. */
+enum {
+    /* A session is opened: a StartupMessage. */
+    PGMSG_FIRST_STARTUP = 0,
+    /* The query of another session is to be cancelled: a CancelRequest. */
+    PGMSG_FIRST_CANCEL_REQUEST = 1,
+    /* The client asks for TLS: an SSLRequest. */
+    PGMSG_FIRST_SSL_REQUEST = 2,
+    /* The client asks for encryption by GSSAPI: a GSSENCRequest. */
+    PGMSG_FIRST_GSS_ENC_REQUEST = 3,
+};
+
 /* What is wrong with bytes that were read. `number` is what the call returned. `at` is an offset in
  * them, where the fault has one, else 0. `words` are `words_len` bytes of ASCII, none where there
  * was no memory for them. */
@@ -210,6 +222,47 @@ typedef struct {
     size_t salt_len;
     size_t nonce_len;
 } pgmsg_challenge;
+
+/* A first message of the kind that `kind` says, by one of the numbers PGMSG_FIRST_STARTUP and so
+ * on. A Startup has the minor version of the protocol's version 3 and its settings: names and
+ * values, each with its NUL, and the NUL after them; `pgmsg_read_settings` gives them. A
+ * CancelRequest has the process and the key of the other session. What is of other kinds is 0 and
+ * empty. */
+typedef struct {
+    uint32_t kind;
+    uint16_t minor;
+    uint32_t process_id;
+    pgmsg_span settings;
+    pgmsg_span secret_key;
+} pgmsg_first;
+
+/* A statement that is prepared, empty for the one without a name, its text, and the types of its
+ * parameters, each of four bytes: `pgmsg_read_types` gives them. */
+typedef struct {
+    pgmsg_span statement;
+    pgmsg_span query;
+    pgmsg_list types;
+} pgmsg_parse;
+
+/* What is described or closed: `letter` is S for a prepared statement, and P for a portal; the name
+ * is empty for the one without a name. */
+typedef struct {
+    uint8_t letter;
+    pgmsg_span name;
+} pgmsg_target;
+
+/* A portal that is run, empty for the one without a name, and the most rows to send back: 0 for all
+ * of them, and a server takes a number from 2147483648 on for all of them too. */
+typedef struct {
+    pgmsg_span portal;
+    uint32_t max_rows;
+} pgmsg_execute;
+
+/* The mechanism that a client chose, and its first message: its `len` is -1 where it sent none. */
+typedef struct {
+    pgmsg_span mechanism;
+    pgmsg_cell response;
+} pgmsg_sasl_initial;
 
 /* Why a call refused, by the number below 0 that it returned, in a few words; those of its fault
  * say more. They are "no error" for 0 and above, and "unknown error" for a number that no call
@@ -482,6 +535,48 @@ ptrdiff_t pgmsg_read_verifier(const uint8_t *body, size_t body_len, uint8_t *ver
  * follows the parts that the documentation lists. A body is refused where a part can't be read or a
  * list has no end. Texts are any bytes, and data of a SASL exchange isn't looked at. */
 ptrdiff_t pgmsg_read_end(uint8_t tag, const uint8_t *body, size_t body_len, pgmsg_fault *fault);
+
+/* The first message of a connection at the front of a stream, or the one after an SSLRequest or a
+ * GSSENCRequest: 1 where it is whole, 0 where more bytes are needed. It has no tag: `tag` is 0, and
+ * `length` that of its length and its body. Refused where its length is below 8, or above `limit`,
+ * which is 10000 for PostgreSQL's own servers: then, whatever comes next. */
+int32_t pgmsg_next_first_frame(const uint8_t *stream, size_t stream_len, size_t limit,
+    pgmsg_frame *frame, pgmsg_fault *fault);
+
+/* The message at the front of a stream from a client, after the first ones: 1 where it is whole, 0
+ * where more bytes are needed. Then `tag` is given as soon as there is a byte. Refused where no
+ * message from a client has this tag, or its length is below 4: then, whatever comes next. */
+int32_t pgmsg_next_frontend_frame(const uint8_t *stream, size_t stream_len, pgmsg_frame *frame,
+    pgmsg_fault *fault);
+
+/* A first message, by its body. 0, or why it is refused. */
+int32_t pgmsg_read_first(const uint8_t *body, size_t body_len, pgmsg_first *first,
+    pgmsg_fault *fault);
+
+/* The text of a Query, a CopyFail or a PasswordMessage, by its body: the bytes before its NUL. 0,
+ * or why it is refused. */
+int32_t pgmsg_read_text(const uint8_t *body, size_t body_len, pgmsg_span *text, pgmsg_fault *fault);
+
+/* Whether a CopyDone, a Flush, a Sync or a Terminate has no body: 0, or PGMSG_TRAILING_BYTES where
+ * it has one. */
+int32_t pgmsg_read_empty(const uint8_t *body, size_t body_len, pgmsg_fault *fault);
+
+/* A Parse, by its body. 0, or why it is refused. */
+int32_t pgmsg_read_parse(const uint8_t *body, size_t body_len, pgmsg_parse *parse,
+    pgmsg_fault *fault);
+
+/* What a Describe or a Close names, by its body. 0, or why it is refused. */
+int32_t pgmsg_read_target(const uint8_t *body, size_t body_len, pgmsg_target *target,
+    pgmsg_fault *fault);
+
+/* An Execute, by its body. 0, or why it is refused. */
+int32_t pgmsg_read_execute(const uint8_t *body, size_t body_len, pgmsg_execute *execute,
+    pgmsg_fault *fault);
+
+/* A SASLInitialResponse, by its body; a SASLResponse is the bytes of its body. 0, or why it is
+ * refused. */
+int32_t pgmsg_read_sasl_initial(const uint8_t *body, size_t body_len, pgmsg_sasl_initial *initial,
+    pgmsg_fault *fault);
 
 #ifdef __cplusplus
 }

@@ -1,3 +1,6 @@
+pub mod ClientFirstLemmas
+pub mod ClientFramesLemmas
+pub mod ClientLemmas
 pub mod PlaceLemmas
 pub mod PutListsLemmas
 pub mod PutStartupLemmas

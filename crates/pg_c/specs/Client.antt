@@ -1,4 +1,11 @@
 -- Why a call that reads a client's message refuses its body.
+pub mod Execute
+pub mod First
+pub mod Frames
+pub mod Parse
+pub mod SaslInitial
+pub mod Target
+pub mod Text
 use Rattle.std.specs.Prelude.{◌≤◌, ◌<ℤ◌, ◌⊎◌, ℕ, ℤ, pos, List, length}
 use Rattle.pg_format.specs.Format.{Format}
 use Rattle.pg_read_frontend.specs.Message.{HasFault}

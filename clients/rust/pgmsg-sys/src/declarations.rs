@@ -83,6 +83,18 @@ pub const PGMSG_TRAILING_BYTES: i32 = -25;
 /// A first message is longer than the caller takes.
 pub const PGMSG_FIRST_TOO_LONG: i32 = -26;
 
+/// A session is opened: a StartupMessage.
+pub const PGMSG_FIRST_STARTUP: i32 = 0;
+
+/// The query of another session is to be cancelled: a CancelRequest.
+pub const PGMSG_FIRST_CANCEL_REQUEST: i32 = 1;
+
+/// The client asks for TLS: an SSLRequest.
+pub const PGMSG_FIRST_SSL_REQUEST: i32 = 2;
+
+/// The client asks for encryption by GSSAPI: a GSSENCRequest.
+pub const PGMSG_FIRST_GSS_ENC_REQUEST: i32 = 3;
+
 /// What is wrong with bytes that were read. `number` is what the call returned. `at` is an offset
 /// in them, where the fault has one, else 0. `words` are `words_len` bytes of ASCII, none where
 /// there was no memory for them.
@@ -243,6 +255,57 @@ pub struct pgmsg_challenge {
     pub iterations: u32,
     pub salt_len: usize,
     pub nonce_len: usize,
+}
+
+/// A first message of the kind that `kind` says, by one of the numbers PGMSG_FIRST_STARTUP and so
+/// on. A Startup has the minor version of the protocol's version 3 and its settings: names and
+/// values, each with its NUL, and the NUL after them; `pgmsg_read_settings` gives them. A
+/// CancelRequest has the process and the key of the other session. What is of other kinds is 0 and
+/// empty.
+#[repr(C)]
+#[derive(Clone, Copy, Debug, Default)]
+pub struct pgmsg_first {
+    pub kind: u32,
+    pub minor: u16,
+    pub process_id: u32,
+    pub settings: pgmsg_span,
+    pub secret_key: pgmsg_span,
+}
+
+/// A statement that is prepared, empty for the one without a name, its text, and the types of its
+/// parameters, each of four bytes: `pgmsg_read_types` gives them.
+#[repr(C)]
+#[derive(Clone, Copy, Debug, Default)]
+pub struct pgmsg_parse {
+    pub statement: pgmsg_span,
+    pub query: pgmsg_span,
+    pub types: pgmsg_list,
+}
+
+/// What is described or closed: `letter` is S for a prepared statement, and P for a portal; the
+/// name is empty for the one without a name.
+#[repr(C)]
+#[derive(Clone, Copy, Debug, Default)]
+pub struct pgmsg_target {
+    pub letter: u8,
+    pub name: pgmsg_span,
+}
+
+/// A portal that is run, empty for the one without a name, and the most rows to send back: 0 for
+/// all of them, and a server takes a number from 2147483648 on for all of them too.
+#[repr(C)]
+#[derive(Clone, Copy, Debug, Default)]
+pub struct pgmsg_execute {
+    pub portal: pgmsg_span,
+    pub max_rows: u32,
+}
+
+/// The mechanism that a client chose, and its first message: its `len` is -1 where it sent none.
+#[repr(C)]
+#[derive(Clone, Copy, Debug, Default)]
+pub struct pgmsg_sasl_initial {
+    pub mechanism: pgmsg_span,
+    pub response: pgmsg_cell,
 }
 
 extern "C" {
@@ -733,4 +796,81 @@ extern "C" {
         body_len: usize,
         fault: *mut pgmsg_fault,
     ) -> isize;
+
+    /// The first message of a connection at the front of a stream, or the one after an SSLRequest
+    /// or a GSSENCRequest: 1 where it is whole, 0 where more bytes are needed. It has no tag: `tag`
+    /// is 0, and `length` that of its length and its body. Refused where its length is below 8, or
+    /// above `limit`, which is 10000 for PostgreSQL's own servers: then, whatever comes next.
+    pub fn pgmsg_next_first_frame(
+        stream: *const u8,
+        stream_len: usize,
+        limit: usize,
+        frame: *mut pgmsg_frame,
+        fault: *mut pgmsg_fault,
+    ) -> i32;
+
+    /// The message at the front of a stream from a client, after the first ones: 1 where it is
+    /// whole, 0 where more bytes are needed. Then `tag` is given as soon as there is a byte.
+    /// Refused where no message from a client has this tag, or its length is below 4: then,
+    /// whatever comes next.
+    pub fn pgmsg_next_frontend_frame(
+        stream: *const u8,
+        stream_len: usize,
+        frame: *mut pgmsg_frame,
+        fault: *mut pgmsg_fault,
+    ) -> i32;
+
+    /// A first message, by its body. 0, or why it is refused.
+    pub fn pgmsg_read_first(
+        body: *const u8,
+        body_len: usize,
+        first: *mut pgmsg_first,
+        fault: *mut pgmsg_fault,
+    ) -> i32;
+
+    /// The text of a Query, a CopyFail or a PasswordMessage, by its body: the bytes before its NUL.
+    /// 0, or why it is refused.
+    pub fn pgmsg_read_text(
+        body: *const u8,
+        body_len: usize,
+        text: *mut pgmsg_span,
+        fault: *mut pgmsg_fault,
+    ) -> i32;
+
+    /// Whether a CopyDone, a Flush, a Sync or a Terminate has no body: 0, or PGMSG_TRAILING_BYTES
+    /// where it has one.
+    pub fn pgmsg_read_empty(body: *const u8, body_len: usize, fault: *mut pgmsg_fault) -> i32;
+
+    /// A Parse, by its body. 0, or why it is refused.
+    pub fn pgmsg_read_parse(
+        body: *const u8,
+        body_len: usize,
+        parse: *mut pgmsg_parse,
+        fault: *mut pgmsg_fault,
+    ) -> i32;
+
+    /// What a Describe or a Close names, by its body. 0, or why it is refused.
+    pub fn pgmsg_read_target(
+        body: *const u8,
+        body_len: usize,
+        target: *mut pgmsg_target,
+        fault: *mut pgmsg_fault,
+    ) -> i32;
+
+    /// An Execute, by its body. 0, or why it is refused.
+    pub fn pgmsg_read_execute(
+        body: *const u8,
+        body_len: usize,
+        execute: *mut pgmsg_execute,
+        fault: *mut pgmsg_fault,
+    ) -> i32;
+
+    /// A SASLInitialResponse, by its body; a SASLResponse is the bytes of its body. 0, or why it is
+    /// refused.
+    pub fn pgmsg_read_sasl_initial(
+        body: *const u8,
+        body_len: usize,
+        initial: *mut pgmsg_sasl_initial,
+        fault: *mut pgmsg_fault,
+    ) -> i32;
 }

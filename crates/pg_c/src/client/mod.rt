@@ -3,3 +3,11 @@
 //! Bodies are those of the frames of `pgmsg_next_first_frame` and `pgmsg_next_frontend_frame`. Places are in
 //! the bytes that were passed; texts are any bytes but NUL, in the client's encoding. A call refuses by a
 //! number below 0, and then alone fills `fault`.
+
+mod execute;
+mod first;
+mod frames;
+mod parse;
+mod sasl_initial;
+mod target;
+mod text;

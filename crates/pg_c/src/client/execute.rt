@@ -1,0 +1,55 @@
+//! A portal that is run.
+
+ghost use Rattle.std.specs.Prelude.{◌≡◌, ◌≤◌, ◌<ℤ◌, ◌≤ℤ◌, pos, length};
+ghost use Rattle.pg_format.specs.Messages as page;
+ghost use Rattle.pg_response.specs.Received.{max_body};
+ghost use Rattle.pg_c.specs.Client.{RefusesClientBody};
+ghost use Rattle.pg_c.specs.Client.Execute.{ReadsExecute};
+
+use crate::place::PgmsgSpan;
+use crate::read::check_body;
+use crate::refusal::{PgmsgFault, report, report_client};
+use pg_read_frontend::message::ExecuteRef;
+use std::alloc::Global;
+
+/// A portal that is run, empty for the one without a name, and the most rows to send back: 0 for all of
+/// them, and a server takes a number from 2147483648 on for all of them too.
+#[repr(C)]
+#[derive(Clone, Copy)]
+pub struct PgmsgExecute {
+    pub portal: PgmsgSpan,
+    pub max_rows: u32,
+}
+
+/// An Execute, by its body. 0, or why it is refused.
+#[unsafe(no_mangle)]
+pub extern "C" fn pgmsg_read_execute(
+    alloc: Global,
+    body: &[u8],
+    execute: &mut PgmsgExecute,
+    fault: &mut PgmsgFault,
+) -> i32
+    ensures result { result ≤ℤ pos 0 }
+    ensures value { result ≡ pos 0 → ReadsExecute body.now execute.new }
+    ensures fault { RefusesClientBody page.execute body.now fault.old fault.new result }
+    ensures within { pos 0 ≤ℤ result → length body.now ≤ max_body }
+    ensures untouched { pos 0 ≤ℤ result → fault.new ≡ fault.old }
+    ensures kept { result <ℤ pos 0 → execute.new ≡ execute.old }
+{
+    if let Err(why) = check_body(body) {
+        return report(alloc, why.into(), fault);
+    }
+    match ExecuteRef::read(body) {
+        Ok(read) => {
+            *execute = PgmsgExecute {
+                portal: PgmsgSpan {
+                    at: 0,
+                    len: read.portal.len(),
+                },
+                max_rows: read.limit,
+            };
+            0
+        }
+        Err(why) => report_client(alloc, why, fault),
+    }
+}

@@ -1,0 +1,129 @@
+//! The message at the front of a client's stream.
+
+ghost use Rattle.std.specs.Prelude.{◌≡◌, ◌<ℤ◌, ◌≤ℤ◌, ℕ, List, pos, get_or};
+ghost use Rattle.pg_frontend_frames.specs.Frame.{BeginsFirst, BeginsTagged, IsFirstFault, IsTaggedFault, WantsMoreFirst, WantsMoreTagged};
+ghost use Rattle.pg_c.specs.Client.Frames.{IsWhole, IsWholeFirst, Needs, NeedsFirst};
+ghost use Rattle.pg_c.specs.Refusal.{RefusesClient};
+
+use crate::place::PgmsgSpan;
+use crate::read::frame::{HEADER, PgmsgFrame, needed};
+use crate::refusal::{PgmsgFault, report_client};
+use pg_base::io::i32_at;
+use pg_frontend_frames::{Expects, FrontendFrame, next_frontend_frame};
+use std::alloc::Global;
+
+// The bytes before the body of a first message: the length.
+const LENGTH: usize = 4;
+
+/// The first message of a connection at the front of a stream, or the one after an SSLRequest or a
+/// GSSENCRequest: 1 where it is whole, 0 where more bytes are needed. It has no tag: `tag` is 0, and
+/// `length` that of its length and its body. Refused where its length is below 8, or above `limit`, which
+/// is 10000 for PostgreSQL's own servers: then, whatever comes next.
+#[unsafe(no_mangle)]
+pub extern "C" fn pgmsg_next_first_frame(
+    alloc: Global,
+    stream: &[u8],
+    limit: usize,
+    frame: &mut PgmsgFrame,
+    fault: &mut PgmsgFault,
+) -> i32
+    ensures result { result ≤ℤ pos 1 }
+    ensures whole { result ≡ pos 1 → IsWholeFirst limit stream.now frame.new }
+    ensures part { result ≡ pos 0 → NeedsFirst limit stream.now frame.new.length }
+    ensures part_alone { result ≡ pos 0
+        → (frame.new.tag ≡ frame.old.tag) × (frame.new.body ≡ frame.old.body) }
+    ensures fault { result <ℤ pos 0
+        → RefusesClient (IsFirstFault limit stream.now) fault.old fault.new result }
+    ensures untouched { pos 0 ≤ℤ result → fault.new ≡ fault.old }
+    ensures kept { result <ℤ pos 0 → frame.new ≡ frame.old }
+{
+    match next_frontend_frame(Expects::First, limit, stream) {
+        Ok(Some(whole)) => {
+            *frame = first_place_of(&whole);
+            1
+        }
+        Ok(None) => {
+            frame.length = needed_first(stream);
+            0
+        }
+        Err(why) => report_client(alloc, why, fault),
+    }
+}
+
+// Where the first message at the front is.
+fn first_place_of(frame: &FrontendFrame<'_>) -> PgmsgFrame
+    ensures { (limit : ℕ) (stream : List ℕ)
+        → BeginsFirst limit stream frame.now.kind frame.now.body.now frame.now.rest.now frame.now.next
+        → IsWholeFirst limit stream result }
+{
+    PgmsgFrame {
+        tag: 0,
+        body: PgmsgSpan {
+            at: LENGTH,
+            len: frame.body.len(),
+        },
+        length: LENGTH + frame.body.len(),
+    }
+}
+
+// How many bytes the first message at the front needs.
+fn needed_first(stream: &[u8]) -> usize
+    ensures { (limit : ℕ) → WantsMoreFirst limit stream.now → NeedsFirst limit stream.now result }
+{
+    match i32_at(stream, 0) {
+        Ok(announced) => announced.unsigned_abs() as usize,
+        Err(_) => LENGTH,
+    }
+}
+
+/// The message at the front of a stream from a client, after the first ones: 1 where it is whole, 0 where
+/// more bytes are needed. Then `tag` is given as soon as there is a byte. Refused where no message from a
+/// client has this tag, or its length is below 4: then, whatever comes next.
+#[unsafe(no_mangle)]
+pub extern "C" fn pgmsg_next_frontend_frame(
+    alloc: Global,
+    stream: &[u8],
+    frame: &mut PgmsgFrame,
+    fault: &mut PgmsgFault,
+) -> i32
+    ensures result { result ≤ℤ pos 1 }
+    ensures whole { result ≡ pos 1 → IsWhole stream.now frame.new }
+    ensures part { result ≡ pos 0 → Needs stream.now frame.new.length }
+    ensures part_tag { result ≡ pos 0 → frame.new.tag ≡ get_or stream.now 0 frame.old.tag }
+    ensures part_alone { result ≡ pos 0 → frame.new.body ≡ frame.old.body }
+    ensures fault { result <ℤ pos 0
+        → RefusesClient (IsTaggedFault stream.now) fault.old fault.new result }
+    ensures untouched { pos 0 ≤ℤ result → fault.new ≡ fault.old }
+    ensures kept { result <ℤ pos 0 → frame.new ≡ frame.old }
+{
+    match next_frontend_frame(Expects::Tagged, 0, stream) {
+        Ok(Some(whole)) => {
+            *frame = place_of(stream, &whole);
+            1
+        }
+        Ok(None) => {
+            if !stream.is_empty() {
+                frame.tag = stream[0];
+            }
+            frame.length = needed(stream);
+            0
+        }
+        Err(why) => report_client(alloc, why, fault),
+    }
+}
+
+// Where the message at the front is.
+fn place_of(stream: &[u8], frame: &FrontendFrame<'_>) -> PgmsgFrame
+    requires { BeginsTagged stream.now frame.now.kind
+        frame.now.body.now frame.now.rest.now frame.now.next }
+    ensures { IsWhole stream.now result }
+{
+    PgmsgFrame {
+        tag: stream[0],
+        body: PgmsgSpan {
+            at: HEADER,
+            len: frame.body.len(),
+        },
+        length: HEADER + frame.body.len(),
+    }
+}

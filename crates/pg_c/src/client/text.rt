@@ -1,0 +1,64 @@
+//! Messages that are one text, and those that have no body.
+
+ghost use Rattle.std.specs.Prelude.{◌≡◌, ◌≤◌, ◌<ℤ◌, ◌≤ℤ◌, pos, length};
+ghost use Rattle.pg_format.specs.Format.{Means};
+ghost use Rattle.pg_format.specs.Messages as page;
+ghost use Rattle.pg_response.specs.Received.{max_body};
+ghost use Rattle.pg_c.specs.Client.{RefusesClientBody};
+ghost use Rattle.pg_c.specs.Client.Text.{ReadsText};
+
+use crate::place::PgmsgSpan;
+use crate::read::check_body;
+use crate::refusal::{PgmsgFault, report, report_client};
+use pg_read_frontend::message::{read_empty, read_text};
+use std::alloc::Global;
+
+/// The text of a Query, a CopyFail or a PasswordMessage, by its body: the bytes before its NUL. 0, or why
+/// it is refused.
+#[unsafe(no_mangle)]
+pub extern "C" fn pgmsg_read_text(
+    alloc: Global,
+    body: &[u8],
+    text: &mut PgmsgSpan,
+    fault: &mut PgmsgFault,
+) -> i32
+    ensures result { result ≤ℤ pos 0 }
+    ensures value { result ≡ pos 0 → ReadsText body.now text.new }
+    ensures fault { RefusesClientBody page.text body.now fault.old fault.new result }
+    ensures within { pos 0 ≤ℤ result → length body.now ≤ max_body }
+    ensures untouched { pos 0 ≤ℤ result → fault.new ≡ fault.old }
+    ensures kept { result <ℤ pos 0 → text.new ≡ text.old }
+{
+    if let Err(why) = check_body(body) {
+        return report(alloc, why.into(), fault);
+    }
+    match read_text(body) {
+        Ok(read) => {
+            *text = PgmsgSpan {
+                at: 0,
+                len: read.len(),
+            };
+            0
+        }
+        Err(why) => report_client(alloc, why, fault),
+    }
+}
+
+/// Whether a CopyDone, a Flush, a Sync or a Terminate has no body: 0, or PGMSG_TRAILING_BYTES where it has
+/// one.
+#[unsafe(no_mangle)]
+pub extern "C" fn pgmsg_read_empty(alloc: Global, body: &[u8], fault: &mut PgmsgFault) -> i32
+    ensures result { result ≤ℤ pos 0 }
+    ensures value { result ≡ pos 0 → Means page.empty body.now tt }
+    ensures fault { RefusesClientBody page.empty body.now fault.old fault.new result }
+    ensures within { pos 0 ≤ℤ result → length body.now ≤ max_body }
+    ensures untouched { pos 0 ≤ℤ result → fault.new ≡ fault.old }
+{
+    if let Err(why) = check_body(body) {
+        return report(alloc, why.into(), fault);
+    }
+    match read_empty(body) {
+        Ok(()) => 0,
+        Err(why) => report_client(alloc, why, fault),
+    }
+}
