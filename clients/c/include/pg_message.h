@@ -178,7 +178,7 @@ typedef struct {
     pgmsg_span payload;
 } pgmsg_notification;
 
-/* A setting of the server and its value. */
+/* A setting of the server and its value, or one by which a client opens a session. */
 typedef struct {
     pgmsg_span name;
     pgmsg_span value;
@@ -577,6 +577,23 @@ int32_t pgmsg_read_execute(const uint8_t *body, size_t body_len, pgmsg_execute *
  * refused. */
 int32_t pgmsg_read_sasl_initial(const uint8_t *body, size_t body_len, pgmsg_sasl_initial *initial,
     pgmsg_fault *fault);
+
+/* The format codes of a list that `pgmsg_read_bind` or `pgmsg_read_function_call` gave of this
+ * body: how many there are, 0 where the list isn't in the body. As many as there is room for are
+ * written. A code is 0 for text and 1 for binary; others are no fault. */
+size_t pgmsg_read_codes(const uint8_t *body, size_t body_len, pgmsg_list list, uint16_t *codes,
+    size_t codes_len);
+
+/* The types of the parameters in a list that `pgmsg_read_parse` gave of this body: how many there
+ * are, 0 where the list isn't in the body. As many as there is room for are written. A type is 0
+ * where the server is to find it. */
+size_t pgmsg_read_types(const uint8_t *body, size_t body_len, pgmsg_list list, uint32_t *types,
+    size_t types_len);
+
+/* The settings that open a session, by the body of a Startup, in the client's encoding: how many
+ * there are. As many as there is room for are written. */
+size_t pgmsg_read_settings(const uint8_t *body, size_t body_len, pgmsg_parameter_status *settings,
+    size_t settings_len);
 
 #ifdef __cplusplus
 }

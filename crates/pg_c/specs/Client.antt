@@ -3,7 +3,9 @@ pub mod Execute
 pub mod First
 pub mod Frames
 pub mod Parse
+pub mod Parts
 pub mod SaslInitial
+pub mod Startup
 pub mod Target
 pub mod Text
 use Rattle.std.specs.Prelude.{◌≤◌, ◌<ℤ◌, ◌⊎◌, ℕ, ℤ, pos, List, length}

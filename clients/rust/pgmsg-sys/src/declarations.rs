@@ -198,7 +198,7 @@ pub struct pgmsg_notification {
     pub payload: pgmsg_span,
 }
 
-/// A setting of the server and its value.
+/// A setting of the server and its value, or one by which a client opens a session.
 #[repr(C)]
 #[derive(Clone, Copy, Debug, Default)]
 pub struct pgmsg_parameter_status {
@@ -873,4 +873,35 @@ extern "C" {
         initial: *mut pgmsg_sasl_initial,
         fault: *mut pgmsg_fault,
     ) -> i32;
+
+    /// The format codes of a list that `pgmsg_read_bind` or `pgmsg_read_function_call` gave of this
+    /// body: how many there are, 0 where the list isn't in the body. As many as there is room for
+    /// are written. A code is 0 for text and 1 for binary; others are no fault.
+    pub fn pgmsg_read_codes(
+        body: *const u8,
+        body_len: usize,
+        list: pgmsg_list,
+        codes: *mut u16,
+        codes_len: usize,
+    ) -> usize;
+
+    /// The types of the parameters in a list that `pgmsg_read_parse` gave of this body: how many
+    /// there are, 0 where the list isn't in the body. As many as there is room for are written. A
+    /// type is 0 where the server is to find it.
+    pub fn pgmsg_read_types(
+        body: *const u8,
+        body_len: usize,
+        list: pgmsg_list,
+        types: *mut u32,
+        types_len: usize,
+    ) -> usize;
+
+    /// The settings that open a session, by the body of a Startup, in the client's encoding: how
+    /// many there are. As many as there is room for are written.
+    pub fn pgmsg_read_settings(
+        body: *const u8,
+        body_len: usize,
+        settings: *mut pgmsg_parameter_status,
+        settings_len: usize,
+    ) -> usize;
 }

@@ -7,7 +7,9 @@
 mod execute;
 mod first;
 mod frames;
+mod lists;
 mod parse;
 mod sasl_initial;
+mod startup;
 mod target;
 mod text;

@@ -14,7 +14,7 @@ mod raw;
 mod raw_columns;
 mod raw_frame;
 pub(crate) mod row;
-mod status;
+pub(crate) mod status;
 
 ghost use Rattle.std.specs.Prelude.{◌≤◌, length, OnOk, IfErr};
 ghost use Rattle.pg_response.specs.Received.{max_body};

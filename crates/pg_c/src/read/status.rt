@@ -27,7 +27,7 @@ pub struct PgmsgNotification {
     pub payload: PgmsgSpan,
 }
 
-/// A setting of the server and its value.
+/// A setting of the server and its value, or one by which a client opens a session.
 #[repr(C)]
 #[derive(Clone, Copy)]
 pub struct PgmsgParameterStatus {

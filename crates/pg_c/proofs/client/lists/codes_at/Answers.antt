@@ -1,0 +1,25 @@
+use Rattle.std.proofs.Common.{refl, arith, drop}
+use Rattle.pg_read_frontend.specs.FormatCodes.{codes_in}
+use Rattle.pg_read_frontend.proofs.FormatCodesLemmas.{codes_are_read}
+use Rattle.pg_c.proofs.client.lists.codes_at.Goals as goal
+
+pub returns-clause-found : goal.returns-clause-found
+returns-clause-found c =
+    let body = c.args.body.now in
+    let count = c.in_ok-count in
+    let bytes = c.in_ok-_codes._codes.now in
+    let end = c.in_ok-_codes.end in
+    let found = c.in_ok-_codes.ensures in
+    let read = codes_are_read bytes (drop end body) count.count (omega (arith, found.reads.0, c.from-count.ensures)) in
+    record {
+      value = codes_in bytes;
+      read = record {
+        within = found.within;
+        reads = (
+          (count.count, codes_in bytes),
+          record { mid = drop count.first body; first = count.ensures.reads; second = rw found.reads.1 read },
+          refl,
+        );
+      };
+      is = record { end = end; read = record { within = found.within; reads = rw (c.from-count.ensures, found.reads.1) read } };
+    }
