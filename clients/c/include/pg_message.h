@@ -147,7 +147,8 @@ typedef struct {
     size_t length;
 } pgmsg_frame;
 
-/* A cell of a row: `len` bytes from `at` on, or NULL where `len` is -1. */
+/* A cell of a row, or a value that a client sends: `len` bytes from `at` on, or NULL where `len` is
+ * -1. */
 typedef struct {
     uint32_t at;
     int32_t len;
@@ -263,6 +264,17 @@ typedef struct {
     pgmsg_span mechanism;
     pgmsg_cell response;
 } pgmsg_sasl_initial;
+
+/* A call of a function by its object id: the format codes of the arguments, for `pgmsg_read_codes`,
+ * and the arguments: `arguments.at` is where the length of the first stands. `result_format` is 0
+ * for text and 1 for binary; others are no fault. Whether there are as many codes as arguments
+ * isn't tested. */
+typedef struct {
+    uint32_t function;
+    pgmsg_list formats;
+    pgmsg_list arguments;
+    uint16_t result_format;
+} pgmsg_function_call;
 
 /* Why a call refused, by the number below 0 that it returned, in a few words; those of its fault
  * say more. They are "no error" for 0 and above, and "unknown error" for a number that no call
@@ -577,6 +589,11 @@ int32_t pgmsg_read_execute(const uint8_t *body, size_t body_len, pgmsg_execute *
  * refused. */
 int32_t pgmsg_read_sasl_initial(const uint8_t *body, size_t body_len, pgmsg_sasl_initial *initial,
     pgmsg_fault *fault);
+
+/* A call of a function, by the body of a FunctionCall: how many arguments it has. As many as there
+ * is room for are written; the rest are read too. */
+ptrdiff_t pgmsg_read_function_call(const uint8_t *body, size_t body_len, pgmsg_cell *arguments,
+    size_t arguments_len, pgmsg_function_call *call, pgmsg_fault *fault);
 
 /* The format codes of a list that `pgmsg_read_bind` or `pgmsg_read_function_call` gave of this
  * body: how many there are, 0 where the list isn't in the body. As many as there is room for are

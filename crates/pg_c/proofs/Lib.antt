@@ -2,6 +2,7 @@ pub mod ClientFirstLemmas
 pub mod ClientFramesLemmas
 pub mod ClientLemmas
 pub mod ClientStartupLemmas
+pub mod ClientValuesLemmas
 pub mod PlaceLemmas
 pub mod PutListsLemmas
 pub mod PutStartupLemmas

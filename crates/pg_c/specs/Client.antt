@@ -2,12 +2,14 @@
 pub mod Execute
 pub mod First
 pub mod Frames
+pub mod FunctionCall
 pub mod Parse
 pub mod Parts
 pub mod SaslInitial
 pub mod Startup
 pub mod Target
 pub mod Text
+pub mod Values
 use Rattle.std.specs.Prelude.{◌≤◌, ◌<ℤ◌, ◌⊎◌, ℕ, ℤ, pos, List, length}
 use Rattle.pg_format.specs.Format.{Format}
 use Rattle.pg_read_frontend.specs.Message.{HasFault}

@@ -159,7 +159,8 @@ pub struct pgmsg_frame {
     pub length: usize,
 }
 
-/// A cell of a row: `len` bytes from `at` on, or NULL where `len` is -1.
+/// A cell of a row, or a value that a client sends: `len` bytes from `at` on, or NULL where `len`
+/// is -1.
 #[repr(C)]
 #[derive(Clone, Copy, Debug, Default)]
 pub struct pgmsg_cell {
@@ -306,6 +307,19 @@ pub struct pgmsg_execute {
 pub struct pgmsg_sasl_initial {
     pub mechanism: pgmsg_span,
     pub response: pgmsg_cell,
+}
+
+/// A call of a function by its object id: the format codes of the arguments, for
+/// `pgmsg_read_codes`, and the arguments: `arguments.at` is where the length of the first stands.
+/// `result_format` is 0 for text and 1 for binary; others are no fault. Whether there are as many
+/// codes as arguments isn't tested.
+#[repr(C)]
+#[derive(Clone, Copy, Debug, Default)]
+pub struct pgmsg_function_call {
+    pub function: u32,
+    pub formats: pgmsg_list,
+    pub arguments: pgmsg_list,
+    pub result_format: u16,
 }
 
 extern "C" {
@@ -873,6 +887,17 @@ extern "C" {
         initial: *mut pgmsg_sasl_initial,
         fault: *mut pgmsg_fault,
     ) -> i32;
+
+    /// A call of a function, by the body of a FunctionCall: how many arguments it has. As many as
+    /// there is room for are written; the rest are read too.
+    pub fn pgmsg_read_function_call(
+        body: *const u8,
+        body_len: usize,
+        arguments: *mut pgmsg_cell,
+        arguments_len: usize,
+        call: *mut pgmsg_function_call,
+        fault: *mut pgmsg_fault,
+    ) -> isize;
 
     /// The format codes of a list that `pgmsg_read_bind` or `pgmsg_read_function_call` gave of this
     /// body: how many there are, 0 where the list isn't in the body. As many as there is room for

@@ -2,14 +2,17 @@
 //!
 //! Bodies are those of the frames of `pgmsg_next_first_frame` and `pgmsg_next_frontend_frame`. Places are in
 //! the bytes that were passed; texts are any bytes but NUL, in the client's encoding. A call refuses by a
-//! number below 0, and then alone fills `fault`.
+//! number below 0, and then alone fills `fault`; an array of places holds at most the values before the one
+//! that is broken.
 
 mod execute;
 mod first;
 mod frames;
+mod function_call;
 mod lists;
 mod parse;
 mod sasl_initial;
 mod startup;
 mod target;
 mod text;
+mod values;

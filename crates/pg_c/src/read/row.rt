@@ -24,7 +24,7 @@ const FIRST_CELL: usize = 2;
 // The bytes of a cell's length.
 const CELL_LENGTH: usize = 4;
 
-/// A cell of a row: `len` bytes from `at` on, or NULL where `len` is -1.
+/// A cell of a row, or a value that a client sends: `len` bytes from `at` on, or NULL where `len` is -1.
 #[repr(C)]
 #[derive(Clone, Copy)]
 pub struct PgmsgCell {
@@ -99,8 +99,9 @@ fn read_front(body: &[u8], cells: &mut [PgmsgCell], count: usize) -> (usize, usi
     (room, at)
 }
 
+/// A cell of a length from an offset on.
 #[inline(always)]
-fn placed(start: usize, len: i32) -> PgmsgCell
+pub(crate) fn placed(start: usize, len: i32) -> PgmsgCell
     requires short { start ≤ MAX_BODY }
     ensures at { result.at ≡ start }
     ensures len { result.len ≡ len }

@@ -1,0 +1,192 @@
+//! The values of a Bind or a FunctionCall, and the names before them.
+
+ghost use Rattle.std.specs.Prelude.{◌≡◌, ◌+◌, ◌≤◌, ℕ, List, Some, length, IfSome, IfOk, IfErr};
+ghost use Rattle.pg_format.specs.Format.Lists.{counted, times};
+ghost use Rattle.pg_format.specs.Format.Nullable.{value};
+ghost use Rattle.pg_format.specs.Format.Parts.{until_nul};
+ghost use Rattle.pg_read_frontend.specs.Message.{HasFault};
+ghost use Rattle.pg_c.specs.Client.Parts.{Finds};
+ghost use Rattle.pg_c.specs.Client.Values.{GivesValues, GivesSome, GivesCounted};
+ghost use Rattle.pg_c.specs.Place.{part};
+ghost use Rattle.pg_c.specs.Read.{GivesItems};
+ghost use Rattle.pg_c.specs.Read.Row.{cell_in, value_in};
+
+use crate::place::{PgmsgList, PgmsgSpan};
+use crate::read::row::{PgmsgCell, place_of, placed};
+use byteorder::{BigEndian, ByteOrder};
+use pg_base::io::MAX_BODY;
+use pg_read_frontend::FrontendFault;
+use pg_read_frontend::parts::{text_at, u16_at, value_at};
+
+// The bytes of a value's length.
+const LENGTH: usize = 4;
+
+// The bytes of a short name, with its NUL.
+const SHORT_NAME: usize = 12;
+
+// The length of a value that is NULL.
+const NULL: i32 = -1;
+
+/// The place of the name at an offset, and the offset after its NUL. One that is empty or short is found
+/// without a call.
+#[inline(always)]
+pub(crate) fn name_at(body: &[u8], at: usize) -> Result<(PgmsgSpan, usize), FrontendFault>
+    requires within { at ≤ length body.now }
+    requires short { length body.now ≤ MAX_BODY }
+    ensures found { IfOk result
+        (λ found. Finds until_nul (λ span name. part body.now span ≡ Some name) body.now at
+        found.0 found.1) }
+    ensures fault { IfErr result (HasFault until_nul body.now at) }
+{
+    if at < body.len() && body[at] == 0 {
+        return Ok((PgmsgSpan { at, len: 0 }, at + 1));
+    }
+    for end in at..body.len().min(at + SHORT_NAME) {
+        if body[end] == 0 {
+            return Ok((PgmsgSpan { at, len: end - at }, end + 1));
+        }
+    }
+    let (name, end) = text_at(body, at)?;
+    Ok((
+        PgmsgSpan {
+            at,
+            len: name.len(),
+        },
+        end,
+    ))
+}
+
+/// The place of the values whose count is at an offset, and the offset after them. As many are given as
+/// there is room for; where one can't be read, at most those before it.
+#[inline(always)]
+pub(crate) fn values_at(
+    body: &[u8],
+    at: usize,
+    values: &mut [PgmsgCell],
+) -> Result<(PgmsgList, usize), FrontendFault>
+    requires within { at ≤ length body.now }
+    requires short { length body.now ≤ MAX_BODY }
+    ensures found { IfOk result
+        (λ found. GivesValues body.now at found.0 found.1 values.old values.new) }
+    ensures small { IfOk result (λ found. found.0.count ≤ 65535) }
+    ensures fault { IfErr result (HasFault (counted value) body.now at) }
+    ensures front { IfErr result (λ _. GivesCounted body.now at values.old values.new) }
+{
+    let (count, first) = u16_at(body, at)?;
+    let count = usize::from(count);
+    let end = give_values(body, first, count, values)?;
+    Ok((PgmsgList { at: first, count }, end))
+}
+
+// Gives so many values from an offset on: the offset after them.
+#[inline(always)]
+fn give_values(
+    body: &[u8],
+    first: usize,
+    count: usize,
+    values: &mut [PgmsgCell],
+) -> Result<usize, FrontendFault>
+    requires within { first ≤ length body.now }
+    requires short { length body.now ≤ MAX_BODY }
+    requires small { count ≤ 65535 }
+    ensures given { IfOk result (λ end. GivesItems value (cell_in body.now) body.now first end count
+        values.old values.new) }
+    ensures fault { IfErr result (HasFault (times count value) body.now first) }
+    ensures front { IfErr result (λ _. GivesSome body.now first count values.old values.new) }
+{
+    let (index, at) = give_front(body, first, count, values);
+    if index < count {
+        return give_rest(body, count, index, at, values);
+    }
+    Ok(at)
+}
+
+// Gives the first of so many values: as many as there is room for, up to one that is broken or after which
+// the body is too short for the lengths of all. How many they are, and the offset after them.
+#[inline(always)]
+fn give_front(body: &[u8], first: usize, count: usize, values: &mut [PgmsgCell]) -> (usize, usize)
+    requires within { first ≤ length body.now }
+    requires short { length body.now ≤ MAX_BODY }
+    requires small { count ≤ 65535 }
+    ensures few { result.0 ≤ count }
+    ensures front { GivesItems value (cell_in body.now) body.now first result.1 result.0
+        values.old values.new }
+{
+    let lengths = LENGTH * count;
+    if body.len() - first < lengths {
+        return (0, first);
+    }
+    let room = count.min(values.len());
+    // Where a value ends at most, since each that follows takes the bytes of its length.
+    let mut last = body.len() - lengths;
+    let mut at = first;
+    for index in 0..room {
+        last += LENGTH;
+        let Some((len, end)) = value_until(body, at, last) else {
+            return (index, at);
+        };
+        values[index] = placed(at + LENGTH, len);
+        at = end;
+    }
+    (room, at)
+}
+
+// The length of the value at an offset, -1 for NULL, and where it ends. Nothing where the length is below
+// that, or where the value ends after `last`.
+#[inline(always)]
+fn value_until(body: &[u8], at: usize, last: usize) -> Option<(i32, usize)>
+    requires length { at + 4 ≤ last }
+    requires within { last ≤ length body.now }
+    requires short { length body.now ≤ MAX_BODY }
+    ensures within { IfSome result (λ found. found.1 ≤ last) }
+    ensures value { IfSome result (λ found. Finds value
+        (λ len content. value_in body.now (at + 4) len ≡ Some content) body.now at
+        found.0 found.1) }
+{
+    let start = at + LENGTH;
+    let length = BigEndian::read_i32(&body[at..start]);
+    // One test for each value: as a number without a sign, a length below 0 is beyond every body.
+    let end = start + length.cast_unsigned() as usize;
+    if end > last {
+        return if length == NULL {
+            Some((NULL, start))
+        } else {
+            None
+        };
+    }
+    Some((length, end))
+}
+
+// Gives the values from one on: those for which there is no room, and those up to the one that is broken.
+#[cold]
+#[inline(never)]
+fn give_rest(
+    body: &[u8],
+    count: usize,
+    index: usize,
+    start: usize,
+    values: &mut [PgmsgCell],
+) -> Result<usize, FrontendFault>
+    requires start { start ≤ length body.now }
+    requires short { length body.now ≤ MAX_BODY }
+    requires few { index ≤ count }
+    ensures given { IfOk result (λ end. (first : ℕ) (before : List PgmsgCell)
+        → GivesItems value (cell_in body.now) body.now first start index before values.old
+        → GivesItems value (cell_in body.now) body.now first end count before values.new) }
+    ensures fault { IfErr result (λ fault. (first : ℕ) (before : List PgmsgCell)
+        → GivesItems value (cell_in body.now) body.now first start index before values.old
+        → HasFault (times count value) body.now first fault) }
+    ensures front { IfErr result (λ _. (first : ℕ) (before : List PgmsgCell)
+        → GivesItems value (cell_in body.now) body.now first start index before values.old
+        → GivesSome body.now first count before values.new) }
+{
+    let mut at = start;
+    for next in index..count {
+        let (value, end) = value_at(body, at)?;
+        if next < values.len() {
+            values[next] = place_of(at, value, end);
+        }
+        at = end;
+    }
+    Ok(at)
+}
