@@ -265,6 +265,18 @@ typedef struct {
     pgmsg_cell response;
 } pgmsg_sasl_initial;
 
+/* A portal to make of a prepared statement: the names of both, empty for those without one, the
+ * format codes of the values and of the result, for `pgmsg_read_codes`, and the values: `values.at`
+ * is where the length of the first stands. Whether there are as many codes as values isn't
+ * tested. */
+typedef struct {
+    pgmsg_span portal;
+    pgmsg_span statement;
+    pgmsg_list formats;
+    pgmsg_list values;
+    pgmsg_list result_formats;
+} pgmsg_bind;
+
 /* A call of a function by its object id: the format codes of the arguments, for `pgmsg_read_codes`,
  * and the arguments: `arguments.at` is where the length of the first stands. `result_format` is 0
  * for text and 1 for binary; others are no fault. Whether there are as many codes as arguments
@@ -589,6 +601,11 @@ int32_t pgmsg_read_execute(const uint8_t *body, size_t body_len, pgmsg_execute *
  * refused. */
 int32_t pgmsg_read_sasl_initial(const uint8_t *body, size_t body_len, pgmsg_sasl_initial *initial,
     pgmsg_fault *fault);
+
+/* A portal to make of a prepared statement, by the body of a Bind: how many values it has. As many
+ * as there is room for are written; the rest are read too. */
+ptrdiff_t pgmsg_read_bind(const uint8_t *body, size_t body_len, pgmsg_cell *values,
+    size_t values_len, pgmsg_bind *bind, pgmsg_fault *fault);
 
 /* A call of a function, by the body of a FunctionCall: how many arguments it has. As many as there
  * is room for are written; the rest are read too. */

@@ -1,4 +1,5 @@
 -- Why a call that reads a client's message refuses its body.
+pub mod Bind
 pub mod Execute
 pub mod First
 pub mod Frames

@@ -309,6 +309,20 @@ pub struct pgmsg_sasl_initial {
     pub response: pgmsg_cell,
 }
 
+/// A portal to make of a prepared statement: the names of both, empty for those without one, the
+/// format codes of the values and of the result, for `pgmsg_read_codes`, and the values:
+/// `values.at` is where the length of the first stands. Whether there are as many codes as values
+/// isn't tested.
+#[repr(C)]
+#[derive(Clone, Copy, Debug, Default)]
+pub struct pgmsg_bind {
+    pub portal: pgmsg_span,
+    pub statement: pgmsg_span,
+    pub formats: pgmsg_list,
+    pub values: pgmsg_list,
+    pub result_formats: pgmsg_list,
+}
+
 /// A call of a function by its object id: the format codes of the arguments, for
 /// `pgmsg_read_codes`, and the arguments: `arguments.at` is where the length of the first stands.
 /// `result_format` is 0 for text and 1 for binary; others are no fault. Whether there are as many
@@ -887,6 +901,17 @@ extern "C" {
         initial: *mut pgmsg_sasl_initial,
         fault: *mut pgmsg_fault,
     ) -> i32;
+
+    /// A portal to make of a prepared statement, by the body of a Bind: how many values it has. As
+    /// many as there is room for are written; the rest are read too.
+    pub fn pgmsg_read_bind(
+        body: *const u8,
+        body_len: usize,
+        values: *mut pgmsg_cell,
+        values_len: usize,
+        bind: *mut pgmsg_bind,
+        fault: *mut pgmsg_fault,
+    ) -> isize;
 
     /// A call of a function, by the body of a FunctionCall: how many arguments it has. As many as
     /// there is room for are written; the rest are read too.

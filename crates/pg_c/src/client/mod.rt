@@ -5,6 +5,7 @@
 //! number below 0, and then alone fills `fault`; an array of places holds at most the values before the one
 //! that is broken.
 
+mod bind;
 mod execute;
 mod first;
 mod frames;
