@@ -43,6 +43,7 @@
     clippy::undocumented_unsafe_blocks
 )]
 
+mod answer;
 mod error;
 mod format;
 pub mod read;

@@ -21,7 +21,6 @@
 //!
 //! What follows the parts of a body is passed over; [`end`](fn@end) says where it begins.
 
-mod answer;
 mod authentication;
 mod columns;
 mod copy;

@@ -1,6 +1,6 @@
 //! What the server asks of a client that opens a session.
 
-use super::answer::{answer, fill, grow, text};
+use crate::answer::{answer, fill, grow, text};
 use crate::error::Fault;
 use crate::sys;
 

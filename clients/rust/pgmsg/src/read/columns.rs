@@ -1,6 +1,6 @@
 //! The columns of a result, and the types of a statement's parameters.
 
-use super::answer::{answer, fill, text};
+use crate::answer::{answer, fill, text};
 use crate::error::Fault;
 use crate::format::FormatCode;
 use crate::sys;

@@ -1,6 +1,6 @@
 //! How the data of a COPY is spelled.
 
-use super::answer::{answer, fill};
+use crate::answer::{answer, fill};
 use crate::error::Fault;
 use crate::format::FormatCode;
 use crate::sys;

@@ -1,6 +1,6 @@
 //! Where the parts of a body end.
 
-use super::answer::answer;
+use crate::answer::answer;
 use crate::error::Fault;
 use crate::sys;
 

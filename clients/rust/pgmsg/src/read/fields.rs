@@ -1,6 +1,6 @@
 //! The fields of an error or a notice.
 
-use super::answer::{answer, fill, part};
+use crate::answer::{answer, fill, part};
 use crate::error::Fault;
 use crate::sys;
 use std::slice;

@@ -1,7 +1,7 @@
 //! The message at the front of a stream.
 
-use super::answer::{answer, body_of};
 use super::Kind;
+use crate::answer::{answer, body_of};
 use crate::error::Fault;
 use crate::sys;
 

@@ -1,6 +1,6 @@
 //! What drivers read as it is, to judge it by rules of their own.
 
-use super::answer::{answer, fill, part};
+use crate::answer::{answer, fill, part};
 use crate::error::Fault;
 use crate::sys;
 

@@ -1,6 +1,6 @@
 //! The columns of a result in the server's encoding.
 
-use super::answer::{answer, fill, part};
+use crate::answer::{answer, fill, part};
 use crate::error::Fault;
 use crate::format::FormatCode;
 use crate::sys;

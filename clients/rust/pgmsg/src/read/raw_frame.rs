@@ -1,6 +1,6 @@
 //! The message of any tag at the front of a stream.
 
-use super::answer::{answer, body_of};
+use crate::answer::{answer, body_of};
 use crate::error::Fault;
 use crate::sys;
 

@@ -4,7 +4,7 @@ mod cells;
 
 pub use cells::{Cell, Cells};
 
-use super::answer::{answer, fill};
+use crate::answer::{answer, fill};
 use crate::error::Fault;
 use crate::sys;
 use std::fmt;

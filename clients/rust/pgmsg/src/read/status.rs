@@ -1,6 +1,6 @@
 //! What a session and a command report of themselves.
 
-use super::answer::{answer, part, text};
+use crate::answer::{answer, part, text};
 use crate::error::Fault;
 use crate::sys;
 

@@ -42,7 +42,7 @@ impl Report {
 /// The number that a call gives, or the fault that it reports. The call writes nothing to the pointer
 /// that it is passed but a fault, as the calls of the library do.
 #[inline]
-pub(super) fn answer(call: impl FnOnce(*mut sys::pgmsg_fault) -> isize) -> Result<usize, Fault> {
+pub(crate) fn answer(call: impl FnOnce(*mut sys::pgmsg_fault) -> isize) -> Result<usize, Fault> {
     let mut report = Report::new();
     let number = call(&mut report.0);
     usize::try_from(number).map_err(|_| report.fault(number))
@@ -50,7 +50,7 @@ pub(super) fn answer(call: impl FnOnce(*mut sys::pgmsg_fault) -> isize) -> Resul
 
 /// The bytes at a place that a call gave.
 #[inline]
-pub(super) fn part(bytes: &[u8], span: sys::pgmsg_span) -> Result<&[u8], Fault> {
+pub(crate) fn part(bytes: &[u8], span: sys::pgmsg_span) -> Result<&[u8], Fault> {
     let rest = bytes.get(span.at..);
     rest.and_then(|rest| rest.get(..span.len))
         .ok_or_else(|| Fault::unexpected(span.at))
@@ -58,21 +58,21 @@ pub(super) fn part(bytes: &[u8], span: sys::pgmsg_span) -> Result<&[u8], Fault> 
 
 /// The body of a frame that a call gave. The frame ends where its body does.
 #[inline]
-pub(super) fn body_of<'a>(stream: &'a [u8], frame: &sys::pgmsg_frame) -> Result<&'a [u8], Fault> {
+pub(crate) fn body_of<'a>(stream: &'a [u8], frame: &sys::pgmsg_frame) -> Result<&'a [u8], Fault> {
     stream
         .get(frame.body.at..frame.length)
         .ok_or_else(|| Fault::unexpected(frame.length))
 }
 
 /// The text at a place, which the library has found to be UTF-8.
-pub(super) fn text(bytes: &[u8], span: sys::pgmsg_span) -> Result<&str, Fault> {
+pub(crate) fn text(bytes: &[u8], span: sys::pgmsg_span) -> Result<&str, Fault> {
     str::from_utf8(part(bytes, span)?).map_err(|_| Fault::unexpected(span.at))
 }
 
 /// The items that a call writes into `room`. It calls again with more room where the first room is
 /// too small.
 #[inline]
-pub(super) fn fill<T: Clone + Default>(
+pub(crate) fn fill<T: Clone + Default>(
     room: &mut Vec<T>,
     mut call: impl FnMut(&mut [T]) -> Result<usize, Fault>,
 ) -> Result<&[T], Fault> {
@@ -86,7 +86,7 @@ pub(super) fn fill<T: Clone + Default>(
 
 /// Adds items up to a length, which is above the one that `room` has.
 #[cold]
-pub(super) fn grow<T: Clone + Default>(room: &mut Vec<T>, length: usize) -> Result<(), Refusal> {
+pub(crate) fn grow<T: Clone + Default>(room: &mut Vec<T>, length: usize) -> Result<(), Refusal> {
     let missing = length.saturating_sub(room.len());
     room.try_reserve(missing)
         .map_err(|_| Refusal::OutOfMemory)?;
