@@ -23,7 +23,7 @@ pub enum Refusal {
     WrongFormat,
     /// The received body is longer than a length field can say.
     BodyTooLong,
-    /// No message from a server that is known here has this tag.
+    /// No message that is known here, from a server or from a client, has this tag.
     UnknownMessageType,
     /// The server asks for a method of authentication that is not supported.
     UnknownAuthentication,
@@ -51,6 +51,16 @@ pub enum Refusal {
     BadParams,
     /// The secret key of a session has fewer than 4 or more than 256 bytes.
     BadKeyLength,
+    /// No first message has this code.
+    UnknownCode,
+    /// A Describe or a Close names neither a statement nor a portal.
+    UnknownTarget,
+    /// A value has a length below -1, which says NULL.
+    BadValueLength,
+    /// Bytes follow the end of a message.
+    TrailingBytes,
+    /// A first message is longer than the caller takes.
+    FirstTooLong,
     /// The library gave this number, which its header excludes. Library and crate are of
     /// different versions, or the library is defective.
     Unexpected(i64),
@@ -80,6 +90,11 @@ const KNOWN: &[(i32, Refusal, &str)] = &[
     (sys::PGMSG_TEXT_HOLDS_NUL, Refusal::TextHoldsNul, "text holds a NUL"),
     (sys::PGMSG_BAD_PARAMS, Refusal::BadParams, "too many values for a Bind"),
     (sys::PGMSG_BAD_KEY_LENGTH, Refusal::BadKeyLength, "secret key of fewer than 4 or more than 256 bytes"),
+    (sys::PGMSG_UNKNOWN_CODE, Refusal::UnknownCode, "unknown code of a first message"),
+    (sys::PGMSG_UNKNOWN_TARGET, Refusal::UnknownTarget, "neither a statement nor a portal"),
+    (sys::PGMSG_BAD_VALUE_LENGTH, Refusal::BadValueLength, "value length is below -1"),
+    (sys::PGMSG_TRAILING_BYTES, Refusal::TrailingBytes, "bytes follow the end of a message"),
+    (sys::PGMSG_FIRST_TOO_LONG, Refusal::FirstTooLong, "first message is too long"),
 ];
 
 impl Refusal {

@@ -1,9 +1,11 @@
-//! Messages of the PostgreSQL wire protocol, version 3.0, as a client sends and receives them.
+//! Messages of the PostgreSQL wire protocol, version 3.0, as a client sends and receives them, and as
+//! a server receives them.
 //!
 //! This crate is a safe interface to `libpg_message`, the message layer of the project
 //! Tarnwhisk, whose code is proved. It has no sockets and no state of a connection:
-//! [`write::Messages`] collects bytes for the server, and the functions of [`mod@read`] take apart
-//! the bytes that the server sent, without copying texts or values.
+//! [`write::Messages`] collects bytes for the server, the functions of [`mod@read`] take apart the
+//! bytes that the server sent, and those of [`client`] the bytes that a client sent, without copying
+//! texts or values.
 //!
 //! ```
 //! use pgmsg::read::{self, Kind, TransactionStatus};
@@ -44,6 +46,7 @@
 )]
 
 mod answer;
+pub mod client;
 mod error;
 mod format;
 pub mod read;

@@ -3,7 +3,7 @@
 
 mod common;
 
-use common::Numbers;
+use common::{assert_within, checked, Numbers};
 use pgmsg::read::*;
 use pgmsg::{Fault, Refusal};
 use std::thread;
@@ -24,24 +24,6 @@ const BODIES: [&[u8]; 13] = [
     b"\0\0\0\x0br=abcdef,s=AAEC,i=8192",
     b"\0\0\0\x0cv=AAEC",
 ];
-
-/// The value of a result, or `None` where it is a fault that the library may report.
-fn checked<T>(bytes: &[u8], result: Result<T, Fault>) -> Option<T> {
-    let fault = match result {
-        Ok(value) => return Some(value),
-        Err(fault) => fault,
-    };
-    let is_unexpected = matches!(fault.refusal, Refusal::Unexpected(_));
-    assert!(!is_unexpected, "{fault} of {bytes:?}");
-    assert!(fault.at <= bytes.len(), "{fault:?} of {bytes:?}");
-    assert!(!fault.words.is_empty() && fault.words.is_ascii());
-    None
-}
-
-fn assert_within(bytes: &[u8], part: &[u8]) {
-    let (outer, inner) = (bytes.as_ptr_range(), part.as_ptr_range());
-    assert!(outer.start <= inner.start && inner.end <= outer.end);
-}
 
 /// Passes a body to every reader.
 fn read_all(reader: &mut RowIndex, body: &[u8]) {

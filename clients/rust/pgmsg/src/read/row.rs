@@ -103,6 +103,16 @@ pub struct Row<'b, 'r> {
 }
 
 impl<'b, 'r> Row<'b, 'r> {
+    /// # Safety
+    ///
+    /// Each cell is NULL or lies in the body.
+    #[inline]
+    pub(crate) unsafe fn new(body: &'b [u8], cells: &'r [Cell]) -> Row<'b, 'r> {
+        // The library is proved to give no other place.
+        debug_assert!(cells.iter().all(|cell| cell.is_in(body)));
+        Row { body, cells }
+    }
+
     /// How many cells the row has.
     #[inline]
     pub fn len(&self) -> usize {

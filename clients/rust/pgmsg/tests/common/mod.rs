@@ -13,6 +13,25 @@ pub fn fault_of<T>(result: Result<T, Fault>) -> (Refusal, usize) {
     }
 }
 
+/// The value of a result, or `None` where it is a fault that the library may report.
+pub fn checked<T>(bytes: &[u8], result: Result<T, Fault>) -> Option<T> {
+    let fault = match result {
+        Ok(value) => return Some(value),
+        Err(fault) => fault,
+    };
+    let is_unexpected = matches!(fault.refusal, Refusal::Unexpected(_));
+    assert!(!is_unexpected, "{fault} of {bytes:?}");
+    assert!(fault.at <= bytes.len(), "{fault:?} of {bytes:?}");
+    assert!(!fault.words.is_empty() && fault.words.is_ascii());
+    None
+}
+
+/// Asserts that a part lies in the bytes that it was read of.
+pub fn assert_within(bytes: &[u8], part: &[u8]) {
+    let (outer, inner) = (bytes.as_ptr_range(), part.as_ptr_range());
+    assert!(outer.start <= inner.start && inner.end <= outer.end);
+}
+
 /// Numbers that are the same in each run (xorshift64).
 pub struct Numbers(u64);
 

@@ -11,6 +11,11 @@ use std::slice;
 pub struct Cell(sys::pgmsg_cell);
 
 impl Cell {
+    #[inline]
+    pub(crate) fn new(cell: sys::pgmsg_cell) -> Cell {
+        Cell(cell)
+    }
+
     /// Where the value lies in the body, or `None` where it is NULL.
     #[inline]
     pub fn range(&self) -> Option<Range<usize>> {
