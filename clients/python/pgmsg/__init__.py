@@ -1,9 +1,10 @@
-"""Messages of the PostgreSQL wire protocol, version 3.0, as a client sends and receives them.
+"""Messages of the PostgreSQL wire protocol, version 3.0, as a client sends and receives them, and as a server receives
+them.
 
 An interface to the shared library libpg_message, whose code is proved. It has no sockets and no state of a connection:
 `Messages` collects bytes for the server, and `next_frame` and the calls `read_*` take apart the bytes that the server
-sent. What they give of a body are views of it, `memoryview`, which keep its memory; `bytes(view)` and
-`str(view, "utf-8")` copy.
+sent; `next_first_frame`, `next_frontend_frame` and others of `read_*` those that a client sent. What they give of a
+body are views of it, `memoryview`, which keep its memory; `bytes(view)` and `str(view, "utf-8")` copy.
 
     >>> import pgmsg
     >>> bytes(pgmsg.Messages().query("SELECT 1"))
@@ -11,6 +12,9 @@ sent. What they give of a body are views of it, `memoryview`, which keep its mem
     >>> frame = pgmsg.next_frame(b"Z\\0\\0\\0\\5I")
     >>> frame.kind, pgmsg.read_ready(frame.body)
     (<Kind.READY_FOR_QUERY: 90>, <TransactionStatus.IDLE: 'I'>)
+    >>> frame = pgmsg.next_frontend_frame(b"Q\\0\\0\\0\\x0dSELECT 1\\0")
+    >>> frame.kind, bytes(pgmsg.read_text(frame.body))
+    (<FrontendKind.QUERY: 81>, b'SELECT 1')
 
 What is refused is a `Fault`, with a code and words; where no memory is there, it is a `MemoryError`.
 """
@@ -48,6 +52,38 @@ from .authentication import (
     read_mechanisms,
     read_verifier,
 )
+from .client import (
+    Bind,
+    Execute,
+    First,
+    FirstKind,
+    FunctionCall,
+    Items,
+    Parse,
+    SaslInitial,
+    Setting,
+    Target,
+    read_bind,
+    read_codes,
+    read_empty,
+    read_execute,
+    read_first,
+    read_function_call,
+    read_parse,
+    read_sasl_initial,
+    read_settings,
+    read_target,
+    read_text,
+    read_types,
+)
+from .client_frames import (
+    MAX_FIRST_LENGTH,
+    FirstFrame,
+    FrontendFrame,
+    FrontendKind,
+    next_first_frame,
+    next_frontend_frame,
+)
 from .fault import Fault
 from .frames import Frame, Incomplete, Kind, Stream, frames, next_frame
 from .messages import Format, Messages, copy_head
@@ -73,13 +109,16 @@ from .rows import Column, Row, read_columns, read_parameter_types, read_row
 __version__ = VERSION
 
 __all__ = [
-    "Authentication", "Challenge", "Code", "Column", "CopyResponse", "Fault", "Field", "Format", "Frame", "Incomplete",
-    "KeyData", "Kind", "Messages", "Method", "Notification", "ParameterStatus", "RawAuthentication", "RawColumn",
-    "RawFrame", "RawIncomplete", "RawKeyData", "RawParameterStatus", "Row", "Severity", "Stream", "TransactionStatus",
-    "VERSION", "copy_head", "frames", "library", "next_frame", "next_raw_frame", "read_authentication",
-    "read_challenge", "read_columns", "read_command_tag", "read_copy_response", "read_end", "read_fields",
-    "read_key_data", "read_mechanisms", "read_no_body", "read_notification", "read_parameter_status",
-    "read_parameter_types", "read_raw_authentication", "read_raw_columns", "read_raw_key_data",
-    "read_raw_mechanisms", "read_raw_parameter_status", "read_ready", "read_row", "read_rows_affected",
-    "read_severity", "read_verifier",
+    "Authentication", "Bind", "Challenge", "Code", "Column", "CopyResponse", "Execute", "Fault", "Field", "First",
+    "FirstFrame", "FirstKind", "Format", "Frame", "FrontendFrame", "FrontendKind", "FunctionCall", "Incomplete",
+    "Items", "KeyData", "Kind", "MAX_FIRST_LENGTH", "Messages", "Method", "Notification", "ParameterStatus", "Parse",
+    "RawAuthentication", "RawColumn", "RawFrame", "RawIncomplete", "RawKeyData", "RawParameterStatus", "Row",
+    "SaslInitial", "Setting", "Severity", "Stream", "Target", "TransactionStatus", "VERSION", "copy_head", "frames",
+    "library", "next_first_frame", "next_frame", "next_frontend_frame", "next_raw_frame", "read_authentication",
+    "read_bind", "read_challenge", "read_codes", "read_columns", "read_command_tag", "read_copy_response", "read_empty",
+    "read_end", "read_execute", "read_fields", "read_first", "read_function_call", "read_key_data", "read_mechanisms",
+    "read_no_body", "read_notification", "read_parameter_status", "read_parameter_types", "read_parse",
+    "read_raw_authentication", "read_raw_columns", "read_raw_key_data", "read_raw_mechanisms",
+    "read_raw_parameter_status", "read_ready", "read_row", "read_rows_affected", "read_sasl_initial", "read_settings",
+    "read_severity", "read_target", "read_text", "read_types", "read_verifier",
 ]

@@ -14,6 +14,12 @@ NOTICE_NOT_UTF8 = (
     "during authentication and the default lc_messages locale is not binary-compatible with UTF-8. See the server logs "
     "for the error details.")
 
+
+def first_frame(stream):
+    """The message without a tag at the front of a stream, of at most 40 bytes."""
+    return pgmsg.next_first_frame(stream, 40)
+
+
 # A call of the package with what it is passed, and the code, the offset and the words that are due.
 REPORTED = [
     (pgmsg.next_frame, b"v\0\0\0\x03", Code.UNKNOWN_MESSAGE_TYPE, 0, "unknown message type: 118"),
@@ -32,6 +38,60 @@ REPORTED = [
     (pgmsg.read_verifier, b"\0\0\0\x0br=", Code.UNKNOWN_AUTHENTICATION, 0, "unknown authentication method: 11"),
     (pgmsg.read_authentication, b"\0\0\0\x0br", Code.SHORT_SASL_ITEM, 0, "SASL item of fewer than two bytes"),
     (pgmsg.read_authentication, b"\0\0\0\x0cv=*", Code.BASE64, 0, "SASL value is not base64"),
+    # What a client sent.
+    (pgmsg.next_frontend_frame, b"!\0\0\0\x04", Code.UNKNOWN_MESSAGE_TYPE, 0, "unknown message type: 33"),
+    (pgmsg.next_frontend_frame, b"Z\0\0\0\x03", Code.UNKNOWN_MESSAGE_TYPE, 0, "unknown message type: 90"),
+    (pgmsg.next_frontend_frame, b"Q\0\0\0\x03", Code.BAD_LENGTH, 0, "bad message length: 3"),
+    (pgmsg.next_frontend_frame, b"S\xff\xff\xff\xff", Code.BAD_LENGTH, 0, "bad message length: -1"),
+    (first_frame, b"\0\0\0\x07", Code.BAD_LENGTH, 0, "bad message length: 7"),
+    (first_frame, b"\xff\xff\xff\xff\0", Code.BAD_LENGTH, 0, "bad message length: -1"),
+    (first_frame, b"\0\0\0\x29", Code.FIRST_TOO_LONG, 0, "expected a first message of at most 40 bytes, got 41"),
+    (pgmsg.read_first, b"\0\3\0", Code.SHORT, 0, "expected 4 bytes at offset 0, got 3"),
+    (pgmsg.read_first, b"\0\2\0\0", Code.UNKNOWN_CODE, 0, "unknown code: 131072"),
+    (pgmsg.read_first, b"\0\4\0\0", Code.UNKNOWN_CODE, 0, "unknown code: 262144"),
+    (pgmsg.read_first, b"\0\3\0\0", Code.MISSING_NUL, 4, "expected NUL after offset 4"),
+    (pgmsg.read_first, b"\0\3\0\0user\0ann", Code.MISSING_NUL, 9, "expected NUL after offset 9"),
+    (pgmsg.read_first, b"\0\3\0\0user\0ann\0", Code.MISSING_NUL, 13, "expected NUL after offset 13"),
+    (pgmsg.read_first, b"\0\3\0\0\0a", Code.TRAILING_BYTES, 5, "expected the end of the message at offset 5"),
+    (pgmsg.read_first, b"\x04\xd2\x16\x2e\0\0\0", Code.SHORT, 4, "expected 4 bytes at offset 4, got 3"),
+    (pgmsg.read_first, b"\x04\xd2\x16\x2e\0\0\0\1abc", Code.BAD_KEY_LENGTH, 0, "bad secret key length: 3"),
+    (pgmsg.read_first, b"\x04\xd2\x16\x2e\0\0\0\1" + bytes(257), Code.BAD_KEY_LENGTH, 0, "bad secret key length: 257"),
+    (pgmsg.read_first, b"\x04\xd2\x16\x2f\0", Code.TRAILING_BYTES, 4, "expected the end of the message at offset 4"),
+    (pgmsg.read_first, b"\x04\xd2\x16\x30\0", Code.TRAILING_BYTES, 4, "expected the end of the message at offset 4"),
+    (pgmsg.read_parse, b"", Code.MISSING_NUL, 0, "expected NUL after offset 0"),
+    (pgmsg.read_parse, b"s\0q", Code.MISSING_NUL, 2, "expected NUL after offset 2"),
+    (pgmsg.read_parse, b"\0\0\0", Code.SHORT, 2, "expected 2 bytes at offset 2, got 1"),
+    (pgmsg.read_parse, b"\0\0\0\2\0\0\0\x17\0", Code.SHORT, 4, "expected 8 bytes at offset 4, got 5"),
+    (pgmsg.read_parse, b"\0\0\0\0x", Code.TRAILING_BYTES, 4, "expected the end of the message at offset 4"),
+    (pgmsg.read_target, b"", Code.SHORT, 0, "expected 1 bytes at offset 0, got 0"),
+    (pgmsg.read_target, b"Xs\0", Code.UNKNOWN_TARGET, 0, "neither a statement nor a portal: 88"),
+    (pgmsg.read_target, b"Sabc", Code.MISSING_NUL, 1, "expected NUL after offset 1"),
+    (pgmsg.read_target, b"Ps\0\0", Code.TRAILING_BYTES, 3, "expected the end of the message at offset 3"),
+    (pgmsg.read_execute, b"p", Code.MISSING_NUL, 0, "expected NUL after offset 0"),
+    (pgmsg.read_execute, b"\0\0\0", Code.SHORT, 1, "expected 4 bytes at offset 1, got 2"),
+    (pgmsg.read_execute, bytes(6), Code.TRAILING_BYTES, 5, "expected the end of the message at offset 5"),
+    (pgmsg.read_text, b"SELECT 1", Code.MISSING_NUL, 0, "expected NUL after offset 0"),
+    (pgmsg.read_text, b"a\0b\0", Code.TRAILING_BYTES, 2, "expected the end of the message at offset 2"),
+    (pgmsg.read_empty, b"a", Code.TRAILING_BYTES, 0, "expected the end of the message at offset 0"),
+    (pgmsg.read_sasl_initial, b"X", Code.MISSING_NUL, 0, "expected NUL after offset 0"),
+    (pgmsg.read_sasl_initial, b"X\0\0\0\0\2a", Code.SHORT, 6, "expected 2 bytes at offset 6, got 1"),
+    (pgmsg.read_sasl_initial, b"X\0\xff\xff\xff\xfe", Code.BAD_VALUE_LENGTH, 2, "bad value length at offset 2: -2"),
+    (pgmsg.read_sasl_initial, b"X\0\0\0\0\1ab", Code.TRAILING_BYTES, 7, "expected the end of the message at offset 7"),
+    (pgmsg.read_bind, b"p\0s", Code.MISSING_NUL, 2, "expected NUL after offset 2"),
+    (pgmsg.read_bind, b"\0\0\0\2\0\1\0", Code.SHORT, 4, "expected 4 bytes at offset 4, got 3"),
+    (pgmsg.read_bind, b"\0\0\0\0\0", Code.SHORT, 4, "expected 2 bytes at offset 4, got 1"),
+    (pgmsg.read_bind, b"\0\0\0\0\0\1\0\0\0", Code.SHORT, 6, "expected 4 bytes at offset 6, got 3"),
+    (pgmsg.read_bind, b"\0\0\0\0\0\1\0\0\0\2a", Code.SHORT, 10, "expected 2 bytes at offset 10, got 1"),
+    (pgmsg.read_bind, b"\0\0\0\0\0\1\x80\0\0\0\0\0", Code.BAD_VALUE_LENGTH, 6,
+     "bad value length at offset 6: -2147483648"),
+    (pgmsg.read_bind, b"\0\0\0\0\0\0\0\1\0", Code.SHORT, 8, "expected 2 bytes at offset 8, got 1"),
+    (pgmsg.read_bind, bytes(9), Code.TRAILING_BYTES, 8, "expected the end of the message at offset 8"),
+    (pgmsg.read_function_call, b"\0\0\0", Code.SHORT, 0, "expected 4 bytes at offset 0, got 3"),
+    (pgmsg.read_function_call, b"\0\0\0\1\0\1\0", Code.SHORT, 6, "expected 2 bytes at offset 6, got 1"),
+    (pgmsg.read_function_call, b"\0\0\0\1\0\0\0\1\xff\xff\xff\xfe\0\0", Code.BAD_VALUE_LENGTH, 8,
+     "bad value length at offset 8: -2"),
+    (pgmsg.read_function_call, b"\0\0\0\1\0\0\0\0\0", Code.SHORT, 8, "expected 2 bytes at offset 8, got 1"),
+    (pgmsg.read_function_call, bytes(11), Code.TRAILING_BYTES, 10, "expected the end of the message at offset 10"),
 ]
 
 # The least length of a body that is refused unread.
@@ -40,7 +100,9 @@ TOO_LONG = 2147483644
 READERS = [
     pgmsg.read_row, pgmsg.read_columns, pgmsg.read_parameter_types, pgmsg.read_copy_response, pgmsg.read_severity,
     pgmsg.read_notification, pgmsg.read_parameter_status, pgmsg.read_key_data, pgmsg.read_ready,
-    pgmsg.read_authentication, pgmsg.read_verifier,
+    pgmsg.read_authentication, pgmsg.read_verifier, pgmsg.read_first, pgmsg.read_parse, pgmsg.read_target,
+    pgmsg.read_execute, pgmsg.read_text, pgmsg.read_empty, pgmsg.read_sasl_initial, pgmsg.read_bind,
+    pgmsg.read_function_call,
 ]
 
 # A call that writes, and the code: the words are those of the header.
@@ -58,7 +120,6 @@ REFUSED = [
 WITHOUT = {
     "OUT_OF_MEMORY": "it is raised as MemoryError",
     "WRONG_FORMAT": "no call returns it",
-    "BAD_KEY_LENGTH": "it is among those of the raw messages",
 }
 
 

@@ -15,6 +15,10 @@ FIELDS = b"C42P01\0Mno\0\0"
 
 CHALLENGE = b"\0\0\0\x0br=abc,s=AQID,i=8192"
 
+BIND = b"p\0s\0\0\0\0\1\0\0\0\2ab\0\0"
+
+CALL = b"\0\0\0\1\0\0\0\1\0\0\0\2ab\0\0"
+
 # A call that gives a view, its body, and the place of the view in it.
 VIEWS = [
     (lambda body: pgmsg.read_row(body)[0], ROW, 6, 2),
@@ -31,6 +35,20 @@ VIEWS = [
     (lambda body: pgmsg.read_raw_columns(body)[0].name, b"\0\1\xe9\0" + bytes(18), 2, 1),
     (lambda body: pgmsg.read_raw_parameter_status(body).value, b"a\0\xe9\0", 2, 1),
     (lambda body: next(pgmsg.frames(body)).body, b"Z\0\0\0\x05I", 5, 1),
+    (lambda body: pgmsg.next_frontend_frame(body).body, b"Q\0\0\0\x06q\0", 5, 2),
+    (lambda body: pgmsg.next_first_frame(body).body, b"\0\0\0\x08\x04\xd2\x16\x2f", 4, 4),
+    (lambda body: pgmsg.read_first(body).settings, b"\0\3\0\0a\0b\0\0", 4, 5),
+    (lambda body: pgmsg.read_first(body).secret_key, b"\x04\xd2\x16\x2e\0\0\0\1a key", 8, 5),
+    (lambda body: pgmsg.read_settings(body)[0].value, b"\0\3\0\0a\0b\0\0", 6, 1),
+    (lambda body: pgmsg.read_parse(body).query, b"s\0query\0\0\0", 2, 5),
+    (lambda body: pgmsg.read_target(body).name, b"Ss0\0", 1, 2),
+    (lambda body: pgmsg.read_execute(body).portal, b"p0\0\0\0\0\0", 0, 2),
+    (pgmsg.read_text, b"SELECT 1\0", 0, 8),
+    (lambda body: pgmsg.read_sasl_initial(body).mechanism, b"X\0\0\0\0\1a", 0, 1),
+    (lambda body: pgmsg.read_sasl_initial(body).response, b"X\0\0\0\0\1a", 6, 1),
+    (lambda body: pgmsg.read_bind(body).statement, BIND, 2, 1),
+    (lambda body: pgmsg.read_bind(body).values[0], BIND, 12, 2),
+    (lambda body: pgmsg.read_function_call(body).arguments[0], CALL, 12, 2),
 ]
 
 # Calls that copy what they give, or refuse.
@@ -46,6 +64,9 @@ COPIES = [
     (pgmsg.read_authentication, bytes(4)),
     (pgmsg.read_mechanisms, b"\0\0\0\x0aA\0\0"),
     (pgmsg.read_verifier, b"\0\0\0\x0cv=AQID"),
+    (lambda body: pgmsg.read_codes(body, pgmsg.Items(0, 2)), b"\0\0\0\1"),
+    (lambda body: pgmsg.read_types(body, pgmsg.Items(0, 1)), b"\0\0\0\x17"),
+    (pgmsg.read_empty, b""),
     (lambda body: Messages().copy_data(body).query(body).startup([(body, body)]).bind([body]), b"ab"),
 ]
 
@@ -56,6 +77,10 @@ REFUSED = [
     (pgmsg.read_notification, b"\0\0\0\1a\0b"),
     (pgmsg.read_parameter_status, b"\xff"),
     (pgmsg.read_challenge, b"\0\0\0\x0cv="),
+    (pgmsg.next_frontend_frame, b"!\0\0\0\x04"),
+    (pgmsg.next_first_frame, b"\0\0\0\x07"),
+    (pgmsg.read_first, b"\0\2\0\0"),
+    (pgmsg.read_bind, b"p"),
     (lambda body: Messages().query(body), b"\0"),
     (lambda body: Messages().startup([(b"user", b"ann"), (body, body)]), b"\0"),
     (lambda body: Messages().batch(body, [body]), b"\0"),
