@@ -13,7 +13,7 @@
 //! | `Execute` | [`execute`](fn@execute) |
 //! | `FunctionCall` | [`function_call`](fn@function_call) |
 //! | `Parse` | [`parse`](fn@parse) |
-//! | `Password` | of a password [`text`](fn@text), of the first answer by SASL [`sasl_initial`](fn@sasl_initial), else none |
+//! | `Password` | of a password [`text`](fn@text), of the first answer by SASL [`sasl_initial`](fn@sasl_initial), of any other none |
 //! | any other | none: the body is empty, as [`empty`](fn@empty) tests |
 //!
 //! [`Message::read`] does all of it. Names and texts are any bytes but NUL, in the client's encoding. A
@@ -52,6 +52,7 @@ mod frame;
 mod kind;
 mod message;
 mod numbers;
+mod password;
 mod prepared;
 mod text;
 
@@ -61,5 +62,6 @@ pub use frame::{next_first_frame, next_frame, FirstFrame, Frame, Next, MAX_FIRST
 pub use kind::Kind;
 pub use message::Message;
 pub use numbers::{Codes, Numbers, Types};
+pub use password::{sasl_initial, Password, SaslInitial};
 pub use prepared::{execute, parse, target, Execute, Parse, Target};
-pub use text::{empty, sasl_initial, text, SaslInitial};
+pub use text::{empty, text};

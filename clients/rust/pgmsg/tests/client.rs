@@ -241,7 +241,7 @@ fn room_for_values_is_used_again() {
     assert_eq!(values, [Some(&b"a"[..]), Some(b"b")]);
 }
 
-/// A body of each kind that has a message of its own, and a kind that has another one of the same body.
+/// A body of each kind, and how its message is shown.
 const BODIES: [(Kind, &[u8], &str); 14] = [
     (
         Kind::Bind,
@@ -261,7 +261,11 @@ const BODIES: [(Kind, &[u8], &str); 14] = [
         "FunctionCall(FunctionCall { object_id: 1, formats: [], arguments: [], result_format: FormatCode(0) })",
     ),
     (Kind::Parse, b"\0q\0\0\0", "Parse(Parse { statement: [], query: [113], types: [] })"),
-    (Kind::Password, b"\0\0", "Password([0, 0])"),
+    (
+        Kind::Password,
+        b"secret\0",
+        "Password(Password { len: 7, .. })",
+    ),
     (Kind::Query, b"q\0", "Query([113])"),
     (Kind::Sync, b"", "Sync"),
     (Kind::Terminate, b"", "Terminate"),

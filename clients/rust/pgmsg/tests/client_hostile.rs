@@ -51,7 +51,8 @@ fn parts<'b>(message: &Message<'b, '_>) -> Vec<&'b [u8]> {
         Message::Close(target) | Message::Describe(target) => vec![target.name()],
         Message::Execute(execute) => vec![execute.portal],
         Message::CopyData(part) | Message::CopyFail(part) => vec![part],
-        Message::Query(part) | Message::Password(part) => vec![part],
+        Message::Query(part) => vec![part],
+        Message::Password(answer) => vec![answer.bytes()],
         _ => vec![],
     }
 }

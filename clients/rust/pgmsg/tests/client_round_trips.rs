@@ -117,15 +117,15 @@ fn other_messages_that_are_read_back() {
     assert_read_back!(|m| m.flush(), Message::Flush);
     assert_read_back!(|m| m.sync(), Message::Sync);
     assert_read_back!(|m| m.terminate(), Message::Terminate);
-    assert_read_back!(|m| m.password("secret"), Message::Password(body) if text(body) == Ok(b"secret"));
-    assert_read_back!(|m| m.sasl_response("c=biws"), Message::Password(b"c=biws"));
+    assert_read_back!(|m| m.password("secret"), Message::Password(it) if it.password() == Ok(b"secret"));
+    assert_read_back!(|m| m.sasl_response("c=biws"), Message::Password(it) if it.bytes() == b"c=biws");
     let answers = [Some(&b"n,,n=,r=abc"[..]), Some(b""), None];
     for answer in answers {
         read_back(
             |messages| messages.sasl_mechanism(b"SCRAM-SHA-256", answer),
             |message| match message {
-                Message::Password(body) => {
-                    let initial = sasl_initial(body).expect("no fault");
+                Message::Password(it) => {
+                    let initial = it.sasl_initial().expect("no fault");
                     assert_eq!(
                         (initial.mechanism, initial.response),
                         (&b"SCRAM-SHA-256"[..], answer)

@@ -2,7 +2,7 @@
 
 use super::{
     bind, empty, execute, function_call, parse, target, text, Bind, Execute, FunctionCall, Kind,
-    Parse, Target,
+    Parse, Password, Target,
 };
 use crate::error::Fault;
 use crate::read::Cell;
@@ -31,9 +31,8 @@ pub enum Message<'b, 'r> {
     FunctionCall(FunctionCall<'b, 'r>),
     /// A statement is prepared.
     Parse(Parse<'b>),
-    /// The body of an answer to a request for authentication. The request says whether it is read by
-    /// [`text`](fn@text), by [`sasl_initial`](fn@super::sasl_initial), or is data as it is.
-    Password(&'b [u8]),
+    /// A request for authentication is answered.
+    Password(Password<'b>),
     /// The statements of a text are run.
     Query(&'b [u8]),
     /// A run of messages ends.
@@ -72,7 +71,7 @@ impl<'b, 'r> Message<'b, 'r> {
             Kind::Flush => empty(body).map(|()| Message::Flush)?,
             Kind::FunctionCall => Message::FunctionCall(function_call(body, room)?),
             Kind::Parse => Message::Parse(parse(body)?),
-            Kind::Password => Message::Password(body),
+            Kind::Password => Message::Password(Password::new(body)),
             Kind::Query => Message::Query(text(body)?),
             Kind::Sync => empty(body).map(|()| Message::Sync)?,
             Kind::Terminate => empty(body).map(|()| Message::Terminate)?,
