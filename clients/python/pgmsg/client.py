@@ -193,7 +193,7 @@ def read_codes(body: Buffer, items: Items) -> list[int]:
 
 
 def read_types(body: Buffer, items: Items) -> list[int]:
-    """The object ids of types in a list that `read_parse` gave of the same body, 0 where the server shall infer one."""
+    """The object ids of types in a list that `read_parse` gave of the same body, 0 where the server infers one."""
     return read_numbers(library.pgmsg_read_types, ctypes.c_uint32, body, items)
 
 

@@ -63,10 +63,10 @@ pub fn bind<'b, 'r>(body: &'b [u8], room: &'r mut Vec<Cell>) -> Result<Bind<'b, 
     Ok(Bind {
         portal: part(body, read.portal)?,
         statement: part(body, read.statement)?,
-        formats: Codes::new(body, read.formats),
+        formats: Codes::new(body, read.formats)?,
         // SAFETY: the library is proved to give no place outside the body.
         values: unsafe { Row::new(body, cells) },
-        result_formats: Codes::new(body, read.result_formats),
+        result_formats: Codes::new(body, read.result_formats)?,
     })
 }
 
@@ -118,7 +118,7 @@ pub fn function_call<'b, 'r>(
     })?;
     Ok(FunctionCall {
         object_id: read.function,
-        formats: Codes::new(body, read.formats),
+        formats: Codes::new(body, read.formats)?,
         // SAFETY: the library is proved to give no place outside the body.
         arguments: unsafe { Row::new(body, cells) },
         result_format: FormatCode(read.result_format as i16),

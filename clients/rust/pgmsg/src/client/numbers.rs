@@ -1,5 +1,6 @@
 //! The numbers of a list in a body.
 
+use crate::error::Fault;
 use crate::format::FormatCode;
 use crate::sys;
 use std::fmt;
@@ -73,18 +74,24 @@ pub struct Numbers<'b, N> {
 /// The codes of formats: none where all are text, one where that one is of all, or else one for each.
 pub type Codes<'b> = Numbers<'b, FormatCode>;
 
-/// The object ids of the types of a statement's parameters, 0 where the server shall infer one. There
-/// may be fewer than parameters.
+/// The object ids of the types of a statement's parameters, 0 where the server infers one. There may be
+/// fewer than parameters.
 pub type Types<'b> = Numbers<'b, u32>;
 
 impl<'b, N: Number> Numbers<'b, N> {
+    /// The numbers of a list that a call gave.
     #[inline]
-    pub(super) fn new(body: &'b [u8], list: sys::pgmsg_list) -> Numbers<'b, N> {
-        Numbers {
+    pub(super) fn new(body: &'b [u8], list: sys::pgmsg_list) -> Result<Numbers<'b, N>, Fault> {
+        let length = list.count.checked_mul(N::LENGTH);
+        let end = length.and_then(|length| list.at.checked_add(length));
+        if end.map_or(true, |end| end > body.len()) {
+            return Err(Fault::unexpected(list.at));
+        }
+        Ok(Numbers {
             body,
             list,
             numbers: PhantomData,
-        }
+        })
     }
 
     /// The number that an index counts, from 0, of those that are left.
@@ -99,7 +106,7 @@ impl<'b, N: Number> Numbers<'b, N> {
         };
         let mut room = [N::default()];
         let count = N::read(self.body, list, &mut room);
-        // The library is proved to give no list outside the body.
+        // The list is in the body.
         debug_assert_eq!(count, 1);
         Some(room[0])
     }
@@ -144,5 +151,26 @@ impl<N: Number> FusedIterator for Numbers<'_, N> {}
 impl<N: Number + fmt::Debug> fmt::Debug for Numbers<'_, N> {
     fn fmt(&self, f: &mut fmt::Formatter<'_>) -> fmt::Result {
         f.debug_list().entries(self.clone()).finish()
+    }
+}
+
+#[cfg(test)]
+mod tests {
+    use super::*;
+
+    #[test]
+    fn a_list_outside_the_body_is_a_fault() {
+        let new = |at, count| Types::new(&[0; 8], sys::pgmsg_list { at, count }).map(|it| it.len());
+        for (at, count) in [
+            (0, 3),
+            (5, 1),
+            (9, 0),
+            (8, usize::MAX),
+            (usize::MAX, 1),
+            (1, 1 << 62),
+        ] {
+            assert_eq!(new(at, count), Err(Fault::unexpected(at)));
+        }
+        assert_eq!((new(0, 2), new(4, 1), new(8, 0)), (Ok(2), Ok(1), Ok(0)));
     }
 }

@@ -38,7 +38,7 @@ pub fn parse(body: &[u8]) -> Result<Parse<'_>, Fault> {
     Ok(Parse {
         statement: part(body, read.statement)?,
         query: part(body, read.query)?,
-        types: Types::new(body, read.types),
+        types: Types::new(body, read.types)?,
     })
 }
 
