@@ -1,19 +1,41 @@
 /* Messages from the server. */
-#include "bytes_test.h"
+#define _DEFAULT_SOURCE
 
-#include <string.h>
+#include "bytes_test_read.h"
+
+#include <sys/mman.h>
+
+void *too_long_body(void)
+{
+    void *body = mmap(NULL, TOO_LONG, PROT_READ, MAP_PRIVATE | MAP_ANONYMOUS | MAP_NORESERVE, -1, 0);
+    return body == MAP_FAILED ? NULL : body;
+}
+
+bool is_at(const void *body, pgmsg_span span, const char *text)
+{
+    return are_bytes((const uint8_t *)body + span.at, span.len, text, strlen(text));
+}
+
+bool are_untouched(const void *bytes, size_t len)
+{
+    size_t i = 0;
+    while (i < len && ((const uint8_t *)bytes)[i] == UNTOUCHED)
+        i++;
+    return i == len;
+}
+
+bool is_fault_of(const pgmsg_fault *fault, int32_t number, size_t at, const char *words)
+{
+    size_t len = strlen(words);
+    return fault->number == number && fault->at == at && are_bytes(fault->words, fault->words_len, words, len)
+        && are_untouched(fault->words + len, sizeof fault->words - len);
+}
 
 /* Whether a fault has this number and place, and words. */
 static bool is_fault(const pgmsg_fault *fault, int32_t number, size_t at)
 {
     return fault->number == number && fault->at == at && fault->words_len > 0
         && fault->words_len <= sizeof fault->words;
-}
-
-/* Whether some bytes at a place are those of a text. */
-static bool is_at(const char *body, pgmsg_span span, const char *text)
-{
-    return are_bytes((const uint8_t *)body + span.at, span.len, text, strlen(text));
 }
 
 static void test_frames(struct tally *tally)

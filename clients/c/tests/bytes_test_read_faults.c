@@ -2,43 +2,14 @@
  * leaves alone. */
 #define _DEFAULT_SOURCE
 
-#include "bytes_test.h"
+#include "bytes_test_read.h"
 
-#include <string.h>
 #include <sys/mman.h>
-
-enum { UNTOUCHED = 0xaa };
-
-/* A body that is longer than any, as a length field has 31 bits. */
-#define TOO_LONG ((size_t)2147483644)
-
-#define TOO_LONG_WORDS "message body out of range for protocol: 2147483644"
 
 static const char notice_not_utf8[] =
     "Postgres returned a non-UTF-8 string for its error message. This is most likely due to an error that occurred "
     "during authentication and the default lc_messages locale is not binary-compatible with UTF-8. See the server logs "
     "for the error details.";
-
-/* Whether a fault is this one, and no byte after its words was written. */
-static bool is_fault(const pgmsg_fault *fault, int32_t number, size_t at, const char *words)
-{
-    size_t len = strlen(words);
-    if (fault->number != number || fault->at != at || !are_bytes(fault->words, fault->words_len, words, len))
-        return false;
-    for (size_t i = len; i < sizeof fault->words; i++)
-        if (fault->words[i] != UNTOUCHED)
-            return false;
-    return true;
-}
-
-/* Checks that a call returns a number, and fills `fault` with it. */
-#define REFUSES(tally, expected, offset, words, call)                   \
-    do {                                                                \
-        pgmsg_fault fault;                                              \
-        memset(&fault, UNTOUCHED, sizeof fault);                        \
-        CHECK((tally), (call) == (expected));                           \
-        CHECK((tally), is_fault(&fault, (expected), (offset), (words))); \
-    } while (0)
 
 /* The words of a number, and zeros after them. */
 static bool is_text(pgmsg_text text, const char *words)
@@ -120,9 +91,9 @@ static void words_of_logins(struct tally *tally)
 /* Bodies that are refused before a byte of them is read, so that the memory of them is never there. */
 static void words_of_long_bodies(struct tally *tally)
 {
-    void *body = mmap(NULL, TOO_LONG, PROT_READ, MAP_PRIVATE | MAP_ANONYMOUS | MAP_NORESERVE, -1, 0);
-    CHECK(tally, body != MAP_FAILED);
-    if (body == MAP_FAILED)
+    void *body = too_long_body();
+    CHECK(tally, body != NULL);
+    if (body == NULL)
         return;
     pgmsg_cell cell;
     pgmsg_column column;

@@ -1,13 +1,5 @@
 /* What drivers read as it is. */
-#include "bytes_test.h"
-
-#include <string.h>
-
-/* Whether a place in a body holds a text. */
-static bool is_at(const void *body, pgmsg_span span, const char *text)
-{
-    return are_bytes((const uint8_t *)body + span.at, span.len, text, strlen(text));
-}
+#include "bytes_test_read.h"
 
 static void test_tags(struct tally *tally)
 {

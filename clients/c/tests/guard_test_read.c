@@ -1,22 +1,5 @@
-/* Messages from the server: each body cut at each length, with each byte replaced in turn, at a page that can't be
- * touched. */
-#include "guard_test.h"
-
-#include <stdio.h>
-#include <string.h>
-
-enum { LONGEST = 128, PLENTY = 64, UNTOUCHED = 0xaa };
-
-/* Where bodies and what is read of them are. */
-static struct guarded bodies, ones, items, seconds, faults;
-
-/* How many items there is room for, and at which end of its page everything is. */
-static size_t room;
-static enum side side;
-
-#define ONE(type) (type *)(void *)place(&ones, sizeof(type), side)
-#define ITEMS(type) (type *)(void *)place(&items, room * sizeof(type), side), room
-#define SECOND place(&seconds, room, side), room
+/* Messages from the server, at pages that can't be touched. */
+#include "guard_test_bodies.h"
 
 /* Each call that reads, by a body and its length. */
 #define CALLS(CALL)                                                                                        \
@@ -53,24 +36,10 @@ static enum side side;
     CALL(challenge, pgmsg_read_challenge(body, len, ONE(pgmsg_challenge), ITEMS(uint8_t), SECOND, fault))  \
     CALL(verifier, pgmsg_read_verifier(body, len, ITEMS(uint8_t), fault))
 
-#define FUNCTION(name, call)                                                              \
-    static ptrdiff_t read_##name(const uint8_t *body, size_t len, pgmsg_fault *fault)     \
-    {                                                                                     \
-        (void)fault;                                                                      \
-        return call;                                                                      \
-    }
-
 CALLS(FUNCTION)
 
-#define BODY(name, literal) {#name, read_##name, literal, sizeof(literal) - 1}
-
 /* Bodies of each kind, each with every part that it can have. */
-static const struct body {
-    const char *name;
-    ptrdiff_t (*read)(const uint8_t *body, size_t len, pgmsg_fault *fault);
-    const char *bytes;
-    size_t len;
-} samples[] = {
+static const struct body samples[] = {
     BODY(frame, "D\0\0\0\12" "\0\1" "\377\377\377\377" "Z\0"),
     BODY(raw_frame, "v\0\0\0\12" "\0\1" "\377\377\377\377" "Z\0"),
     BODY(row, "\0\4" "\0\0\0\2" "ab" "\377\377\377\377" "\0\0\0\0" "\0\0\0\1" "c"),
@@ -110,70 +79,7 @@ static const struct body {
     BODY(verifier, "\0\0\0\14" "v=AQIDBAU="),
 };
 
-/* Whether two faults say the same. */
-static bool are_same(const pgmsg_fault *one, const pgmsg_fault *other)
-{
-    return one->number == other->number && one->at == other->at && one->words_len == other->words_len
-        && memcmp(one->words, other->words, sizeof one->words) == 0;
-}
-
-/* Reads some bytes at an end of their page, into room at one too. What is due is what is read with bytes beside
- * them, into plenty of room. */
-static bool is_read(const struct body *sample, const uint8_t *bytes, size_t len, size_t count)
-{
-    uint8_t around[LONGEST + 2 * PLENTY];
-    pgmsg_fault due, *fault = (pgmsg_fault *)(void *)place(&faults, sizeof due, side);
-    uint8_t *body = place(&bodies, len, side);
-    memset(around, UNTOUCHED, sizeof around);
-    memcpy(around + PLENTY, bytes, len);
-    memcpy(body, bytes, len);
-    memset(&due, UNTOUCHED, sizeof due);
-    memset(fault, UNTOUCHED, sizeof *fault);
-    room = PLENTY;
-    ptrdiff_t due_answer = sample->read(around + PLENTY, len, &due);
-    room = count;
-    return sample->read(body, len, fault) == due_answer && are_same(fault, &due);
-}
-
-/* The front of a body, and what becomes of it by other bytes. */
-static void test_front(struct tally *tally, const struct body *sample, size_t len)
-{
-    static const uint8_t others[] = {0, 1, '=', 127, 128, 255};
-    static const size_t rooms[] = {0, 1, 3};
-    uint8_t bytes[LONGEST];
-    memcpy(bytes, sample->bytes, len);
-    for (size_t k = 0; k < sizeof rooms / sizeof *rooms; k++) {
-        CHECK(tally, is_read(sample, bytes, len, rooms[k]));
-        for (size_t i = 0; i < len; i++) {
-            for (size_t j = 0; j < sizeof others; j++) {
-                bytes[i] = others[j];
-                CHECK(tally, is_read(sample, bytes, len, rooms[k]));
-            }
-            bytes[i] = (uint8_t)sample->bytes[i];
-        }
-    }
-}
-
-static void test_body(struct tally *tally, const struct body *sample)
-{
-    unsigned failed = tally->failed;
-    name_call(sample->name);
-    CHECK(tally, sample->len <= LONGEST);
-    for (size_t len = 0; len <= sample->len && sample->len <= LONGEST; len++)
-        test_front(tally, sample, len);
-    if (tally->failed > failed)
-        fprintf(stderr, "read of a %s\n", sample->name);
-}
-
 void test_guarded_read(struct tally *tally)
 {
-    struct guarded *const pages[] = {&bodies, &ones, &items, &seconds, &faults};
-    for (size_t i = 0; i < sizeof pages / sizeof *pages; i++)
-        *pages[i] = guarded_page();
-    for (size_t i = 0; i < sizeof samples / sizeof *samples; i++) {
-        side = AT_FRONT;
-        test_body(tally, &samples[i]);
-        side = AT_END;
-        test_body(tally, &samples[i]);
-    }
+    test_guarded_bodies(tally, samples, sizeof samples / sizeof *samples);
 }

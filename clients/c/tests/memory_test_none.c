@@ -1,17 +1,5 @@
 /* Calls that ask for no memory, where each request is refused. */
 #include "memory_test.h"
-#include "refusing.h"
-
-#include <string.h>
-
-/* Checks that a call answers without a request. */
-#define NEEDS_NONE(tally, call)         \
-    do {                                \
-        refuse_all();                   \
-        bool holds = (call);            \
-        CHECK((tally), !was_refused()); \
-        CHECK((tally), holds && #call); \
-    } while (0)
 
 static const char digits[] = "ABCDEFGHIJKLMNOPQRSTUVWXYZabcdefghijklmnopqrstuvwxyz0123456789+/";
 

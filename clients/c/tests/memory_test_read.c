@@ -1,29 +1,14 @@
 /* The words of faults, with each request for memory refused in turn. */
 #include "memory_test.h"
-#include "refusing.h"
 
-#include <string.h>
-
-static uint8_t untouched[sizeof(pgmsg_fault)];
-
-/* Checks that a call refuses by a number, with words but where a request for them is refused. */
-#define REFUSES(tally, expected, offset, text, call)                                                     \
-    do {                                                                                                 \
-        size_t nth = 1;                                                                                  \
-        for (; nth < MANY_REQUESTS; nth++) {                                                             \
-            pgmsg_fault fault;                                                                           \
-            memset(&fault, UNTOUCHED, sizeof fault);                                                     \
-            refuse_nth(nth);                                                                             \
-            ptrdiff_t answer = (call);                                                                   \
-            bool refused = was_refused();                                                                \
-            CHECK((tally), answer == (expected) && fault.number == (expected) && fault.at == (offset));  \
-            CHECK((tally), are_bytes(fault.words, fault.words_len, (text), refused ? 0 : strlen(text))); \
-            CHECK((tally), memcmp(fault.words + fault.words_len, untouched, 200) == 0);                  \
-            if (!refused)                                                                                \
-                break;                                                                                   \
-        }                                                                                                \
-        CHECK((tally), nth > 1 && nth < MANY_REQUESTS);                                                  \
-    } while (0)
+void check_fault(struct tally *tally, const pgmsg_fault *fault, int32_t number, size_t at, const char *words, bool refused)
+{
+    uint8_t untouched[sizeof fault->words];
+    memset(untouched, UNTOUCHED, sizeof untouched);
+    CHECK(tally, fault->number == number && fault->at == at);
+    CHECK(tally, are_bytes(fault->words, fault->words_len, words, refused ? 0 : strlen(words)));
+    CHECK(tally, memcmp(fault->words + fault->words_len, untouched, sizeof untouched - fault->words_len) == 0);
+}
 
 /* Of a call that needs memory for the words of its fault alone. */
 static void test_faults(struct tally *tally)
@@ -69,6 +54,5 @@ static void test_faults(struct tally *tally)
 
 void test_memory_read(struct tally *tally)
 {
-    memset(untouched, UNTOUCHED, sizeof untouched);
     test_faults(tally);
 }
