@@ -24,6 +24,16 @@ SAME(PGMSG_BAD_LENGTH, -18);
 SAME(PGMSG_TEXT_HOLDS_NUL, -19);
 SAME(PGMSG_BAD_PARAMS, -20);
 SAME(PGMSG_BAD_KEY_LENGTH, -21);
+SAME(PGMSG_UNKNOWN_CODE, -22);
+SAME(PGMSG_UNKNOWN_TARGET, -23);
+SAME(PGMSG_BAD_VALUE_LENGTH, -24);
+SAME(PGMSG_TRAILING_BYTES, -25);
+SAME(PGMSG_FIRST_TOO_LONG, -26);
+
+SAME(PGMSG_FIRST_STARTUP, 0);
+SAME(PGMSG_FIRST_CANCEL_REQUEST, 1);
+SAME(PGMSG_FIRST_SSL_REQUEST, 2);
+SAME(PGMSG_FIRST_GSS_ENC_REQUEST, 3);
 
 SAME(sizeof(pgmsg_fault), 280);
 SAME(offsetof(pgmsg_fault, number), 0);
@@ -37,6 +47,10 @@ SAME(offsetof(pgmsg_text, text), 0);
 SAME(sizeof(pgmsg_span), 16);
 SAME(offsetof(pgmsg_span, at), 0);
 SAME(offsetof(pgmsg_span, len), 8);
+
+SAME(sizeof(pgmsg_list), 16);
+SAME(offsetof(pgmsg_list, at), 0);
+SAME(offsetof(pgmsg_list, count), 8);
 
 SAME(sizeof(pgmsg_setting), 32);
 SAME(offsetof(pgmsg_setting, name), 0);
@@ -84,6 +98,14 @@ SAME(sizeof(pgmsg_key_data), 8);
 SAME(offsetof(pgmsg_key_data, process_id), 0);
 SAME(offsetof(pgmsg_key_data, secret_key), 4);
 
+SAME(sizeof(pgmsg_raw_authentication), 24);
+SAME(offsetof(pgmsg_raw_authentication, method), 0);
+SAME(offsetof(pgmsg_raw_authentication, content), 8);
+
+SAME(sizeof(pgmsg_raw_key_data), 24);
+SAME(offsetof(pgmsg_raw_key_data, process_id), 0);
+SAME(offsetof(pgmsg_raw_key_data, secret_key), 8);
+
 SAME(sizeof(pgmsg_copy_response), 4);
 SAME(offsetof(pgmsg_copy_response, format), 0);
 SAME(offsetof(pgmsg_copy_response, columns), 2);
@@ -96,3 +118,40 @@ SAME(sizeof(pgmsg_challenge), 24);
 SAME(offsetof(pgmsg_challenge, iterations), 0);
 SAME(offsetof(pgmsg_challenge, salt_len), 8);
 SAME(offsetof(pgmsg_challenge, nonce_len), 16);
+
+SAME(sizeof(pgmsg_first), 48);
+SAME(offsetof(pgmsg_first, kind), 0);
+SAME(offsetof(pgmsg_first, minor), 4);
+SAME(offsetof(pgmsg_first, process_id), 8);
+SAME(offsetof(pgmsg_first, settings), 16);
+SAME(offsetof(pgmsg_first, secret_key), 32);
+
+SAME(sizeof(pgmsg_parse), 48);
+SAME(offsetof(pgmsg_parse, statement), 0);
+SAME(offsetof(pgmsg_parse, query), 16);
+SAME(offsetof(pgmsg_parse, types), 32);
+
+SAME(sizeof(pgmsg_target), 24);
+SAME(offsetof(pgmsg_target, letter), 0);
+SAME(offsetof(pgmsg_target, name), 8);
+
+SAME(sizeof(pgmsg_execute), 24);
+SAME(offsetof(pgmsg_execute, portal), 0);
+SAME(offsetof(pgmsg_execute, max_rows), 16);
+
+SAME(sizeof(pgmsg_sasl_initial), 24);
+SAME(offsetof(pgmsg_sasl_initial, mechanism), 0);
+SAME(offsetof(pgmsg_sasl_initial, response), 16);
+
+SAME(sizeof(pgmsg_bind), 80);
+SAME(offsetof(pgmsg_bind, portal), 0);
+SAME(offsetof(pgmsg_bind, statement), 16);
+SAME(offsetof(pgmsg_bind, formats), 32);
+SAME(offsetof(pgmsg_bind, values), 48);
+SAME(offsetof(pgmsg_bind, result_formats), 64);
+
+SAME(sizeof(pgmsg_function_call), 48);
+SAME(offsetof(pgmsg_function_call, function), 0);
+SAME(offsetof(pgmsg_function_call, formats), 8);
+SAME(offsetof(pgmsg_function_call, arguments), 24);
+SAME(offsetof(pgmsg_function_call, result_format), 40);

@@ -12,5 +12,8 @@ int main(void)
     test_read_faults(&tally);
     test_read_login(&tally);
     test_read_raw(&tally);
+    test_client(&tally);
+    test_client_lists(&tally);
+    test_client_faults(&tally);
     return report(&tally);
 }

@@ -21,5 +21,8 @@ void test_read(struct tally *tally);
 void test_read_faults(struct tally *tally);
 void test_read_login(struct tally *tally);
 void test_read_raw(struct tally *tally);
+void test_client(struct tally *tally);
+void test_client_lists(struct tally *tally);
+void test_client_faults(struct tally *tally);
 
 #endif

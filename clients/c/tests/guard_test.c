@@ -52,5 +52,6 @@ int main(void)
         return 1;
     test_guarded_put(&tally);
     test_guarded_read(&tally);
+    test_guarded_client(&tally);
     return report(&tally);
 }

@@ -23,5 +23,6 @@ int main(void)
     test_memory_put(&tally);
     test_memory_read(&tally);
     test_memory_none(&tally);
+    test_memory_client(&tally);
     return report(&tally);
 }

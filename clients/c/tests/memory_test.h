@@ -49,5 +49,6 @@ void check_fault(struct tally *tally, const pgmsg_fault *fault, int32_t number, 
 void test_memory_put(struct tally *tally);
 void test_memory_read(struct tally *tally);
 void test_memory_none(struct tally *tally);
+void test_memory_client(struct tally *tally);
 
 #endif
