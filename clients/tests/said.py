@@ -1,10 +1,11 @@
 #!/usr/bin/env python3
 """Keeps what clients say to a server, and compares it with what pg_server_tool reads of it.
 
-    said.py keep FOLDER PORT    passes connections on to a port of this machine, and keeps what each client says in a file
-                                of the folder; prints its own port
-    said.py read FOLDER         PG_SERVER_TOOL must read each file as messages and nothing else, which a model apart from
-                                the crates writes as the same bytes; prints each kind
+    said.py keep FOLDER PORT       passes connections on to a port of this machine, and keeps what each client says in a
+                                   file of the folder; prints its own port
+    said.py read FOLDER PROGRAM    PG_SERVER_TOOL must read each file as messages and nothing else, which a model apart from
+                                   the crates writes as the same bytes, and the program must print the same lines;
+                                   prints each kind
 """
 
 import collections
@@ -54,13 +55,19 @@ def frame(line):
     return (tag or b"") + (len(body) + 4).to_bytes(4, "big") + body
 
 
-def read(folder):
+def lines_of(command, said):
+    """The lines that a program prints of a stream."""
+    return subprocess.run(command, input=said, stdout=subprocess.PIPE, check=True).stdout.decode().splitlines()
+
+
+def read(folder, program):
     """Reads each file and writes it again."""
     kinds = collections.Counter()
     for file in sorted(folder.iterdir()):
         said = file.read_bytes()
-        run = subprocess.run([os.environ["PG_SERVER_TOOL"], "stream"], input=said, stdout=subprocess.PIPE, check=True)
-        lines = run.stdout.decode().splitlines()
+        lines = lines_of([os.environ["PG_SERVER_TOOL"], "stream"], said)
+        if lines_of([program], said) != lines:
+            raise ValueError(f"{file.name}: {program} prints other lines")
         if b"".join(map(frame, lines)) != said:
             raise ValueError(f"{file.name} is written otherwise: {' '.join(line.split()[0] for line in lines)}")
         kinds.update(line.split()[0] for line in lines)
@@ -69,11 +76,11 @@ def read(folder):
 
 
 def main():
-    command, folder, *port = sys.argv[1:]
+    command, folder, other = sys.argv[1:]
     if command == "keep":
-        keep(pathlib.Path(folder), int(port[0]))
+        keep(pathlib.Path(folder), int(other))
     else:
-        read(pathlib.Path(folder))
+        read(pathlib.Path(folder), other)
 
 
 if __name__ == "__main__":

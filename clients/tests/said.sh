@@ -102,7 +102,7 @@ test_said() {
     say_by_python
     say_by_tokio_postgres
     kill "$keeping"
-    try tests/said.py read "$work/connections"
-    expect "what clients say is read, and written as the same bytes: $errors" 0
+    try tests/said.py read "$work/connections" "$programs/said_lines"
+    expect "what clients say is read, also in C, and written as the same bytes: $errors" 0
     same 'each kind of message is said' "$(comm -23 <(echo "$said_kinds") <(tr ' ' '\n' <<< "$output" | sort))" ''
 }
