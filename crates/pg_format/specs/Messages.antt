@@ -12,7 +12,7 @@ use Rattle.pg_format.specs.Format.Parts.{until_nul, be_u8, be_u16, be_u32, be_i8
 use Rattle.pg_format.specs.Format.Sequences.{dep_pair, ◌⨾◌, record_of, mapped, case_of, choose}
 use Rattle.pg_format.specs.Format.Tests.{utf8, checked, only, with_room}
 use Rattle.pg_format.specs.Format.Ends.{exactly, loosely}
-use Rattle.pg_format.specs.Format.Lists.{times, counted, counted_least, many}
+use Rattle.pg_format.specs.Format.Lists.{times, counted, counted_least, counted_long, many}
 use Rattle.pg_format.specs.Format.Nullable.{cell, value}
 use Rattle.pg_format.specs.Notices.{Field, notice_fault}
 pub use Rattle.pg_format.specs.Tables.{Authentication, ok, cleartext_password, md5_password, sasl, sasl_continue, sasl_final, method_number, salt_of, mechanisms_of, continued, finished}
@@ -47,6 +47,19 @@ pub record BackendKey : Type 0 where
 abbrev pub backend_key_data : Format BackendKey
 backend_key_data = loosely (record_of (λ k. (k.process_id, k.secret_key)) (be_u32 ⨾ be_u32))
 
+-- a session and its key, as a request to cancel names them
+pub record Cancel : Type 0 where
+  pub process_id : ℕ
+  pub secret_key : List ℕ
+
+-- a key has 4 bytes, or up to 256 of a server that speaks protocol 3.2
+abbrev pub key_fault : ℕ → Option ProtocolFault
+key_fault length = if nat_le 4 length && nat_le length 256 then None else Some (BadKeyLength length)
+
+-- BackendKeyData (B) of a server that speaks protocol 3.2: all that follows the process is the key
+abbrev pub backend_key : Format Cancel
+backend_key = record_of (λ c. (c.process_id, c.secret_key)) (be_u32 ⨾ checked (λ key. key_fault (length key)) remaining)
+
 -- Bind (F): a format code for all values, for each, or none for text
 pub record Bind : Type 0 where
   pub portal : List ℕ
@@ -71,14 +84,6 @@ abbrev pub empty : Format (Unit {0})
 empty = exactly (success tt)
 
 -- CancelRequest (F), which has no tag: the number that no version has, and the session with its key
-pub record Cancel : Type 0 where
-  pub process_id : ℕ
-  pub secret_key : List ℕ
-
--- a key has 4 bytes, or up to 256 of a server that speaks protocol 3.2
-abbrev pub key_fault : ℕ → Option ProtocolFault
-key_fault length = if nat_le 4 length && nat_le length 256 then None else Some (BadKeyLength length)
-
 abbrev pub cancel_request : Format (ℕ × Cancel)
 cancel_request = only (λ n. n ≡ 80877102) be_u32 ⨾ record_of (λ c. (c.process_id, c.secret_key)) (be_u32 ⨾ checked (λ key. key_fault (length key)) remaining)
 
@@ -98,7 +103,7 @@ command_complete = remaining
 abbrev pub copy_data : Format (List ℕ)
 copy_data = remaining
 
--- CopyInResponse (B) and CopyOutResponse (B): the format of the whole, and one for each column
+-- CopyInResponse (B), CopyOutResponse (B) and CopyBothResponse (B): the format of the whole, and one for each column
 pub record CopyResponse : Type 0 where
   pub format : ℤ
   pub num_columns : ℤ
@@ -144,9 +149,21 @@ pub record FunctionCall : Type 0 where
 abbrev pub function_call : Format FunctionCall
 function_call = exactly (record_of (λ f. (f.object_id, (f.formats, (f.arguments, f.result_format)))) (be_u32 ⨾ format_codes ⨾ counted value ⨾ be_u16))
 
+-- FunctionCallResponse (B)
+abbrev pub function_call_response : Format (Option (List ℕ))
+function_call_response = loosely cell
+
 -- GSSENCRequest (F), which has no tag: the number that no version has
 abbrev pub gss_enc_request : Format ℕ
 gss_enc_request = exactly (only (λ n. n ≡ 80877104) be_u32)
+
+-- NegotiateProtocolVersion (B): the newest minor version of the server, and the options that it doesn't know
+pub record Negotiation : Type 0 where
+  pub minor : ℕ
+  pub options : List (List ℕ)
+
+abbrev pub negotiate_protocol_version : Format Negotiation
+negotiate_protocol_version = loosely (record_of (λ n. (n.minor, n.options)) (be_u32 ⨾ counted_long until_nul))
 
 -- NotificationResponse (B)
 pub record Notification : Type 0 where

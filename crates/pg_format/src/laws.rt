@@ -5,13 +5,23 @@ pub mod examples;
 ghost use Rattle.pg_base.specs.declared.format.BackendMessageFormat.{BackendMessageFormat};
 ghost use Rattle.pg_base.specs.declared.format.FrontendMessageFormat.{FrontendMessageFormat};
 ghost use Rattle.pg_format.specs.Format.{Lawful, Canonical, Total};
-ghost use Rattle.pg_format.specs.Messages.{from_server, from_client, cancel_request, gss_enc_request, ssl_request, startup};
+ghost use Rattle.pg_format.specs.Messages.{from_server, from_client, backend_key, cancel_request, function_call_response, gss_enc_request, negotiate_protocol_version, ssl_request, startup};
 
 /// A body from a server means one value or has one fault, never both and never neither; and what is
 /// written of a value is read as it.
 pub fn messages_from_a_server()
     ensures lawful { (kind : BackendMessageFormat) → Lawful (from_server kind).format }
     ensures total { (kind : BackendMessageFormat) → Total (from_server kind).format }
+{}
+
+/// The same of the messages from a server that aren't of a kind, and of a key of protocol 3.2.
+pub fn other_messages_from_a_server()
+    ensures lawful_key { Lawful backend_key }
+    ensures total_key { Total backend_key }
+    ensures lawful_call { Lawful function_call_response }
+    ensures total_call { Total function_call_response }
+    ensures lawful_negotiation { Lawful negotiate_protocol_version }
+    ensures total_negotiation { Total negotiate_protocol_version }
 {}
 
 /// The same of a body from a client, in which each value has one spelling.

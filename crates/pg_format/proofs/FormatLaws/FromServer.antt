@@ -1,5 +1,5 @@
 -- The laws of the messages of a server: a body means one value, or has one fault.
-use Rattle.std.specs.Prelude.{◌≡◌, ◌≢◌, ℕ, ◌*◌, ◌==◌, ℤ, List, [], ◌∷◌, Some, ◌⊎◌, IsUtf8}
+use Rattle.std.specs.Prelude.{◌≡◌, ◌≢◌, ℕ, ◌*◌, ◌==◌, ℤ, List, [], ◌∷◌, length, Some, ◌⊎◌, IsUtf8}
 use Rattle.std.proofs.Common.{refl, arith, inl, inr}
 use Rattle.std.proofs.lemmas.Bool.{cases_eq}
 use Rattle.pg_base.specs.declared.error.ProtocolFault.TheVariants.{UnknownStatus, UnknownAuthentication, NotUtf8}
@@ -10,12 +10,12 @@ use Rattle.pg_format.specs.Format.Tests.{only}
 use Rattle.pg_format.specs.Format.Lists.{many}
 use Rattle.pg_format.specs.Notices.{Field, notice_fault}
 use Rattle.pg_format.specs.Sasl.{first_message_fault, final_message_fault}
-use Rattle.pg_format.specs.Messages.{ok, cleartext_password, md5_password, sasl, sasl_continue, sasl_final, salt_of, mechanisms_of, continued, finished, mechanism_names, asked_by, with_method, authentication, backend_key_data, no_body, columns_of, column_codes, copy_response, data_row, field, notice, notification, parameter_description, parameter_status, Status, idle, transaction, error, status_of, status_letter, ready_for_query, table, table_number, attribute, attribute_number, numbers, column, row_description}
+use Rattle.pg_format.specs.Messages.{ok, cleartext_password, md5_password, sasl, sasl_continue, sasl_final, salt_of, mechanisms_of, continued, finished, mechanism_names, asked_by, with_method, authentication, key_fault, backend_key_data, backend_key, no_body, columns_of, column_codes, copy_response, data_row, field, function_call_response, negotiate_protocol_version, notice, notification, parameter_description, parameter_status, Status, idle, transaction, error, status_of, status_letter, ready_for_query, table, table_number, attribute, attribute_number, numbers, column, row_description}
 use Rattle.pg_format.proofs.FormatLaws.Parts.{lawful_until_nul, total_until_nul, lawful_unsigned, total_unsigned, lawful_signed, total_signed, lawful_bytes_of, total_bytes_of, lawful_remaining, total_remaining, lawful_one_of, total_one_of, lawful_success, total_success, lawful_fail, total_fail}
 use Rattle.pg_format.proofs.FormatLaws.Sequences.{◌l⨾◌, ◌t⨾◌, lawful_dep_pair, total_dep_pair, lawful_record_of, total_record_of, lawful_mapped, total_mapped, lawful_case_of, total_case_of, lawful_choose, total_choose}
 use Rattle.pg_format.proofs.FormatLaws.Tests.{lawful_utf8, total_utf8, utf8_or_not, lawful_checked, total_checked, lawful_only, lawful_with_room, total_with_room, Takes}
 use Rattle.pg_format.proofs.FormatLaws.Ends.{lawful_loosely, total_loosely}
-use Rattle.pg_format.proofs.FormatLaws.Lists.{lawful_times, total_times, times_take, lawful_counted_least, total_counted_least, lawful_many, decided_only, total_many}
+use Rattle.pg_format.proofs.FormatLaws.Lists.{lawful_times, total_times, times_take, lawful_counted_least, total_counted_least, lawful_counted_long, total_counted_long, lawful_many, decided_only, total_many}
 use Rattle.pg_format.proofs.FormatLaws.Nullable.{lawful_cell, total_cell}
 use Rattle.pg_format.proofs.FormatLaws.Takes.{takes_until_nul, takes_unsigned, takes_signed, takes_pair, takes_record_of, takes_mapped, takes_verify, takes_only, takes_with_room, takes_cell}
 
@@ -78,6 +78,12 @@ lawful_backend_key_data = lawful_loosely (lawful_record_of _ (λ a b e i. record
 pub total_backend_key_data : Total backend_key_data
 total_backend_key_data = total_loosely (total_record_of _ (λ a. record { process_id = a.0; secret_key = a.1 }) (λ a. refl) (total_unsigned 4 t⨾ total_unsigned 4))
 
+pub lawful_backend_key : Lawful backend_key
+lawful_backend_key = lawful_record_of _ (λ a b e i. record { process_id = (e i).0; secret_key = (e i).1 }) (u32 l⨾ lawful_checked (λ key. key_fault (length key)) lawful_remaining)
+
+pub total_backend_key : Total backend_key
+total_backend_key = total_record_of _ (λ a. record { process_id = a.0; secret_key = a.1 }) (λ a. refl) (total_unsigned 4 t⨾ total_checked (λ key. key_fault (length key)) total_remaining)
+
 pub lawful_no_body : Lawful no_body
 lawful_no_body = lawful_loosely (lawful_success tt)
 
@@ -100,6 +106,18 @@ lawful_data_row = lawful_loosely (lawful_counted_least 4 takes_cell lawful_cell)
 
 pub total_data_row : Total data_row
 total_data_row = total_loosely (total_counted_least total_cell 4)
+
+pub lawful_function_call_response : Lawful function_call_response
+lawful_function_call_response = lawful_loosely lawful_cell
+
+pub total_function_call_response : Total function_call_response
+total_function_call_response = total_loosely total_cell
+
+pub lawful_negotiation : Lawful negotiate_protocol_version
+lawful_negotiation = lawful_loosely (lawful_record_of _ (λ a b e i. record { minor = (e i).0; options = (e i).1 }) (u32 l⨾ lawful_counted_long lawful_until_nul))
+
+pub total_negotiation : Total negotiate_protocol_version
+total_negotiation = total_loosely (total_record_of _ (λ a. record { minor = a.0; options = a.1 }) (λ a. refl) (total_unsigned 4 t⨾ total_counted_long total_until_nul))
 
 -- at the byte 0 no field begins
 no_field : (f : Field) (rest : List ℕ) → ¬ (field.Reads (0 ∷ []) f rest)

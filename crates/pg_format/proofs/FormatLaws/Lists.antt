@@ -8,7 +8,7 @@ use Rattle.pg_format.specs.Format.{Format, Lawful, Canonical, Total, IsRead, IsB
 use Rattle.pg_format.specs.Format.Parts.{be_u16}
 use Rattle.pg_format.specs.Format.Sequences.{dep_pair}
 use Rattle.pg_format.specs.Format.Tests.{with_room, only}
-use Rattle.pg_format.specs.Format.Lists.{AreRead, OneBreaks, AllFit, AreInOrder, times, with_count, counted, counted_least, many}
+use Rattle.pg_format.specs.Format.Lists.{AreRead, OneBreaks, AllFit, AreInOrder, times, with_count, counted, counted_least, counted_long, many}
 use Rattle.pg_format.proofs.FormatLaws.Parts.{are_bytes_after, lawful_unsigned, canonical_unsigned, total_unsigned}
 use Rattle.pg_format.proofs.FormatLaws.Sequences.{lawful_dep_pair, canonical_dep_pair, total_dep_pair, lawful_mapped, canonical_mapped, total_mapped}
 use Rattle.pg_format.proofs.FormatLaws.Tests.{Takes, lawful_with_room, canonical_with_room, total_with_room}
@@ -58,6 +58,9 @@ module _ {A : Type 0} {g : Format A} (eg : Lawful g) where
 
   pub lawful_counted : Lawful (counted g)
   lawful_counted = lawful_mapped (λ v. v.1) with_count (lawful_dep_pair (λ n. times n g) (lawful_unsigned 2 tt) lawful_times)
+
+  pub lawful_counted_long : Lawful (counted_long g)
+  lawful_counted_long = lawful_mapped (λ v. v.1) with_count (lawful_dep_pair (λ n. times n g) (lawful_unsigned 4 tt) lawful_times)
 
 module _ {A : Type 0} {g : Format A} (cg : Canonical g) where
   same_list : (v : List A) (bytes rest : List ℕ) → AreBytes bytes → AreRead g bytes v rest → bytes ≡ flat_map g.Writes v ++ rest
@@ -111,6 +114,9 @@ module _ {A : Type 0} {g : Format A} (tg : Total g) where
 
   pub total_counted : Total (counted g)
   total_counted = total_mapped (λ v. v.1) with_count (total_dep_pair (λ n. times n g) (total_unsigned 2) total_times)
+
+  pub total_counted_long : Total (counted_long g)
+  total_counted_long = total_mapped (λ v. v.1) with_count (total_dep_pair (λ n. times n g) (total_unsigned 4) total_times)
 
   pub total_counted_least : (least : ℕ) → Total (counted_least least g)
   total_counted_least least =

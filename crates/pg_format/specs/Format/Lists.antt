@@ -3,7 +3,7 @@ use Rattle.std.specs.Prelude.{◌≡◌, ℕ, zero, suc, ◌*◌, List, [], ◌�
 use Rattle.std.specs.List.{flat_map}
 use Rattle.pg_base.specs.declared.error.ProtocolFault.{ProtocolFault}
 use Rattle.pg_format.specs.Format.{Format}
-use Rattle.pg_format.specs.Format.Parts.{be_u16}
+use Rattle.pg_format.specs.Format.Parts.{be_u16, be_u32}
 use Rattle.pg_format.specs.Format.Sequences.{BreaksAfter, dep_pair, mapped}
 use Rattle.pg_format.specs.Format.Tests.{with_room}
 
@@ -37,7 +37,11 @@ with_count values = (length values, values)
 abbrev pub counted : {A : Type 0} → Format A → Format (List A)
 counted g = mapped (λ v. v.1) with_count (dep_pair be_u16 (λ n. times n g))
 
--- the same, where so many bytes for each must be there before one is looked at
+-- as many as a count of four bytes before them says
+abbrev pub counted_long : {A : Type 0} → Format A → Format (List A)
+counted_long g = mapped (λ v. v.1) with_count (dep_pair be_u32 (λ n. times n g))
+
+-- as `counted`, where so many bytes for each must be there before one is looked at
 abbrev pub counted_least : {A : Type 0} → ℕ → Format A → Format (List A)
 counted_least least g = mapped (λ v. v.1) with_count (dep_pair be_u16 (λ n. with_room (least * n) (times n g)))
 
