@@ -1,0 +1,12 @@
+use Rattle.std.proofs.Common.{sym, ◌∙◌, rules}
+use Rattle.pg_write_backend.specs.Frame.{body}
+use Rattle.pg_write_backend.proofs.FrameLemmas.{frame_is_cut}
+use Rattle.pg_write_backend.proofs.message.frame.encode.Goals as goal
+
+pub returns-clause-encodes : goal.returns-clause-encodes
+returns-clause-encodes g c =
+    let law = g.M.BackendText.law c.args.message.now in
+    record {
+      adds = search rules;
+      cut = frame_is_cut law.part_fault law.tag (body law) c.in_ok-len.len (sym c.checked_body_len.ensures ∙ c.in_ok-len.was);
+    }

@@ -1,0 +1,11 @@
+use Rattle.std.proofs.Common.{◌≡◌, ◌≤◌, ◌++◌, take, map, All}
+use Rattle.std.specs.List.{flat_map}
+use Rattle.pg_write_backend.proofs.message.item.put_items.Given as goal
+
+abbrev pub invariant-loop-item : goal.invariant-loop-item
+invariant-loop-item g l = record {
+  written : g.S.Sink.written l.sink ≡ g.S.Sink.written l.fn.sink ++ flat_map g.T.Item.format.Writes (map g.T.Item.value (take l.item-index l.items));
+  capacity : g.S.Sink.capacity l.fn.sink ≤ g.S.Sink.capacity l.sink;
+  loan : g.S.Sink.loan l.sink ≡ g.S.Sink.loan l.fn.sink;
+  range : All g.T.Item.IsInRange (map g.T.Item.value (take l.item-index l.items));
+}

@@ -1,0 +1,23 @@
+-- NegotiateProtocolVersion: a minor version, and names of options. Documentation: "Message Formats",
+-- NegotiateProtocolVersion (B).
+use Rattle.std.specs.Prelude.{ℕ, ◌^◌, ◌<◌, List, map}
+use Rattle.std.specs.Borrow.{Bor}
+use Rattle.std.specs.List.{list_any}
+use Rattle.pg_format.specs.Messages as page
+use Rattle.pg_write_backend.specs.Frame.{Law}
+use Rattle.pg_write_backend.specs.Lists.{holds_nul, nul_fault}
+
+-- names as the program borrows them
+abbrev pub names_of : List (Bor (List ℕ)) → List (List ℕ)
+names_of names = map (λ (name : Bor (List ℕ)). name.now) names
+
+-- the tag is `v`
+abbrev pub negotiation_law : page.Negotiation → Law
+negotiation_law negotiation = record {
+  tag = 118;
+  Value = page.Negotiation;
+  line = page.negotiate_protocol_version;
+  value = negotiation;
+  part_fault = nul_fault (list_any holds_nul negotiation.options);
+  IsInRange = negotiation.minor < 2 ^ 32;
+}

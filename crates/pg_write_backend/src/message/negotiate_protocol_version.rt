@@ -1,0 +1,73 @@
+//! What of the protocol the server doesn't speak.
+
+ghost use Rattle.pg_write_backend.specs.NegotiateProtocolVersion.{negotiation_law, names_of};
+ghost use Rattle.std.specs.Prelude.{◌≡◌};
+
+use crate::error::BackendFault;
+use crate::message::BackendText;
+use crate::message::item::{Item, any_broken, holds_nul, items_len, nul_fault, put_items};
+use pg_base::io::Sink;
+
+/// The server speaks an older minor version than the client asked for, or doesn't know some of its
+/// options. Documentation: "Message Formats", NegotiateProtocolVersion (B).
+#[derive(Drop)]
+pub struct NegotiateProtocolVersionText<'a> {
+    /// The newest minor version that the server speaks.
+    pub minor: u32,
+    /// The names of the options that it doesn't know. A NUL in one is refused with `TextHoldsNul`.
+    pub options: &'a [&'a [u8]],
+}
+
+impl BackendText for NegotiateProtocolVersionText<'_> {
+    ghost law = { λ version. negotiation_law (record { minor = version.minor; options = names_of version.options.now }) };
+
+    fn tag(&self) -> u8 {
+        b'v'
+    }
+
+    fn body_len(&self) -> usize {
+        items_len(self.options).saturating_add(8)
+    }
+
+    fn part_fault(&self) -> Option<BackendFault> {
+        nul_fault(any_broken(self.options))
+    }
+
+    #[inline(always)]
+    fn put_body<S: Sink>(&self, sink: &mut S) {
+        sink.put_u32(self.minor);
+        // Each has a byte or more, so that they can be counted where their length can be said.
+        sink.put_u32(self.options.len() as u32);
+        put_items(self.options, sink);
+    }
+}
+
+// A text and its NUL.
+impl Item for &[u8] {
+    ghost use Rattle.std.specs.Prelude.{ℕ, List};
+    ghost use Rattle.pg_format.specs.Format.Parts.{until_nul};
+    ghost use Rattle.pg_write_backend.specs.Lists as lists;
+
+    ghost Value = { List ℕ };
+
+    ghost value = { λ text. text.now };
+
+    ghost format = { until_nul };
+
+    ghost is_broken = { lists.holds_nul };
+
+    ghost IsInRange = { λ _. Unit {0} };
+
+    fn len(&self) -> usize {
+        <[u8]>::len(self).saturating_add(1)
+    }
+
+    fn is_broken(&self) -> bool {
+        holds_nul(self)
+    }
+
+    #[inline(always)]
+    fn put<S: Sink>(&self, sink: &mut S) {
+        sink.put_text(self);
+    }
+}
