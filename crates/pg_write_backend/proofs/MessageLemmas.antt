@@ -1,22 +1,23 @@
 -- What a message without a fault says is read back from its body.
-use Rattle.std.proofs.Common.{◌≡◌, ◌↔◌, ℕ, ◌+◌, ◌^◌, ◌<◌, ◌≤◌, ℤ, pos, Bool, List, [], ◌∷◌, ◌++◌, length, None, refl, arith, length-append}
+use Rattle.std.proofs.Common.{◌≡◌, ◌↔◌, ℕ, ◌+◌, ◌^◌, ◌<◌, ◌≤◌, ℤ, pos, Bool, List, [], ◌∷◌, ◌++◌, length, Option, Some, None, Ok, refl, arith, length-append}
 use Rattle.std.specs.Prelude.{◌||◌}
 use Rattle.std.specs.List.{flat_map, list_any}
 use Rattle.std.proofs.lemmas.List.{append-nil}
 use Rattle.pg_base.specs.Cutting.{max_length}
 use Rattle.pg_base.specs.Numbers.{be16, be32}
-use Rattle.pg_format.specs.Format.{Format, Lawful, Means}
+use Rattle.pg_format.specs.Format.{Lawful, Means}
 use Rattle.pg_format.specs.Format.Nullable.{cell}
 use Rattle.pg_format.specs.Format.Parts.{until_nul}
 use Rattle.pg_format.specs.Messages as page
 use Rattle.pg_format.proofs.FormatLaws.FromServer as server
 use Rattle.pg_format.proofs.FormatLaws.Parts.{lawful_remaining}
-use Rattle.pg_write_backend.specs.Frame.{Law, body, fault}
+use Rattle.pg_write_backend.specs.Frame.{body, fault, checked_len}
 use Rattle.pg_write_backend.specs.Lists.{too_many, max_unsigned, max_signed, nul_fault, holds_nul, is_empty}
 use Rattle.pg_write_backend.specs.Message as message
-use Rattle.pg_write_backend.specs.Message.{Message, law_of, IsReadable, IsReadBack}
+use Rattle.pg_write_backend.specs.Message.{Message, law_of, IsReadable, IsRead}
 use Rattle.pg_write_backend.specs.NegotiateProtocolVersion.{negotiation_law}
 use Rattle.pg_write_backend.specs.Notice.{breaks_fields}
+use Rattle.pg_write_backend.specs.declared.error.BackendFault.{BackendFault}
 use Rattle.pg_write_backend.proofs.FitsLemmas.{numbers_fit, codes_fit, cell_fits, cells_fit, texts_fit, no_more_texts, names_fit, fields_fit, columns_fit, key_fits}
 use Rattle.pg_write_backend.proofs.FrameLemmas.{len_fits, no_part_fault}
 use Rattle.pg_write_backend.proofs.ListsLemmas.{few, neither, neither_is, no_nul_fault, clean}
@@ -100,12 +101,19 @@ lawful (message.ReadyForQuery ready) = server.lawful_ready_for_query
 lawful (message.RowDescription columns) = server.lawful_row_description
 
 -- what fits is read back, and nothing else is
-read_back : (l : Law) → Lawful l.line → l.line.Fits l.value [] → IsReadBack l
-read_back l laws fit read =
-    let itself : Means l.line (body l) l.value = rw append-nil at (laws.written l.value [] fit) in (
+pub own_message : (m : Message) → fault (law_of m) ≡ None → (law_of m).IsInRange → IsRead m
+own_message m e r h read =
+    let l = law_of m in
+    let laws = lawful m in
+    let itself : Means l.line (body l) l.value = rw append-nil at (laws.written l.value [] (fits m e r h)) in (
       (λ p. (laws.one_value (body l) [] [] read l.value p itself).0),
       (λ e. rw e itself),
     )
 
-pub own_message : (m : Message) → fault (law_of m) ≡ None → (law_of m).IsInRange → IsReadable m → IsReadBack (law_of m)
-own_message m e r h = read_back (law_of m) (lawful m) (fits m e r h)
+no_fault : (fault : Option BackendFault) (len real : ℕ) → checked_len fault real ≡ Ok len → fault ≡ None
+no_fault None len real e = refl
+no_fault (Some f) len real e = absurd cc
+
+-- a message whose length was given has no fault
+pub accepted : (m : Message) (len : ℕ) → checked_len (fault (law_of m)) (length (body (law_of m))) ≡ Ok len → fault (law_of m) ≡ None
+accepted m len e = no_fault (fault (law_of m)) len (length (body (law_of m))) e

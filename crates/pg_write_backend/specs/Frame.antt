@@ -41,8 +41,3 @@ checked_len (Some fault) len = Err fault
 -- the whole message on the stream
 abbrev pub text : Law → List ℕ
 text law = frame law.tag (body law)
-
--- the message breaks no limit, and its body is that long
-pub record IsMeasured (law : Law) (len : ℕ) : Type 0 where
-  pub limits : fault law ≡ None
-  pub long : len ≡ length (body law)

@@ -21,6 +21,7 @@ use Rattle.pg_write_backend.specs.ParameterStatus.{parameter_status_law}
 use Rattle.pg_write_backend.specs.Raw.{raw_law}
 use Rattle.pg_write_backend.specs.ReadyForQuery.{ready_for_query_law}
 use Rattle.pg_write_backend.specs.RowDescription.{row_description_law}
+use Rattle.pg_write_backend.specs.declared.error.BackendFault.{BackendFault}
 use Rattle.pg_write_backend.specs.declared.message.copy.CopyDirection.{CopyDirection}
 use Rattle.pg_write_backend.specs.declared.message.no_body.NoBodyText.{NoBodyText}
 use Rattle.pg_write_backend.specs.declared.message.notice.NoticeKind.{NoticeKind}
@@ -62,6 +63,26 @@ law_of (Raw tag body) = raw_law tag body
 law_of (ReadyForQuery ready) = ready_for_query_law ready
 law_of (RowDescription columns) = row_description_law columns
 
+-- ---- what its law says of a message
+
+abbrev pub tag : Message → ℕ
+tag m = (law_of m).tag
+
+abbrev pub body : Message → List ℕ
+body m = law.body (law_of m)
+
+abbrev pub part_fault : Message → Option BackendFault
+part_fault m = (law_of m).part_fault
+
+abbrev pub fault : Message → Option BackendFault
+fault m = law.fault (law_of m)
+
+abbrev pub text : Message → List ℕ
+text m = law.text (law_of m)
+
+abbrev pub IsInRange : Message → Type 0
+IsInRange m = (law_of m).IsInRange
+
 -- ---- what a reader asks of it beside: texts of UTF-8, and data without a fault of its own
 
 abbrev pub IsRequestReadable : page.Authentication → Type 0
@@ -94,6 +115,11 @@ IsReadable (Raw tag body) = Unit {0}
 IsReadable (ReadyForQuery ready) = Unit {0}
 IsReadable (RowDescription columns) = All (λ (column : page.Column). IsUtf8 column.name) columns
 
+-- ---- reading
+
 -- the body means what the message says, and nothing else
-abbrev pub IsReadBack : Law → Type 0
-IsReadBack l = (read : l.Value) → Means l.line (law.body l) read ↔ (read ≡ l.value)
+abbrev pub IsReadBack : Message → Type 0
+IsReadBack m = (read : (law_of m).Value) → Means (law_of m).line (body m) read ↔ (read ≡ (law_of m).value)
+
+abbrev pub IsRead : Message → Type 0
+IsRead m = IsReadable m → IsReadBack m

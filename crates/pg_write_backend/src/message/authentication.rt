@@ -1,10 +1,11 @@
 //! Requests for authentication.
 
-ghost use Rattle.std.specs.Prelude.{◌≡◌, ◌+◌, length};
 ghost use Rattle.std.specs.List.{list_any};
-ghost use Rattle.pg_write_backend.specs.Authentication.{authentication_law, request_of};
+ghost use Rattle.std.specs.Prelude.{◌≡◌, ◌+◌, length};
+ghost use Rattle.pg_write_backend.specs.Authentication.{request_of};
 ghost use Rattle.pg_write_backend.specs.Frame.{saturated};
 ghost use Rattle.pg_write_backend.specs.Lists.{is_empty};
+ghost use Rattle.pg_write_backend.specs.Message as messages;
 ghost use Rattle.pg_write_backend.specs.NegotiateProtocolVersion.{names_of};
 
 use crate::error::BackendFault;
@@ -48,7 +49,7 @@ pub enum AuthenticationText<'a> {
 }
 
 impl BackendText for AuthenticationText<'_> {
-    ghost law = { λ request. authentication_law (request_of request) };
+    ghost message = { λ request. messages.Authentication (request_of request) };
 
     fn tag(&self) -> u8 {
         b'R'

@@ -1,7 +1,8 @@
 //! What a cancel request has to name.
 
 ghost use Rattle.std.specs.Prelude.{◌≡◌, length};
-ghost use Rattle.pg_write_backend.specs.BackendKeyData.{backend_key_data_law, key_fault};
+ghost use Rattle.pg_write_backend.specs.BackendKeyData.{key_fault};
+ghost use Rattle.pg_write_backend.specs.Message as messages;
 
 use crate::error::BackendFault;
 use crate::message::BackendText;
@@ -24,7 +25,7 @@ pub struct BackendKeyDataText<'a> {
 }
 
 impl BackendText for BackendKeyDataText<'_> {
-    ghost law = { λ key. backend_key_data_law (record { process_id = key.process_id; secret_key = key.secret_key.now }) };
+    ghost message = { λ key. messages.BackendKeyData (record { process_id = key.process_id; secret_key = key.secret_key.now }) };
 
     fn tag(&self) -> u8 {
         b'K'

@@ -1,6 +1,6 @@
 //! The end of a command.
 
-ghost use Rattle.pg_write_backend.specs.CommandComplete.{command_complete_law};
+ghost use Rattle.pg_write_backend.specs.Message as messages;
 
 use crate::error::BackendFault;
 use crate::message::BackendText;
@@ -15,7 +15,7 @@ pub struct CommandCompleteText<'a> {
 }
 
 impl BackendText for CommandCompleteText<'_> {
-    ghost law = { λ complete. command_complete_law complete.command.now };
+    ghost message = { λ complete. messages.CommandComplete complete.command.now };
 
     fn tag(&self) -> u8 {
         b'C'

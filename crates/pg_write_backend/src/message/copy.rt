@@ -1,7 +1,7 @@
 //! The messages of a COPY.
 
 ghost use Rattle.std.specs.Prelude.{ℤ, false};
-ghost use Rattle.pg_write_backend.specs.Copy.{copy_data_law, copy_response_law};
+ghost use Rattle.pg_write_backend.specs.Message as messages;
 
 use crate::error::BackendFault;
 use crate::message::BackendText;
@@ -37,7 +37,7 @@ pub struct CopyResponseText<'a> {
 }
 
 impl BackendText for CopyResponseText<'_> {
-    ghost law = { λ response. copy_response_law response.direction response.format response.format_codes.now };
+    ghost message = { λ response. messages.CopyResponse response.direction response.format response.format_codes.now };
 
     fn tag(&self) -> u8 {
         self.direction as u8
@@ -92,7 +92,7 @@ impl Item for i16 {
 pub struct CopyDataText<'a>(pub &'a [u8]);
 
 impl BackendText for CopyDataText<'_> {
-    ghost law = { λ copied. copy_data_law copied.0.now };
+    ghost message = { λ copied. messages.CopyData copied.0.now };
 
     fn tag(&self) -> u8 {
         b'd'

@@ -3,8 +3,9 @@
 ghost use Rattle.std.specs.Prelude.{◌≡◌, ◌+◌, ◌≤◌, ◌++◌, length, false, option_copied};
 ghost use Rattle.pg_base.specs.Cutting.{max_length};
 ghost use Rattle.pg_format.specs.Format.Nullable.{cell};
-ghost use Rattle.pg_write_backend.specs.DataRow.{cells_of, data_row_law};
+ghost use Rattle.pg_write_backend.specs.DataRow.{cells_of};
 ghost use Rattle.pg_write_backend.specs.Frame.{saturated};
+ghost use Rattle.pg_write_backend.specs.Message as messages;
 
 use crate::error::BackendFault;
 use crate::message::BackendText;
@@ -25,7 +26,7 @@ pub struct DataRowText<'a> {
 }
 
 impl BackendText for DataRowText<'_> {
-    ghost law = { λ row. data_row_law (cells_of row.values.now) };
+    ghost message = { λ row. messages.DataRow (cells_of row.values.now) };
 
     fn tag(&self) -> u8 {
         b'D'

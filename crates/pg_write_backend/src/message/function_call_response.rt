@@ -1,7 +1,7 @@
 //! The result of a function that was called.
 
 ghost use Rattle.std.specs.Prelude.{option_copied};
-ghost use Rattle.pg_write_backend.specs.FunctionCallResponse.{function_call_response_law};
+ghost use Rattle.pg_write_backend.specs.Message as messages;
 
 use crate::error::BackendFault;
 use crate::message::BackendText;
@@ -16,7 +16,7 @@ pub struct FunctionCallResponseText<'a> {
 }
 
 impl BackendText for FunctionCallResponseText<'_> {
-    ghost law = { λ response. function_call_response_law (option_copied response.value) };
+    ghost message = { λ response. messages.FunctionCallResponse (option_copied response.value) };
 
     fn tag(&self) -> u8 {
         b'V'

@@ -1,7 +1,8 @@
 //! What of the protocol the server doesn't speak.
 
-ghost use Rattle.pg_write_backend.specs.NegotiateProtocolVersion.{negotiation_law, names_of};
 ghost use Rattle.std.specs.Prelude.{◌≡◌};
+ghost use Rattle.pg_write_backend.specs.Message as messages;
+ghost use Rattle.pg_write_backend.specs.NegotiateProtocolVersion.{names_of};
 
 use crate::error::BackendFault;
 use crate::message::BackendText;
@@ -19,7 +20,7 @@ pub struct NegotiateProtocolVersionText<'a> {
 }
 
 impl BackendText for NegotiateProtocolVersionText<'_> {
-    ghost law = { λ version. negotiation_law (record { minor = version.minor; options = names_of version.options.now }) };
+    ghost message = { λ version. messages.NegotiateProtocolVersion (record { minor = version.minor; options = names_of version.options.now }) };
 
     fn tag(&self) -> u8 {
         b'v'

@@ -1,6 +1,6 @@
 //! The messages without a body.
 
-ghost use Rattle.pg_write_backend.specs.NoBody.{no_body_law};
+ghost use Rattle.pg_write_backend.specs.Message as messages;
 
 use crate::error::BackendFault;
 use crate::message::BackendText;
@@ -20,7 +20,7 @@ pub enum NoBodyText {
 }
 
 impl BackendText for NoBodyText {
-    ghost law = { no_body_law };
+    ghost message = { messages.NoBody };
 
     fn tag(&self) -> u8 {
         *self as u8

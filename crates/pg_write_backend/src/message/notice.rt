@@ -1,6 +1,7 @@
 //! Errors and notices.
 
-ghost use Rattle.pg_write_backend.specs.Notice.{fields_of, notice_law};
+ghost use Rattle.pg_write_backend.specs.Message as messages;
+ghost use Rattle.pg_write_backend.specs.Notice.{fields_of};
 
 use crate::error::BackendFault;
 use crate::message::BackendText;
@@ -37,7 +38,7 @@ pub struct NoticeText<'a> {
 }
 
 impl BackendText for NoticeText<'_> {
-    ghost law = { λ notice. notice_law notice.kind (fields_of notice.fields.now) };
+    ghost message = { λ notice. messages.Notice notice.kind (fields_of notice.fields.now) };
 
     fn tag(&self) -> u8 {
         self.kind as u8

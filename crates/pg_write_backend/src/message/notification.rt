@@ -1,6 +1,6 @@
 //! A notification of a channel.
 
-ghost use Rattle.pg_write_backend.specs.Notification.{notification_law};
+ghost use Rattle.pg_write_backend.specs.Message as messages;
 
 use crate::error::BackendFault;
 use crate::message::BackendText;
@@ -20,7 +20,7 @@ pub struct NotificationText<'a> {
 }
 
 impl BackendText for NotificationText<'_> {
-    ghost law = { λ notification. notification_law (record { process_id = notification.process_id; channel = notification.channel.now; payload = notification.payload.now }) };
+    ghost message = { λ notification. messages.Notification (record { process_id = notification.process_id; channel = notification.channel.now; payload = notification.payload.now }) };
 
     fn tag(&self) -> u8 {
         b'A'

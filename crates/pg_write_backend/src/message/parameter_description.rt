@@ -2,7 +2,7 @@
 
 ghost use Rattle.std.specs.Prelude.{false};
 ghost use Rattle.pg_base.specs.Numbers.{numbers_of};
-ghost use Rattle.pg_write_backend.specs.ParameterDescription.{parameter_description_law};
+ghost use Rattle.pg_write_backend.specs.Message as messages;
 
 use crate::error::BackendFault;
 use crate::message::BackendText;
@@ -17,7 +17,7 @@ pub struct ParameterDescriptionText<'a> {
 }
 
 impl BackendText for ParameterDescriptionText<'_> {
-    ghost law = { λ description. parameter_description_law (numbers_of description.types.now) };
+    ghost message = { λ description. messages.ParameterDescription (numbers_of description.types.now) };
 
     fn tag(&self) -> u8 {
         b't'

@@ -1,6 +1,6 @@
 //! A setting of the session.
 
-ghost use Rattle.pg_write_backend.specs.ParameterStatus.{parameter_status_law};
+ghost use Rattle.pg_write_backend.specs.Message as messages;
 
 use crate::error::BackendFault;
 use crate::message::BackendText;
@@ -18,7 +18,7 @@ pub struct ParameterStatusText<'a> {
 }
 
 impl BackendText for ParameterStatusText<'_> {
-    ghost law = { λ status. parameter_status_law (record { name = status.name.now; value = status.value.now }) };
+    ghost message = { λ status. messages.ParameterStatus (record { name = status.name.now; value = status.value.now }) };
 
     fn tag(&self) -> u8 {
         b'S'

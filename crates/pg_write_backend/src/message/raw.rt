@@ -1,6 +1,6 @@
 //! A message that only passes through.
 
-ghost use Rattle.pg_write_backend.specs.Raw.{raw_law};
+ghost use Rattle.pg_write_backend.specs.Message as messages;
 
 use crate::error::BackendFault;
 use crate::message::BackendText;
@@ -16,7 +16,7 @@ pub struct RawText<'a> {
 }
 
 impl BackendText for RawText<'_> {
-    ghost law = { λ raw. raw_law raw.tag raw.body.now };
+    ghost message = { λ raw. messages.Raw raw.tag raw.body.now };
 
     fn tag(&self) -> u8 {
         self.tag

@@ -1,6 +1,6 @@
 //! The server's word that it is ready for the next query.
 
-ghost use Rattle.pg_write_backend.specs.ReadyForQuery.{ready_for_query_law};
+ghost use Rattle.pg_write_backend.specs.Message as messages;
 
 use crate::error::BackendFault;
 use crate::message::BackendText;
@@ -19,7 +19,7 @@ pub enum ReadyForQueryText {
 }
 
 impl BackendText for ReadyForQueryText {
-    ghost law = { ready_for_query_law };
+    ghost message = { messages.ReadyForQuery };
 
     fn tag(&self) -> u8 {
         b'Z'

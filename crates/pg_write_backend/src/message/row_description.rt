@@ -1,6 +1,7 @@
 //! The columns of a result.
 
-ghost use Rattle.pg_write_backend.specs.RowDescription.{columns_of, row_description_law};
+ghost use Rattle.pg_write_backend.specs.Message as messages;
+ghost use Rattle.pg_write_backend.specs.RowDescription.{columns_of};
 
 use crate::error::BackendFault;
 use crate::message::BackendText;
@@ -40,7 +41,7 @@ pub struct RowDescriptionText<'a> {
 }
 
 impl BackendText for RowDescriptionText<'_> {
-    ghost law = { λ description. row_description_law (columns_of description.columns.now) };
+    ghost message = { λ description. messages.RowDescription (columns_of description.columns.now) };
 
     fn tag(&self) -> u8 {
         b'T'
