@@ -16,11 +16,11 @@ use Rattle.pg_format.specs.Messages as page
 use Rattle.pg_format.specs.Notices.{Field}
 use Rattle.pg_write_backend.specs.BackendKeyData.{key_fault}
 use Rattle.pg_write_backend.specs.declared.error.BackendFault.TheVariants.{KeyLength}
-use Rattle.pg_write_backend.specs.Lists.{holds_nul, is_empty}
+use Rattle.pg_write_backend.specs.Item.{holds_nul, is_empty}
 use Rattle.pg_write_backend.specs.Notice.{breaks_fields}
 use Rattle.pg_write_backend.specs.RowDescription.{IsColumnInRange}
 use Rattle.pg_write_backend.proofs.FrameLemmas.{passed}
-use Rattle.pg_write_backend.proofs.ListsLemmas.{neither_is, clean}
+use Rattle.pg_write_backend.proofs.ItemLemmas.{neither_is, clean}
 
 -- ---- lists
 

@@ -1,6 +1,6 @@
 pub mod FitsLemmas
 pub mod FrameLemmas
-pub mod ListsLemmas
+pub mod ItemLemmas
 pub mod MessageLemmas
 pub mod NumbersLemmas
 pub mod RoomLemmas

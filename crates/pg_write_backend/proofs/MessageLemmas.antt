@@ -12,7 +12,7 @@ use Rattle.pg_format.specs.Messages as page
 use Rattle.pg_format.proofs.FormatLaws.FromServer as server
 use Rattle.pg_format.proofs.FormatLaws.Parts.{lawful_remaining}
 use Rattle.pg_write_backend.specs.Frame.{body, fault, checked_len}
-use Rattle.pg_write_backend.specs.Lists.{too_many, max_unsigned, max_signed, nul_fault, holds_nul, is_empty}
+use Rattle.pg_write_backend.specs.Item.{too_many, max_unsigned, max_signed, nul_fault, holds_nul, is_empty}
 use Rattle.pg_write_backend.specs.Message as message
 use Rattle.pg_write_backend.specs.Message.{Message, law_of, IsReadable, IsRead}
 use Rattle.pg_write_backend.specs.NegotiateProtocolVersion.{negotiation_law}
@@ -20,7 +20,7 @@ use Rattle.pg_write_backend.specs.Notice.{breaks_fields}
 use Rattle.pg_write_backend.specs.declared.error.BackendFault.{BackendFault}
 use Rattle.pg_write_backend.proofs.FitsLemmas.{numbers_fit, codes_fit, cell_fits, cells_fit, texts_fit, no_more_texts, names_fit, fields_fit, columns_fit, key_fits}
 use Rattle.pg_write_backend.proofs.FrameLemmas.{len_fits, no_part_fault}
-use Rattle.pg_write_backend.proofs.ListsLemmas.{few, neither, neither_is, no_nul_fault, clean}
+use Rattle.pg_write_backend.proofs.ItemLemmas.{few, neither, neither_is, no_nul_fault, clean}
 
 -- no part of it has a fault, and its body is within the limit
 parts : (m : Message) → fault (law_of m) ≡ None → (law_of m).part_fault ≡ None

@@ -6,7 +6,7 @@ use Rattle.pg_base.specs.Format.{backend_tag}
 use Rattle.pg_base.specs.declared.format.BackendMessageFormat.TheVariants as formats
 use Rattle.pg_format.specs.Messages as page
 use Rattle.pg_write_backend.specs.Frame.{Law}
-use Rattle.pg_write_backend.specs.Lists.{is_empty, holds_nul, nul_fault}
+use Rattle.pg_write_backend.specs.Item.{is_empty, holds_nul, nul_fault}
 use Rattle.pg_write_backend.specs.NegotiateProtocolVersion.{names_of}
 use Rattle.pg_write_backend.specs.declared.message.authentication.AuthenticationText.{AuthenticationText}
 use Rattle.pg_write_backend.specs.declared.message.authentication.AuthenticationText.TheVariants as requests

@@ -6,7 +6,7 @@ use Rattle.pg_base.specs.Text.{ended}
 use Rattle.pg_base.specs.declared.format.BackendMessageFormat.TheVariants as formats
 use Rattle.pg_format.specs.Messages as page
 use Rattle.pg_write_backend.specs.Frame.{Law}
-use Rattle.pg_write_backend.specs.Lists.{holds_nul, nul_fault}
+use Rattle.pg_write_backend.specs.Item.{holds_nul, nul_fault}
 
 -- the page has the whole body for what it says, with the NUL
 abbrev pub command_complete_law : List ℕ → Law

@@ -6,7 +6,7 @@ use Rattle.pg_base.specs.declared.format.BackendMessageFormat.TheVariants as for
 use Rattle.pg_format.specs.Format.Parts.{FitsSigned}
 use Rattle.pg_format.specs.Messages as page
 use Rattle.pg_write_backend.specs.Frame.{Law}
-use Rattle.pg_write_backend.specs.Lists.{too_many, max_signed}
+use Rattle.pg_write_backend.specs.Item.{too_many, max_signed}
 use Rattle.pg_write_backend.specs.declared.message.copy.CopyDirection.{CopyDirection}
 use Rattle.pg_write_backend.specs.declared.message.copy.CopyDirection.TheVariants as directions
 

@@ -5,7 +5,7 @@ use Rattle.pg_base.specs.Format.{backend_tag}
 use Rattle.pg_base.specs.declared.format.BackendMessageFormat.TheVariants as formats
 use Rattle.pg_format.specs.Messages as page
 use Rattle.pg_write_backend.specs.Frame.{Law}
-use Rattle.pg_write_backend.specs.Lists.{too_many, max_unsigned}
+use Rattle.pg_write_backend.specs.Item.{too_many, max_unsigned}
 
 -- values as the program borrows them
 abbrev pub cells_of : List (Option (Bor (List ℕ))) → List (Option (List ℕ))

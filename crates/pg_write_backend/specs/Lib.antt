@@ -3,11 +3,10 @@ pub mod BackendKeyData
 pub mod CommandComplete
 pub mod Copy
 pub mod DataRow
-pub mod Encode
 pub mod Error
 pub mod Frame
 pub mod FunctionCallResponse
-pub mod Lists
+pub mod Item
 pub mod Message
 pub mod NegotiateProtocolVersion
 pub mod NoBody

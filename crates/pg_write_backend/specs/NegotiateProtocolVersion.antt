@@ -5,7 +5,7 @@ use Rattle.std.specs.Borrow.{Bor}
 use Rattle.std.specs.List.{list_any}
 use Rattle.pg_format.specs.Messages as page
 use Rattle.pg_write_backend.specs.Frame.{Law}
-use Rattle.pg_write_backend.specs.Lists.{holds_nul, nul_fault}
+use Rattle.pg_write_backend.specs.Item.{holds_nul, nul_fault}
 
 -- names as the program borrows them
 abbrev pub names_of : List (Bor (List ℕ)) → List (List ℕ)

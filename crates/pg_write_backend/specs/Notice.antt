@@ -7,7 +7,7 @@ use Rattle.pg_base.specs.declared.format.BackendMessageFormat.TheVariants as for
 use Rattle.pg_format.specs.Messages as page
 use Rattle.pg_format.specs.Notices.{Field}
 use Rattle.pg_write_backend.specs.Frame.{Law}
-use Rattle.pg_write_backend.specs.Lists.{holds_nul, nul_fault}
+use Rattle.pg_write_backend.specs.Item.{holds_nul, nul_fault}
 use Rattle.pg_write_backend.specs.declared.message.notice.NoticeFieldText.{NoticeFieldText}
 use Rattle.pg_write_backend.specs.declared.message.notice.NoticeKind.{NoticeKind}
 use Rattle.pg_write_backend.specs.declared.message.notice.NoticeKind.TheVariants as kinds

@@ -5,7 +5,7 @@ use Rattle.pg_base.specs.Format.{backend_tag}
 use Rattle.pg_base.specs.declared.format.BackendMessageFormat.TheVariants as formats
 use Rattle.pg_format.specs.Messages as page
 use Rattle.pg_write_backend.specs.Frame.{Law}
-use Rattle.pg_write_backend.specs.Lists.{holds_nul, nul_fault}
+use Rattle.pg_write_backend.specs.Item.{holds_nul, nul_fault}
 
 abbrev pub notification_law : page.Notification → Law
 notification_law notification = record {

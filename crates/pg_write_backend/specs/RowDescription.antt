@@ -7,7 +7,7 @@ use Rattle.pg_base.specs.declared.format.BackendMessageFormat.TheVariants as for
 use Rattle.pg_format.specs.Format.Parts.{FitsSigned}
 use Rattle.pg_format.specs.Messages as page
 use Rattle.pg_write_backend.specs.Frame.{Law}
-use Rattle.pg_write_backend.specs.Lists.{too_many, max_unsigned, holds_nul, nul_fault}
+use Rattle.pg_write_backend.specs.Item.{too_many, max_unsigned, holds_nul, nul_fault}
 use Rattle.pg_write_backend.specs.declared.message.row_description.ColumnText.{ColumnText}
 
 -- 0 is the number of no table, and of no attribute of one

@@ -4,7 +4,7 @@ ghost use Rattle.std.specs.List.{list_any};
 ghost use Rattle.std.specs.Prelude.{◌≡◌, ◌+◌, length};
 ghost use Rattle.pg_write_backend.specs.Authentication.{request_of};
 ghost use Rattle.pg_write_backend.specs.Frame.{saturated};
-ghost use Rattle.pg_write_backend.specs.Lists.{is_empty};
+ghost use Rattle.pg_write_backend.specs.Item.{is_empty};
 ghost use Rattle.pg_write_backend.specs.Message as messages;
 ghost use Rattle.pg_write_backend.specs.NegotiateProtocolVersion.{names_of};
 

@@ -2,8 +2,7 @@
 
 ghost use Rattle.std.specs.Prelude.{◌≡◌, ◌+◌, ◌≤◌, ◌++◌, length, None, OnOk, IfOk};
 ghost use Rattle.pg_base.specs.Sink.{IsGiven};
-ghost use Rattle.pg_write_backend.specs.Encode.{Encodes, IsWritten};
-ghost use Rattle.pg_write_backend.specs.Frame.{checked_len, saturated};
+ghost use Rattle.pg_write_backend.specs.Frame.{checked_len, saturated, Encodes, IsWritten};
 ghost use Rattle.pg_write_backend.specs.Message.{Message, law_of, tag, body, part_fault, fault, text, IsInRange, IsRead};
 
 use crate::error::{BackendError, BackendFault};

@@ -5,7 +5,7 @@ ghost use Rattle.std.specs.List.{flat_map, list_any};
 ghost use Rattle.pg_base.specs.Cutting.{max_length};
 ghost use Rattle.pg_format.specs.Format.{Format};
 ghost use Rattle.pg_write_backend.specs.Frame.{saturated};
-ghost use Rattle.pg_write_backend.specs.Lists.{too_many, nul_fault, holds_nul};
+ghost use Rattle.pg_write_backend.specs.Item.{too_many, nul_fault, holds_nul};
 
 use crate::error::BackendFault;
 use pg_base::io::Sink;
@@ -14,7 +14,7 @@ use pg_base::io::Sink;
 pub(crate) const MAX_UNSIGNED: usize = u16::MAX as usize;
 
 /// What stands in a list of a body.
-pub trait Item: Sized {
+pub(crate) trait Item: Sized {
     ghost Value: { Type 0 };
 
     /// What it says.

@@ -28,7 +28,6 @@ pub use copy::{CopyDataText, CopyDirection, CopyResponseText};
 pub use data_row::DataRowText;
 pub use frame::{BackendText, encode, write};
 pub use function_call_response::FunctionCallResponseText;
-pub use item::Item;
 pub use negotiate_protocol_version::NegotiateProtocolVersionText;
 pub use no_body::NoBodyText;
 pub use notice::{NoticeFieldText, NoticeKind, NoticeText};

@@ -47,7 +47,7 @@ impl BackendText for NegotiateProtocolVersionText<'_> {
 impl Item for &[u8] {
     ghost use Rattle.std.specs.Prelude.{ℕ, List};
     ghost use Rattle.pg_format.specs.Format.Parts.{until_nul};
-    ghost use Rattle.pg_write_backend.specs.Lists as lists;
+    ghost use Rattle.pg_write_backend.specs.Item as items;
 
     ghost Value = { List ℕ };
 
@@ -55,7 +55,7 @@ impl Item for &[u8] {
 
     ghost format = { until_nul };
 
-    ghost is_broken = { lists.holds_nul };
+    ghost is_broken = { items.holds_nul };
 
     ghost IsInRange = { λ _. Unit {0} };
 

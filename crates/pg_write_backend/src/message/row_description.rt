@@ -67,7 +67,7 @@ impl BackendText for RowDescriptionText<'_> {
 
 impl Item for ColumnText<'_> {
     ghost use Rattle.pg_format.specs.Messages as page;
-    ghost use Rattle.pg_write_backend.specs.Lists as lists;
+    ghost use Rattle.pg_write_backend.specs.Item as items;
     ghost use Rattle.pg_write_backend.specs.RowDescription.{column_of, IsColumnInRange};
 
     ghost Value = { page.Column };
@@ -76,7 +76,7 @@ impl Item for ColumnText<'_> {
 
     ghost format = { page.column };
 
-    ghost is_broken = { λ column. lists.holds_nul column.name };
+    ghost is_broken = { λ column. items.holds_nul column.name };
 
     ghost IsInRange = { IsColumnInRange };
 

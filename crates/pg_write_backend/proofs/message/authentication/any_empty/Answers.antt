@@ -1,6 +1,6 @@
 use Rattle.std.proofs.Common.{ℕ, List, [], Bor, sym, ◌∙◌}
-use Rattle.pg_write_backend.specs.Lists.{is_empty}
-use Rattle.pg_write_backend.proofs.ListsLemmas.{any_at}
+use Rattle.pg_write_backend.specs.Item.{is_empty}
+use Rattle.pg_write_backend.proofs.ItemLemmas.{any_at}
 use Rattle.pg_write_backend.proofs.message.authentication.any_empty.Goals as goal
 
 pub returns-then-is_empty : goal.returns-then-is_empty

@@ -1,5 +1,5 @@
 use Rattle.std.proofs.Common.{sym, ap, ◌∙◌}
-use Rattle.pg_write_backend.proofs.ListsLemmas.{any_at}
+use Rattle.pg_write_backend.proofs.ItemLemmas.{any_at}
 use Rattle.pg_write_backend.proofs.message.item.any_broken.Goals as goal
 
 pub returns-then-is_broken : goal.returns-then-is_broken

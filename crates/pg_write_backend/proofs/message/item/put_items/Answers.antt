@@ -1,6 +1,6 @@
 use Rattle.std.proofs.Common.{length, take, map, ap, arith, length-append}
 use Rattle.std.specs.List.{flat_map}
-use Rattle.pg_write_backend.proofs.ListsLemmas.{fits_one}
+use Rattle.pg_write_backend.proofs.ItemLemmas.{fits_one}
 use Rattle.pg_write_backend.proofs.message.item.put_items.Goals as goal
 
 pub put-requires-clause-small : goal.put-requires-clause-small

@@ -9,7 +9,7 @@ use Rattle.std.proofs.lemmas.List.Folds.{flat_map-map, length-flat_map-take}
 use Rattle.pg_base.specs.Reading.{HoldsNo}
 use Rattle.pg_write_backend.specs.declared.error.BackendFault.{BackendFault}
 use Rattle.pg_write_backend.specs.declared.error.BackendFault.TheVariants.{TooMany, TextHoldsNul}
-use Rattle.pg_write_backend.specs.Lists.{too_many, holds_nul, nul_fault}
+use Rattle.pg_write_backend.specs.Item.{too_many, holds_nul, nul_fault}
 use Rattle.pg_write_backend.proofs.FrameLemmas.{passed}
 
 module _ {X N : Type 0} (spell : N → List ℕ) (value : X → N) (xs : List X) (i : ℕ) (d : X) (before : i < length xs) where
