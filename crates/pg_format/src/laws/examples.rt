@@ -7,7 +7,7 @@ ghost use Rattle.pg_base.specs.declared.error.ProtocolFault.TheVariants.{BodyToo
 ghost use Rattle.pg_base.specs.declared.format.BackendMessageFormat.TheVariants as backend;
 ghost use Rattle.pg_base.specs.declared.format.FrontendMessageFormat.TheVariants as frontend;
 ghost use Rattle.pg_format.specs.Format.{Means, IsFaultOf};
-ghost use Rattle.pg_format.specs.Messages.{from_server, from_client, text, sasl_initial_response, sasl_response, startup, cancel_request, ssl_request, gss_enc_request};
+ghost use Rattle.pg_format.specs.Messages.{from_server, from_client, backend_key, function_call_response, negotiate_protocol_version, text, sasl_initial_response, sasl_response, startup, cancel_request, ssl_request, gss_enc_request};
 ghost use Rattle.pg_format.specs.Tables.{ok, cleartext_password, md5_password, sasl, sasl_continue, sasl_final, method_number, statement, portal, idle, transaction, error};
 
 /// The six methods of authentication, by their numbers.
@@ -108,6 +108,18 @@ pub fn examples_from_a_server()
         (record { name = codes "TimeZone"; value = codes "UTC" }) }
     ensures parse_complete { Means (from_server backend.ParseComplete).format [] tt }
     ensures portal_suspended { Means (from_server backend.PortalSuspended).format [] tt }
+{}
+
+/// Messages from a server without a kind: the result of a call, NULL, and options that a server doesn't
+/// know; and a key of five bytes.
+pub fn examples_of_other_messages()
+    ensures called { Means function_call_response (0 ∷ 0 ∷ 0 ∷ 2 ∷ 9 ∷ 0 ∷ []) (Some (9 ∷ 0 ∷ [])) }
+    ensures called_null { Means function_call_response (255 ∷ 255 ∷ 255 ∷ 255 ∷ []) None }
+    ensures negotiated { Means negotiate_protocol_version
+        (0 ∷ 0 ∷ 0 ∷ 2 ∷ 0 ∷ 0 ∷ 0 ∷ 2 ∷ codes "_pq_.a" ++ 0 ∷ codes "_pq_.b" ++ 0 ∷ [])
+        (record { minor = 2; options = codes "_pq_.a" ∷ codes "_pq_.b" ∷ [] }) }
+    ensures long_key { Means backend_key (0 ∷ 0 ∷ 4 ∷ 210 ∷ 7 ∷ 0 ∷ 8 ∷ 9 ∷ 255 ∷ [])
+        (record { process_id = 1234; secret_key = 7 ∷ 0 ∷ 8 ∷ 9 ∷ 255 ∷ [] }) }
 {}
 
 /// Messages from a client: names of statements and portals, texts, values, NULL and an empty value.

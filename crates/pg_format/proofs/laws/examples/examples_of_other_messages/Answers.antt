@@ -1,0 +1,17 @@
+use Rattle.std.specs.Prelude.{[], ◌∷◌, codes, Some, None}
+use Rattle.std.proofs.Common.{refl, arith}
+use Rattle.pg_format.proofs.ExamplesLemmas.{clean}
+use Rattle.pg_format.proofs.FormatLaws.FromServer.{lawful_backend_key, lawful_function_call_response, lawful_negotiation}
+use Rattle.pg_format.proofs.laws.examples.examples_of_other_messages.Goals as goal
+
+pub returns-clause-called : goal.returns-clause-called
+returns-clause-called c = lawful_function_call_response.written (Some (9 ∷ 0 ∷ [])) [] (((omega arith, (refl, refl)), refl), refl)
+
+pub returns-clause-called_null : goal.returns-clause-called_null
+returns-clause-called_null c = lawful_function_call_response.written None [] (((omega arith, refl), refl), refl)
+
+pub returns-clause-negotiated : goal.returns-clause-negotiated
+returns-clause-negotiated c = lawful_negotiation.written (record { minor = 2; options = codes "_pq_.a" ∷ codes "_pq_.b" ∷ [] }) [] ((omega arith, ((omega arith, (refl, (clean (codes "_pq_.a") refl, (clean (codes "_pq_.b") refl, tt)))), refl)), refl)
+
+pub returns-clause-long_key : goal.returns-clause-long_key
+returns-clause-long_key c = lawful_backend_key.written (record { process_id = 1234; secret_key = 7 ∷ 0 ∷ 8 ∷ 9 ∷ 255 ∷ [] }) [] (omega arith, (refl, refl))
