@@ -1,0 +1,2 @@
+pub mod LawsLemmas
+pub mod RawLemmas
