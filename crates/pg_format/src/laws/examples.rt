@@ -118,7 +118,7 @@ pub fn examples_of_other_messages()
     ensures negotiated { Means negotiate_protocol_version
         (0 ∷ 0 ∷ 0 ∷ 2 ∷ 0 ∷ 0 ∷ 0 ∷ 2 ∷ codes "_pq_.a" ++ 0 ∷ codes "_pq_.b" ++ 0 ∷ [])
         (record { minor = 2; options = codes "_pq_.a" ∷ codes "_pq_.b" ∷ [] }) }
-    ensures long_key { Means backend_key (0 ∷ 0 ∷ 4 ∷ 210 ∷ 7 ∷ 0 ∷ 8 ∷ 9 ∷ 255 ∷ [])
+    ensures key_of_five_bytes { Means backend_key (0 ∷ 0 ∷ 4 ∷ 210 ∷ 7 ∷ 0 ∷ 8 ∷ 9 ∷ 255 ∷ [])
         (record { process_id = 1234; secret_key = 7 ∷ 0 ∷ 8 ∷ 9 ∷ 255 ∷ [] }) }
 {}
 
