@@ -1,12 +1,12 @@
 -- What defines a message to a client, the limits on one, its frame, and what a call answers that writes it.
 -- Documentation: "Messaging Overview" and "Message Formats".
 use Rattle.std.specs.Prelude.{◌≡◌, ℕ, ◌+◌, ◌-◌, ◌^◌, min, List, length, Option, Some, None, Result, Ok, Err, nat_le, if◌then◌else◌, ◌<◌, ◌≤◌, [], ◌∷◌, ◌++◌, IsOkUnless, IsErrOf, OnOk, OnErr, OnSome, Vec, vec_len, vec_capacity}
+use Rattle.std.specs.declared.alloc.Global.{Global}
 use Rattle.pg_base.specs.Cutting.{max_length, frame, IsCutInto}
+use Rattle.pg_base.specs.Sink.{IsGiven}
 use Rattle.pg_format.specs.Format.{Format}
 use Rattle.pg_write_backend.specs.declared.error.BackendFault.{BackendFault}
 use Rattle.pg_write_backend.specs.declared.error.BackendFault.TheVariants.{TooLong}
-use Rattle.std.specs.declared.alloc.Global.{Global}
-use Rattle.pg_base.specs.Sink.{IsGiven}
 use Rattle.pg_write_backend.specs.declared.error.BackendError.{BackendError}
 use Rattle.pg_write_backend.specs.declared.error.BackendError.TheVariants.{Refused, OutOfMemory}
 

@@ -1,7 +1,7 @@
 //! Requests for authentication.
 
-ghost use Rattle.std.specs.List.{list_any};
 ghost use Rattle.std.specs.Prelude.{◌≡◌, ◌+◌, length};
+ghost use Rattle.std.specs.List.{list_any};
 ghost use Rattle.pg_write_backend.specs.Authentication.{request_of};
 ghost use Rattle.pg_write_backend.specs.Frame.{saturated};
 ghost use Rattle.pg_write_backend.specs.Item.{is_empty};
