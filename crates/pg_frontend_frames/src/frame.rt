@@ -95,8 +95,9 @@ fn next_first(limit: usize, stream: &[u8]) -> Result<Option<FrontendFrame<'_>>, 
     }))
 }
 
-// What is expected after a first message, by the code that its body begins with.
-fn after_first(body: &[u8]) -> Expects
+/// What is expected after a first message with this body: after an SSLRequest or a GSSENCRequest, which its
+/// code alone says, another one, and after any other a message with a tag.
+pub fn after_first(body: &[u8]) -> Expects
     ensures { Follows body.now result }
 {
     let Ok(code) = u32_at(body, 0) else {

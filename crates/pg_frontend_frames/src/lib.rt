@@ -9,7 +9,7 @@ mod pieces;
 mod reader;
 
 pub use error::FrontendError;
-pub use frame::{Expects, FrontendFrame, MAX_FIRST_LENGTH, next_frontend_frame};
+pub use frame::{Expects, FrontendFrame, MAX_FIRST_LENGTH, after_first, next_frontend_frame};
 pub use message::{ClientMessage, ClientMessageKind, ClientMessageRef};
 pub use pieces::{ClientStreamEnd, read_client_pieces};
 pub use reader::FrontendFrameReader;

@@ -4,7 +4,7 @@
 
 pub use pg_frontend_frames::{
     ClientMessage, ClientMessageKind, ClientMessageRef, ClientStreamEnd, Expects, FrontendFrame,
-    FrontendFrameReader, MAX_FIRST_LENGTH, next_frontend_frame, read_client_pieces,
+    FrontendFrameReader, MAX_FIRST_LENGTH, after_first, next_frontend_frame, read_client_pieces,
 };
 pub use pg_read_frontend::message::{
     BindRef, CancelRequestRef, ExecuteRef, FirstMessageRef, FormatCodes, FrontendMessageRef,
