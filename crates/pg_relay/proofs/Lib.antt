@@ -1,0 +1,6 @@
+pub mod FrameLemmas
+pub mod MessagesLemmas
+pub mod PassLemmas
+pub mod PassedLemmas
+pub mod RelayLemmas
+pub mod RunLemmas

@@ -1,0 +1,135 @@
+-- What has passed, after one more step.
+use Rattle.std.proofs.Common.{◌≡◌, ◌+◌, ◌<◌, ◌≤◌, ℕ, zero, suc, Bool, List, [], ◌∷◌, ◌++◌, length, take, get_or, add-one, Option, inl, inr, refl, sym, ap, ◌∙◌, append_assoc, append-nil, arith}
+use Rattle.std.specs.Borrow.{Bor}
+use Rattle.std.proofs.lemmas.List.{take_all}
+use Rattle.std.proofs.Math.Seq.{take-suc}
+use Rattle.pg_frames.specs.Pieces.{joined}
+use Rattle.pg_frames.proofs.PiecesLemmas.{joined-append}
+use Rattle.pg_frontend_frames.specs.declared.frame.Expects.{Expects}
+use Rattle.pg_relay.specs.Answer.{bytes_in, placed}
+use Rattle.pg_relay.specs.Frame.{HasHead, IsFrame}
+use Rattle.pg_relay.specs.Pass.{HasPassed, PutsAnswer, PutsOut}
+use Rattle.pg_relay.specs.Relay.{Relaying, bytes_of, ComesWhole, ComesInParts, Holds, Takes}
+use Rattle.pg_relay.specs.declared.answer.Answer.{Answer}
+use Rattle.pg_relay.specs.declared.event.Event.{Event}
+use Rattle.pg_relay.specs.declared.event.Event.TheVariants.{Frame, Part, Held}
+use Rattle.pg_relay.proofs.PassLemmas.{bytes_in-append, bytes_in-one, goes_out, relayed_more, nothing_given, unasked_next, part_goes_on}
+
+-- the relay as it will be when it has taken a piece, all of which it holds
+abbrev pub with_held : Relaying → List ℕ → Relaying
+with_held relay piece = record { limit = relay.limit; expects = relay.expects; held = relay.held ++ piece; left = relay.left }
+
+passed_held : {U : Type 0} (wanted : U → ℕ → ℕ → Bool) (Answers : U → Option ℕ → List ℕ → Answer → List ℕ → U → Type 0) (start : Expects) (first : U) (bytes out : List ℕ) (user : U) (old : Relaying) (piece rest : List ℕ) (new : Relaying) (later : U) (after : List ℕ) → HasPassed wanted Answers start first bytes out user (with_held old piece) → old.held ++ piece ≡ new.held ++ rest → Holds (wanted user) old new → later ≡ user → after ≡ out → HasPassed wanted Answers start first bytes after later (with_held new rest)
+passed_held wanted Answers start first bytes out user old piece rest new later after p conserved h same is = record {
+  came = p.came;
+  sent = p.sent;
+  given = p.given;
+  relayed = rw (h.expects, same) p.relayed;
+  bytes_are = p.bytes_are ∙ ap (λ (l : List ℕ). bytes_in p.came ++ (p.given ++ l)) conserved;
+  out_is = is ∙ p.out_is;
+  part = inl (nothing_given (wanted user) old.expects p.given old.left h.between p.part, h.left);
+}
+
+passed_frame : {U : Type 0} (wanted : U → ℕ → ℕ → Bool) (Answers : U → Option ℕ → List ℕ → Answer → List ℕ → U → Type 0) (start : Expects) (first : U) (bytes out : List ℕ) (user : U) (old : Relaying) (piece : List ℕ) (tag : Option ℕ) (frame rest : List ℕ) (new : Relaying) (later : U) (after : List ℕ) → HasPassed wanted Answers start first bytes out user (with_held old piece) → old.held ++ piece ≡ frame ++ new.held ++ rest → ComesWhole (wanted user) old tag frame new → PutsAnswer Answers user old.expects tag frame new.expects later out after → HasPassed wanted Answers start first bytes after later (with_held new rest)
+passed_frame wanted Answers start first bytes out user old piece tag frame rest new later after p conserved w a =
+    let m : Option ℕ × List ℕ = (tag, frame) in
+    let go = goes_out a.answer old.expects m new.expects a.added a.fits in
+    let nothing : p.given ≡ [] = nothing_given (wanted user) old.expects p.given old.left w.between p.part in
+    let front = bytes_in p.came in
+    let behind = new.held ++ rest in
+    let came : bytes ≡ front ++ (frame ++ behind) =
+    p.bytes_are ∙ ap (λ (g : List ℕ). front ++ (g ++ (old.held ++ piece))) nothing ∙ ap (λ (l : List ℕ). front ++ l) (conserved ∙ append_assoc frame new.held rest) in
+    let sent : after ≡ bytes_in p.sent ++ placed a.answer frame a.added =
+    a.out ∙ ap (λ (l : List ℕ). l ++ placed a.answer frame a.added) (p.out_is ∙ ap (λ (g : List ℕ). bytes_in p.sent ++ g) nothing ∙ append-nil (bytes_in p.sent)) in
+    record {
+      came = p.came ++ m ∷ [];
+      sent = p.sent ++ go.0;
+      given = [];
+      relayed = relayed_more wanted Answers start first p.came p.sent old.expects user m new.expects later go.0 p.relayed w.is_frame (inl (record { asked = w.taken.wanted; answer = a.answer; added = a.added; answers = a.answers; go_out = go.1 }));
+      bytes_are = came ∙ sym (append_assoc front frame behind) ∙ ap (λ (l : List ℕ). l ++ behind) (sym (bytes_in-one p.came m));
+      out_is = sent ∙ ap (λ (l : List ℕ). bytes_in p.sent ++ l) (sym go.2) ∙ sym (bytes_in-append p.sent go.0) ∙ sym (append-nil (bytes_in (p.sent ++ go.0)));
+      part = inl (refl, w.left);
+    }
+
+passed_part : {U : Type 0} (wanted : U → ℕ → ℕ → Bool) (Answers : U → Option ℕ → List ℕ → Answer → List ℕ → U → Type 0) (start : Expects) (first : U) (bytes out : List ℕ) (user : U) (old : Relaying) (piece b : List ℕ) (left : ℕ) (rest : List ℕ) (new : Relaying) (later : U) (after : List ℕ) → HasPassed wanted Answers start first bytes out user (with_held old piece) → old.held ++ piece ≡ b ++ new.held ++ rest → ComesInParts (wanted user) old b left new → later ≡ user → after ≡ out ++ b → HasPassed wanted Answers start first bytes after later (with_held new rest)
+passed_part wanted Answers start first bytes out user old piece b zero rest new later after p conserved w same is =
+    let more = part_goes_on (wanted user) old p.given b 0 p.part w.place in
+    let all = p.given ++ b in
+    let m : Option ℕ × List ℕ = (more.0, all) in
+    let counts : more.1 ≡ length all = omega (arith, more.4) in
+    let head : HasHead old.expects all more.0 (length all) = rw counts at more.2 in
+    let whole : IsFrame old.expects more.0 all new.expects = record { head = head; follows = rw w.expects (unasked_next (wanted user) old.expects all more.0 more.1 more.2 more.3) } in
+    let front = bytes_in p.came in
+    let behind = new.held ++ rest in
+    let came : bytes ≡ front ++ (all ++ behind) =
+    p.bytes_are ∙ ap (λ (l : List ℕ). front ++ (p.given ++ l)) (conserved ∙ append_assoc b new.held rest) ∙ ap (λ (l : List ℕ). front ++ l) (sym (append_assoc p.given b behind)) in
+    let sent : after ≡ bytes_in p.sent ++ all = is ∙ ap (λ (l : List ℕ). l ++ b) p.out_is ∙ append_assoc (bytes_in p.sent) p.given b in
+    record {
+      came = p.came ++ m ∷ [];
+      sent = p.sent ++ m ∷ [];
+      given = [];
+      relayed = relayed_more wanted Answers start first p.came p.sent old.expects user m new.expects later (m ∷ []) p.relayed whole (inr (record { unasked = rw counts at more.3; same = same; goes_out = refl }));
+      bytes_are = came ∙ sym (append_assoc front all behind) ∙ ap (λ (l : List ℕ). l ++ behind) (sym (bytes_in-one p.came m));
+      out_is = sent ∙ sym (bytes_in-one p.sent m) ∙ sym (append-nil (bytes_in (p.sent ++ m ∷ [])));
+      part = inl (refl, w.left_is);
+    }
+passed_part wanted Answers start first bytes out user old piece b (suc k) rest new later after p conserved w same is =
+    let more = part_goes_on (wanted user) old p.given b (suc k) p.part w.place in
+    let front = bytes_in p.came in
+    let behind = new.held ++ rest in
+    record {
+      came = p.came;
+      sent = p.sent;
+      given = p.given ++ b;
+      relayed = rw (w.expects, same) p.relayed;
+      bytes_are = p.bytes_are ∙ ap (λ (l : List ℕ). front ++ (p.given ++ l)) (conserved ∙ append_assoc b new.held rest) ∙ ap (λ (l : List ℕ). front ++ l) (sym (append_assoc p.given b behind));
+      out_is = is ∙ ap (λ (l : List ℕ). l ++ b) p.out_is ∙ append_assoc (bytes_in p.sent) p.given b;
+      part = inr (rw (same, w.expects, w.left_is) (record { tag = more.0; count = more.1; head = more.2; unwanted = more.3; counts = more.4; more = omega arith }));
+    }
+
+pub passed_step : {U : Type 0} (wanted : U → ℕ → ℕ → Bool) (Answers : U → Option ℕ → List ℕ → Answer → List ℕ → U → Type 0) (start : Expects) (first : U) (bytes out : List ℕ) (user : U) (old : Relaying) (piece : List ℕ) (event : Event) (rest : List ℕ) (new : Relaying) (later : U) (after : List ℕ) → HasPassed wanted Answers start first bytes out user (with_held old piece) → Takes (wanted user) old piece event rest new → PutsOut Answers user old.expects event new.expects later out after → HasPassed wanted Answers start first bytes after later (with_held new rest)
+passed_step wanted Answers start first bytes out user old piece (Frame tag frame) rest new later after p t o =
+    passed_frame wanted Answers start first bytes out user old piece tag (bytes_of frame) rest new later after p t.conserved t.comes o
+passed_step wanted Answers start first bytes out user old piece (Part part left) rest new later after p t o =
+    passed_part wanted Answers start first bytes out user old piece (bytes_of part) left rest new later after p t.conserved t.comes o.0 o.1
+passed_step wanted Answers start first bytes out user old piece Held rest new later after p t o =
+    passed_held wanted Answers start first bytes out user old piece rest new later after p t.conserved t.comes o.0 o.1
+
+-- a piece that comes is not yet taken
+pub passed_fed : {U : Type 0} (wanted : U → ℕ → ℕ → Bool) (Answers : U → Option ℕ → List ℕ → Answer → List ℕ → U → Type 0) (start : Expects) (first : U) (bytes out : List ℕ) (user : U) (relay : Relaying) (piece : List ℕ) → HasPassed wanted Answers start first bytes out user relay → HasPassed wanted Answers start first (bytes ++ piece) out user (with_held relay piece)
+passed_fed wanted Answers start first bytes out user relay piece p = record {
+  came = p.came;
+  sent = p.sent;
+  given = p.given;
+  relayed = p.relayed;
+  bytes_are = ap (λ (l : List ℕ). l ++ piece) p.bytes_are ∙ append_assoc (bytes_in p.came) (p.given ++ relay.held) piece ∙ ap (λ (l : List ℕ). bytes_in p.came ++ l) (append_assoc p.given relay.held piece);
+  out_is = p.out_is;
+  part = p.part;
+}
+
+-- a piece of which nothing is left is taken
+pub passed_all : {U : Type 0} (wanted : U → ℕ → ℕ → Bool) (Answers : U → Option ℕ → List ℕ → Answer → List ℕ → U → Type 0) (start : Expects) (first : U) (bytes out : List ℕ) (user : U) (relay : Relaying) (rest : List ℕ) → rest ≡ [] → HasPassed wanted Answers start first bytes out user (with_held relay rest) → HasPassed wanted Answers start first bytes out user relay
+passed_all wanted Answers start first bytes out user relay rest e p = record {
+  came = p.came;
+  sent = p.sent;
+  given = p.given;
+  relayed = p.relayed;
+  bytes_are = p.bytes_are ∙ ap (λ (l : List ℕ). bytes_in p.came ++ (p.given ++ l)) (ap (λ (l : List ℕ). relay.held ++ l) e ∙ append-nil relay.held);
+  out_is = p.out_is;
+  part = p.part;
+}
+
+-- one more piece
+pub passed_more : {U : Type 0} (wanted : U → ℕ → ℕ → Bool) (Answers : U → Option ℕ → List ℕ → Answer → List ℕ → U → Type 0) (start : Expects) (first : U) (bytes out : List ℕ) (user : U) (relay : Relaying) (pieces : List (Bor (List ℕ))) (i : ℕ) (d : Bor (List ℕ)) → i < length pieces → HasPassed wanted Answers start first ((bytes ++ joined (take i pieces)) ++ (get_or pieces i d).now) out user relay → HasPassed wanted Answers start first (bytes ++ joined (take (i + 1) pieces)) out user relay
+passed_more wanted Answers start first bytes out user relay pieces i d lt p =
+    let piece = get_or pieces i d in
+    let fronts : take (i + 1) pieces ≡ take i pieces ++ piece ∷ [] = rw add-one (take-suc pieces i d lt) in
+    let all : joined (take (i + 1) pieces) ≡ joined (take i pieces) ++ piece.now =
+    ap joined fronts ∙ joined-append (take i pieces) (piece ∷ []) ∙ ap (λ (l : List ℕ). joined (take i pieces) ++ l) (append-nil piece.now) in
+    let same : bytes ++ joined (take (i + 1) pieces) ≡ (bytes ++ joined (take i pieces)) ++ piece.now =
+    ap (λ (l : List ℕ). bytes ++ l) all ∙ sym (append_assoc bytes (joined (take i pieces)) piece.now) in
+    rw same p
+
+-- all of them
+pub passed_last : {U : Type 0} (wanted : U → ℕ → ℕ → Bool) (Answers : U → Option ℕ → List ℕ → Answer → List ℕ → U → Type 0) (start : Expects) (first : U) (bytes out : List ℕ) (user : U) (relay : Relaying) (pieces : List (Bor (List ℕ))) (i : ℕ) → length pieces ≤ i → HasPassed wanted Answers start first (bytes ++ joined (take i pieces)) out user relay → HasPassed wanted Answers start first (bytes ++ joined pieces) out user relay
+passed_last wanted Answers start first bytes out user relay pieces i le p = rw (take_all i pieces le) at p

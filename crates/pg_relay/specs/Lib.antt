@@ -1,0 +1,5 @@
+pub mod Answer
+pub mod Error
+pub mod Frame
+pub mod Pass
+pub mod Relay

@@ -1,0 +1,60 @@
+//! What follows of what a relay passes on: the contract of each function is a law. Those of clones call the
+//! clone; the others do nothing.
+
+ghost use Rattle.std.specs.Prelude.{◌≡◌, ◌++◌, ℕ, List, [], Option, Ok, Decides};
+ghost use Rattle.pg_base.specs.Cutting.{IsCutInto};
+ghost use Rattle.pg_frontend_frames.specs.declared.frame.Expects.{Expects};
+ghost use Rattle.pg_frontend_frames.specs.declared.frame.Expects.TheVariants.{Tagged};
+ghost use Rattle.pg_relay.specs.Answer.{bytes_in, Lead, messages_in};
+ghost use Rattle.pg_relay.specs.Pass.{HasPassed, Relayed};
+ghost use Rattle.pg_relay.specs.Relay.{Relaying};
+ghost use Rattle.pg_relay.specs.declared.answer.Answer.{Answer};
+ghost use Rattle.pg_relay.specs.declared.answer.Answer.TheVariants.{Keep};
+ghost use Rattle.pg_relay.specs.declared.error.RelayError.{RelayError};
+
+use crate::answer::Answer;
+use crate::error::RelayError;
+use crate::pass::Answers;
+use std::alloc::AllocError;
+
+/// A relay that has taken nothing has passed nothing on.
+pub fn at_first_nothing_is_passed<U: Answers>()
+    ensures { (start : Expects) (first : U) (limit : ℕ) → HasPassed U.wanted U.answers start first [] [] first (record { limit = limit; expects = start; held = []; left = 0 }) }
+{}
+
+/// Where each frame is kept, what went out and what the relay holds are the bytes that came, however they were
+/// cut into pieces.
+pub fn what_is_kept_goes_out_as_it_came<U: Answers>()
+    ensures { ((user : U) (tag : Option ℕ) (frame : List ℕ) (answer : Answer) (added : List ℕ) (later : U) → U.answers user tag frame answer added later → answer ≡ Keep) → (start : Expects) (first user : U) (bytes out : List ℕ) (relay : Relaying) → HasPassed U.wanted U.answers start first bytes out user relay → bytes ≡ out ++ relay.held }
+{}
+
+/// The frames that came and those that went out follow one another as they are expected, and after both the same
+/// is expected.
+pub fn what_goes_out_is_whole_frames<U: Answers>()
+    ensures { (start last : Expects) (first user : U) (came sent : List (Option ℕ × List ℕ)) → Relayed U.wanted U.answers start first came sent last user → Lead start came last × Lead start sent last }
+{}
+
+/// Frames with tags are messages, and their bytes are cut into these and no others.
+pub fn frames_are_messages()
+    ensures { (frames : List (Option ℕ × List ℕ)) (last : Expects) → Lead Tagged frames last → IsCutInto (bytes_in frames) (messages_in frames) }
+{}
+
+/// Values are equal where they are the same.
+pub fn values_are_equal_where_they_are_the_same()
+    ensures answers { (a b : Answer) → Decides (⟦<Answer as PartialEq>⟧.eq a b) (a ≡ b) }
+    ensures errors { (a b : RelayError) → Decides (⟦<RelayError as PartialEq>⟧.eq a b) (a ≡ b) }
+{}
+
+/// A clone is the value that was cloned.
+pub fn clone_of_answer(answer: &Answer) -> Result<Answer, AllocError>
+    ensures { result ≡ Ok answer.now }
+{
+    answer.clone()
+}
+
+/// A clone is the value that was cloned.
+pub fn clone_of_error(error: &RelayError) -> Result<RelayError, AllocError>
+    ensures { result ≡ Ok error.now }
+{
+    error.clone()
+}
