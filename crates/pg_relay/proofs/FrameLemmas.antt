@@ -1,4 +1,4 @@
--- How a frame begins is told by the bytes of its head alone, and in one way.
+-- How a frame begins is known by the bytes of its head alone, and in one way.
 use Rattle.std.proofs.Common.{◌≡◌, ◌+◌, ◌<◌, ◌≤◌, ℕ, ℤ, pos, List, [], ◌∷◌, ◌++◌, length, take, drop, Option, None, Some, refl, sym, ap, ◌∙◌, append_assoc, arith}
 use Rattle.std.proofs.lemmas.Int.{ints}
 use Rattle.std.proofs.lemmas.List.{take-append-le, take-append-drop}

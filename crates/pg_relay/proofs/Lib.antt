@@ -1,5 +1,6 @@
 pub mod FrameLemmas
 pub mod MessagesLemmas
+pub mod OneWayLemmas
 pub mod PassLemmas
 pub mod PassedLemmas
 pub mod RelayLemmas

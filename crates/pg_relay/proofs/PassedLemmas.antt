@@ -36,8 +36,8 @@ passed_frame wanted Answers start first bytes out user old piece tag frame rest 
     let go = goes_out a.answer old.expects m new.expects a.added a.fits in
     let nothing : p.given ≡ [] = nothing_given (wanted user) old.expects p.given old.left w.between p.part in
     let front = bytes_in p.came in
-    let behind = new.held ++ rest in
-    let came : bytes ≡ front ++ (frame ++ behind) =
+    let following = new.held ++ rest in
+    let came : bytes ≡ front ++ (frame ++ following) =
     p.bytes_are ∙ ap (λ (g : List ℕ). front ++ (g ++ (old.held ++ piece))) nothing ∙ ap (λ (l : List ℕ). front ++ l) (conserved ∙ append_assoc frame new.held rest) in
     let sent : after ≡ bytes_in p.sent ++ placed a.answer frame a.added =
     a.out ∙ ap (λ (l : List ℕ). l ++ placed a.answer frame a.added) (p.out_is ∙ ap (λ (g : List ℕ). bytes_in p.sent ++ g) nothing ∙ append-nil (bytes_in p.sent)) in
@@ -46,7 +46,7 @@ passed_frame wanted Answers start first bytes out user old piece tag frame rest 
       sent = p.sent ++ go.0;
       given = [];
       relayed = relayed_more wanted Answers start first p.came p.sent old.expects user m new.expects later go.0 p.relayed w.is_frame (inl (record { asked = w.taken.wanted; answer = a.answer; added = a.added; answers = a.answers; go_out = go.1 }));
-      bytes_are = came ∙ sym (append_assoc front frame behind) ∙ ap (λ (l : List ℕ). l ++ behind) (sym (bytes_in-one p.came m));
+      bytes_are = came ∙ sym (append_assoc front frame following) ∙ ap (λ (l : List ℕ). l ++ following) (sym (bytes_in-one p.came m));
       out_is = sent ∙ ap (λ (l : List ℕ). bytes_in p.sent ++ l) (sym go.2) ∙ sym (bytes_in-append p.sent go.0) ∙ sym (append-nil (bytes_in (p.sent ++ go.0)));
       part = inl (refl, w.left);
     }
@@ -60,29 +60,29 @@ passed_part wanted Answers start first bytes out user old piece b zero rest new 
     let head : HasHead old.expects all more.0 (length all) = rw counts at more.2 in
     let whole : IsFrame old.expects more.0 all new.expects = record { head = head; follows = rw w.expects (unasked_next (wanted user) old.expects all more.0 more.1 more.2 more.3) } in
     let front = bytes_in p.came in
-    let behind = new.held ++ rest in
-    let came : bytes ≡ front ++ (all ++ behind) =
-    p.bytes_are ∙ ap (λ (l : List ℕ). front ++ (p.given ++ l)) (conserved ∙ append_assoc b new.held rest) ∙ ap (λ (l : List ℕ). front ++ l) (sym (append_assoc p.given b behind)) in
+    let following = new.held ++ rest in
+    let came : bytes ≡ front ++ (all ++ following) =
+    p.bytes_are ∙ ap (λ (l : List ℕ). front ++ (p.given ++ l)) (conserved ∙ append_assoc b new.held rest) ∙ ap (λ (l : List ℕ). front ++ l) (sym (append_assoc p.given b following)) in
     let sent : after ≡ bytes_in p.sent ++ all = is ∙ ap (λ (l : List ℕ). l ++ b) p.out_is ∙ append_assoc (bytes_in p.sent) p.given b in
     record {
       came = p.came ++ m ∷ [];
       sent = p.sent ++ m ∷ [];
       given = [];
       relayed = relayed_more wanted Answers start first p.came p.sent old.expects user m new.expects later (m ∷ []) p.relayed whole (inr (record { unasked = rw counts at more.3; same = same; goes_out = refl }));
-      bytes_are = came ∙ sym (append_assoc front all behind) ∙ ap (λ (l : List ℕ). l ++ behind) (sym (bytes_in-one p.came m));
+      bytes_are = came ∙ sym (append_assoc front all following) ∙ ap (λ (l : List ℕ). l ++ following) (sym (bytes_in-one p.came m));
       out_is = sent ∙ sym (bytes_in-one p.sent m) ∙ sym (append-nil (bytes_in (p.sent ++ m ∷ [])));
       part = inl (refl, w.left_is);
     }
 passed_part wanted Answers start first bytes out user old piece b (suc k) rest new later after p conserved w same is =
     let more = part_goes_on (wanted user) old p.given b (suc k) p.part w.place in
     let front = bytes_in p.came in
-    let behind = new.held ++ rest in
+    let following = new.held ++ rest in
     record {
       came = p.came;
       sent = p.sent;
       given = p.given ++ b;
       relayed = rw (w.expects, same) p.relayed;
-      bytes_are = p.bytes_are ∙ ap (λ (l : List ℕ). front ++ (p.given ++ l)) (conserved ∙ append_assoc b new.held rest) ∙ ap (λ (l : List ℕ). front ++ l) (sym (append_assoc p.given b behind));
+      bytes_are = p.bytes_are ∙ ap (λ (l : List ℕ). front ++ (p.given ++ l)) (conserved ∙ append_assoc b new.held rest) ∙ ap (λ (l : List ℕ). front ++ l) (sym (append_assoc p.given b following));
       out_is = is ∙ ap (λ (l : List ℕ). l ++ b) p.out_is ∙ append_assoc (bytes_in p.sent) p.given b;
       part = inr (rw (same, w.expects, w.left_is) (record { tag = more.0; count = more.1; head = more.2; unwanted = more.3; counts = more.4; more = omega arith }));
     }

@@ -23,10 +23,10 @@ one_next expects.First frame a b p q = one_follower _ a b p q
 one_next expects.Tagged frame a b p q = p ∙ sym q
 
 -- a frame at the front of bytes is the one whose head stands there
-frame_at : (state : Expects) (bytes frame after : List ℕ) (tag : Option ℕ) (next : Expects) → bytes ≡ frame ++ after → IsFrame state tag frame next → HasHead state bytes tag (length frame)
+pub frame_at : (state : Expects) (bytes frame after : List ℕ) (tag : Option ℕ) (next : Expects) → bytes ≡ frame ++ after → IsFrame state tag frame next → HasHead state bytes tag (length frame)
 frame_at state bytes frame after tag next e f = rw e (head_stays state frame after tag (length frame) f.head)
 
-one_frame : (state : Expects) (bytes x y a b : List ℕ) (s t : Option ℕ) (m n : Expects) → bytes ≡ x ++ a → bytes ≡ y ++ b → IsFrame state s x m → IsFrame state t y n → (s ≡ t) × (x ≡ y) × (a ≡ b) × (m ≡ n)
+pub one_frame : (state : Expects) (bytes x y a b : List ℕ) (s t : Option ℕ) (m n : Expects) → bytes ≡ x ++ a → bytes ≡ y ++ b → IsFrame state s x m → IsFrame state t y n → (s ≡ t) × (x ≡ y) × (a ≡ b) × (m ≡ n)
 one_frame state bytes x y a b s t m n e f p q =
     let one = one_head state bytes s t (length x) (length y) (frame_at state bytes x a s m e p) (frame_at state bytes y b t n f q) in
     let parts = parts_at x y a b one.1 (sym e ∙ f) in

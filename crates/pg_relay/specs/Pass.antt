@@ -35,7 +35,7 @@ pub record IsUnasked {U : Type 0} (wanted : U → ℕ → ℕ → Bool) (user : 
 abbrev pub Relayed : {U : Type 0} → (U → ℕ → ℕ → Bool) → (U → Option ℕ → List ℕ → Answer → List ℕ → U → Type 0) → Expects → U → List (Option ℕ × List ℕ) → List (Option ℕ × List ℕ) → Expects → U → Type 0
 Relayed wanted Answers state user [] sent last end = (state ≡ last) × (user ≡ end) × (sent ≡ [])
 Relayed {U = U} wanted Answers state user (frame ∷ more) sent last end =
-    (next : Expects) × (later : U) × (out : List (Option ℕ × List ℕ)) × (behind : List (Option ℕ × List ℕ)) × IsFrame state frame.0 frame.1 next × (IsAnswered wanted Answers state user frame next later out ⊎ IsUnasked wanted user frame later out) × (sent ≡ out ++ behind) × Relayed wanted Answers next later more behind last end
+    (next : Expects) × (later : U) × (out : List (Option ℕ × List ℕ)) × (following : List (Option ℕ × List ℕ)) × IsFrame state frame.0 frame.1 next × (IsAnswered wanted Answers state user frame next later out ⊎ IsUnasked wanted user frame later out) × (sent ≡ out ++ following) × Relayed wanted Answers next later more following last end
 
 -- the front of a frame that isn't wanted whole went out, and so many bytes are to come
 pub record GoesOutInParts (wants : ℕ → ℕ → Bool) (state : Expects) (given : List ℕ) (left : ℕ) : Type 0 where

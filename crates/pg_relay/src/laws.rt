@@ -7,7 +7,7 @@ ghost use Rattle.pg_frontend_frames.specs.declared.frame.Expects.{Expects};
 ghost use Rattle.pg_frontend_frames.specs.declared.frame.Expects.TheVariants.{Tagged};
 ghost use Rattle.pg_relay.specs.Answer.{bytes_in, Lead, messages_in};
 ghost use Rattle.pg_relay.specs.Pass.{HasPassed, Relayed};
-ghost use Rattle.pg_relay.specs.Relay.{Relaying};
+ghost use Rattle.pg_relay.specs.Relay.{IsKept, Relaying};
 ghost use Rattle.pg_relay.specs.declared.answer.Answer.{Answer};
 ghost use Rattle.pg_relay.specs.declared.answer.Answer.TheVariants.{Keep};
 ghost use Rattle.pg_relay.specs.declared.error.RelayError.{RelayError};
@@ -32,6 +32,13 @@ pub fn what_is_kept_goes_out_as_it_came<U: Answers>()
 /// is expected.
 pub fn what_goes_out_is_whole_frames<U: Answers>()
     ensures { (start last : Expects) (first user : U) (came sent : List (Option ℕ × List ℕ)) → Relayed U.wanted U.answers start first came sent last user → Lead start came last × Lead start sent last }
+{}
+
+/// However the bytes were cut into pieces, the same frames came, and as many bytes follow them, given in parts or
+/// held. What a relay holds is no whole frame, as [`Relay::held`](crate::Relay::held) and
+/// [`Relay::left`](crate::Relay::left) say.
+pub fn frames_come_however_they_are_cut<U: Answers>()
+    ensures { (start : Expects) (first : U) (bytes a b : List ℕ) (u v : U) (r s : Relaying) (p : HasPassed U.wanted U.answers start first bytes a u r) (q : HasPassed U.wanted U.answers start first bytes b v s) → IsKept r.limit r.expects r.held r.left → IsKept s.limit s.expects s.held s.left → (p.came ≡ q.came) × (r.expects ≡ s.expects) × (p.given ++ r.held ≡ q.given ++ s.held) }
 {}
 
 /// Frames with tags are messages, and their bytes are cut into these and no others.

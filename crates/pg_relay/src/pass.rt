@@ -50,7 +50,7 @@ impl Answers for All {
 /// went out and what the relay holds is what came.
 ///
 /// The errors are those of [`Relay::next`] and of [`Answer::place`]. After one the connection is at its end, since
-/// what comes next can't be told.
+/// what comes next can't be known.
 pub fn pass_piece<U: Answers>(
     alloc: Global,
     relay: &mut Relay,

@@ -1,9 +1,9 @@
 //! A relay, which passes a stream on frame by frame.
 
-ghost use Rattle.std.specs.Prelude.{◌≡◌, ◌<◌, ◌≤◌, ◌+◌, ℕ, Bool, List, [], ◌++◌, length, Option, IfOk, IfErr, OnErr};
+ghost use Rattle.std.specs.Prelude.{◌≡◌, ◌<◌, ◌≤◌, ◌+◌, ℕ, Bool, List, [], ◌++◌, length, Option, IfOk, OnOk, IfErr, OnErr};
 ghost use Rattle.pg_frontend_frames.specs.declared.frame.Expects.TheVariants.{First, Tagged};
 ghost use Rattle.pg_relay.specs.Frame.{HasHead};
-ghost use Rattle.pg_relay.specs.Relay.{IsUnfinished, IsTaken, IsRelayError, Takes};
+ghost use Rattle.pg_relay.specs.Relay.{HasFate, IsUnfinished, IsTaken, IsRelayError, Takes};
 ghost use Rattle.pg_relay.specs.declared.error.RelayError.TheVariants.{OutOfMemory};
 
 use crate::error::RelayError;
@@ -206,18 +206,9 @@ impl Relay {
         ensures error { IfErr result (IsRelayError (W.wanted wants.now) self.old piece.now) }
         ensures err { OnErr result (self.new ≡ self.old) }
     {
-        let before = self.held.len();
         let missing = missing_of(self.expects, self.held.as_slice());
         let (bytes, rest) = piece.split_at(missing.min(piece.len()));
-        self.held.extend_from_slice(bytes)?;
-        let fate = match fate_of(wants, self.limit, self.expects, self.held.as_slice()) {
-            Ok(fate) => fate,
-            Err(error) => {
-                self.held.truncate(before);
-                return Err(error);
-            }
-        };
-        match fate {
+        match fate_with(wants, self.limit, self.expects, &mut self.held, bytes)? {
             Fate::Parts(count) => {
                 let left = count - self.held.len();
                 self.left = left;
@@ -245,6 +236,30 @@ impl Relay {
                 event: Event::Held,
                 rest,
             }),
+        }
+    }
+}
+
+// Adds bytes to what is held, and says what becomes of its frame then; where it is an error, nothing is added.
+fn fate_with<W: Wants>(
+    wants: &W,
+    limit: usize,
+    expects: Expects,
+    held: &mut Vec<u8>,
+    bytes: &[u8],
+) -> Result<Fate, RelayError>
+    ensures held { OnOk result (held.new.items ≡ held.old.items ++ bytes.now) }
+    ensures fate { IfOk result (HasFate (W.wanted wants.now) limit expects held.new.items) }
+    ensures error { IfErr result (IsRelayError (W.wanted wants.now) (record { limit = limit; expects = expects; held = held.old.items; left = 0 }) bytes.now) }
+    ensures err { OnErr result (held.new.items ≡ held.old.items) }
+{
+    let before = held.len();
+    held.extend_from_slice(bytes)?;
+    match fate_of(wants, limit, expects, held.as_slice()) {
+        Ok(fate) => Ok(fate),
+        Err(error) => {
+            held.truncate(before);
+            Err(error)
         }
     }
 }
