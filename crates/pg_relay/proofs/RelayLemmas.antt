@@ -1,6 +1,7 @@
 -- What becomes of a frame's bytes, as they are held and as they come.
-use Rattle.std.proofs.Common.{◌≡◌, ℤ, ◌+◌, ◌<◌, ◌≤◌, ℕ, min, Bool, List, [], ◌++◌, length, Option, Result, Ok, Err, IfOk, inl, inr, refl, sym, ap, ◌∙◌, append_assoc, append-nil, arith, length-append}
+use Rattle.std.proofs.Common.{◌≡◌, ◌⊎◌, ℤ, ◌+◌, ◌<◌, ◌≤◌, ℕ, min, Bool, List, [], ◌++◌, length, Option, Result, Ok, Err, IfOk, inl, inr, refl, sym, ap, ◌∙◌, append_assoc, append-nil, arith, length-append}
 use Rattle.pg_frontend_frames.specs.declared.frame.Expects.{Expects}
+use Rattle.pg_frontend_frames.specs.declared.frame.Expects.TheVariants as expects
 use Rattle.pg_relay.specs.Frame.{HasHead, HasLowLength, IsFrame, IsNext, head_length}
 use Rattle.pg_relay.specs.Relay.{Relaying, IsUnfinished, IsTaken, IsForParts, IsForWhole, IsFault, IsHeadFault, IsRelayError, Takes, bytes_of}
 use Rattle.pg_relay.specs.declared.error.RelayError.{RelayError}
@@ -53,6 +54,12 @@ fate_of_parts_fits wants state bytes count p = head_fits state bytes p.tag count
 pub unfinished_counts : (limit : ℕ) (state : Expects) (held : List ℕ) (tag : Option ℕ) (count : ℕ) → IsUnfinished limit state held → HasHead state held tag count → length held < count
 unfinished_counts limit state held tag count (inl short) h = absurd (omega (arith, short, (head_fits state held tag count h).0))
 unfinished_counts limit state held tag count (inr on) h = omega (arith, on.short, (one_head state held on.tag tag on.count count on.head h).1)
+
+-- what is held is shorter than a head, or than the longest frame that is held
+pub unfinished_short : (limit : ℕ) (state : Expects) (held : List ℕ) → IsUnfinished limit state held → (length held < 5) ⊎ (length held < limit)
+unfinished_short limit expects.First held (inl short) = inl (omega (arith, short))
+unfinished_short limit expects.Tagged held (inl short) = inl short
+unfinished_short limit state held (inr on) = inr (omega (arith, on.short, on.within))
 
 -- and no fault
 unfinished_is_not_low : (limit : ℕ) (state : Expects) (held : List ℕ) (announced : ℤ) → IsUnfinished limit state held → HasLowLength state held announced → ⊥

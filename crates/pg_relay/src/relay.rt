@@ -1,6 +1,6 @@
 //! A relay, which passes a stream on frame by frame.
 
-ghost use Rattle.std.specs.Prelude.{◌≡◌, ◌<◌, ◌≤◌, ◌+◌, ℕ, Bool, List, [], ◌++◌, length, Option, IfOk, OnOk, IfErr, OnErr};
+ghost use Rattle.std.specs.Prelude.{◌≡◌, ◌⊎◌, ◌<◌, ◌≤◌, ◌+◌, ℕ, Bool, List, [], ◌++◌, length, Option, IfOk, OnOk, IfErr, OnErr};
 ghost use Rattle.pg_frontend_frames.specs.declared.frame.Expects.TheVariants.{First, Tagged};
 ghost use Rattle.pg_relay.specs.Frame.{HasHead};
 ghost use Rattle.pg_relay.specs.Relay.{HasFate, IsUnfinished, IsTaken, IsRelayError, Takes};
@@ -87,10 +87,12 @@ impl Relay {
         self.expects
     }
 
-    /// What is held: no more than the front of a frame that isn't whole yet and is within the limit.
+    /// What is held: no more than the front of a frame that isn't whole yet and is within the limit, or some bytes of
+    /// its tag and length.
     pub fn held(&self) -> &[u8]
         ensures held { result.now ≡ self.now.held }
         ensures unfinished { IsUnfinished self.now.limit self.now.expects result.now }
+        ensures short { (length result.now < 5) ⊎ (length result.now < self.now.limit) }
     {
         self.held.as_slice()
     }
