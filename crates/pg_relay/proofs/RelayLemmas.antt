@@ -80,15 +80,15 @@ fault_is_error wants limit state held bytes all NotFrames e f = f
 fault_is_error wants limit state held bytes all OutOfMemory e f = absurd f
 
 -- an error at the front of a piece is one at the piece
-pub error_longer : (wants : ℕ → ℕ → Bool) (limit : ℕ) (state : Expects) (held : List ℕ) (left : ℕ) (piece bytes rest : List ℕ) (error : RelayError) → left ≡ 0 → piece ≡ bytes ++ rest → IsRelayError wants (record { limit = limit; expects = state; held = held; left = 0 }) bytes error → IsRelayError wants (record { limit = limit; expects = state; held = held; left = left }) piece error
-error_longer wants limit state held left piece bytes rest (BadLength announced) between e f =
+pub error_longer : (wants : ℕ → ℕ → Bool) (limit : ℕ) (state : Expects) (held : List ℕ) (left : ℕ) (piece bytes rest : List ℕ) (error : RelayError) → 0 < length held → left ≡ 0 → piece ≡ bytes ++ rest → IsRelayError wants (record { limit = limit; expects = state; held = held; left = 0 }) bytes error → IsRelayError wants (record { limit = limit; expects = state; held = held; left = left }) piece error
+error_longer wants limit state held left piece bytes rest (BadLength announced) some between e f =
     let all : held ++ piece ≡ (held ++ bytes) ++ rest = rw e (sym (append_assoc held bytes rest)) in
     (between, rw all (low_stays state (held ++ bytes) rest announced f.1))
-error_longer wants limit state held left piece bytes rest (TooLong count most) between e f =
+error_longer wants limit state held left piece bytes rest (TooLong count most) some between e f =
     let all : held ++ piece ≡ (held ++ bytes) ++ rest = rw e (sym (append_assoc held bytes rest)) in
     (between, record { tag = f.1.tag; head = rw all (head_stays state (held ++ bytes) rest f.1.tag count f.1.head); wanted = f.1.wanted; high = f.1.high; is = f.1.is })
-error_longer wants limit state held left piece bytes rest NotFrames between e f = f
-error_longer wants limit state held left piece bytes rest OutOfMemory between e f = between
+error_longer wants limit state held left piece bytes rest NotFrames some between e f = f
+error_longer wants limit state held left piece bytes rest OutOfMemory some between e f = record { between = between; holds = inl some }
 
 -- a step over a piece where nothing is held: the front of a frame that goes out in parts
 pub takes_parts : (wants : ℕ → ℕ → Bool) (limit : ℕ) (state : Expects) (held : List ℕ) (l : ℕ) (piece : List ℕ) (b : FrameBytes) (rest : List ℕ) (count left : ℕ) → held ≡ [] → l ≡ 0 → IsForParts wants state piece count → piece ≡ bytes_of b ++ rest → length (bytes_of b) ≡ min count (length piece) → length (bytes_of b) + left ≡ count → Takes wants (record { limit = limit; expects = state; held = held; left = l }) piece (Part b left) rest (record { limit = limit; expects = state; held = held; left = left })

@@ -82,12 +82,17 @@ IsFault wants limit state bytes (TooLong count most) = IsTooLong wants limit sta
 IsFault wants limit state bytes NotFrames = ⊥
 IsFault wants limit state bytes OutOfMemory = ⊥
 
+-- bytes have to be held: something is held already, or the piece is no whole frame
+pub record NeedsMemory (old : Relaying) (piece : List ℕ) : Type 0 where
+  pub between : old.left ≡ 0
+  pub holds : (0 < length old.held) ⊎ IsUnfinished old.limit old.expects piece
+
 -- why a relay takes nothing of a piece: the frame that comes next has a fault, or there is no memory to hold it
 abbrev pub IsRelayError : (ℕ → ℕ → Bool) → Relaying → List ℕ → RelayError → Type 0
 IsRelayError wants old piece (BadLength announced) = (old.left ≡ 0) × HasLowLength old.expects (old.held ++ piece) announced
 IsRelayError wants old piece (TooLong count most) = (old.left ≡ 0) × IsTooLong wants old.limit old.expects (old.held ++ piece) count most
 IsRelayError wants old piece NotFrames = ⊥
-IsRelayError wants old piece OutOfMemory = old.left ≡ 0
+IsRelayError wants old piece OutOfMemory = NeedsMemory old piece
 
 -- bytes that are passed on, wherever they lie
 abbrev pub bytes_of : FrameBytes → List ℕ

@@ -109,8 +109,8 @@ impl Relay {
     /// the piece is the next piece; where it is empty, all is taken.
     ///
     /// Once its tag and its length are there, a length below 4 is `BadLength`, and below 8 of a client's first
-    /// message; a frame that is wanted whole and is longer than the limit is `TooLong`. Each error leaves the
-    /// relay as it was, so the same call may be made again.
+    /// message; a frame that is wanted whole and is longer than the limit is `TooLong`. Only where bytes have to be
+    /// held may memory run out. Each error leaves the relay as it was, so the same call may be made again.
     #[inline(always)]
     pub fn next<'a, W: Wants>(&mut self, wants: &W, piece: &'a [u8]) -> Result<Step<'a>, RelayError>
         ensures takes { IfOk result (λ step. Takes (W.wanted wants.now) self.old piece.now step.event step.rest.now self.new) }
@@ -203,7 +203,8 @@ impl Relay {
         wants: &W,
         piece: &'a [u8],
     ) -> Result<Step<'a>, RelayError>
-        requires { self.old.left ≡ 0 }
+        requires between { self.old.left ≡ 0 }
+        requires some { 0 < length self.old.held }
         ensures takes { IfOk result (λ step. Takes (W.wanted wants.now) self.old piece.now step.event step.rest.now self.new) }
         ensures error { IfErr result (IsRelayError (W.wanted wants.now) self.old piece.now) }
         ensures err { OnErr result (self.new ≡ self.old) }
@@ -250,6 +251,7 @@ fn fate_with<W: Wants>(
     held: &mut Vec<u8>,
     bytes: &[u8],
 ) -> Result<Fate, RelayError>
+    requires { 0 < length held.old.items }
     ensures held { OnOk result (held.new.items ≡ held.old.items ++ bytes.now) }
     ensures fate { IfOk result (HasFate (W.wanted wants.now) limit expects held.new.items) }
     ensures error { IfErr result (IsRelayError (W.wanted wants.now) (record { limit = limit; expects = expects; held = held.old.items; left = 0 }) bytes.now) }
