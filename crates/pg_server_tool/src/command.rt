@@ -1,12 +1,13 @@
 //! The command that the program is started with, over any input and output.
 
 use crate::decode::decode;
+use crate::encode::encode;
 use crate::stream::stream;
 use pg_lines::{Fault, read_all, write_text};
 use std::alloc::Global;
 use std::io::{Read, Write};
 
-const USAGE: &str = "usage: pg_server_tool decode|stream";
+const USAGE: &str = "usage: pg_server_tool decode|encode|stream";
 
 /// The exit status of a wrong argument.
 const WRONG_USAGE: u8 = 2;
@@ -16,6 +17,8 @@ const WRONG_USAGE: u8 = 2;
 pub enum Command {
     /// Reads bodies by their tags, and first messages without one.
     Decode,
+    /// Writes messages to a client as their bytes.
+    Encode,
     /// Finds the messages in raw bytes.
     Stream,
 }
@@ -40,21 +43,20 @@ pub fn start<R: Read, W: Write, E: Write>(
     }
 }
 
-/// Runs a command. `Stream` writes the line of each message as soon as it is whole. `Decode` reads all
-/// input, and then writes all output, and nothing where a line is bad.
+/// Runs a command. `Stream` writes the line of each message as soon as it is whole. The other two read
+/// all input, and then write all output, and nothing where a line is bad.
 pub fn run<R: Read, W: Write>(
     alloc: Global,
     command: Command,
     input: &mut R,
     output: &mut W,
 ) -> Result<(), Fault> {
-    match command {
-        Command::Decode => {
-            let lines = decode(alloc, read_all(alloc, input)?.as_slice())?;
-            write_text(output, lines.as_str())
-        }
-        Command::Stream => stream(alloc, input, output),
-    }
+    let text = match command {
+        Command::Decode => decode(alloc, read_all(alloc, input)?.as_slice())?,
+        Command::Encode => encode(alloc, read_all(alloc, input)?.as_slice())?,
+        Command::Stream => return stream(alloc, input, output),
+    };
+    write_text(output, text.as_str())
 }
 
 // The command that the arguments name: that of `decode` where there are none.
@@ -67,6 +69,7 @@ fn command_of(args: &[String]) -> Option<Command> {
     }
     match word.as_str() {
         "decode" => Some(Command::Decode),
+        "encode" => Some(Command::Encode),
         "stream" => Some(Command::Stream),
         _ => None,
     }

@@ -1,9 +1,15 @@
-//! Reads messages from PostgreSQL clients that are given as lines of text, and finds them in a stream.
+//! Reads messages from PostgreSQL clients that are given as lines of text, finds them in a stream, and
+//! writes messages to clients.
 #![tactic(auto)]
 
 mod command;
 mod decode;
+mod encode;
+mod frame;
 mod message;
+mod reply;
+mod reply_line;
+mod spelling;
 mod stream;
 mod word;
 

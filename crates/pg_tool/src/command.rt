@@ -1,7 +1,7 @@
 //! What a line of `encode` names: one message to the server.
 
-use crate::word::{formats_of, oids_of, u16_of, u32_of};
-use pg_lines::{Fault, hex_array, hex_bytes};
+use crate::word::{formats_of, oids_of};
+use pg_lines::{Fault, hex_array, hex_bytes, u16_of, u32_of};
 use pg_message::io::{Oid, PgValueFormat, PortalId, StatementId};
 use pg_message::message::{
     Bind, Close, CopyData, CopyDone, CopyFail, Describe, Execute, Flush, Parse, Password, Query,

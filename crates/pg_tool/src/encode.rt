@@ -1,11 +1,7 @@
 //! Lines that name messages to the server, and the frames that they become.
 
-ghost use Rattle.std.specs.Prelude.{length};
-ghost use Rattle.std.specs.Iterator.{at_most};
-
-use crate::LENGTH_FIELD;
 use crate::command::{Command, command_of, message_of};
-use pg_lines::{Fault, Hex, Lines};
+use pg_lines::{Fault, Lines, push_frames};
 use pg_message::error::Error;
 use pg_message::message::{TaggedMessage, encode_all, encode_strict};
 use std::alloc::{AllocError, Global};
@@ -77,45 +73,4 @@ fn push_answers(answers: &[Result<(), Error>], output: &mut String) -> Result<()
         }
     }
     Ok(())
-}
-
-// A line for each frame: the tag as a character, the length field, and the body.
-fn push_frames(frames: &[u8], output: &mut String) -> Result<(), AllocError> {
-    for Frame { tag, length, body } in (Frames { rest: frames }) {
-        writeln!(output, "{} {length} {}", char::from(tag), Hex(body))?;
-    }
-    Ok(())
-}
-
-/// A message as it stands in the buffer.
-#[derive(Drop)]
-struct Frame<'a> {
-    tag: u8,
-    length: u32,
-    body: &'a [u8],
-}
-
-/// The messages of a buffer, one after the other.
-#[derive(Drop)]
-struct Frames<'a> {
-    rest: &'a [u8],
-}
-
-impl<'a> Iterator for Frames<'a> {
-    type Item = Frame<'a>;
-
-    ghost remaining = { λ frames. at_most (length frames.rest.now) };
-
-    fn next(&mut self) -> Option<Frame<'a>> {
-        let (tag, after) = self.rest.split_first()?;
-        let length = u32::from_be_bytes(*after.first_chunk()?);
-        let (front, rest) = after.split_at_checked(length as usize)?;
-        let body = front.get(LENGTH_FIELD..)?;
-        self.rest = rest;
-        Some(Frame {
-            tag: *tag,
-            length,
-            body,
-        })
-    }
 }

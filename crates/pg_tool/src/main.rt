@@ -12,9 +12,6 @@ use pg_lines::Fault;
 use std::env;
 use std::process::ExitCode;
 
-/// The bytes of a length field, which counts itself.
-const LENGTH_FIELD: usize = 4;
-
 fn main(rt: HostRuntime) -> ExitCode {
     let mut errors = rt.stderr();
     let Ok(mut args) = env::args(&rt) else {

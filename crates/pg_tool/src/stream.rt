@@ -1,11 +1,13 @@
 //! Raw bytes from the server, and a line for each message as soon as it is whole.
 
-use crate::LENGTH_FIELD;
 use pg_lines::{Fault, Hex, write_text};
 use pg_message::error::Error;
 use pg_message::message::{FrameReader, ReceivedMessage};
 use std::alloc::{AllocError, Global};
 use std::io::{self, Read, Write};
+
+/// The bytes of a length field, which counts itself.
+const LENGTH_FIELD: usize = 4;
 
 /// The most bytes that are read at a time.
 const PIECE: usize = 8192;

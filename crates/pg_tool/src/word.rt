@@ -1,35 +1,8 @@
 //! Words that a line of `encode` is made of.
 
-use pg_lines::Fault;
+use pg_lines::{Fault, u32_of};
 use pg_message::io::{Oid, PgValueFormat};
 use std::alloc::Global;
-
-/// The most digits that a number of 32 bits has.
-const DIGITS_OF_U32: usize = 10;
-
-/// The most digits that a number of 16 bits has.
-const DIGITS_OF_U16: usize = 5;
-
-/// The number that a word of one to ten decimal digits spells, where it has 32 bits.
-pub fn u32_of(word: &str) -> Option<u32> {
-    if !is_digits(word, DIGITS_OF_U32) {
-        return None;
-    }
-    word.parse::<u32>().ok()
-}
-
-/// The number that a word of one to five decimal digits spells, where it has 16 bits.
-pub fn u16_of(word: &str) -> Option<u16> {
-    if !is_digits(word, DIGITS_OF_U16) {
-        return None;
-    }
-    word.parse::<u16>().ok()
-}
-
-// `parse` takes a sign and zeros without end too.
-fn is_digits(word: &str, most: usize) -> bool {
-    word.len() <= most && word.bytes().all(|byte| byte.is_ascii_digit())
-}
 
 /// The formats that a word spells: `0` for text and `1` for binary, parted by commas, or `-` for
 /// none. None where it spells no list.

@@ -1,0 +1,143 @@
+//! What a line of `encode` names: one message to a client.
+
+use crate::reply::{
+    Column, CopyResponse, Field, KeyData, Negotiation, Notice, Notification, Reply, Request,
+    Setting,
+};
+use crate::spelling::{Parts, Spelled, Word};
+use pg_lines::Fault;
+use pg_write_backend::message::{CopyDirection, NoBodyText, NoticeKind, ReadyForQueryText};
+use std::alloc::Global;
+
+/// The message that a line spells. A line that fits no form has the fault `bad`.
+pub fn reply_of(alloc: Global, line: &[u8], bad: Fault) -> Result<Reply, Fault> {
+    let text = std::str::from_utf8(line).map_err(|_| bad)?;
+    let mut words = Word { text, alloc, bad }.parts(' ');
+    let name = words.part()?;
+    let reply = match without_fields(name.text) {
+        Some(message) => Reply::NoBody(message),
+        None => with_fields(name, &mut words)?,
+    };
+    words.end()?;
+    Ok(reply)
+}
+
+// A message without fields, by its name.
+fn without_fields(name: &str) -> Option<NoBodyText> {
+    match name {
+        "bindcomplete" => Some(NoBodyText::BindComplete),
+        "closecomplete" => Some(NoBodyText::CloseComplete),
+        "copydone" => Some(NoBodyText::CopyDone),
+        "emptyqueryresponse" => Some(NoBodyText::EmptyQueryResponse),
+        "nodata" => Some(NoBodyText::NoData),
+        "parsecomplete" => Some(NoBodyText::ParseComplete),
+        "portalsuspended" => Some(NoBodyText::PortalSuspended),
+        _ => None,
+    }
+}
+
+// A message with fields, by its name and its other words.
+fn with_fields(name: Word<'_>, words: &mut Parts<'_>) -> Result<Reply, Fault> {
+    match name.text {
+        "authentication" => Ok(Reply::Authentication(request_of(words)?)),
+        "backendkeydata" => Ok(Reply::BackendKeyData(KeyData {
+            process_id: words.read()?,
+            secret_key: words.read()?,
+        })),
+        "commandcomplete" => Ok(Reply::CommandComplete(words.read()?)),
+        "copydata" => Ok(Reply::CopyData(words.read()?)),
+        "copyin" => copy_of(CopyDirection::In, words),
+        "copyout" => copy_of(CopyDirection::Out, words),
+        "copyboth" => copy_of(CopyDirection::Both, words),
+        "datarow" => Ok(Reply::DataRow(words.list()?)),
+        "errorresponse" => notice_of(NoticeKind::Error, words),
+        "functioncallresponse" => Ok(Reply::FunctionCallResponse(words.read()?)),
+        "negotiate" => Ok(Reply::NegotiateProtocolVersion(Negotiation {
+            minor: words.read()?,
+            options: words.list()?,
+        })),
+        "noticeresponse" => notice_of(NoticeKind::Notice, words),
+        "notification" => Ok(Reply::Notification(Notification {
+            process_id: words.read()?,
+            channel: words.read()?,
+            payload: words.read()?,
+        })),
+        "parameterdescription" => Ok(Reply::ParameterDescription(words.list()?)),
+        "parameterstatus" => Ok(Reply::ParameterStatus(Setting {
+            name: words.read()?,
+            value: words.read()?,
+        })),
+        "ready" => Ok(Reply::ReadyForQuery(ready_of(words.part()?)?)),
+        "rowdescription" => Ok(Reply::RowDescription(words.list()?)),
+        _ => Err(name.bad),
+    }
+}
+
+fn request_of(words: &mut Parts<'_>) -> Result<Request, Fault> {
+    let method = words.part()?;
+    match method.text {
+        "ok" => Ok(Request::Ok),
+        "cleartext" => Ok(Request::CleartextPassword),
+        "md5" => Ok(Request::Md5Password(words.read()?)),
+        "sasl" => Ok(Request::Sasl(words.list()?)),
+        "continue" => Ok(Request::SaslContinue(words.read()?)),
+        "final" => Ok(Request::SaslFinal(words.read()?)),
+        _ => Err(method.bad),
+    }
+}
+
+// `FORMAT CODES`
+fn copy_of(direction: CopyDirection, words: &mut Parts<'_>) -> Result<Reply, Fault> {
+    Ok(Reply::CopyResponse(CopyResponse {
+        direction,
+        format: words.read()?,
+        format_codes: words.list()?,
+    }))
+}
+
+// `FIELDS`
+fn notice_of(kind: NoticeKind, words: &mut Parts<'_>) -> Result<Reply, Fault> {
+    let fields = words.list()?;
+    Ok(Reply::Notice(Notice { kind, fields }))
+}
+
+fn ready_of(word: Word<'_>) -> Result<ReadyForQueryText, Fault> {
+    match word.text {
+        "I" => Ok(ReadyForQueryText::Idle),
+        "T" => Ok(ReadyForQueryText::Transaction),
+        "E" => Ok(ReadyForQueryText::Error),
+        _ => Err(word.bad),
+    }
+}
+
+// `LETTER=HEX`, by a letter of one byte
+impl Spelled for Field {
+    fn of(word: Word<'_>) -> Result<Field, Fault> {
+        let mut parts = word.parts('=');
+        let letter = match parts.part()?.text.as_bytes() {
+            [letter] => *letter,
+            _ => return Err(word.bad),
+        };
+        let text = parts.read()?;
+        parts.end()?;
+        Ok(Field { letter, text })
+    }
+}
+
+// `NAME:TABLE:ATTRIBUTE:TYPE:SIZE:MODIFIER:FORMAT`
+impl Spelled for Column {
+    fn of(word: Word<'_>) -> Result<Column, Fault> {
+        let mut parts = word.parts(':');
+        let column = Column {
+            name: parts.read()?,
+            table: parts.read()?,
+            attribute: parts.read()?,
+            data_type: parts.read()?,
+            size: parts.read()?,
+            modifier: parts.read()?,
+            format: parts.read()?,
+        };
+        parts.end()?;
+        Ok(column)
+    }
+}
