@@ -5,7 +5,7 @@ use crate::reply::{
     Setting,
 };
 use crate::spelling::{Parts, Spelled, Word};
-use pg_lines::Fault;
+use pg_lines::{Fault, hex_array};
 use pg_write_backend::message::{CopyDirection, NoBodyText, NoticeKind, ReadyForQueryText};
 use std::alloc::Global;
 
@@ -110,18 +110,24 @@ fn ready_of(word: Word<'_>) -> Result<ReadyForQueryText, Fault> {
     }
 }
 
-// `LETTER=HEX`, by a letter of one byte
+// `LETTER=HEX`
 impl Spelled for Field {
     fn of(word: Word<'_>) -> Result<Field, Fault> {
         let mut parts = word.parts('=');
-        let letter = match parts.part()?.text.as_bytes() {
-            [letter] => *letter,
-            _ => return Err(word.bad),
-        };
+        let letter = letter_of(parts.part()?)?;
         let text = parts.read()?;
         parts.end()?;
         Ok(Field { letter, text })
     }
+}
+
+// A letter of one byte, or its two hexadecimal digits.
+fn letter_of(word: Word<'_>) -> Result<u8, Fault> {
+    if let [letter] = word.text.as_bytes() {
+        return Ok(*letter);
+    }
+    let letter = hex_array::<1>(word.text).ok_or(word.bad)?;
+    Ok(letter[0])
 }
 
 // `NAME:TABLE:ATTRIBUTE:TYPE:SIZE:MODIFIER:FORMAT`

@@ -1,0 +1,117 @@
+"""Messages of a server of each kind, by hand from the standard, PostgreSQL's "Message Formats"."""
+
+NULL = b"\xff\xff\xff\xff"
+
+# Lines, and the tag and the body of the message of each, by hand from the standard.
+ROWS = [
+    ("authentication ok", b"R", bytes(4)),
+    ("authentication cleartext", b"R", b"\0\0\0\3"),
+    ("authentication md5 01FF0203", b"R", b"\0\0\0\5\1\xff\2\3"),
+    ("authentication sasl 534352414d2d5348412d3235362d504c5553,534352414d2d5348412d323536", b"R",
+     b"\0\0\0\x0aSCRAM-SHA-256-PLUS\0SCRAM-SHA-256\0\0"),
+    ("authentication sasl -", b"R", b"\0\0\0\x0a\0"),
+    ("authentication continue 723d612c733d41513d3d2c693d31", b"R", b"\0\0\0\x0br=a,s=AQ==,i=1"),
+    ("authentication continue -", b"R", b"\0\0\0\x0b"),
+    ("authentication final 763d41513d3d", b"R", b"\0\0\0\x0cv=AQ=="),
+    ("authentication final 00", b"R", b"\0\0\0\x0c\0"),
+    ("backendkeydata 12345 01020304", b"K", b"\0\0\x30\x39\1\2\3\4"),
+    ("backendkeydata 4294967295 " + "00" * 256, b"K", NULL + bytes(256)),
+    ("bindcomplete", b"2", b""),
+    ("closecomplete", b"3", b""),
+    ("commandcomplete 494e534552542030203130", b"C", b"INSERT 0 10\0"),
+    ("commandcomplete -", b"C", b"\0"),
+    ("copyboth 0 -", b"W", b"\0\0\0"),
+    ("copyboth -128 -32768,32767", b"W", b"\x80\0\2\x80\0\x7f\xff"),
+    ("copydata 3109320a00", b"d", b"1\t2\n\0"),
+    ("copydata -", b"d", b""),
+    ("copydone", b"c", b""),
+    ("copyin 1 1,0,-1", b"G", b"\1\0\3\0\1\0\0\xff\xff"),
+    ("copyout 127 0", b"H", b"\x7f\0\1\0\0"),
+    ("datarow x6869,null,x,x00", b"D", b"\0\4\0\0\0\2hi" + NULL + b"\0\0\0\0\0\0\0\1\0"),
+    ("datarow -", b"D", b"\0\0"),
+    ("emptyqueryresponse", b"I", b""),
+    ("errorresponse S=4552524f52,V=4552524f52,C=3432503031,M=6e6f,P=37", b"E", b"SERROR\0VERROR\0C42P01\0Mno\0P7\0\0"),
+    ("errorresponse 2c=61,Ff=-", b"E", b",a\0\xff\0\0"),
+    ("errorresponse -", b"E", b"\0"),
+    ("functioncallresponse null", b"V", NULL),
+    ("functioncallresponse x", b"V", bytes(4)),
+    ("functioncallresponse x00ff", b"V", b"\0\0\0\2\0\xff"),
+    ("negotiate 0 5f70715f2e61,-", b"v", b"\0\0\0\0\0\0\0\2_pq_.a\0\0"),
+    ("negotiate 4294967295 -", b"v", NULL + bytes(4)),
+    ("nodata", b"n", b""),
+    ("noticeresponse M=c3a9,~=-", b"N", b"M\xc3\xa9\0~\0\0"),
+    ("notification 258 6a6f6273 37", b"A", b"\0\0\1\2jobs\0007\0"),
+    ("notification 0 - -", b"A", bytes(6)),
+    ("parameterdescription 23,0,4294967295", b"t", b"\0\3\0\0\0\x17\0\0\0\0" + NULL),
+    ("parameterdescription -", b"t", b"\0\0"),
+    ("parameterstatus 54696d655a6f6e65 555443", b"S", b"TimeZone\0UTC\0"),
+    ("parameterstatus - -", b"S", b"\0\0"),
+    ("parsecomplete", b"1", b""),
+    ("portalsuspended", b"s", b""),
+    ("ready I", b"Z", b"I"),
+    ("ready T", b"Z", b"T"),
+    ("ready E", b"Z", b"E"),
+    ("rowdescription 6964:16384:1:23:4:-1:0", b"T", b"\0\1id\0\0\0\x40\0\0\1\0\0\0\x17\0\4" + NULL + b"\0\0"),
+    ("rowdescription -:4294967295:-32768:4294967295:-1:-2147483648:32767,61:0:0:0:0:0:0", b"T",
+     b"\0\2\0" + NULL + b"\x80\0" + NULL + b"\xff\xff\x80\0\0\0\x7f\xffa\0" + bytes(18)),
+    ("rowdescription -", b"T", b"\0\0"),
+]
+
+HOLDS_NUL, MANY = "text holds NUL", "too many items for a message: "
+
+# Lines whose messages are refused, and the words of each.
+REFUSED = [
+    ("authentication sasl 61,-", HOLDS_NUL),
+    ("authentication sasl -,61", HOLDS_NUL),
+    ("authentication sasl 6100", HOLDS_NUL),
+    ("backendkeydata 1 -", "bad secret key length: 0"),
+    ("backendkeydata 1 010203", "bad secret key length: 3"),
+    ("backendkeydata 1 " + "00" * 257, "bad secret key length: 257"),
+    ("commandcomplete 00", HOLDS_NUL),
+    ("copyboth 0 " + ",".join("0" * 32768), MANY + "32768"),
+    ("copyin 0 " + ",".join("0" * 32768), MANY + "32768"),
+    ("copyout 0 " + ",".join("0" * 65536), MANY + "65536"),
+    ("datarow " + ",".join(["null"] * 65536), MANY + "65536"),
+    ("errorresponse M=61,C=0061", HOLDS_NUL),
+    ("errorresponse \0=61", HOLDS_NUL),
+    ("negotiate 0 61,00", HOLDS_NUL),
+    ("noticeresponse 00=-", HOLDS_NUL),
+    ("notification 1 00 -", HOLDS_NUL),
+    ("notification 1 - 6100", HOLDS_NUL),
+    ("parameterdescription " + ",".join("0" * 65536), MANY + "65536"),
+    ("parameterstatus 00 -", HOLDS_NUL),
+    ("parameterstatus - 00", HOLDS_NUL),
+    ("rowdescription 61:0:0:0:0:0:0,6100:0:0:0:0:0:0", HOLDS_NUL),
+    # the count is looked at first
+    ("rowdescription " + ",".join(["00:0:0:0:0:0:0"] * 65536), MANY + "65536"),
+]
+
+# As many items as can be counted.
+MOST = [
+    "copyin 0 " + ",".join("1" * 32767), "copyboth 0 " + ",".join("1" * 32767), "datarow " + ",".join(["null"] * 65535),
+    "parameterdescription " + ",".join("7" * 65535), "rowdescription " + ",".join(["-:0:0:0:0:0:0"] * 65535),
+    "negotiate 0 " + ",".join(["61"] * 65536),
+]
+
+# Lines that fit no form.
+BAD = [
+    b"", b" ", b"sync", b"strict", b"Nodata", b"nodata ", b"nodata -", b" nodata", b"nodata\r", b"nodata\0", b"5a 49", b"authentication",
+    b"authentication ", b"authentication gss", b"authentication ok -", b"authentication OK", b"authentication  ok", b"authentication md5 -",
+    b"authentication md5 010203", b"authentication md5 0102030405", b"authentication md5 0102030g", b"authentication sasl",
+    b"authentication sasl ", b"authentication sasl 61,", b"authentication sasl ,61", b"authentication sasl 6", b"authentication sasl 61 62",
+    b"authentication continue", b"authentication final ", b"backendkeydata 1", b"backendkeydata - 01020304", b"backendkeydata -1 01020304",
+    b"backendkeydata +1 01020304", b"backendkeydata 4294967296 01020304", b"backendkeydata 00000000001 01020304",
+    b"backendkeydata 1 01020304 -", b"bindcomplete -", b"commandcomplete", b"commandcomplete ", b"commandcomplete 4", b"commandcomplete 4g",
+    b"commandcomplete 41 -", b"copyin", b"copyin 0", b"copyin 128 -", b"copyin -129 -", b"copyin +1 -", b"copyin - -", b"copyin 0001 -",
+    b"copyin 0 32768", b"copyout 0 -32769", b"copyboth 0 0,", b"copyboth 0 000000", b"copyboth 0 --1", b"copydata", b"copydata 5",
+    b"copydata \xff", b"datarow", b"datarow ", b"datarow null,", b"datarow x-", b"datarow 00", b"datarow Null", b"datarow x0", b"datarow xx00",
+    b"datarow null x", b"errorresponse", b"errorresponse M", b"errorresponse M=", b"errorresponse =41", b"errorresponse MM=41", b"errorresponse 04d=41",
+    b"errorresponse M=41=42", b"errorresponse M=41,", b"errorresponse \xc3\xa9=41", b"errorresponse \xff=41", b"noticeresponse  =41",
+    b"functioncallresponse", b"functioncallresponse -", b"functioncallresponse null,null", b"negotiate 0", b"negotiate - -", b"negotiate -1 -",
+    b"notification 1 -", b"notification 1 - - -", b"parameterdescription", b"parameterdescription -1", b"parameterdescription 1,,2",
+    b"parameterstatus -", b"parameterstatus - - -", b"ready", b"ready -", b"ready i", b"ready IT", b"ready I ", b"rowdescription",
+    b"rowdescription 61", b"rowdescription 61:0:0:0:0:0", b"rowdescription 61:0:0:0:0:0:0:0", b"rowdescription :0:0:0:0:0:0",
+    b"rowdescription 61:-1:0:0:0:0:0", b"rowdescription 61:0:32768:0:0:0:0", b"rowdescription 61:0:0:4294967296:0:0:0",
+    b"rowdescription 61:0:0:0:-32769:0:0", b"rowdescription 61:0:0:0:0:2147483648:0", b"rowdescription 61:0:0:0:0:-2147483649:0",
+    b"rowdescription 61:0:0:0:0:0:32768",
+]
