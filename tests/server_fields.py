@@ -230,8 +230,10 @@ class NoticeFields:
 class Method:
     """Int32: what follows, by its number."""
 
-    NUMBERS = {"ok": (0, []), "cleartext": (3, []), "md5": (5, [Salt()]), "sasl": (10, [Mechanisms()]), "continue": (11, [Data()]),
-               "final": (12, [Data()])}
+    NUMBERS = {
+        "ok": (0, []), "cleartext": (3, []), "md5": (5, [Salt()]), "sasl": (10, [Mechanisms()]),
+        "continue": (11, [Data()]), "final": (12, [Data()]),
+    }
 
     def read(self, body):
         number = body.number(4)
