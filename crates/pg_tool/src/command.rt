@@ -1,11 +1,11 @@
 //! What a line of `encode` names: one message to the server.
 
 use crate::word::{formats_of, oids_of};
+use pg_base::io::{CopyData, CopyDone, Oid, PgValueFormat, PortalId, StatementId};
 use pg_lines::{Fault, hex_array, hex_bytes, u16_of, u32_of};
-use pg_message::io::{Oid, PgValueFormat, PortalId, StatementId};
-use pg_message::message::{
-    Bind, Close, CopyData, CopyDone, CopyFail, Describe, Execute, Flush, Parse, Password, Query,
-    SaslInitialResponse, SaslResponse, Sync, TaggedMessage, Terminate,
+use pg_send::message::{
+    Bind, Close, CopyFail, Describe, Execute, Flush, Parse, Password, Query, SaslInitialResponse,
+    SaslResponse, Sync, TaggedMessage, Terminate,
 };
 use std::alloc::Global;
 

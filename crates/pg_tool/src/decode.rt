@@ -1,9 +1,10 @@
 //! Lines that hold a tag and a body from the server, and whether each decodes.
 
 use bytes::Bytes;
+use pg_base::{BackendMessageFormat, Error};
 use pg_lines::{Fault, TaggedBodies, TaggedBody};
-use pg_message::error::Error;
-use pg_message::message::{BackendMessageFormat, ReceivedMessage, ServerMessage};
+use pg_receive::message::ReceivedMessage;
+use pg_server_message::message::ServerMessage;
 use std::alloc::Global;
 
 /// A line for each line of input: the name of the message and `ok` or `untyped`, or the error.

@@ -1,9 +1,9 @@
 //! Lines that name messages to the server, and the frames that they become.
 
 use crate::command::{Command, command_of, message_of};
+use pg_base::Error;
 use pg_lines::{Fault, Lines, push_frames};
-use pg_message::error::Error;
-use pg_message::message::{TaggedMessage, encode_all, encode_strict};
+use pg_send::message::{TaggedMessage, encode_all, encode_strict};
 use std::alloc::{AllocError, Global};
 
 // The line that makes the run strict, where it is the first.

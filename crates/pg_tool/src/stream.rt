@@ -1,8 +1,9 @@
 //! Raw bytes from the server, and a line for each message as soon as it is whole.
 
+use pg_base::Error;
+use pg_frames::FrameReader;
 use pg_lines::{Fault, Hex, write_text};
-use pg_message::error::Error;
-use pg_message::message::{FrameReader, ReceivedMessage};
+use pg_receive::message::ReceivedMessage;
 use std::alloc::{AllocError, Global};
 use std::io::{self, Read, Write};
 

@@ -1,7 +1,7 @@
 //! Words that a line of `encode` is made of.
 
+use pg_base::io::{Oid, PgValueFormat};
 use pg_lines::{Fault, u32_of};
-use pg_message::io::{Oid, PgValueFormat};
 use std::alloc::Global;
 
 /// The formats that a word spells: `0` for text and `1` for binary, parted by commas, or `-` for
