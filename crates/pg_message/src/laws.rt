@@ -1,6 +1,7 @@
 //! What holds beyond single calls: each function's contract is a law. A module has those of the crate
 //! of its name.
 
+pub use pg_backend_laws::laws as backend;
 pub use pg_base::laws as base;
 pub use pg_format::laws as formats;
 pub use pg_frames::laws as frames;
@@ -8,5 +9,7 @@ pub use pg_frontend_frames::laws as frontend_frames;
 pub use pg_frontend_laws::laws as frontend;
 pub use pg_read_frontend::laws as read_frontend;
 pub use pg_receive::laws as receive;
+pub use pg_relay::laws as relay;
 pub use pg_request::laws as request;
 pub use pg_response::laws as response;
+pub use pg_write_backend::laws as write_backend;

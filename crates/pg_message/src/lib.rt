@@ -3,19 +3,22 @@
 //!
 //! To send, make a message of [`message`] and append it to a buffer by its `encode_msg`, or many at
 //! once by [`message::encode_all`]. To receive, feed a [`message::FrameReader`] what the socket gives, take
-//! each message that is complete, and read it by [`message::ServerMessage::decode`].
+//! each message that is complete, and read it by [`message::ServerMessage::decode`]. A server, a proxy or a pooler
+//! finds the other side in [`frontend`] and [`backend`], and the core of a proxy in [`relay`].
 //!
 //! Everything here stands in a crate below, where its contract is: `pg_base`, `pg_format`, `pg_request`,
 //! `pg_send`, `pg_response`, `pg_receive`, `pg_server_message`, `pg_frames`, `pg_read_frontend`,
-//! `pg_frontend_laws` and `pg_frontend_frames`. The words of the contracts of `pg_base` are named from here as
+//! `pg_frontend_laws`, `pg_frontend_frames`, `pg_write_backend`, `pg_backend_laws` and `pg_relay`. The words of the contracts of `pg_base` are named from here as
 //! `Rattle.pg_message.specs.pg_base`, and so are those of the others.
 #![tactic(auto)]
 
+pub mod backend;
 pub mod error;
 pub mod frontend;
 pub mod io;
 pub mod laws;
 pub mod message;
+pub mod relay;
 
 pub use error::{Error, ErrorKind, FrontendFault, PgDatabaseError, ProtocolFault};
 pub use frontend::FrontendMessageRef;
