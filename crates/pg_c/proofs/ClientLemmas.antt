@@ -1,17 +1,13 @@
 -- Where the parts of a client's message stand.
 use Rattle.std.proofs.Common.{◌≡◌, ℕ, zero, suc, ◌+◌, ℤ, pos, negsuc, List, [], ◌∷◌, ◌++◌, Option, Some, length, drop, refl, sym, ap, ◌∙◌, arith, append_assoc, length-append}
-use Rattle.std.proofs.lemmas.List.{drop-drop, drop_at, drop_all}
-use Rattle.pg_base.specs.Reading.{Number, Text}
+use Rattle.std.proofs.lemmas.List.{drop_at, drop_all}
+use Rattle.pg_base.specs.Reading.{Text}
 use Rattle.pg_format.specs.Format.{Means}
 use Rattle.pg_format.specs.Format.Nullable.{cell, cell_after, value, value_after}
-use Rattle.pg_format.specs.Format.Parts.{be_u32}
 use Rattle.pg_format.specs.Format.Places.{IsReadAt}
 use Rattle.pg_format.specs.Messages as page
-use Rattle.pg_c.specs.Place.{StandAt, bytes_in}
-use Rattle.pg_c.proofs.PlaceLemmas.{bytes_are, two_texts}
-
-pub portal_is : (body : List ℕ) (e : page.Execute) → Means page.execute body e → bytes_in body 0 (length e.portal) ≡ Some e.portal
-portal_is body e p = bytes_are body [] e.portal (0 ∷ p.0.mid) 0 p.0.first.parts refl
+use Rattle.pg_c.specs.Place.{bytes_in}
+use Rattle.pg_c.proofs.PlaceLemmas.{bytes_are}
 
 -- a name after a letter
 pub name_is : (body : List ℕ) (t : page.Targeted) → Means page.targeted body t → bytes_in body 1 (length t.name) ≡ Some t.name
@@ -26,35 +22,6 @@ after_text bytes text rest p =
     let spelled : List ℕ = text ++ 0 ∷ [] in
     let parts : bytes ≡ spelled ++ rest = p.parts ∙ sym (append_assoc text (0 ∷ []) rest) in
     rw parts (drop_at spelled rest (length text + 1) (length-append text (0 ∷ [])))
-
-pub after_number : (width : ℕ) (bytes : List ℕ) (n : ℕ) (rest : List ℕ) → Number width bytes n rest → drop width bytes ≡ rest
-after_number width bytes n rest p = rw p.parts (drop_at p.spelled rest width p.wide)
-
--- ---- a Parse
-
-pub texts_are : (body : List ℕ) (v : page.Parse) → Means page.parse body v
-    → (bytes_in body 0 (length v.statement) ≡ Some v.statement) × (bytes_in body (length v.statement + 1) (length v.query) ≡ Some v.query)
-texts_are body v p =
-    let read = p.0 in
-    let none : 0 + length v.statement ≡ length v.statement = omega arith in
-    let at = two_texts body [] body v.statement read.mid v.query read.second.mid 0 refl refl read.first read.second.first in
-    (at.0, rw none at at.1)
-
-pub types_are : (body : List ℕ) (v : page.Parse) → Means page.parse body v
-    → StandAt be_u32 body (record { at = length v.statement + 1 + length v.query + 1 + 2; count = length v.types }) v.types
-types_are body v p =
-    let read = p.0 in
-    let list = read.second.second in
-    let s = length v.statement + 1 in
-    let q = length v.query + 1 in
-    let at : length v.statement + 1 + length v.query + 1 + 2 ≡ s + q + 2 = omega arith in
-    let statement : drop s body ≡ read.mid = after_text body v.statement read.mid read.first in
-    let query : drop q read.mid ≡ read.second.mid = after_text read.mid v.query read.second.mid read.second.first in
-    let count : drop 2 read.second.mid ≡ list.1.mid = after_number 2 read.second.mid list.0.0 list.1.mid list.1.first in
-    let texts : drop (s + q) body ≡ read.second.mid = sym (drop-drop q s body) ∙ ap (drop q) statement ∙ query in
-    let all : drop (s + q + 2) body ≡ list.1.mid = sym (drop-drop 2 (s + q) body) ∙ ap (drop 2) texts ∙ count in
-    let none : drop (length body) body ≡ [] = drop_all (length body) body (omega arith) in
-    record { end = length body; read = record { within = omega arith; reads = (refl, rw (at, all, none, list.2) list.1.second.1) } }
 
 -- ---- the first message of a mechanism
 

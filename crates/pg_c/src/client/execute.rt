@@ -1,15 +1,19 @@
 //! A portal that is run.
 
-ghost use Rattle.std.specs.Prelude.{◌≡◌, ◌≤◌, ◌<ℤ◌, ◌≤ℤ◌, pos, length};
+ghost use Rattle.std.specs.Prelude.{◌≡◌, ◌≤◌, ◌<ℤ◌, ◌≤ℤ◌, pos, length, IfOk, IfErr};
 ghost use Rattle.pg_format.specs.Messages as page;
+ghost use Rattle.pg_read_frontend.specs.Message.{HasFault};
 ghost use Rattle.pg_response.specs.Received.{max_body};
 ghost use Rattle.pg_c.specs.Client.{RefusesClientBody};
 ghost use Rattle.pg_c.specs.Client.Execute.{ReadsExecute};
 
+use crate::client::values::name_at;
 use crate::place::PgmsgSpan;
 use crate::read::check_body;
 use crate::refusal::{PgmsgFault, report, report_client};
-use pg_read_frontend::message::ExecuteRef;
+use pg_base::io::MAX_BODY;
+use pg_read_frontend::FrontendFault;
+use pg_read_frontend::parts::{end_at, u32_at};
 use std::alloc::Global;
 
 /// A portal that is run, empty for the one without a name, and the most rows to send back: 0 for all of
@@ -39,17 +43,23 @@ pub extern "C" fn pgmsg_read_execute(
     if let Err(why) = check_body(body) {
         return report(alloc, why.into(), fault);
     }
-    match ExecuteRef::read(body) {
+    match execute_of(body) {
         Ok(read) => {
-            *execute = PgmsgExecute {
-                portal: PgmsgSpan {
-                    at: 0,
-                    len: read.portal.len(),
-                },
-                max_rows: read.limit,
-            };
+            *execute = read;
             0
         }
         Err(why) => report_client(alloc, why, fault),
     }
+}
+
+#[inline(always)]
+fn execute_of(body: &[u8]) -> Result<PgmsgExecute, FrontendFault>
+    requires { length body.now ≤ MAX_BODY }
+    ensures execute { IfOk result (ReadsExecute body.now) }
+    ensures fault { IfErr result (HasFault page.execute body.now 0) }
+{
+    let (portal, end) = name_at(body, 0)?;
+    let (max_rows, end) = u32_at(body, end)?;
+    end_at(body, end)?;
+    Ok(PgmsgExecute { portal, max_rows })
 }

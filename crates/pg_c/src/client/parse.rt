@@ -1,19 +1,27 @@
 //! A statement that is prepared.
 
-ghost use Rattle.std.specs.Prelude.{◌≡◌, ◌≤◌, ◌<ℤ◌, ◌≤ℤ◌, pos, length};
+ghost use Rattle.std.specs.Prelude.{◌≡◌, ◌≤◌, ◌<ℤ◌, ◌≤ℤ◌, pos, length, IfOk, IfErr};
+ghost use Rattle.pg_format.specs.Format.Lists.{counted_least};
+ghost use Rattle.pg_format.specs.Format.Parts.{be_u32};
 ghost use Rattle.pg_format.specs.Messages as page;
+ghost use Rattle.pg_read_frontend.specs.Message.{HasFault};
 ghost use Rattle.pg_response.specs.Received.{max_body};
 ghost use Rattle.pg_c.specs.Client.{RefusesClientBody};
 ghost use Rattle.pg_c.specs.Client.Parse.{ReadsParse};
+ghost use Rattle.pg_c.specs.Client.Parts.{Finds};
+ghost use Rattle.pg_c.specs.Place.{StandAt};
 
+use crate::client::values::{name_at, place_of_text_at};
 use crate::place::{PgmsgList, PgmsgSpan};
 use crate::read::check_body;
 use crate::refusal::{PgmsgFault, report, report_client};
-use pg_read_frontend::message::ParseRef;
+use pg_base::io::MAX_BODY;
+use pg_read_frontend::FrontendFault;
+use pg_read_frontend::parts::{bytes_at, end_at, u16_at};
 use std::alloc::Global;
 
-// The bytes of the count before the types.
-const COUNT_LENGTH: usize = 2;
+// The bytes of a type.
+const TYPE_LENGTH: usize = 4;
 
 /// A statement that is prepared, empty for the one without a name, its text, and the types of its
 /// parameters, each of four bytes: `pgmsg_read_types` gives them.
@@ -43,26 +51,43 @@ pub extern "C" fn pgmsg_read_parse(
     if let Err(why) = check_body(body) {
         return report(alloc, why.into(), fault);
     }
-    match ParseRef::read(body) {
+    match parse_of(body) {
         Ok(read) => {
-            let statement = PgmsgSpan {
-                at: 0,
-                len: read.statement.len(),
-            };
-            let query = PgmsgSpan {
-                at: statement.len + 1,
-                len: read.query.len(),
-            };
-            *parse = PgmsgParse {
-                statement,
-                query,
-                types: PgmsgList {
-                    at: query.at + query.len + 1 + COUNT_LENGTH,
-                    count: read.types.len(),
-                },
-            };
+            *parse = read;
             0
         }
         Err(why) => report_client(alloc, why, fault),
     }
+}
+
+#[inline(always)]
+fn parse_of(body: &[u8]) -> Result<PgmsgParse, FrontendFault>
+    requires { length body.now ≤ MAX_BODY }
+    ensures parse { IfOk result (ReadsParse body.now) }
+    ensures fault { IfErr result (HasFault page.parse body.now 0) }
+{
+    let (statement, end) = name_at(body, 0)?;
+    let (query, end) = place_of_text_at(body, end)?;
+    let (types, end) = types_at(body, end)?;
+    end_at(body, end)?;
+    Ok(PgmsgParse {
+        statement,
+        query,
+        types,
+    })
+}
+
+// The place of the types whose count is at an offset, and the offset after them.
+#[inline(always)]
+fn types_at(body: &[u8], at: usize) -> Result<(PgmsgList, usize), FrontendFault>
+    requires { at ≤ length body.now }
+    ensures found { IfOk result
+        (λ found. Finds (counted_least 4 be_u32) (StandAt be_u32 body.now) body.now at
+        found.0 found.1) }
+    ensures fault { IfErr result (HasFault (counted_least 4 be_u32) body.now at) }
+{
+    let (count, first) = u16_at(body, at)?;
+    let count = usize::from(count);
+    let (_types, end) = bytes_at(body, first, TYPE_LENGTH * count)?;
+    Ok((PgmsgList { at: first, count }, end))
 }

@@ -46,11 +46,23 @@ pub(crate) fn name_at(body: &[u8], at: usize) -> Result<(PgmsgSpan, usize), Fron
             return Ok((PgmsgSpan { at, len: end - at }, end + 1));
         }
     }
-    let (name, end) = text_at(body, at)?;
+    place_of_text_at(body, at)
+}
+
+/// The place of the text at an offset, and the offset after its NUL.
+#[inline(always)]
+pub(crate) fn place_of_text_at(body: &[u8], at: usize) -> Result<(PgmsgSpan, usize), FrontendFault>
+    requires { at ≤ length body.now }
+    ensures found { IfOk result
+        (λ found. Finds until_nul (λ span text. part body.now span ≡ Some text) body.now at
+        found.0 found.1) }
+    ensures fault { IfErr result (HasFault until_nul body.now at) }
+{
+    let (text, end) = text_at(body, at)?;
     Ok((
         PgmsgSpan {
             at,
-            len: name.len(),
+            len: text.len(),
         },
         end,
     ))
