@@ -3,17 +3,20 @@ what pg_tool reads of them, and with what servers sent.
 """
 
 import random
+import subprocess
 
 import crates
 import server_model as model
 import server_rows as rows
+import server_words
 from client_fields import listed
 from programs import PG_SERVER_TOOL, PG_TOOL, encoded, lines_of
 
 SEED = 39
 
-# How many messages of each kind are made up.
-MESSAGES = 60
+# How many messages of each kind are made up, and how many lines that are nearly theirs; what is put into those.
+MESSAGES, CHANGED = 60, 25
+SIGNS = "012345678901234567890123456789abcdefAFxngMSTIE-,:=+ .\0\r\u00e9"
 
 # The kinds whose every body that is written decodes: the others have texts that must be UTF-8, or data with rules of its own.
 DECODED = {
@@ -40,6 +43,7 @@ KEPT = {
 def compare_all(compare):
     by_hand(compare)
     made_up(compare)
+    nearly(compare)
     kept(compare)
 
 
@@ -70,6 +74,24 @@ def made_up(compare):
     written(compare, lines)
     for kind in model.KINDS:
         written(compare, [line for line in lines if model.fields_of(line)[0] == kind])
+
+
+def nearly(compare):
+    """Compares lines that are nearly those of messages: which are bad, by the forms, and what is written of the others."""
+    chance = random.Random(SEED)
+    lines = [changed(model.made(kind, chance), chance) for kind in model.KINDS for _ in range(CHANGED)]
+    written(compare, [line for line in lines if server_words.fits(line)])
+    for line in lines:
+        if not server_words.fits(line):
+            bad = (1, "", "line 1: bad command\n")
+            compare.run(f"a bad line {line!r}", ["encode"], bad, input=f"{line}\n".encode(), stdout=subprocess.PIPE)
+
+
+def changed(line, random):
+    """A line with a sign put in, left out or replaced."""
+    begin = random.randint(0, len(line))
+    end = min(len(line), begin + random.choice((0, 0, 1, 1, 1, 2)))
+    return line[:begin] + random.choice(("", *SIGNS)) + line[end:]
 
 
 def written(compare, lines):
