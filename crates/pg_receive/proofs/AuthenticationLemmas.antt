@@ -1,8 +1,11 @@
 -- Authentication requests: what follows the number of a method.
-use Rattle.std.specs.Prelude.{◌≡◌, ◌≢◌, ℕ, List, [], ◌∷◌, length, Some, None, IsUtf8}
-use Rattle.std.proofs.Common.{refl, ◌∙◌, inr, drop}
-use Rattle.std.proofs.lemmas.Bool.{ne_eqb}
+use Rattle.std.specs.Prelude.{◌≡◌, ◌≢◌, ℕ, ◌==◌, ◌||◌, true, List, [], ◌∷◌, length, Some, None, Err, IsUtf8}
+use Rattle.std.proofs.Common.{refl, sym, ◌∙◌, inr, drop}
+use Rattle.std.proofs.lemmas.Bool.{ne_eqb, false≢true}
 use Rattle.std.proofs.lemmas.Str.{IsUtf8-from_is_utf8, is_utf8-from_IsUtf8}
+use Rattle.pg_base.specs.Decode.{Decodes}
+use Rattle.pg_base.specs.declared.error.Error.{Error}
+use Rattle.pg_base.specs.declared.error.Error.TheVariants.{Protocol, OutOfMemory}
 use Rattle.pg_base.specs.declared.error.ProtocolFault.{ProtocolFault}
 use Rattle.pg_base.specs.declared.error.ProtocolFault.TheVariants.{UnknownAuthentication}
 use Rattle.pg_format.specs.Format.{Means, IsFaultOf}
@@ -13,8 +16,10 @@ use Rattle.pg_format.specs.Messages as page
 use Rattle.pg_format.specs.Sasl.{first_message_fault, final_message_fault}
 use Rattle.pg_receive.specs.Authentication.Mechanisms.{BeginsWithName, AreMechanisms, mechanisms_in}
 use Rattle.pg_receive.specs.Authentication.SaslContinue.{ContinueValue, challenge_in, challenges}
-use Rattle.pg_receive.specs.Authentication.SaslFinal.{verifier_in, verifiers}
-use Rattle.pg_receive.specs.Authentication.{sasl_continue, sasl_final, value_of, requests}
+use Rattle.pg_receive.specs.Authentication.SaslContinue.Shown.{continue_shown}
+use Rattle.pg_receive.specs.Authentication.SaslFinal.{verifier_in, verifiers, GivesNoVerifier}
+use Rattle.pg_receive.specs.Authentication.Shown.{authentication_shown}
+use Rattle.pg_receive.specs.Authentication.{sasl_continue, sasl_final, value_of, requests, IsNoSaslData}
 use Rattle.pg_receive.proofs.AuthenticationMechanismsLemmas.{are_mechanisms}
 
 pub challenge_means : (bytes : List ℕ) (v : ContinueValue) → first_message_fault bytes ≡ None → v ≡ challenge_in bytes → Means challenges bytes v
@@ -67,3 +72,22 @@ challenge_request body method bytes v found is e p =
 pub verifier_request : (body : List ℕ) (method : ℕ) (bytes : List ℕ) (v : List ℕ) → be_u32.Reads body method (drop 4 body) → method ≡ 12 → bytes ≡ drop 4 body → Means verifiers bytes v → Means requests body (sasl_final v)
 verifier_request body method bytes v found is e p =
     rw p.2 (request_means body method (drop 4 body) (page.sasl_final p.0) [] found (rw is (p.0, ((p.1.0.0 ∙ e, refl), p.1.1), refl)))
+
+pub challenge_refused : (body : List ℕ) (method : ℕ) (bytes : List ℕ) (fault : ProtocolFault) → be_u32.Reads body method (drop 4 body) → method ≡ 11 → bytes ≡ drop 4 body → IsFaultOf challenges bytes fault → IsFaultOf requests body fault
+challenge_refused body method bytes fault found is e p = request_breaks body method (drop 4 body) fault found (rw is (rw e at p))
+
+pub verifier_refused : (body : List ℕ) (method : ℕ) (bytes : List ℕ) (fault : ProtocolFault) → be_u32.Reads body method (drop 4 body) → method ≡ 12 → bytes ≡ drop 4 body → IsFaultOf verifiers bytes fault → IsFaultOf requests body fault
+verifier_refused body method bytes fault found is e p = request_breaks body method (drop 4 body) fault found (rw is (rw e at p))
+
+data_needs_memory : (body : List ℕ) (method : ℕ) → be_u32.Reads body method (drop 4 body) → (method == 11 || method == 12) ≡ true → ¬ IsNoSaslData body
+data_needs_memory body method found is none = false≢true (sym (none method (drop 4 body) found) ∙ is)
+
+pub challenge_error : (body : List ℕ) (method : ℕ) (bytes : List ℕ) (error : Error) → be_u32.Reads body method (drop 4 body) → method ≡ 11 → bytes ≡ drop 4 body
+    → Decodes (Means challenges) (IsFaultOf challenges) (λ _. ⊥) continue_shown None bytes (Err error) → Decodes (Means requests) (IsFaultOf requests) IsNoSaslData authentication_shown None body (Err error)
+challenge_error body method bytes (Protocol reading fault) found is e p = (p.0, challenge_refused body method bytes fault found is e p.1)
+challenge_error body method bytes OutOfMemory found is e p = data_needs_memory body method found (rw is refl)
+
+pub verifier_error : {A : Type 0} (shown : A → List ℕ) (body : List ℕ) (method : ℕ) (bytes : List ℕ) (error : Error) → be_u32.Reads body method (drop 4 body) → method ≡ 12 → bytes ≡ drop 4 body
+    → Decodes (Means verifiers) (IsFaultOf verifiers) GivesNoVerifier shown None bytes (Err error) → Decodes (Means requests) (IsFaultOf requests) IsNoSaslData authentication_shown None body (Err error)
+verifier_error shown body method bytes (Protocol reading fault) found is e p = (p.0, verifier_refused body method bytes fault found is e p.1)
+verifier_error shown body method bytes OutOfMemory found is e p = data_needs_memory body method found (rw is refl)

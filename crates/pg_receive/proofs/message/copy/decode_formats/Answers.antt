@@ -52,3 +52,6 @@ returns c =
     let all : c.loop-index.index ≡ c.code_count-count.result = omega (arith, c.loop-index-test.false, c.loop-index.auto.index-end) in
     rw (to_z-of_z w8 format format_range, to_z-of_z w16 count count_range)
     (response_at body format count c.loop-index.index (3 + 2 * c.loop-index.index) c.loop-index.format_codes.items counts (all ∙ codes_are) c.loop-index.invariant.read)
+
+pub loop-index-init : goal.loop-index-init
+loop-index-init c = search rules

@@ -1,5 +1,5 @@
 use Rattle.std.specs.Option.{is_none, is_some}
-use Rattle.std.proofs.Common.{◌≡◌, ◌+◌, ◌*◌, ◌<◌, ◌≤◌, length, refl, sym, ap, ◌∙◌, option_copied, arith}
+use Rattle.std.proofs.Common.{◌≡◌, ◌+◌, ◌*◌, ◌<◌, ◌≤◌, length, refl, sym, ap, ◌∙◌, option_copied, arith, rules}
 use Rattle.std.proofs.lemmas.List.{length_push}
 use Rattle.std.proofs.lemmas.Result.{err_from_is_err_and}
 use Rattle.pg_receive.specs.DataRow.CellEnd.{end_of, cell_to, cells_from, last_end}
@@ -51,3 +51,12 @@ returns-clause-answer c =
     let cells = cells_from body 2 row.ends.items in
     let all : row._index ≡ n = omega (arith, c.from-count.ensures, c.loop-index-test.false, row.auto._index-end) in
     counted_at cell 4 body n row.at cells c.in_ok-u16_at.ensures.found (rw all at row.invariant.read)
+
+pub returns-in_err-u16_at-clause-answer : goal.returns-in_err-u16_at-clause-answer
+returns-in_err-u16_at-clause-answer c = search rules
+
+pub returns-in_err-bytes_at-clause-answer : goal.returns-in_err-bytes_at-clause-answer
+returns-in_err-bytes_at-clause-answer c = search rules
+
+pub loop-index-init : goal.loop-index-init
+loop-index-init c = search rules

@@ -1,4 +1,4 @@
-use Rattle.std.proofs.Common.{◌≡◌, ◌+◌, ◌*◌, ◌≤◌, [], ◌∷◌, ◌++◌, length, ap, ◌∙◌, arith}
+use Rattle.std.proofs.Common.{◌≡◌, ◌+◌, ◌*◌, ◌≤◌, [], ◌∷◌, ◌++◌, length, ap, ◌∙◌, arith, rules}
 use Rattle.std.proofs.lemmas.Bool.{false≢true}
 use Rattle.std.proofs.lemmas.List.{map_push, length_push}
 use Rattle.std.proofs.lemmas.Result.{err_from_is_err_and}
@@ -41,3 +41,15 @@ returns c =
     let index = c.loop-index.index in
     let all : index ≡ n = omega (arith, c.from-count.ensures, c.loop-index-test.false, c.loop-index.auto.index-end) in
     counted_at be_u32 4 body n (2 + 4 * n) (numbers_of c.loop-index.types.items) c.in_ok-u16_at.ensures.found (rw all at c.loop-index.invariant.read)
+
+pub returns-in_err-u16_at : goal.returns-in_err-u16_at
+returns-in_err-u16_at c = search rules
+
+pub returns-in_err-bytes_at : goal.returns-in_err-bytes_at
+returns-in_err-bytes_at c = search rules
+
+pub returns-in_err-u32_at : goal.returns-in_err-u32_at
+returns-in_err-u32_at c = search rules
+
+pub loop-index-init : goal.loop-index-init
+loop-index-init c = search rules

@@ -1,4 +1,4 @@
-use Rattle.std.proofs.Common.{◌≡◌, ℕ, ◌+◌, ◌*◌, ◌<◌, ◌≤◌, List, [], ◌∷◌, ◌++◌, length, map, drop, None, Err, Vec, ap, ◌∙◌, arith}
+use Rattle.std.proofs.Common.{◌≡◌, ℕ, ◌+◌, ◌*◌, ◌<◌, ◌≤◌, List, [], ◌∷◌, ◌++◌, length, map, drop, None, Err, Vec, ap, ◌∙◌, arith, rules}
 use Rattle.std.specs.declared.alloc.Global.{Global}
 use Rattle.std.proofs.lemmas.Bool.{false≢true}
 use Rattle.std.proofs.lemmas.List.{map_push}
@@ -65,3 +65,12 @@ returns c =
     let n = c.in_ok-u16_at.field-0 in
     let all : read._index ≡ n = omega (arith, c.from-count.ensures, c.loop-index-test.false, read.auto._index-end) in
     counted_at column 19 c.args.body.now n read.at (map column_of read.fields.items) c.in_ok-u16_at.ensures.found (rw all at read.invariant.read)
+
+pub returns-in_err-u16_at : goal.returns-in_err-u16_at
+returns-in_err-u16_at c = search rules
+
+pub returns-in_err-bytes_at : goal.returns-in_err-bytes_at
+returns-in_err-bytes_at c = search rules
+
+pub loop-index-init : goal.loop-index-init
+loop-index-init c = search rules

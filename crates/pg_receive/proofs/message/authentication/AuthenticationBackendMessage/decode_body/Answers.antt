@@ -1,11 +1,11 @@
-use Rattle.std.proofs.Common.{◌≡◌, ℕ, ◌-◌, List, [], length, take, drop, refl, ap, ◌∙◌, arith}
+use Rattle.std.proofs.Common.{◌≡◌, ℕ, ◌-◌, List, [], length, take, drop, Vec, Global, refl, ap, ◌∙◌, arith}
 use Rattle.std.proofs.lemmas.List.{take_all, length-drop}
 use Rattle.std.proofs.lemmas.Result.{err_from_is_err_and}
 use Rattle.pg_format.specs.Format.Parts.{be_u32}
 use Rattle.pg_format.specs.Messages as page
 use Rattle.pg_receive.specs.Authentication.Mechanisms.{mechanisms_in}
 use Rattle.pg_receive.specs.Authentication.SaslContinue.Shown.{continue_shown}
-use Rattle.pg_receive.proofs.AuthenticationLemmas.{request_means, request_breaks, names_read, challenge_request, verifier_request}
+use Rattle.pg_receive.proofs.AuthenticationLemmas.{request_means, request_breaks, names_read, challenge_request, challenge_error, verifier_request, verifier_error}
 use Rattle.pg_receive.proofs.message.authentication.AuthenticationBackendMessage.decode_body.Goals as goal
 
 -- the number of the method, of the body that is kept
@@ -63,9 +63,27 @@ returns-in_ok-challenge-in-11 c =
     let found = method_in body c.as_slice-body.result.now method c.as_slice-body.ensures c.in_ok-method.ensures.found in
     challenge_request body method _ (continue_shown c.in_ok-challenge-in-11.challenge) found c.in-11.is (after_method body c.as_slice-body.result.now c.as_slice-body.ensures) c.in_ok-challenge-in-11.ensures
 
+pub returns-in_err-challenge-in-11 : goal.returns-in_err-challenge-in-11
+returns-in_err-challenge-in-11 c =
+    let p = err_from_is_err_and c.from_residual-in_err-challenge-in-11.result c.from_residual-in_err-challenge-in-11.ensures.1 in
+    let body = c.args.buf in
+    let method = c.in_ok-method.method in
+    let found = method_in body c.as_slice-body.result.now method c.as_slice-body.ensures c.in_ok-method.ensures.found in
+    let after = after_method body c.as_slice-body.result.now c.as_slice-body.ensures in
+    rw (p.1, p.2) (challenge_error body method _ c.in_err-challenge-in-11.field-0.0 found c.in-11.is after c.in_err-challenge-in-11.ensures)
+
 pub returns-in_ok-verifier-in-12 : goal.returns-in_ok-verifier-in-12
 returns-in_ok-verifier-in-12 c =
     let body = c.args.buf in
     let method = c.in_ok-method.method in
     let found = method_in body c.as_slice-body.result.now method c.as_slice-body.ensures c.in_ok-method.ensures.found in
     verifier_request body method _ c.in_ok-verifier-in-12.verifier.items found c.in-12.is (after_method body c.as_slice-body.result.now c.as_slice-body.ensures) c.in_ok-verifier-in-12.ensures
+
+pub returns-in_err-verifier-in-12 : goal.returns-in_err-verifier-in-12
+returns-in_err-verifier-in-12 c =
+    let p = err_from_is_err_and c.from_residual-in_err-verifier-in-12.result c.from_residual-in_err-verifier-in-12.ensures.1 in
+    let body = c.args.buf in
+    let method = c.in_ok-method.method in
+    let found = method_in body c.as_slice-body.result.now method c.as_slice-body.ensures c.in_ok-method.ensures.found in
+    let after = after_method body c.as_slice-body.result.now c.as_slice-body.ensures in
+    rw (p.1, p.2) (verifier_error (λ (verifier : Vec ℕ Global). verifier.items) body method _ c.in_err-verifier-in-12.field-0.0 found c.in-12.is after c.in_err-verifier-in-12.ensures)

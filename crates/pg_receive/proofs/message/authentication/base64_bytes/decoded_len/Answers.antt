@@ -1,4 +1,4 @@
-use Rattle.std.proofs.Common.{arith, sym, ◌∙◌}
+use Rattle.std.proofs.Common.{arith, sym, ◌∙◌, rules}
 use Rattle.pg_receive.proofs.AuthenticationBase64BytesLemmas.{one_less, broken_left}
 use Rattle.pg_receive.proofs.message.authentication.base64_bytes.decoded_len.Goals as goal
 
@@ -7,6 +7,9 @@ returns-then-not-is_whole-clause-none c =
     let read = c.loop-rest in
     broken_left c.args.text.now read.rest.now read.len read.invariant c.loop-rest-test.true (λ i. omega (arith, c.type_inv.text i))
     (λ p. let whole = c.is_whole.ensures.1 (rw c.split_at.ensures.front p) in cc (sym whole ∙ c.if-not-is_whole.true))
+
+pub loop-rest-init : goal.loop-rest-init
+loop-rest-init c = search rules
 
 pub loop-rest-preserved : goal.loop-rest-preserved
 loop-rest-preserved c =

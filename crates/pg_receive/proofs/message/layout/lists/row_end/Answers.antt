@@ -1,4 +1,4 @@
-use Rattle.std.proofs.Common.{◌≡◌, ◌+◌, ◌*◌, ◌<◌, ◌≤◌, [], length, option_copied, arith}
+use Rattle.std.proofs.Common.{◌≡◌, ◌+◌, ◌*◌, ◌<◌, ◌≤◌, [], length, option_copied, arith, rules}
 use Rattle.std.proofs.lemmas.Result.{err_from_is_err_and}
 use Rattle.pg_format.specs.Format.Nullable.{cell}
 use Rattle.pg_format.proofs.FormatLaws.Places.{none_at, one_more_at, broken_at}
@@ -32,3 +32,9 @@ returns-clause-end c =
     let read = c.loop-index in
     let all : read._index ≡ n = omega (arith, c.from-count.ensures, c.loop-index-test.false, read.auto._index-end) in
     counted_end cell 4 c.args.body.now n read.at read.invariant.read.0 c.in_ok-u16_at.ensures.found (rw all at read.invariant.read.1)
+
+pub returns-in_err-u16_at-clause-fault : goal.returns-in_err-u16_at-clause-fault
+returns-in_err-u16_at-clause-fault c = search rules
+
+pub returns-in_err-bytes_at-clause-fault : goal.returns-in_err-bytes_at-clause-fault
+returns-in_err-bytes_at-clause-fault c = search rules

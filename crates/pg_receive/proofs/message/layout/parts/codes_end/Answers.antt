@@ -26,3 +26,12 @@ returns-clause-end c =
         };
       };
     })
+
+pub returns-in_err-i8_at-clause-fault : goal.returns-in_err-i8_at-clause-fault
+returns-in_err-i8_at-clause-fault c = search rules
+
+pub returns-in_err-i16_at-clause-fault : goal.returns-in_err-i16_at-clause-fault
+returns-in_err-i16_at-clause-fault c = search rules
+
+pub returns-in_err-bytes_at-clause-fault : goal.returns-in_err-bytes_at-clause-fault
+returns-in_err-bytes_at-clause-fault c = search rules

@@ -1,4 +1,4 @@
-use Rattle.std.proofs.Common.{drop}
+use Rattle.std.proofs.Common.{drop, rules}
 use Rattle.pg_receive.proofs.message.layout.parts.notification_end.Goals as goal
 
 pub returns-clause-end : goal.returns-clause-end
@@ -17,3 +17,12 @@ returns-clause-end c =
         };
       };
     }
+
+pub returns-in_err-u32_at-clause-fault : goal.returns-in_err-u32_at-clause-fault
+returns-in_err-u32_at-clause-fault c = search rules
+
+pub returns-in_err-_channel-clause-fault : goal.returns-in_err-_channel-clause-fault
+returns-in_err-_channel-clause-fault c = search rules
+
+pub returns-in_err-_payload-clause-fault : goal.returns-in_err-_payload-clause-fault
+returns-in_err-_payload-clause-fault c = search rules

@@ -1,4 +1,4 @@
-use Rattle.std.proofs.Common.{◌≤◌, List, [], drop, length, refl, arith}
+use Rattle.std.proofs.Common.{◌≤◌, List, [], drop, length, refl, arith, rules}
 use Rattle.std.proofs.lemmas.Result.{err_from_is_err_and}
 use Rattle.pg_base.proofs.ReadingLemmas.{number_fits}
 use Rattle.pg_format.proofs.FormatLaws.Places.{lacks_at}
@@ -48,3 +48,6 @@ returns-in_default-clause-end c =
     let method = c.in_ok-u32_at.field-0 in
     let any = any_there body method (λ e. absurd (omega arith)) (λ e. absurd (omega arith)) (λ e. absurd (omega arith)) (λ e. absurd (omega arith)) in
     after_method body method (length body) any.0 c.in_ok-u32_at.ensures.found (omega arith) any.1
+
+pub returns-in_err-u32_at-clause-fault : goal.returns-in_err-u32_at-clause-fault
+returns-in_err-u32_at-clause-fault c = search rules

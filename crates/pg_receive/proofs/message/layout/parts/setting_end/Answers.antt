@@ -1,4 +1,4 @@
-use Rattle.std.proofs.Common.{drop}
+use Rattle.std.proofs.Common.{drop, rules}
 use Rattle.pg_receive.proofs.message.layout.parts.setting_end.Goals as goal
 
 pub returns-clause-end : goal.returns-clause-end
@@ -12,3 +12,9 @@ returns-clause-end c =
         reads = record { mid = drop c.in_ok-_name.after c.args.body.now; first = name.found; second = value.found };
       };
     }
+
+pub returns-in_err-_name-clause-fault : goal.returns-in_err-_name-clause-fault
+returns-in_err-_name-clause-fault c = search rules
+
+pub returns-in_err-_value-clause-fault : goal.returns-in_err-_value-clause-fault
+returns-in_err-_value-clause-fault c = search rules

@@ -1,5 +1,8 @@
+use Rattle.std.proofs.Common.{drop, inl, inr, rules}
+use Rattle.std.proofs.lemmas.Result.{err_from_is_err_and}
 use Rattle.pg_format.specs.Format.Parts.{until_nul}
 use Rattle.pg_receive.specs.RowDescription.Raw.{column_of_raw}
+use Rattle.pg_format.proofs.FormatLaws.Places.{lacks_at}
 use Rattle.pg_receive.proofs.RowDescriptionLemmas.{length-numbers, column_is_at}
 use Rattle.pg_receive.proofs.message.row_description.raw_columns.raw_column_at.Goals as goal
 
@@ -15,3 +18,13 @@ returns-clause-column c =
     let text = c.in_ok-name.ensures in
     column_is_at until_nul c.args.body.now c.args.at c.in_ok-name.after name c.in_ok-numbers.numbers.now (column_of_raw c.in_ok-raw_field_of.field-0) text.found found.0 found.1
     c.in_ok-raw_field_of.ensures.name c.in_ok-raw_field_of.ensures.numbers
+
+pub returns-in_err-name-clause-broken : goal.returns-in_err-name-clause-broken
+returns-in_err-name-clause-broken c = search rules
+
+pub returns-in_err-numbers-clause-broken : goal.returns-in_err-numbers-clause-broken
+returns-in_err-numbers-clause-broken c =
+    let p = err_from_is_err_and c.from_residual-in_err-numbers.result c.from_residual-in_err-numbers.ensures.1 in
+    let text = c.in_ok-name.ensures in
+    let lacks = lacks_at c.args.body.now c.in_ok-name.after 18 c.in_err-numbers.field-0.0 text.after.1 c.in_err-numbers.ensures.short in
+    rw (p.1, p.2) (inr (record { value = c.in_ok-name.name.now; mid = drop c.in_ok-name.after c.args.body.now; reads = text.found; breaks = inl lacks }))

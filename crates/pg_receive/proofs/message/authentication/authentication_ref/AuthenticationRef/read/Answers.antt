@@ -6,7 +6,7 @@ use Rattle.pg_receive.specs.Authentication.{sasl, requests}
 use Rattle.pg_receive.specs.Authentication.Mechanisms.{mechanisms_in}
 use Rattle.pg_receive.specs.Authentication.SaslContinue.Shown.{continue_borrowed}
 use Rattle.pg_format.specs.Format.{Means}
-use Rattle.pg_receive.proofs.AuthenticationLemmas.{request_means, request_breaks, names_read, challenge_request, verifier_request}
+use Rattle.pg_receive.proofs.AuthenticationLemmas.{request_means, request_breaks, names_read, challenge_request, challenge_refused, verifier_request, verifier_refused}
 use Rattle.pg_receive.proofs.message.authentication.authentication_ref.AuthenticationRef.read.Goals as goal
 
 -- what follows the number of the method
@@ -52,6 +52,14 @@ pub returns-in-Ok : goal.returns-in-Ok
 returns-in-Ok c =
     challenge_request c.args.body.now c.in_ok-method.method _ (continue_borrowed c.in-Ok.challenge) c.in_ok-method.ensures.found c.in-11.is (content_is c.args.body.now) c.in-Ok.ensures
 
+pub returns-in-Err : goal.returns-in-Err
+returns-in-Err c =
+    challenge_refused c.args.body.now c.in_ok-method.method _ c.in-Err.fault c.in_ok-method.ensures.found c.in-11.is (content_is c.args.body.now) c.in-Err.ensures
+
 pub returns-in-Ok-read : goal.returns-in-Ok-read
 returns-in-Ok-read c =
     verifier_request c.args.body.now c.in_ok-method.method _ c.in-Ok-read.last.verifier c.in_ok-method.ensures.found c.in-12.is (content_is c.args.body.now) c.in-Ok-read.ensures
+
+pub returns-in-Err-read : goal.returns-in-Err-read
+returns-in-Err-read c =
+    verifier_refused c.args.body.now c.in_ok-method.method _ c.in-Err-read.fault c.in_ok-method.ensures.found c.in-12.is (content_is c.args.body.now) c.in-Err-read.ensures

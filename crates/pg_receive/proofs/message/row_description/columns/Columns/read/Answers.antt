@@ -1,4 +1,4 @@
-use Rattle.std.proofs.Common.{◌≡◌, suc, ◌+◌, ◌*◌, ◌<◌, ◌≤◌, length, arith}
+use Rattle.std.proofs.Common.{◌≡◌, suc, ◌+◌, ◌*◌, ◌<◌, ◌≤◌, length, arith, rules}
 use Rattle.std.proofs.lemmas.Result.{err_from_is_err_and}
 use Rattle.pg_format.specs.Messages.{column}
 use Rattle.pg_format.proofs.FormatLaws.Places.{counted_at, broken_at}
@@ -15,6 +15,9 @@ returns-in_err-_column c =
     let holds : 2 + 19 * n ≤ length body = omega (arith, c.from-count.ensures, c.in_ok-bytes_at.ensures.found.0) in
     let fewer : read._index < n = omega (arith, c.from-count.ensures, c.loop-index-test.true) in
     rw (p.1, p.2) (broken_at column 19 body n read._index read.at (columns_from body 2 read._index) c.in_err-_column.field-0.0 c.in_ok-u16_at.ensures.found holds read.invariant.read fewer c.in_err-_column.ensures.broken)
+
+pub loop-index-init : goal.loop-index-init
+loop-index-init c = search rules
 
 pub loop-index-preserved : goal.loop-index-preserved
 loop-index-preserved c =
