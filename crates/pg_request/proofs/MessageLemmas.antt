@@ -91,7 +91,7 @@ one_message bytes (message.SaslInitialResponse a) (message.SaslInitialResponse b
 one_message bytes (message.SaslResponse a) (message.SaslResponse b) e p q = ap message.SaslResponse (sym p ∙ q)
 one_message bytes message.Sync message.Sync e p q = refl
 one_message bytes message.Terminate message.Terminate e p q = refl
-one_message bytes m n e p q = absurd (cc (e))
+one_message bytes m n e _ _ = absurd (cc (e))
 
 -- within the limits the room that is reserved holds the body
 pub hint_covers : (m : Message) → fault m ≡ None → length (body m) ≤ hint m

@@ -1,6 +1,10 @@
 -- Parts that are written one after the other, each of which has room where all have.
 use Rattle.std.proofs.Common.{◌≡◌, ℕ, ◌+◌, ◌≤◌, List, ◌++◌, length, ap, ◌∙◌, arith, append_assoc, length-append}
 
+-- the parts of a body have the room that it has
+pub room_parts : (old front rest : List ℕ) (capacity : ℕ) → length old + length (front ++ rest) ≤ capacity → length old + (length front + length rest) ≤ capacity
+room_parts old front rest capacity room = omega (arith, room, length-append front rest)
+
 -- the next part has room where it has with those after it
 pub room_first : (old : List ℕ) (part left capacity : ℕ) → length old + (part + left) ≤ capacity → length old + part ≤ capacity
 room_first old part left capacity room = omega arith

@@ -40,6 +40,9 @@ some_value bytes after n h fits = record {
   parts = h.parts ∙ ap (λ (l : List ℕ). h.spelled ++ l) (sym (take-append-drop n after)) ∙ sym (append_assoc h.spelled (take n after) (drop n after));
 }
 
+pub null_value : (bytes after : List ℕ) → Signed 4 bytes (negsuc 0) after → Value bytes after
+null_value bytes after h = record { field = h.spelled; value = []; wide = h.wide; counts = inl (sym h.is, refl); parts = rw (append-nil h.spelled) h.parts }
+
 -- the length that a value has is the number at its front
 counted : (bytes after rest : List ℕ) (z : ℤ) → Signed 4 bytes z after → (v : Value bytes rest) → ((z ≡ negsuc 0) → ⊥) → (z ≡ pos (length v.value)) × (length v.value ≤ length after)
 counted bytes after rest z h v other =

@@ -1,4 +1,4 @@
-use Rattle.std.proofs.Common.{◌^◌, ◌<◌, length, arith, ◌∙◌}
+use Rattle.std.proofs.Common.{◌^◌, ◌<◌, length, arith, ◌∙◌, rules}
 use Rattle.std.proofs.lemmas.List.Elements.{All-more}
 use Rattle.pg_base.specs.Numbers.{be16}
 use Rattle.pg_request.proofs.CountedLemmas.{one_more_number, room_for_one_number}
@@ -9,6 +9,9 @@ put_u16-requires-in-loop-code g c =
     let codes = c.args.codes.now in
     let room = room_for_one_number be16 codes c.loop-code.code-index 0 c.loop-code-test.true (g.S.Sink.written c.args.sink.now) (be16 (length codes)) _ (g.S.Sink.capacity c.args.sink.now) c.loop-code.invariant.adds (omega (arith, c.requires.room)) in
     omega (arith, room, c.loop-code.invariant.capacity)
+
+pub loop-code-init : goal.loop-code-init
+loop-code-init g c = search rules
 
 pub loop-code-preserved : goal.loop-code-preserved
 loop-code-preserved g c =

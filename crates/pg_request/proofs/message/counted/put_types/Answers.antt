@@ -1,4 +1,4 @@
-use Rattle.std.proofs.Common.{◌^◌, ◌<◌, length, arith, ◌∙◌}
+use Rattle.std.proofs.Common.{◌^◌, ◌<◌, length, arith, ◌∙◌, rules}
 use Rattle.pg_base.specs.declared.io.Oid.{Oid}
 use Rattle.pg_base.specs.Numbers.{be16, be32}
 use Rattle.pg_request.proofs.CountedLemmas.{one_more, room_for_one, all_more}
@@ -9,6 +9,9 @@ put_u32-requires g c =
     let types = c.args.types.now in
     let room = room_for_one be32 (λ (oid : Oid). oid.0) types c.loop-oid.oid-index (record { 0 = 0 }) c.loop-oid-test.true (g.S.Sink.written c.args.sink.now) (be16 (length types)) _ (g.S.Sink.capacity c.args.sink.now) c.loop-oid.invariant.adds (omega (arith, c.requires.room)) in
     omega (arith, room, c.loop-oid.invariant.capacity)
+
+pub loop-oid-init : goal.loop-oid-init
+loop-oid-init g c = search rules
 
 pub loop-oid-preserved : goal.loop-oid-preserved
 loop-oid-preserved g c =

@@ -1,4 +1,4 @@
-use Rattle.std.proofs.Common.{refl}
+use Rattle.std.proofs.Common.{refl, rules}
 use Rattle.pg_request.proofs.RoundTripLemmas.{values_on, values_back, no_values}
 use Rattle.pg_request.proofs.message.round_trip.check_values.Goals as goal
 
@@ -6,6 +6,9 @@ pub returns-in_default-clause-fault : goal.returns-in_default-clause-fault
 returns-in_default-clause-fault c =
     let none = rw c.in_default.is at c.after_value.ensures.none in
     (refl, λ h. no_values c.args.count c.loop.counter c.loop.rest.now c.loop-test.true none (c.loop.invariant.left h))
+
+pub loop-init : goal.loop-init
+loop-init c = search rules
 
 pub loop-preserved : goal.loop-preserved
 loop-preserved c = record {

@@ -1,4 +1,4 @@
-use Rattle.std.proofs.Common.{ℕ, ◌<◌, List, [], Bor, length, arith, get_or}
+use Rattle.std.proofs.Common.{ℕ, ◌<◌, List, [], Bor, length, arith, get_or, rules}
 use Rattle.std.specs.List.{All}
 use Rattle.std.proofs.lemmas.Result.{err_from_is_err_and}
 use Rattle.std.proofs.lemmas.List.Elements.{All-get_or, All-map, All-more}
@@ -20,6 +20,9 @@ returns-in_err-check_setting-clause-fault c =
     let p = err_from_is_err_and c.from_residual.result c.from_residual.ensures.1 in
     let fault = c.in_err-check_setting.ensures.fault in
     rw (p.1, p.2) (fault.0, λ all. fault.1 (setting_at c.args.params.now c.loop-name.name-index c.loop-name-test.true all))
+
+pub loop-name-init : goal.loop-name-init
+loop-name-init c = search rules
 
 pub loop-name-preserved : goal.loop-name-preserved
 loop-name-preserved c =

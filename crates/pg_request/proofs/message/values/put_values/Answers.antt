@@ -1,4 +1,4 @@
-use Rattle.std.proofs.Common.{ℕ, Option, None, List, [], Bor, length, arith, option_copied, refl}
+use Rattle.std.proofs.Common.{ℕ, Option, None, List, [], Bor, length, arith, option_copied, refl, rules}
 use Rattle.pg_base.specs.Cutting.{max_length}
 use Rattle.pg_base.specs.Numbers.{be16}
 use Rattle.pg_request.specs.Values.{value_text}
@@ -16,3 +16,6 @@ put_value-requires-clause-room g c =
     let values = c.args.values.now in
     let room = room_for_one value_text (λ (v : Option (Bor (List ℕ))). option_copied v) values c.loop-value.value-index None c.loop-value-test.true (g.S.Sink.written c.args.sink.now) (be16 (length values)) _ (g.S.Sink.capacity c.args.sink.now) c.loop-value.invariant.adds (omega (arith, c.requires.room)) in
     omega (arith, room, c.loop-value.invariant.capacity)
+
+pub loop-value-init : goal.loop-value-init
+loop-value-init g c = search rules
