@@ -1,7 +1,10 @@
-use Rattle.std.proofs.Common.{◌+◌, take}
+use Rattle.std.proofs.Common.{◌+◌, take, rules}
 use Rattle.pg_frames.specs.Pieces.{joined, tags_and_bodies}
 use Rattle.pg_frames.proofs.PiecesLemmas.{stream_fed, read_to_fault}
 use Rattle.pg_frames.proofs.pieces.read_pieces.Goals as goal
+
+pub loop-piece-init : goal.loop-piece-init
+loop-piece-init c = search rules
 
 pub loop-piece-preserved : goal.loop-piece-preserved
 loop-piece-preserved c =

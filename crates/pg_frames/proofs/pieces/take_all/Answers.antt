@@ -1,5 +1,9 @@
+use Rattle.std.proofs.Common.{rules}
 use Rattle.pg_frames.proofs.PiecesLemmas.{stream_hands_out}
 use Rattle.pg_frames.proofs.pieces.take_all.Goals as goal
+
+pub loop-message-init : goal.loop-message-init
+loop-message-init c = search rules
 
 pub loop-message-preserved : goal.loop-message-preserved
 loop-message-preserved c = λ bytes s.
