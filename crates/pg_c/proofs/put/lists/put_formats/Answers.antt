@@ -1,4 +1,4 @@
-use Rattle.std.proofs.Common.{length, arith}
+use Rattle.std.proofs.Common.{length, arith, rules}
 use Rattle.pg_base.specs.Numbers.{be16}
 use Rattle.pg_request.proofs.CountedLemmas.{room_for_one}
 use Rattle.pg_c.specs.Put.Lists.{format_of}
@@ -9,3 +9,6 @@ put_u16-requires-in-loop-format g c =
     let formats = c.args.formats.now in
     let room = room_for_one be16 format_of formats c.loop-format.format-index 0 c.loop-format-test.true (g.S.Sink.written c.args.sink.now) (be16 (length formats)) _ (g.S.Sink.capacity c.args.sink.now) c.loop-format.invariant.adds (omega (arith, c.requires.room)) in
     omega (arith, room, c.loop-format.invariant.capacity)
+
+pub loop-format-init : goal.loop-format-init
+loop-format-init g c = search rules

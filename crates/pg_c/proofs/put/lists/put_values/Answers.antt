@@ -1,4 +1,4 @@
-use Rattle.std.proofs.Common.{[], arith, refl}
+use Rattle.std.proofs.Common.{[], arith, refl, rules}
 use Rattle.pg_base.specs.Cutting.{max_length}
 use Rattle.pg_request.specs.Values.{value_text}
 use Rattle.pg_request.proofs.CountedLemmas.{room_for_one}
@@ -17,3 +17,6 @@ put_value-requires-clause-room g c =
     let values = c.args.values.now in
     let room = room_for_one value_text value_of values c.loop-value.value-index none c.loop-value-test.true (g.S.Sink.written c.args.sink.now) [] _ (g.S.Sink.capacity c.args.sink.now) c.loop-value.invariant.adds (omega (arith, c.requires.room)) in
     omega (arith, room, c.loop-value.invariant.capacity)
+
+pub loop-value-init : goal.loop-value-init
+loop-value-init g c = search rules

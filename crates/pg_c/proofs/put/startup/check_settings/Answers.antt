@@ -1,3 +1,4 @@
+use Rattle.std.proofs.Common.{rules}
 use Rattle.std.proofs.lemmas.Result.{err_from_is_err_and}
 use Rattle.std.proofs.lemmas.List.{take_all}
 use Rattle.std.proofs.lemmas.List.Elements.{All-map, All-more}
@@ -11,6 +12,9 @@ returns-in_err-check_setting-clause-fault c =
     let p = err_from_is_err_and c.from_residual.result c.from_residual.ensures.1 in
     let fault = c.in_err-check_setting.ensures.fault in
     rw (p.1, p.2) (fault.0, λ all. fault.1 (readable_at c.args.settings.now c.loop-setting.setting-index c.loop-setting-test.true all))
+
+pub loop-setting-init : goal.loop-setting-init
+loop-setting-init c = search rules
 
 pub loop-setting-preserved : goal.loop-setting-preserved
 loop-setting-preserved c =

@@ -1,11 +1,14 @@
-use Rattle.std.proofs.Common.{◌≡◌, ◌+◌, ◌*◌, ◌<◌, ◌≤◌, length, arith}
+use Rattle.std.proofs.Common.{◌≡◌, ◌+◌, ◌*◌, ◌<◌, ◌≤◌, length, arith, rules}
 use Rattle.std.proofs.lemmas.Result.{err_from_is_err_and}
 use Rattle.pg_format.specs.Messages.{column}
 use Rattle.pg_receive.specs.RowDescription.Columns.{column_of_ref}
 use Rattle.pg_c.specs.Read.Columns.{column_in}
-use Rattle.pg_c.proofs.ReadLemmas.{gives_more, gives_full, gives_front, item_breaks, reads_items}
+use Rattle.pg_c.proofs.ReadLemmas.{gives_none, gives_more, gives_full, gives_front, item_breaks, reads_items}
 use Rattle.pg_c.proofs.read.columns.columns_of.Goals as goal
 use Rattle.pg_c.proofs.read.columns.columns_of.Goals.{then-index-columns, else-index-columns}
+
+pub loop-index-init : goal.loop-index-init
+loop-index-init c = gives_none column (column_in c.args.body.now) c.args.body.now 2 c.args.columns.now (search rules)
 
 pub loop-index-preserved : goal.loop-index-preserved
 loop-index-preserved c =

@@ -1,11 +1,14 @@
-use Rattle.std.proofs.Common.{◌≡◌, ℕ, ◌+◌, ◌*◌, Some, refl, arith}
+use Rattle.std.proofs.Common.{◌≡◌, ℕ, ◌+◌, ◌*◌, Some, refl, arith, rules}
 use Rattle.std.proofs.lemmas.Result.{err_from_is_err_and}
 use Rattle.pg_format.specs.Format.Parts.{be_u32}
 use Rattle.pg_format.proofs.FormatLaws.Places.{stands_at}
 use Rattle.pg_format.proofs.FormatLaws.Takes.{takes_unsigned}
-use Rattle.pg_c.proofs.ReadLemmas.{gives_more, gives_full, gives_front, reads_items}
+use Rattle.pg_c.proofs.ReadLemmas.{gives_none, gives_more, gives_full, gives_front, reads_items}
 use Rattle.pg_c.proofs.read.columns.types_of.Goals as goal
 use Rattle.pg_c.proofs.read.columns.types_of.Goals.{then-index-types, else-index-types}
+
+pub loop-index-init : goal.loop-index-init
+loop-index-init c = gives_none be_u32 (λ (number : ℕ). Some number) c.args.body.now 2 c.args.types.now (search rules)
 
 pub loop-index-preserved : goal.loop-index-preserved
 loop-index-preserved c =

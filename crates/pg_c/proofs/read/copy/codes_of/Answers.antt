@@ -8,9 +8,12 @@ use Rattle.pg_format.specs.Messages.{columns_of}
 use Rattle.pg_format.proofs.FormatLaws.Places.{stands_at}
 use Rattle.pg_format.proofs.FormatLaws.Takes.{takes_signed}
 use Rattle.pg_receive.proofs.CopyLemmas.{counts_at, response_at}
-use Rattle.pg_c.proofs.ReadLemmas.{gives_more, gives_full, gives_front}
+use Rattle.pg_c.proofs.ReadLemmas.{gives_none, gives_more, gives_full, gives_front}
 use Rattle.pg_c.proofs.read.copy.codes_of.Goals as goal
 use Rattle.pg_c.proofs.read.copy.codes_of.Goals.{then-index-codes, else-index-codes}
+
+pub loop-index-init : goal.loop-index-init
+loop-index-init c = gives_none be_i16 (λ (z : ℤ). Some z) c.args.body.now 3 c.args.codes.now (search rules)
 
 pub loop-index-preserved : goal.loop-index-preserved
 loop-index-preserved c =

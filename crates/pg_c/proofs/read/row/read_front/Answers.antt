@@ -4,8 +4,13 @@ use Rattle.std.proofs.lemmas.Int.{to_z-of_z}
 use mir.Val.{SFits}
 use Rattle.pg_format.specs.Format.Nullable.{cell}
 use Rattle.pg_c.specs.Read.Row.{cell_in}
-use Rattle.pg_c.proofs.ReadLemmas.{gives_more}
+use Rattle.pg_c.proofs.ReadLemmas.{gives_none, gives_more}
 use Rattle.pg_c.proofs.read.row.read_front.Goals as goal
+
+pub loop-index-init : goal.loop-index-init
+loop-index-init c =
+    let body = c.args.body.now in
+    (omega (arith, c.requires.fits), omega (arith, c.requires.fits), gives_none cell (cell_in body) body 2 c.args.cells.now (omega (arith, c.requires.fits)))
 
 pub loop-index-preserved : goal.loop-index-preserved
 loop-index-preserved c =

@@ -1,4 +1,4 @@
-use Rattle.std.proofs.Common.{◌≡◌, option_copied, arith}
+use Rattle.std.proofs.Common.{◌≡◌, option_copied, arith, rules}
 use Rattle.std.proofs.lemmas.Result.{err_from_is_err_and}
 use Rattle.pg_format.specs.Format.Nullable.{cell}
 use Rattle.pg_c.specs.Read.Row.{cell_in}
@@ -6,6 +6,9 @@ use Rattle.pg_receive.proofs.DataRowLemmas.{cell_is_wide}
 use Rattle.pg_c.proofs.ReadLemmas.{gives_more, gives_full, gives_front, item_breaks, reads_items}
 use Rattle.pg_c.proofs.read.row.rest_of.Goals as goal
 use Rattle.pg_c.proofs.read.row.rest_of.Goals.{then-index-cells, else-index-cells}
+
+pub loop-index-init : goal.loop-index-init
+loop-index-init c = search rules
 
 pub loop-index-preserved : goal.loop-index-preserved
 loop-index-preserved c =
