@@ -10,7 +10,7 @@ import crates
 TRIED = crates.TOP / "tests" / "tried"
 
 # The wrong bodies are in so many sets of about as many; all of one set are tried, of another one at each commit.
-SHARES = 6
+SHARES = 7
 
 
 class Due:
