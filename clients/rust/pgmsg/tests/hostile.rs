@@ -169,16 +169,7 @@ fn random_streams() {
     let mut numbers = Numbers::new(0xd1b5_4a32_d192_ed03);
     let tags = b"RK23CdcGHDIEnNAtS1sZT!";
     for _ in 0..20_000 {
-        let mut stream = Vec::new();
-        for _ in 0..numbers.below(5) {
-            let body_len = numbers.below(20);
-            stream.push(tags[numbers.below(tags.len())]);
-            stream.extend((body_len as u32 + 4).to_be_bytes());
-            stream.extend(numbers.bytes(body_len));
-        }
-        let noise = numbers.below(8);
-        stream.extend(numbers.bytes(noise));
-        read_stream(&stream);
+        read_stream(&numbers.stream(tags));
     }
 }
 

@@ -61,4 +61,18 @@ impl Numbers {
         };
         (0..len).map(byte).collect()
     }
+
+    /// A few messages with some of these tags, and up to seven bytes after them.
+    pub fn stream(&mut self, tags: &[u8]) -> Vec<u8> {
+        let mut stream = Vec::new();
+        for _ in 0..self.below(5) {
+            let body_len = self.below(20);
+            stream.push(tags[self.below(tags.len())]);
+            stream.extend((body_len as u32 + 4).to_be_bytes());
+            stream.extend(self.bytes(body_len));
+        }
+        let noise = self.below(8);
+        stream.extend(self.bytes(noise));
+        stream
+    }
 }
