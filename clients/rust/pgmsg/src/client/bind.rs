@@ -43,29 +43,13 @@ pub struct Bind<'b, 'r> {
 /// ```
 #[inline]
 pub fn bind<'b, 'r>(body: &'b [u8], room: &'r mut Vec<Cell>) -> Result<Bind<'b, 'r>, Fault> {
-    let mut read = sys::pgmsg_bind::default();
-    let cells = fill(room, |room| {
-        answer(|fault| {
-            // SAFETY: `body` and `room` are slices, valid for their lengths, and `&mut` keeps `room`,
-            // `read` and `fault` apart. A `Cell` is one of the library.
-            unsafe {
-                sys::pgmsg_read_bind(
-                    body.as_ptr(),
-                    body.len(),
-                    room.as_mut_ptr().cast(),
-                    room.len(),
-                    &mut read,
-                    fault,
-                )
-            }
-        })
-    })?;
+    // SAFETY: the call is one of the library, which reads a body so.
+    let (read, values) = unsafe { read_values(body, room, sys::pgmsg_read_bind)? };
     Ok(Bind {
         portal: part(body, read.portal)?,
         statement: part(body, read.statement)?,
         formats: Codes::new(body, read.formats)?,
-        // SAFETY: the library is proved to give no place outside the body.
-        values: unsafe { Row::new(body, cells) },
+        values,
         result_formats: Codes::new(body, read.result_formats)?,
     })
 }
@@ -99,13 +83,46 @@ pub fn function_call<'b, 'r>(
     body: &'b [u8],
     room: &'r mut Vec<Cell>,
 ) -> Result<FunctionCall<'b, 'r>, Fault> {
-    let mut read = sys::pgmsg_function_call::default();
+    // SAFETY: the call is one of the library, which reads a body so.
+    let (read, values) = unsafe { read_values(body, room, sys::pgmsg_read_function_call)? };
+    Ok(FunctionCall {
+        object_id: read.function,
+        formats: Codes::new(body, read.formats)?,
+        arguments: values,
+        result_format: FormatCode(read.result_format as i16),
+    })
+}
+
+/// A call of the library that reads a message with values: of its body it gives the places of as many values
+/// as there is room for, and what else the message has.
+type ReadValues<M> = unsafe extern "C" fn(
+    *const u8,
+    usize,
+    *mut sys::pgmsg_cell,
+    usize,
+    *mut M,
+    *mut sys::pgmsg_fault,
+) -> isize;
+
+/// What a call gives of a body, and the values.
+///
+/// # Safety
+///
+/// The call touches nothing but what it is passed, for the time of the call, and gives no place of a value
+/// outside the body.
+#[inline]
+unsafe fn read_values<'b, 'r, M: Default>(
+    body: &'b [u8],
+    room: &'r mut Vec<Cell>,
+    call: ReadValues<M>,
+) -> Result<(M, Values<'b, 'r>), Fault> {
+    let mut read = M::default();
     let cells = fill(room, |room| {
         answer(|fault| {
             // SAFETY: `body` and `room` are slices, valid for their lengths, and `&mut` keeps `room`,
             // `read` and `fault` apart. A `Cell` is one of the library.
             unsafe {
-                sys::pgmsg_read_function_call(
+                call(
                     body.as_ptr(),
                     body.len(),
                     room.as_mut_ptr().cast(),
@@ -116,11 +133,6 @@ pub fn function_call<'b, 'r>(
             }
         })
     })?;
-    Ok(FunctionCall {
-        object_id: read.function,
-        formats: Codes::new(body, read.formats)?,
-        // SAFETY: the library is proved to give no place outside the body.
-        arguments: unsafe { Row::new(body, cells) },
-        result_format: FormatCode(read.result_format as i16),
-    })
+    // SAFETY: no place is outside the body.
+    Ok((read, unsafe { Row::new(body, cells) }))
 }
