@@ -184,12 +184,17 @@ fn bind_of(alloc: Global, line: &str) -> Result<Option<Command<'_>>, Fault> {
 }
 
 fn six_words(line: &str) -> Option<(&str, &str, &str, &str, &str, &str)> {
-    let (first, rest) = line.split_once(' ')?;
-    let (second, rest) = rest.split_once(' ')?;
-    let (third, rest) = rest.split_once(' ')?;
-    let (fourth, rest) = rest.split_once(' ')?;
+    let (first, second, rest) = three_words(line)?;
+    let (third, fourth, rest) = three_words(rest)?;
     let (fifth, sixth) = rest.split_once(' ')?;
     Some((first, second, third, fourth, fifth, sixth))
+}
+
+// The last is the rest of the line.
+fn three_words(line: &str) -> Option<(&str, &str, &str)> {
+    let (first, rest) = line.split_once(' ')?;
+    let (second, third) = rest.split_once(' ')?;
+    Some((first, second, third))
 }
 
 fn copy_data_of(alloc: Global, word: &str) -> Result<Option<Command<'_>>, Fault> {
@@ -234,10 +239,7 @@ fn execute_of(line: &str) -> Option<Command<'_>> {
 
 // `STATEMENT OIDS TEXT`
 fn parse_of(alloc: Global, line: &str) -> Result<Option<Command<'_>>, Fault> {
-    let Some((statement, rest)) = line.split_once(' ') else {
-        return Ok(None);
-    };
-    let Some((types, query)) = rest.split_once(' ') else {
+    let Some((statement, types, query)) = three_words(line) else {
         return Ok(None);
     };
     let (Some(statement), Some(param_types)) = (u32_of(statement), oids_of(alloc, types)?) else {
