@@ -1,6 +1,8 @@
 //! A relay, which passes a stream on frame by frame.
 
-ghost use Rattle.std.specs.Prelude.{◌≡◌, ◌⊎◌, ◌<◌, ◌≤◌, ◌+◌, ℕ, Bool, List, [], ◌++◌, length, Option, IfOk, OnOk, IfErr, OnErr};
+mod state;
+
+ghost use Rattle.std.specs.Prelude.{◌≡◌, ◌<◌, ◌≤◌, ◌+◌, ℕ, Bool, List, [], ◌++◌, length, Option, IfOk, OnOk, IfErr, OnErr};
 ghost use Rattle.pg_frontend_frames.specs.declared.frame.Expects.TheVariants.{First, Tagged};
 ghost use Rattle.pg_relay.specs.Frame.{HasHead};
 ghost use Rattle.pg_relay.specs.Relay.{HasFate, IsUnfinished, IsTaken, IsRelayError, Takes};
@@ -71,38 +73,6 @@ impl Relay {
             held: Vec::new(alloc),
             left: 0,
         }
-    }
-
-    /// The most bytes that a frame may have which is taken whole.
-    pub fn limit(&self) -> usize
-        ensures { result ≡ self.now.limit }
-    {
-        self.limit
-    }
-
-    /// Which frame comes next, or goes on.
-    pub fn expects(&self) -> Expects
-        ensures { result ≡ self.now.expects }
-    {
-        self.expects
-    }
-
-    /// What is held: no more than the front of a frame that isn't whole yet and is within the limit, or some bytes of
-    /// its tag and length.
-    pub fn held(&self) -> &[u8]
-        ensures held { result.now ≡ self.now.held }
-        ensures unfinished { IsUnfinished self.now.limit self.now.expects result.now }
-        ensures short { (length result.now < 5) ⊎ (length result.now < self.now.limit) }
-    {
-        self.held.as_slice()
-    }
-
-    /// How many bytes are still to come of a frame that is passed on in parts.
-    pub fn left(&self) -> usize
-        ensures left { result ≡ self.now.left }
-        ensures parts { 0 < result → self.now.held ≡ [] }
-    {
-        self.left
     }
 
     /// Takes the front of a piece, and says what comes of it: a frame, a part of one, or nothing yet. The rest of
