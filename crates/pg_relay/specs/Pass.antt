@@ -1,4 +1,5 @@
 -- What a relay has passed on, and what its user answered.
+pub mod Stops
 use Rattle.std.specs.Prelude.{◌≡◌, ◌+◌, ◌<◌, ◌⊎◌, ℕ, Bool, true, false, List, [], ◌∷◌, ◌++◌, length, Option}
 use Rattle.pg_frontend_frames.specs.declared.frame.Expects.{Expects}
 use Rattle.pg_relay.specs.Answer.{bytes_in, Lead, Fits, placed}

@@ -1,17 +1,19 @@
 //! A piece of a stream passed on, with its user's answers.
 
-ghost use Rattle.std.specs.Prelude.{◌≡◌, ◌++◌, ℕ, List, [], Option, IfOk, OnOk};
+ghost use Rattle.std.specs.Prelude.{◌≡◌, ◌⊎◌, ◌<◌, ◌+◌, ◌++◌, ℕ, List, [], length, Option, IfOk, OnOk, IfErr, OnErr, vec_len, vec_capacity};
 ghost use Rattle.pg_frontend_frames.specs.declared.frame.Expects.{Expects};
 ghost use Rattle.pg_frames.specs.Pieces.{joined};
 ghost use Rattle.pg_relay.specs.declared.answer.Answer.{Answer};
 ghost use Rattle.pg_relay.specs.declared.answer.Answer.TheVariants.{Keep};
-ghost use Rattle.pg_relay.specs.Pass.{HasPassed, PutsOut};
+ghost use Rattle.pg_relay.specs.Pass.{HasPassed, PutsAnswer, PutsOut};
+ghost use Rattle.pg_relay.specs.Pass.Stops.{Stops, StopsIn, IsAnswerError, IsEventError, HasNoRoom};
 
 use crate::answer::Answer;
 use crate::error::RelayError;
 use crate::event::{Event, Step};
 use crate::relay::Relay;
 use crate::wants::{All, Wants};
+use pg_base::io::Sink;
 use pg_frontend_frames::Expects;
 use std::alloc::{AllocError, Global};
 
@@ -19,6 +21,9 @@ use std::alloc::{AllocError, Global};
 pub trait Answers: Wants {
     /// What it may answer for a frame, what it may add, and what it may be then.
     ghost answers: { Self → Option ℕ → List ℕ → Answer → List ℕ → Self → Type 0 };
+
+    /// The frames for whose answer it may find no memory.
+    ghost exhausts: { Self → Option ℕ → List ℕ → Type 0 };
 
     /// Answers a frame with this tag, or none, and these bytes, tag and length among them, and writes what it adds.
     fn answer(
@@ -28,12 +33,15 @@ pub trait Answers: Wants {
         added: &mut Vec<u8>,
     ) -> Result<Answer, AllocError>
         requires { added.old.items ≡ [] }
-        ensures { IfOk result (λ answer. answers self.old tag frame.now answer added.new.items self.new) };
+        ensures answers { IfOk result (λ answer. answers self.old tag frame.now answer added.new.items self.new) }
+        ensures exhausts { OnErr result (exhausts self.old tag frame.now) };
 }
 
 /// Keeps every frame.
 impl Answers for All {
     ghost answers = { λ user _ _ answer _ later. (answer ≡ Keep) × (later ≡ user) };
+
+    ghost exhausts = { λ _ _ _. ⊥ };
 
     fn answer(
         &mut self,
@@ -49,8 +57,9 @@ impl Answers for All {
 /// put in their places, and the parts of frames that the user doesn't want whole. Where no frame is changed, what
 /// went out and what the relay holds is what came.
 ///
-/// The errors are those of [`Relay::next`] and of [`Answer::place`]. After one the connection is at its end, since
-/// what comes next can't be known.
+/// An error is that of [`Relay::next`] at what comes next, or of [`Answer::place`] at the user's answer, or it is
+/// `OutOfMemory`, where the answer found none or `out` has no room for what goes out. By then all that came before
+/// has passed. After an error the connection is at its end, since what comes next can't be known.
 pub fn pass_piece<U: Answers>(
     alloc: Global,
     relay: &mut Relay,
@@ -58,7 +67,8 @@ pub fn pass_piece<U: Answers>(
     piece: &[u8],
     out: &mut Vec<u8>,
 ) -> Result<(), RelayError>
-    ensures { OnOk result ((start : Expects) (first : U) (bytes : List ℕ) → HasPassed U.wanted U.answers start first bytes out.old.items user.old relay.old → HasPassed U.wanted U.answers start first (bytes ++ piece.now) out.new.items user.new relay.new) }
+    ensures passed { OnOk result ((start : Expects) (first : U) (bytes : List ℕ) → HasPassed U.wanted U.answers start first bytes out.old.items user.old relay.old → HasPassed U.wanted U.answers start first (bytes ++ piece.now) out.new.items user.new relay.new) }
+    ensures stops { IfErr result (λ error. (start : Expects) (first : U) (bytes : List ℕ) → HasPassed U.wanted U.answers start first bytes out.old.items user.old relay.old → Stops U.wanted U.answers U.exhausts start first bytes piece.now (vec_capacity out.new) out.new.items user.new relay.new error) }
 {
     let mut rest = piece;
     while !rest.is_empty() {
@@ -78,7 +88,8 @@ pub fn pass_pieces<U: Answers>(
     pieces: &[&[u8]],
     out: &mut Vec<u8>,
 ) -> Result<(), RelayError>
-    ensures { OnOk result ((start : Expects) (first : U) (bytes : List ℕ) → HasPassed U.wanted U.answers start first bytes out.old.items user.old relay.old → HasPassed U.wanted U.answers start first (bytes ++ joined pieces.now) out.new.items user.new relay.new) }
+    ensures passed { OnOk result ((start : Expects) (first : U) (bytes : List ℕ) → HasPassed U.wanted U.answers start first bytes out.old.items user.old relay.old → HasPassed U.wanted U.answers start first (bytes ++ joined pieces.now) out.new.items user.new relay.new) }
+    ensures stops { IfErr result (λ error. (start : Expects) (first : U) (bytes : List ℕ) → HasPassed U.wanted U.answers start first bytes out.old.items user.old relay.old → StopsIn U.wanted U.answers U.exhausts start first bytes pieces.now (vec_capacity out.new) out.new.items user.new relay.new error) }
 {
     for piece in pieces {
         pass_piece(alloc, relay, user, piece, out)?;
@@ -87,6 +98,7 @@ pub fn pass_pieces<U: Answers>(
 }
 
 // Adds what goes out for what came.
+#[inline(always)]
 fn put_out<U: Answers>(
     alloc: Global,
     user: &mut U,
@@ -95,18 +107,53 @@ fn put_out<U: Answers>(
     next: Expects,
     out: &mut Vec<u8>,
 ) -> Result<(), RelayError>
-    ensures { OnOk result (PutsOut U.answers user.old expects event.entry next user.new out.old.items out.new.items) }
+    ensures puts { OnOk result (PutsOut U.answers user.old expects event.entry next user.new out.old.items out.new.items) }
+    ensures stops { IfErr result (λ error. IsEventError U.answers U.exhausts user.old expects event.entry next user.new error ⊎ HasNoRoom (PutsOut U.answers user.old expects event.entry next user.new out.old.items) (vec_capacity out.new) out.new.items error) }
+    ensures same { OnErr result (out.new.items ≡ out.old.items) }
 {
     match event {
         Event::Frame { tag, bytes } => {
-            let mut added = Vec::new(alloc);
-            let answer = user.answer(tag, bytes.as_slice(), &mut added)?;
-            let (first, second) = answer.place(expects, bytes.as_slice(), next, added.as_slice())?;
-            out.extend_from_slice(first)?;
-            out.extend_from_slice(second)?;
+            put_answer(alloc, user, expects, tag, bytes.as_slice(), next, out)
         }
-        Event::Part { bytes, .. } => out.extend_from_slice(bytes.as_slice())?,
-        Event::Held => {}
+        Event::Part { bytes, .. } => {
+            add_both(out, bytes.as_slice(), &[])?;
+            Ok(())
+        }
+        Event::Held => Ok(()),
     }
+}
+
+// Adds what goes out in a frame's place.
+#[inline(always)]
+fn put_answer<U: Answers>(
+    alloc: Global,
+    user: &mut U,
+    expects: Expects,
+    tag: Option<u8>,
+    frame: &[u8],
+    next: Expects,
+    out: &mut Vec<u8>,
+) -> Result<(), RelayError>
+    ensures puts { OnOk result (PutsAnswer U.answers user.old expects tag frame.now next user.new out.old.items out.new.items) }
+    ensures stops { IfErr result (λ error. IsAnswerError U.answers U.exhausts user.old expects tag frame.now next user.new error ⊎ HasNoRoom (PutsAnswer U.answers user.old expects tag frame.now next user.new out.old.items) (vec_capacity out.new) out.new.items error) }
+    ensures same { OnErr result (out.new.items ≡ out.old.items) }
+{
+    let mut added = Vec::new(alloc);
+    let answer = user.answer(tag, frame, &mut added)?;
+    let (first, second) = answer.place(expects, frame, next, added.as_slice())?;
+    add_both(out, first, second)?;
+    Ok(())
+}
+
+// Adds both, one after the other, or nothing.
+#[inline(always)]
+fn add_both(out: &mut Vec<u8>, first: &[u8], second: &[u8]) -> Result<(), AllocError>
+    ensures added { OnOk result (out.new.items ≡ out.old.items ++ (first.now ++ second.now)) }
+    ensures same { OnErr result (out.new.items ≡ out.old.items) }
+    ensures full { OnErr result (vec_capacity out.new < length (out.old.items ++ (first.now ++ second.now))) }
+{
+    out.reserve(first.len() + second.len())?;
+    out.put_slice(first);
+    out.put_slice(second);
     Ok(())
 }
