@@ -3,6 +3,7 @@ pub mod MessagesLemmas
 pub mod OneWayLemmas
 pub mod PassLemmas
 pub mod PassStopsLemmas
+pub mod PassageLemmas
 pub mod PassedLemmas
 pub mod RelayLemmas
 pub mod RunLemmas

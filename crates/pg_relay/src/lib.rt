@@ -9,6 +9,7 @@ mod fate;
 mod head;
 pub mod laws;
 mod pass;
+mod passage;
 mod relay;
 mod wants;
 
@@ -16,5 +17,6 @@ pub use answer::{Answer, end_of_run};
 pub use error::RelayError;
 pub use event::{Event, FrameBytes, Step};
 pub use pass::{Answers, pass_piece, pass_pieces};
+pub use passage::{Passage, next_passage};
 pub use relay::Relay;
 pub use wants::{All, Wants};
