@@ -1,6 +1,6 @@
 //! The core of a proxy: a stream's frames passed on, kept or changed.
 
 pub use pg_relay::{
-    All, Answer, Answers, Event, FrameBytes, Relay, RelayError, Step, Wants, end_of_run,
-    pass_piece, pass_pieces,
+    All, Answer, Answers, Event, FrameBytes, Passage, Relay, RelayError, Step, Wants, end_of_run,
+    next_passage, pass_piece, pass_pieces,
 };
