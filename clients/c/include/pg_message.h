@@ -83,6 +83,12 @@ enum {
     PGMSG_TRAILING_BYTES = -25,
     /* A first message is longer than the caller takes. */
     PGMSG_FIRST_TOO_LONG = -26,
+    /* More items than a message to a client can count. */
+    PGMSG_TOO_MANY = -27,
+    /* What is to be added to a stream is no run of whole messages. */
+    PGMSG_NOT_FRAMES = -28,
+    /* A message that is wanted whole is longer than the caller takes. */
+    PGMSG_FRAME_TOO_LONG = -29,
 };
 
 /* The kinds of a first message. */

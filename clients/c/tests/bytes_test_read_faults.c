@@ -30,12 +30,13 @@ static void words_of_numbers(struct tally *tally)
         "SASL item of fewer than two bytes", "SASL value is not base64", "message length is too small", "text holds NUL",
         "values can't be counted", "secret key is too short or too long", "unknown code of a first message",
         "neither a statement nor a portal", "value length is below -1", "bytes follow the end of a message",
-        "first message is too long", "unknown error",
+        "first message is too long", "more items than can be counted", "not a run of whole messages",
+        "message is longer than is taken whole", "unknown error",
     };
     int32_t count = sizeof words / sizeof words[0];
     for (int32_t i = 0; i < count; i++)
         CHECK(tally, is_text(pgmsg_strerror(-1 - i), words[i]));
-    CHECK(tally, count == 1 - PGMSG_FIRST_TOO_LONG);
+    CHECK(tally, count == 1 - PGMSG_FRAME_TOO_LONG);
     CHECK(tally, is_text(pgmsg_strerror(INT32_MIN), "unknown error"));
     CHECK(tally, is_text(pgmsg_strerror(0), "no error"));
     CHECK(tally, is_text(pgmsg_strerror(INT32_MAX), "no error"));

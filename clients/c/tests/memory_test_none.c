@@ -29,7 +29,7 @@ static void test_small(struct tally *tally)
     static const char columns[] = "\0\1" "id\0" "\0\0\100\1" "\0\1" "\0\0\0\27" "\0\4" "\377\377\377\377" "\0\0";
     NEEDS_NONE(tally, strcmp(pgmsg_version().text, PGMSG_VERSION) == 0);
     NEEDS_NONE(tally, strcmp(pgmsg_strerror(PGMSG_OUT_OF_MEMORY).text, "out of memory") == 0);
-    NEEDS_NONE(tally, strcmp(pgmsg_strerror(PGMSG_FIRST_TOO_LONG - 1).text, "unknown error") == 0);
+    NEEDS_NONE(tally, strcmp(pgmsg_strerror(PGMSG_FRAME_TOO_LONG - 1).text, "unknown error") == 0);
     NEEDS_NONE(tally, pgmsg_put_copy_head(4096, head) == 0 && are_bytes(head, 5, "d\0\0\x10\4", 5));
     NEEDS_NONE(tally, pgmsg_put_copy_head(SIZE_MAX, head) == PGMSG_MESSAGE_TOO_LONG);
     NEEDS_NONE(tally, pgmsg_next_frame(BYTES("Z\0\0\0\5I"), &frame, &fault) == 1 && frame.length == 6);

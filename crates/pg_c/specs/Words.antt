@@ -37,7 +37,10 @@ refusals =
     codes "neither a statement nor a portal" ∷
     codes "value length is below -1" ∷
     codes "bytes follow the end of a message" ∷
-    codes "first message is too long" ∷ []
+    codes "first message is too long" ∷
+    codes "more items than can be counted" ∷
+    codes "not a run of whole messages" ∷
+    codes "message is longer than is taken whole" ∷ []
 
 -- negsuc n is -n - 1
 abbrev pub words_of : ℤ → List ℕ

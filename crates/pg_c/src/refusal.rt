@@ -86,6 +86,15 @@ pub const TRAILING_BYTES: i32 = -25;
 /// A first message is longer than the caller takes.
 pub const FIRST_TOO_LONG: i32 = -26;
 
+/// More items than a message to a client can count.
+pub const TOO_MANY: i32 = -27;
+
+/// What is to be added to a stream is no run of whole messages.
+pub const NOT_FRAMES: i32 = -28;
+
+/// A message that is wanted whole is longer than the caller takes.
+pub const FRAME_TOO_LONG: i32 = -29;
+
 /// What is wrong with bytes that were read. `number` is what the call returned. `at` is an offset
 /// in them, where the fault has one, else 0. `words` are `words_len` bytes of ASCII, none where
 /// there was no memory for them.
@@ -196,8 +205,13 @@ pub fn report_client(alloc: Global, why: FrontendFault, fault: &mut PgmsgFault) 
     fill(number_of_client(why), place_of_client(why), &words, fault)
 }
 
-// Fills the fault, with words where there are some and it has room for them, and gives the number.
-fn fill(number: i32, at: usize, words: &Result<String, AllocError>, fault: &mut PgmsgFault) -> i32
+/// Fills the fault, with words where there are some and it has room for them, and gives the number.
+pub(crate) fn fill(
+    number: i32,
+    at: usize,
+    words: &Result<String, AllocError>,
+    fault: &mut PgmsgFault,
+) -> i32
     ensures { (said : List ℕ) → IfOk words.now (λ text. string_bytes text ≡ said)
         → IsReportOf number at said fault.old fault.new result }
 {

@@ -5,10 +5,11 @@ ghost use Rattle.pg_c.specs.Words.{ended, room, words_of};
 
 use crate::refusal::{
     BAD_KEY_LENGTH, BAD_LENGTH, BAD_PARAMS, BAD_VALUE_LENGTH, BASE64, BODY_TOO_LONG,
-    FIRST_TOO_LONG, MESSAGE_TOO_LONG, MISSING_NUL, NOT_UTF8, NOTICE_NOT_UTF8, OUT_OF_MEMORY, SHORT,
-    SHORT_SASL_ITEM, TEXT_HOLDS_NUL, TOO_MANY_PARAM_FORMATS, TOO_MANY_PARAM_TYPES,
-    TOO_MANY_RESULT_FORMATS, TRAILING_BYTES, UNKNOWN_AUTHENTICATION, UNKNOWN_CODE,
-    UNKNOWN_MESSAGE_TYPE, UNKNOWN_SEVERITY, UNKNOWN_STATUS, UNKNOWN_TARGET, WRONG_FORMAT,
+    FIRST_TOO_LONG, FRAME_TOO_LONG, MESSAGE_TOO_LONG, MISSING_NUL, NOT_FRAMES, NOT_UTF8,
+    NOTICE_NOT_UTF8, OUT_OF_MEMORY, SHORT, SHORT_SASL_ITEM, TEXT_HOLDS_NUL, TOO_MANY,
+    TOO_MANY_PARAM_FORMATS, TOO_MANY_PARAM_TYPES, TOO_MANY_RESULT_FORMATS, TRAILING_BYTES,
+    UNKNOWN_AUTHENTICATION, UNKNOWN_CODE, UNKNOWN_MESSAGE_TYPE, UNKNOWN_SEVERITY, UNKNOWN_STATUS,
+    UNKNOWN_TARGET, WRONG_FORMAT,
 };
 
 /// The version of the library, and of the header with it.
@@ -82,6 +83,9 @@ fn words(number: i32) -> &'static str
         BAD_VALUE_LENGTH => "value length is below -1",
         TRAILING_BYTES => "bytes follow the end of a message",
         FIRST_TOO_LONG => "first message is too long",
+        TOO_MANY => "more items than can be counted",
+        NOT_FRAMES => "not a run of whole messages",
+        FRAME_TOO_LONG => "message is longer than is taken whole",
         0.. => "no error",
         _ => "unknown error",
     }

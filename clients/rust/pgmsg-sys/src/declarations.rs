@@ -83,6 +83,15 @@ pub const PGMSG_TRAILING_BYTES: i32 = -25;
 /// A first message is longer than the caller takes.
 pub const PGMSG_FIRST_TOO_LONG: i32 = -26;
 
+/// More items than a message to a client can count.
+pub const PGMSG_TOO_MANY: i32 = -27;
+
+/// What is to be added to a stream is no run of whole messages.
+pub const PGMSG_NOT_FRAMES: i32 = -28;
+
+/// A message that is wanted whole is longer than the caller takes.
+pub const PGMSG_FRAME_TOO_LONG: i32 = -29;
+
 /// A session is opened: a StartupMessage.
 pub const PGMSG_FIRST_STARTUP: i32 = 0;
 

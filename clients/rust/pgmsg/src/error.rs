@@ -61,6 +61,12 @@ pub enum Refusal {
     TrailingBytes,
     /// A first message is longer than the caller takes.
     FirstTooLong,
+    /// More items than a message to a client can count.
+    TooMany,
+    /// What is to be added to a stream is no run of whole messages.
+    NotFrames,
+    /// A message that is wanted whole is longer than the caller takes.
+    FrameTooLong,
     /// The library gave this number, which its header excludes. Library and crate are of
     /// different versions, or the library is defective.
     Unexpected(i64),
@@ -95,6 +101,9 @@ const KNOWN: &[(i32, Refusal, &str)] = &[
     (sys::PGMSG_BAD_VALUE_LENGTH, Refusal::BadValueLength, "value length is below -1"),
     (sys::PGMSG_TRAILING_BYTES, Refusal::TrailingBytes, "bytes follow the end of a message"),
     (sys::PGMSG_FIRST_TOO_LONG, Refusal::FirstTooLong, "first message is too long"),
+    (sys::PGMSG_TOO_MANY, Refusal::TooMany, "more items than can be counted"),
+    (sys::PGMSG_NOT_FRAMES, Refusal::NotFrames, "not a run of whole messages"),
+    (sys::PGMSG_FRAME_TOO_LONG, Refusal::FrameTooLong, "message is longer than is taken whole"),
 ];
 
 impl Refusal {

@@ -31,6 +31,9 @@ const ALL: &[Refusal] = &[
     Refusal::BadValueLength,
     Refusal::TrailingBytes,
     Refusal::FirstTooLong,
+    Refusal::TooMany,
+    Refusal::NotFrames,
+    Refusal::FrameTooLong,
 ];
 
 #[test]

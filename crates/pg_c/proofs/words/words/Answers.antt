@@ -5,7 +5,7 @@ use Rattle.pg_c.specs.Words.{refusals, words_of}
 use Rattle.pg_c.proofs.words.words.Goals as goal
 
 -- a number below the last
-no_words : (z : ℤ) → z <ℤ negsuc 25 → words_of z ≡ codes "unknown error"
+no_words : (z : ℤ) → z <ℤ negsuc 28 → words_of z ≡ codes "unknown error"
 no_words (pos n) below = absurd (omega (arith, ints, below))
 no_words (negsuc n) below = get_or_past refusals n (codes "unknown error") (omega (arith, ints, below))
 
