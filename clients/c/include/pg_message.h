@@ -294,6 +294,22 @@ typedef struct {
     uint16_t result_format;
 } pgmsg_function_call;
 
+/* One direction of a connection that is passed on. Set `limit` to the most bytes of a message that
+ * is taken whole, `left` to 0, and `is_first` where a client's first message comes next;
+ * `pgmsg_relay_next` moves the last two on. */
+typedef struct {
+    size_t limit;
+    size_t left;
+    bool is_first;
+} pgmsg_relay;
+
+/* What is at the front of a stream. `length` bytes of it go out together; where more bytes are
+ * needed, it is how many at least. `tag` is 0 of a first message. */
+typedef struct {
+    uint8_t tag;
+    size_t length;
+} pgmsg_passage;
+
 /* Why a call refused, by the number below 0 that it returned, in a few words; those of its fault
  * say more. They are "no error" for 0 and above, and "unknown error" for a number that no call
  * returns. */
@@ -634,6 +650,20 @@ size_t pgmsg_read_types(const uint8_t *body, size_t body_len, pgmsg_list list, u
  * there are. As many as there is room for are written. */
 size_t pgmsg_read_settings(const uint8_t *body, size_t body_len, pgmsg_parameter_status *settings,
     size_t settings_len);
+
+/* What is at the front of a stream that is passed on: 1 for a whole message that is wanted whole,
+ * or a first one; 2 for the next bytes of one that isn't; 0 where more bytes are needed. Messages
+ * with a tag are wanted whole where `wanted` has no 0 at the tag; a first message always is. Of a
+ * message that goes on in parts `tag` stays. Refused where the length of the next message is below
+ * 4, or below 8 of a first one, or where it is wanted whole and is longer than `limit`. */
+int32_t pgmsg_relay_next(pgmsg_relay *relay, const uint8_t wanted[256], const uint8_t *stream,
+    size_t stream_len, pgmsg_passage *passage, pgmsg_fault *fault);
+
+/* Whether bytes are whole messages one after the other, so that they may be added to a stream: 0,
+ * and `is_first`, which says whether a first message comes next, is what comes after them. Refused
+ * where they aren't. */
+int32_t pgmsg_check_frames(const uint8_t *bytes, size_t bytes_len, bool *is_first,
+    pgmsg_fault *fault);
 
 #ifdef __cplusplus
 }

@@ -14,3 +14,5 @@ pub mod ReadLemmas
 pub mod ReadListsLemmas
 pub mod ReadRowLemmas
 pub mod RefusalLemmas
+pub mod RelayPassageLemmas
+pub mod RelayRefusalLemmas

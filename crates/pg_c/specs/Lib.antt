@@ -3,4 +3,5 @@ pub mod Place
 pub mod Put
 pub mod Read
 pub mod Refusal
+pub mod Relay
 pub mod Words

@@ -10,4 +10,5 @@ pub mod place;
 pub mod put;
 pub mod read;
 pub mod refusal;
+pub mod relay;
 pub mod words;

@@ -345,6 +345,26 @@ pub struct pgmsg_function_call {
     pub result_format: u16,
 }
 
+/// One direction of a connection that is passed on. Set `limit` to the most bytes of a message that
+/// is taken whole, `left` to 0, and `is_first` where a client's first message comes next;
+/// `pgmsg_relay_next` moves the last two on.
+#[repr(C)]
+#[derive(Clone, Copy, Debug, Default)]
+pub struct pgmsg_relay {
+    pub limit: usize,
+    pub left: usize,
+    pub is_first: bool,
+}
+
+/// What is at the front of a stream. `length` bytes of it go out together; where more bytes are
+/// needed, it is how many at least. `tag` is 0 of a first message.
+#[repr(C)]
+#[derive(Clone, Copy, Debug, Default)]
+pub struct pgmsg_passage {
+    pub tag: u8,
+    pub length: usize,
+}
+
 extern "C" {
     /// Why a call refused, by the number below 0 that it returned, in a few words; those of its
     /// fault say more. They are "no error" for 0 and above, and "unknown error" for a number that
@@ -963,4 +983,29 @@ extern "C" {
         settings: *mut pgmsg_parameter_status,
         settings_len: usize,
     ) -> usize;
+
+    /// What is at the front of a stream that is passed on: 1 for a whole message that is wanted
+    /// whole, or a first one; 2 for the next bytes of one that isn't; 0 where more bytes are
+    /// needed. Messages with a tag are wanted whole where `wanted` has no 0 at the tag; a first
+    /// message always is. Of a message that goes on in parts `tag` stays. Refused where the length
+    /// of the next message is below 4, or below 8 of a first one, or where it is wanted whole and
+    /// is longer than `limit`.
+    pub fn pgmsg_relay_next(
+        relay: *mut pgmsg_relay,
+        wanted: *const [u8; 256],
+        stream: *const u8,
+        stream_len: usize,
+        passage: *mut pgmsg_passage,
+        fault: *mut pgmsg_fault,
+    ) -> i32;
+
+    /// Whether bytes are whole messages one after the other, so that they may be added to a stream:
+    /// 0, and `is_first`, which says whether a first message comes next, is what comes after them.
+    /// Refused where they aren't.
+    pub fn pgmsg_check_frames(
+        bytes: *const u8,
+        bytes_len: usize,
+        is_first: *mut bool,
+        fault: *mut pgmsg_fault,
+    ) -> i32;
 }

@@ -1,0 +1,11 @@
+-- A stream that is passed on, as C has it.
+pub mod Passage
+pub mod Refusal
+use Rattle.std.specs.Prelude.{Bool, true, false}
+use Rattle.pg_frontend_frames.specs.declared.frame.Expects.{Expects}
+use Rattle.pg_frontend_frames.specs.declared.frame.Expects.TheVariants.{First, Tagged}
+
+-- which message comes next, by whether it is a first one
+abbrev pub expected : Bool → Expects
+expected true = First
+expected false = Tagged

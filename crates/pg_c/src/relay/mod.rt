@@ -1,0 +1,9 @@
+//! A stream that is passed on, for proxies and poolers: where its messages lie, and whether what is to be added to it
+//! is whole messages.
+//!
+//! The caller keeps the bytes until they go out. Only a refusal fills `fault`.
+
+mod passage;
+mod refusal;
+mod run;
+mod state;

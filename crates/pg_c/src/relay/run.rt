@@ -1,0 +1,38 @@
+//! Whether bytes are whole messages.
+
+ghost use Rattle.std.specs.Prelude.{◌≡◌, ◌<ℤ◌, ◌≤ℤ◌, pos};
+ghost use Rattle.pg_frontend_frames.specs.declared.frame.Expects.{Expects};
+ghost use Rattle.pg_relay.specs.Answer.{IsRun};
+ghost use Rattle.pg_relay.specs.declared.error.RelayError.TheVariants.{NotFrames};
+ghost use Rattle.pg_c.specs.Relay.{expected};
+ghost use Rattle.pg_c.specs.Relay.Refusal.{IsRelayReport};
+
+use crate::refusal::PgmsgFault;
+use crate::relay::refusal::report_relay;
+use crate::relay::state::{expects_of, is_of_first};
+use pg_relay::{RelayError, end_of_run};
+use std::alloc::Global;
+
+/// Whether bytes are whole messages one after the other, so that they may be added to a stream: 0, and `is_first`,
+/// which says whether a first message comes next, is what comes after them. Refused where they aren't.
+#[unsafe(no_mangle)]
+pub extern "C" fn pgmsg_check_frames(
+    alloc: Global,
+    bytes: &[u8],
+    is_first: &mut bool,
+    fault: &mut PgmsgFault,
+) -> i32
+    ensures result { result ≤ℤ pos 0 }
+    ensures run { result ≡ pos 0 → IsRun (expected is_first.old) bytes.now (expected is_first.new) }
+    ensures none { result <ℤ pos 0
+        → (last : Expects) → ¬ (IsRun (expected is_first.old) bytes.now last) }
+    ensures fault { result <ℤ pos 0 → IsRelayReport NotFrames fault.old fault.new result }
+    ensures untouched { pos 0 ≤ℤ result → fault.new ≡ fault.old }
+    ensures kept { result <ℤ pos 0 → is_first.new ≡ is_first.old }
+{
+    let Some(last) = end_of_run(expects_of(*is_first), bytes) else {
+        return report_relay(alloc, RelayError::NotFrames, fault);
+    };
+    *is_first = is_of_first(last);
+    0
+}
