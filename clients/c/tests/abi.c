@@ -158,3 +158,12 @@ SAME(offsetof(pgmsg_function_call, function), 0);
 SAME(offsetof(pgmsg_function_call, formats), 8);
 SAME(offsetof(pgmsg_function_call, arguments), 24);
 SAME(offsetof(pgmsg_function_call, result_format), 40);
+
+SAME(sizeof(pgmsg_relay), 24);
+SAME(offsetof(pgmsg_relay, limit), 0);
+SAME(offsetof(pgmsg_relay, left), 8);
+SAME(offsetof(pgmsg_relay, is_first), 16);
+
+SAME(sizeof(pgmsg_passage), 16);
+SAME(offsetof(pgmsg_passage, tag), 0);
+SAME(offsetof(pgmsg_passage, length), 8);

@@ -15,5 +15,6 @@ int main(void)
     test_client(&tally);
     test_client_lists(&tally);
     test_client_faults(&tally);
+    test_relay(&tally);
     return report(&tally);
 }

@@ -24,5 +24,6 @@ void test_read_raw(struct tally *tally);
 void test_client(struct tally *tally);
 void test_client_lists(struct tally *tally);
 void test_client_faults(struct tally *tally);
+void test_relay(struct tally *tally);
 
 #endif

@@ -53,5 +53,6 @@ int main(void)
     test_guarded_put(&tally);
     test_guarded_read(&tally);
     test_guarded_client(&tally);
+    test_guarded_relay(&tally);
     return report(&tally);
 }

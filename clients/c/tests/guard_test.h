@@ -26,5 +26,6 @@ void name_call(const char *name);
 void test_guarded_put(struct tally *tally);
 void test_guarded_read(struct tally *tally);
 void test_guarded_client(struct tally *tally);
+void test_guarded_relay(struct tally *tally);
 
 #endif

@@ -24,5 +24,6 @@ int main(void)
     test_memory_read(&tally);
     test_memory_none(&tally);
     test_memory_client(&tally);
+    test_memory_relay(&tally);
     return report(&tally);
 }
