@@ -1,6 +1,8 @@
 -- Kinds of message and faults that are equal by their `==` are the same.
 use Rattle.std.proofs.Common.{◌≡◌, true, false, refl, rules}
 use Rattle.std.proofs.lemmas.Bool.{and_parts}
+use denote.Enum.Bare.{same_true}
+use Rattle.pg_base.specs.contracts.format.BackendMessageFormat.{the_type}
 use Rattle.pg_base.specs.declared.format.BackendMessageFormat.{BackendMessageFormat}
 use Rattle.pg_base.specs.declared.error.ProtocolFault.{ProtocolFault}
 use Rattle.pg_base.specs.declared.error.ProtocolFault.TheVariants as faults
@@ -8,7 +10,10 @@ use Rattle.pg_base.specs.contracts.format.BackendMessageFormatPartialEq.TheImpl 
 use Rattle.pg_base.specs.contracts.error.ProtocolFaultPartialEq.TheImpl as faults-eq
 
 pub same_formats : (a b : BackendMessageFormat) → formats-eq.ghosts.eq a b ≡ true → a ≡ b
-same_formats a b = search rules
+same_formats a b = same_true the_type (search rules) a b
+
+never : false ≡ true → ⊥
+never clash = cc
 
 pub same_faults : (a b : ProtocolFault) → faults-eq.ghosts.eq a b ≡ true → a ≡ b
 same_faults (faults.TooManyParamFormats n) (faults.TooManyParamFormats m) e = search rules
@@ -35,4 +40,4 @@ same_faults (faults.BadLength n) (faults.BadLength m) e = search rules
 same_faults faults.TextHoldsNul faults.TextHoldsNul e = refl
 same_faults faults.BadParams faults.BadParams e = refl
 same_faults (faults.BadKeyLength n) (faults.BadKeyLength m) e = search rules
-same_faults a b e = absurd (let clash : false ≡ true = e in cc)
+same_faults a b e = absurd (never e)
