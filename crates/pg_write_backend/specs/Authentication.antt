@@ -1,13 +1,13 @@
 -- AuthenticationOk and the requests after it: the number of a method, and what it asks. Documentation:
 -- "Message Formats", the messages whose names begin with Authentication.
-use Rattle.std.specs.Prelude.{◌≡◌, ◌||◌, Bool, false, length}
+use Rattle.std.specs.Prelude.{◌≡◌, ℕ, ◌||◌, Bool, false, List, map, length}
+use Rattle.std.specs.Borrow.{Bor}
 use Rattle.std.specs.List.{list_any}
 use Rattle.pg_base.specs.Format.{backend_tag}
 use Rattle.pg_base.specs.declared.format.BackendMessageFormat.TheVariants as formats
 use Rattle.pg_format.specs.Messages as page
 use Rattle.pg_write_backend.specs.Frame.{Law}
 use Rattle.pg_write_backend.specs.Item.{is_empty, holds_nul, nul_fault}
-use Rattle.pg_write_backend.specs.NegotiateProtocolVersion.{names_of}
 use Rattle.pg_write_backend.specs.declared.message.authentication.AuthenticationText.{AuthenticationText}
 use Rattle.pg_write_backend.specs.declared.message.authentication.AuthenticationText.TheVariants as requests
 
@@ -15,7 +15,7 @@ abbrev pub request_of : AuthenticationText → page.Authentication
 request_of requests.Ok = page.ok
 request_of requests.CleartextPassword = page.cleartext_password
 request_of (requests.Md5Password salt) = page.md5_password salt
-request_of (requests.Sasl names) = page.sasl (names_of names.now)
+request_of (requests.Sasl names) = page.sasl (map (λ (name : Bor (List ℕ)). name.now) names.now)
 request_of (requests.SaslContinue content) = page.sasl_continue content.now
 request_of (requests.SaslFinal content) = page.sasl_final content.now
 

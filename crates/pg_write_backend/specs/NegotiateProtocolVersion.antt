@@ -1,15 +1,10 @@
 -- NegotiateProtocolVersion: a minor version, and names of options. Documentation: "Message Formats",
 -- NegotiateProtocolVersion (B).
-use Rattle.std.specs.Prelude.{ℕ, ◌^◌, ◌<◌, List, map}
-use Rattle.std.specs.Borrow.{Bor}
+use Rattle.std.specs.Prelude.{◌^◌, ◌<◌}
 use Rattle.std.specs.List.{list_any}
 use Rattle.pg_format.specs.Messages as page
 use Rattle.pg_write_backend.specs.Frame.{Law}
 use Rattle.pg_write_backend.specs.Item.{holds_nul, nul_fault}
-
--- names as the program borrows them
-abbrev pub names_of : List (Bor (List ℕ)) → List (List ℕ)
-names_of names = map (λ (name : Bor (List ℕ)). name.now) names
 
 -- the tag is `v`
 abbrev pub negotiation_law : page.Negotiation → Law

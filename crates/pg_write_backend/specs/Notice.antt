@@ -1,6 +1,6 @@
 -- ErrorResponse and NoticeResponse: fields, and the byte that ends them. Documentation: "Message Formats",
 -- ErrorResponse (B) and NoticeResponse (B).
-use Rattle.std.specs.Prelude.{ℕ, ◌<◌, ◌==◌, ◌||◌, Bool, List, map, All}
+use Rattle.std.specs.Prelude.{ℕ, ◌<◌, ◌==◌, ◌||◌, Bool, List, All}
 use Rattle.std.specs.List.{list_any}
 use Rattle.pg_base.specs.Format.{backend_tag}
 use Rattle.pg_base.specs.declared.format.BackendMessageFormat.TheVariants as formats
@@ -18,9 +18,6 @@ notice_tag kinds.Notice = backend_tag formats.NoticeResponse
 
 abbrev pub field_of : NoticeFieldText → Field
 field_of field = (field.letter, field.text.now)
-
-abbrev pub fields_of : List NoticeFieldText → List Field
-fields_of fields = map field_of fields
 
 -- it would end the fields, or its text early
 abbrev pub breaks_fields : Field → Bool

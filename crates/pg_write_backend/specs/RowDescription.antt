@@ -1,5 +1,5 @@
 -- RowDescription: the columns of a result. Documentation: "Message Formats", RowDescription (B).
-use Rattle.std.specs.Prelude.{◌≡◌, ◌^◌, ◌<◌, List, map, length, All}
+use Rattle.std.specs.Prelude.{◌≡◌, ◌^◌, ◌<◌, List, length, All}
 use Rattle.std.specs.List.{list_any}
 use Rattle.std.specs.Option.{option_or}
 use Rattle.pg_base.specs.Format.{backend_tag}
@@ -21,9 +21,6 @@ column_of column = record {
   type_modifier = column.modifier;
   format = column.format;
 }
-
-abbrev pub columns_of : List ColumnText → List page.Column
-columns_of columns = map column_of columns
 
 -- its table and its attribute are read back from their numbers
 pub record IsColumnInRange (column : page.Column) : Type 0 where

@@ -1,16 +1,13 @@
 //! Requests for authentication.
 
 ghost use Rattle.std.specs.Prelude.{◌≡◌, ◌+◌, length};
-ghost use Rattle.std.specs.List.{list_any};
 ghost use Rattle.pg_write_backend.specs.Authentication.{request_of};
 ghost use Rattle.pg_write_backend.specs.Frame.{saturated};
-ghost use Rattle.pg_write_backend.specs.Item.{is_empty};
 ghost use Rattle.pg_write_backend.specs.Message as messages;
-ghost use Rattle.pg_write_backend.specs.NegotiateProtocolVersion.{names_of};
 
 use crate::error::BackendFault;
 use crate::message::BackendText;
-use crate::message::item::{any_broken, items_len, nul_fault, put_items};
+use crate::message::sasl::SaslText;
 use pg_base::io::Sink;
 
 // The numbers of methods.
@@ -20,14 +17,12 @@ const CLEARTEXT_PASSWORD: u32 = 3;
 
 const MD5_PASSWORD: u32 = 5;
 
-const SASL: u32 = 10;
-
 const SASL_CONTINUE: u32 = 11;
 
 const SASL_FINAL: u32 = 12;
 
-// The bytes of a method's number.
-const METHOD: usize = 4;
+/// The bytes of a method's number.
+pub(crate) const METHOD: usize = 4;
 
 /// What a client is asked for, or that it needs no more. Documentation: "Message Formats",
 /// AuthenticationOk (B) and those after it.
@@ -59,7 +54,7 @@ impl BackendText for AuthenticationText<'_> {
         match self {
             AuthenticationText::Ok | AuthenticationText::CleartextPassword => METHOD,
             AuthenticationText::Md5Password(salt) => content_len(salt),
-            AuthenticationText::Sasl(names) => items_len(names).saturating_add(METHOD + 1),
+            AuthenticationText::Sasl(mechanisms) => SaslText { mechanisms }.body_len(),
             AuthenticationText::SaslContinue(content) | AuthenticationText::SaslFinal(content) => {
                 content_len(content)
             }
@@ -68,7 +63,7 @@ impl BackendText for AuthenticationText<'_> {
 
     fn part_fault(&self) -> Option<BackendFault> {
         match self {
-            AuthenticationText::Sasl(names) => nul_fault(any_empty(names) || any_broken(names)),
+            AuthenticationText::Sasl(mechanisms) => SaslText { mechanisms }.part_fault(),
             _ => None,
         }
     }
@@ -82,11 +77,7 @@ impl BackendText for AuthenticationText<'_> {
                 sink.put_u32(MD5_PASSWORD);
                 sink.put_slice(salt);
             }
-            AuthenticationText::Sasl(names) => {
-                sink.put_u32(SASL);
-                put_items(names, sink);
-                sink.put_u8(0);
-            }
+            AuthenticationText::Sasl(mechanisms) => SaslText { mechanisms }.put_body(sink),
             AuthenticationText::SaslContinue(content) => {
                 sink.put_u32(SASL_CONTINUE);
                 sink.put_slice(content);
@@ -104,23 +95,4 @@ fn content_len(content: &[u8]) -> usize
     ensures { result ≡ saturated (4 + length content.now) }
 {
     content.len().saturating_add(METHOD)
-}
-
-// Whether a name is empty.
-fn is_empty(name: &[u8]) -> bool
-    ensures { result ≡ is_empty name.now }
-{
-    name.is_empty()
-}
-
-// Whether one of the names is empty.
-fn any_empty(names: &[&[u8]]) -> bool
-    ensures { result ≡ list_any is_empty (names_of names.now) }
-{
-    for name in names {
-        if is_empty(name) {
-            return true;
-        }
-    }
-    false
 }

@@ -1,15 +1,14 @@
 //! A row of values.
 
-ghost use Rattle.std.specs.Prelude.{◌≡◌, ◌+◌, ◌≤◌, ◌++◌, length, false, option_copied};
+ghost use Rattle.std.specs.Prelude.{◌≡◌, ◌+◌, ◌≤◌, ◌++◌, length, map, false, option_copied};
 ghost use Rattle.pg_base.specs.Cutting.{max_length};
 ghost use Rattle.pg_format.specs.Format.Nullable.{cell};
-ghost use Rattle.pg_write_backend.specs.DataRow.{cells_of};
 ghost use Rattle.pg_write_backend.specs.Frame.{saturated};
 ghost use Rattle.pg_write_backend.specs.Message as messages;
 
 use crate::error::BackendFault;
 use crate::message::BackendText;
-use crate::message::item::{Item, MAX_UNSIGNED, items_len, put_items, too_many};
+use crate::message::item::{AsItem, Item, MAX_UNSIGNED, items_len, put_items, too_many};
 use pg_base::io::Sink;
 
 // The length that says NULL: -1.
@@ -21,12 +20,12 @@ const CELL_LENGTH: usize = 4;
 /// The values of a row, each as bytes in the format that was asked for, or `None` for NULL. More than
 /// 65535 are refused with `TooMany`. Documentation: "Message Formats", DataRow (B).
 #[derive(Drop)]
-pub struct DataRowText<'a> {
-    pub values: &'a [Option<&'a [u8]>],
+pub struct DataRowText<'a, V = Option<&'a [u8]>> {
+    pub values: &'a [V],
 }
 
-impl BackendText for DataRowText<'_> {
-    ghost message = { λ row. messages.DataRow (cells_of row.values.now) };
+impl<'a, V: AsItem<Option<&'a [u8]>>> BackendText for DataRowText<'a, V> {
+    ghost message = { λ row. messages.DataRow (map (λ value. option_copied (V.item value)) row.values.now) };
 
     fn tag(&self) -> u8 {
         b'D'

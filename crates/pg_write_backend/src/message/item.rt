@@ -14,7 +14,7 @@ use pg_base::io::Sink;
 pub(crate) const MAX_UNSIGNED: usize = u16::MAX as usize;
 
 /// What stands in a list of a body.
-pub(crate) trait Item: Sized {
+pub trait Item: Copy {
     ghost Value: { Type 0 };
 
     /// What it says.
@@ -47,23 +47,42 @@ pub(crate) trait Item: Sized {
         ensures range { IsInRange (value self.now) };
 }
 
+/// What a caller has in the place of an item.
+pub trait AsItem<I: Item> {
+    /// The item.
+    ghost item: { Self → I };
+
+    /// The item.
+    fn as_item(&self) -> I
+        ensures { result ≡ item self.now };
+}
+
+impl<I: Item> AsItem<I> for I {
+    ghost item = { λ item. item };
+
+    #[inline(always)]
+    fn as_item(&self) -> I {
+        *self
+    }
+}
+
 /// The length of all of them in bytes; sums saturate.
-pub(crate) fn items_len<T: Item>(items: &[T]) -> usize
-    ensures { result ≡ saturated (length (flat_map T.format.Writes (map T.value items.now))) }
+pub(crate) fn items_len<I: Item, T: AsItem<I>>(items: &[T]) -> usize
+    ensures { result ≡ saturated (length (flat_map I.format.Writes (map (λ x. I.value (T.item x)) items.now))) }
 {
     let mut len: usize = 0;
     for item in items {
-        len = len.saturating_add(item.len());
+        len = len.saturating_add(item.as_item().len());
     }
     len
 }
 
 /// Whether one of them is broken.
-pub(crate) fn any_broken<T: Item>(items: &[T]) -> bool
-    ensures { result ≡ list_any T.is_broken (map T.value items.now) }
+pub(crate) fn any_broken<I: Item, T: AsItem<I>>(items: &[T]) -> bool
+    ensures { result ≡ list_any I.is_broken (map (λ x. I.value (T.item x)) items.now) }
 {
     for item in items {
-        if item.is_broken() {
+        if item.as_item().is_broken() {
             return true;
         }
     }
@@ -72,16 +91,16 @@ pub(crate) fn any_broken<T: Item>(items: &[T]) -> bool
 
 /// Adds all of them, in room that is there.
 #[inline(always)]
-pub(crate) fn put_items<T: Item, S: Sink>(items: &[T], sink: &mut S)
-    requires small { length (flat_map T.format.Writes (map T.value items.now)) ≤ max_length }
-    requires room { length (S.written sink.old) + length (flat_map T.format.Writes (map T.value items.now)) ≤ S.capacity sink.old }
-    ensures written { S.written sink.new ≡ S.written sink.old ++ flat_map T.format.Writes (map T.value items.now) }
+pub(crate) fn put_items<I: Item, T: AsItem<I>, S: Sink>(items: &[T], sink: &mut S)
+    requires small { length (flat_map I.format.Writes (map (λ x. I.value (T.item x)) items.now)) ≤ max_length }
+    requires room { length (S.written sink.old) + length (flat_map I.format.Writes (map (λ x. I.value (T.item x)) items.now)) ≤ S.capacity sink.old }
+    ensures written { S.written sink.new ≡ S.written sink.old ++ flat_map I.format.Writes (map (λ x. I.value (T.item x)) items.now) }
     ensures capacity { S.capacity sink.old ≤ S.capacity sink.new }
     ensures loan { S.loan sink.new ≡ S.loan sink.old }
-    ensures range { All T.IsInRange (map T.value items.now) }
+    ensures range { All I.IsInRange (map (λ x. I.value (T.item x)) items.now) }
 {
     for item in items {
-        item.put(sink);
+        item.as_item().put(sink);
     }
 }
 

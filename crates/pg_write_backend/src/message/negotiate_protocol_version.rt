@@ -1,26 +1,25 @@
 //! What of the protocol the server doesn't speak.
 
-ghost use Rattle.std.specs.Prelude.{◌≡◌};
+ghost use Rattle.std.specs.Prelude.{◌≡◌, map};
 ghost use Rattle.pg_write_backend.specs.Message as messages;
-ghost use Rattle.pg_write_backend.specs.NegotiateProtocolVersion.{names_of};
 
 use crate::error::BackendFault;
 use crate::message::BackendText;
-use crate::message::item::{Item, any_broken, holds_nul, items_len, nul_fault, put_items};
+use crate::message::item::{AsItem, Item, any_broken, holds_nul, items_len, nul_fault, put_items};
 use pg_base::io::Sink;
 
 /// The server speaks an older minor version than the client asked for, or doesn't know some of its
 /// options. Documentation: "Message Formats", NegotiateProtocolVersion (B).
 #[derive(Drop)]
-pub struct NegotiateProtocolVersionText<'a> {
+pub struct NegotiateProtocolVersionText<'a, N = &'a [u8]> {
     /// The newest minor version that the server speaks.
     pub minor: u32,
     /// The names of the options that it doesn't know. A NUL in one is refused with `TextHoldsNul`.
-    pub options: &'a [&'a [u8]],
+    pub options: &'a [N],
 }
 
-impl BackendText for NegotiateProtocolVersionText<'_> {
-    ghost message = { λ version. messages.NegotiateProtocolVersion (record { minor = version.minor; options = names_of version.options.now }) };
+impl<'a, N: AsItem<&'a [u8]>> BackendText for NegotiateProtocolVersionText<'a, N> {
+    ghost message = { λ version. messages.NegotiateProtocolVersion (record { minor = version.minor; options = map (λ name. (N.item name).now) version.options.now }) };
 
     fn tag(&self) -> u8 {
         b'v'

@@ -1,11 +1,12 @@
 //! Errors and notices.
 
+ghost use Rattle.std.specs.Prelude.{map};
 ghost use Rattle.pg_write_backend.specs.Message as messages;
-ghost use Rattle.pg_write_backend.specs.Notice.{fields_of};
+ghost use Rattle.pg_write_backend.specs.Notice.{field_of};
 
 use crate::error::BackendFault;
 use crate::message::BackendText;
-use crate::message::item::{Item, any_broken, holds_nul, items_len, nul_fault, put_items};
+use crate::message::item::{AsItem, Item, any_broken, holds_nul, items_len, nul_fault, put_items};
 use pg_base::io::Sink;
 
 /// Whether it ends the command. As a number it is the tag of the message.
@@ -30,15 +31,15 @@ pub struct NoticeFieldText<'a> {
 /// An error or a notice, by its fields in order. Documentation: "Message Formats", ErrorResponse (B) and
 /// NoticeResponse (B).
 #[derive(Drop)]
-pub struct NoticeText<'a> {
+pub struct NoticeText<'a, F = NoticeFieldText<'a>> {
     /// Which of the two messages it is.
     pub kind: NoticeKind,
     /// The fields: a client asks for a severity, a code and a message.
-    pub fields: &'a [NoticeFieldText<'a>],
+    pub fields: &'a [F],
 }
 
-impl BackendText for NoticeText<'_> {
-    ghost message = { λ notice. messages.Notice notice.kind (fields_of notice.fields.now) };
+impl<'a, F: AsItem<NoticeFieldText<'a>>> BackendText for NoticeText<'a, F> {
+    ghost message = { λ notice. messages.Notice notice.kind (map (λ field. field_of (F.item field)) notice.fields.now) };
 
     fn tag(&self) -> u8 {
         self.kind as u8

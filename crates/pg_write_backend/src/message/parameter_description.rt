@@ -1,23 +1,22 @@
 //! The types of the parameters of a statement.
 
-ghost use Rattle.std.specs.Prelude.{false};
-ghost use Rattle.pg_base.specs.Numbers.{numbers_of};
+ghost use Rattle.std.specs.Prelude.{false, map};
 ghost use Rattle.pg_write_backend.specs.Message as messages;
 
 use crate::error::BackendFault;
 use crate::message::BackendText;
-use crate::message::item::{Item, MAX_UNSIGNED, items_len, put_items, too_many};
+use crate::message::item::{AsItem, Item, MAX_UNSIGNED, items_len, put_items, too_many};
 use pg_base::io::{Oid, Sink};
 
 /// The types of the parameters of a statement. More than 65535 are refused with `TooMany`.
 /// Documentation: "Message Formats", ParameterDescription (B).
 #[derive(Drop)]
-pub struct ParameterDescriptionText<'a> {
-    pub types: &'a [Oid],
+pub struct ParameterDescriptionText<'a, T = Oid> {
+    pub types: &'a [T],
 }
 
-impl BackendText for ParameterDescriptionText<'_> {
-    ghost message = { λ description. messages.ParameterDescription (numbers_of description.types.now) };
+impl<T: AsItem<Oid>> BackendText for ParameterDescriptionText<'_, T> {
+    ghost message = { λ description. messages.ParameterDescription (map (λ number. (T.item number).0) description.types.now) };
 
     fn tag(&self) -> u8 {
         b't'
@@ -63,5 +62,17 @@ impl Item for Oid {
     #[inline(always)]
     fn put<S: Sink>(&self, sink: &mut S) {
         sink.put_u32(self.0);
+    }
+}
+
+/// An id by its number.
+impl AsItem<Oid> for u32 {
+    ghost use Rattle.pg_base.specs.declared.io.Oid.{Oid};
+
+    ghost item = { λ number. record { 0 = number } };
+
+    #[inline(always)]
+    fn as_item(&self) -> Oid {
+        Oid(*self)
     }
 }

@@ -1,12 +1,13 @@
 //! The columns of a result.
 
+ghost use Rattle.std.specs.Prelude.{map};
 ghost use Rattle.pg_write_backend.specs.Message as messages;
-ghost use Rattle.pg_write_backend.specs.RowDescription.{columns_of};
+ghost use Rattle.pg_write_backend.specs.RowDescription.{column_of};
 
 use crate::error::BackendFault;
 use crate::message::BackendText;
 use crate::message::item::{
-    Item, MAX_UNSIGNED, any_broken, holds_nul, items_len, nul_fault, put_items, too_many,
+    AsItem, Item, MAX_UNSIGNED, any_broken, holds_nul, items_len, nul_fault, put_items, too_many,
 };
 use crate::message::numbers::{put_i16, put_i32};
 use pg_base::io::{Oid, Sink};
@@ -36,12 +37,12 @@ pub struct ColumnText<'a> {
 /// The columns of a result. More than 65535 are refused with `TooMany`. Documentation: "Message
 /// Formats", RowDescription (B).
 #[derive(Drop)]
-pub struct RowDescriptionText<'a> {
-    pub columns: &'a [ColumnText<'a>],
+pub struct RowDescriptionText<'a, C = ColumnText<'a>> {
+    pub columns: &'a [C],
 }
 
-impl BackendText for RowDescriptionText<'_> {
-    ghost message = { λ description. messages.RowDescription (columns_of description.columns.now) };
+impl<'a, C: AsItem<ColumnText<'a>>> BackendText for RowDescriptionText<'a, C> {
+    ghost message = { λ description. messages.RowDescription (map (λ column. column_of (C.item column)) description.columns.now) };
 
     fn tag(&self) -> u8 {
         b'T'

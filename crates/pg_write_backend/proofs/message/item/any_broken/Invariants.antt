@@ -3,4 +3,4 @@ use Rattle.std.specs.List.{list_any}
 use Rattle.pg_write_backend.proofs.message.item.any_broken.Given as goal
 
 abbrev pub invariant-loop-item : goal.invariant-loop-item
-invariant-loop-item g l = list_any g.T.Item.is_broken (map g.T.Item.value (take l.item-index l.items)) ≡ false
+invariant-loop-item g l = list_any g.I.Item.is_broken (map (λ x. g.I.Item.value (g.T.AsItem.item x)) (take l.item-index l.items)) ≡ false

@@ -1,11 +1,10 @@
-use Rattle.std.proofs.Common.{ℕ, List, Bor, arith}
+use Rattle.std.proofs.Common.{map, arith}
 use Rattle.std.proofs.lemmas.List.{length-map}
-use Rattle.pg_write_backend.specs.NegotiateProtocolVersion.{names_of}
 use Rattle.pg_write_backend.proofs.MessageLemmas.{few_options}
 use Rattle.pg_write_backend.proofs.message.negotiate_protocol_version.NegotiateProtocolVersionTextBackendText.put_body.Goals as goal
 
 pub overflow_cast-self : goal.overflow_cast-self
 overflow_cast-self g c =
     let version = c.args.self.now in
-    let few = few_options (record { minor = version.minor; options = names_of version.options.now }) c.requires.limits in
-    omega (arith, few, length-map version.options.now (λ (name : Bor (List ℕ)). name.now))
+    let few = few_options (record { minor = version.minor; options = map (λ name. (g.N.AsItem.item name).now) version.options.now }) c.requires.limits in
+    omega (arith, few, length-map version.options.now (λ name. (g.N.AsItem.item name).now))
