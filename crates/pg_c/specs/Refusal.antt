@@ -8,6 +8,8 @@ use Rattle.pg_base.specs.declared.error.Error.TheVariants.{Protocol, OutOfMemory
 use Rattle.pg_read_frontend.specs.Error.{fault_words}
 use Rattle.pg_read_frontend.specs.declared.error.FrontendFault.{FrontendFault}
 use Rattle.pg_read_frontend.specs.declared.error.FrontendFault.TheVariants as client
+use Rattle.pg_write_backend.specs.declared.error.BackendFault.{BackendFault}
+use Rattle.pg_write_backend.specs.declared.error.BackendFault.TheVariants as backend
 use Rattle.pg_c.specs.declared.refusal.PgmsgFault.{PgmsgFault}
 
 -- the number of any message or value that is too long
@@ -50,6 +52,13 @@ place_in fault = 0
 abbrev pub fault_place : Error → ℕ
 fault_place (Protocol reading fault) = place_in fault
 fault_place OutOfMemory = 0
+
+-- the same of what is wrong with a message to a client
+abbrev pub backend_number : BackendFault → ℤ
+backend_number (backend.TooMany count) = negsuc 26
+backend_number backend.TextHoldsNul = negsuc 18
+backend_number (backend.KeyLength length) = negsuc 20
+backend_number (backend.TooLong length) = too_long_number
 
 -- the same of what is wrong with a message from a client
 abbrev pub client_number : FrontendFault → ℤ

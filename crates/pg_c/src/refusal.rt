@@ -2,10 +2,11 @@
 
 ghost use Rattle.std.specs.Prelude.{◌≡◌, ◌<ℤ◌, ℕ, List, pos, IfOk, string_bytes};
 ghost use Rattle.pg_c.specs.Refusal.{fault_number, refusal_number, fault_place, IsReport, IsReportOf};
-ghost use Rattle.pg_c.specs.Refusal.{client_number, client_place, IsClientReport};
+ghost use Rattle.pg_c.specs.Refusal.{backend_number, client_number, client_place, IsClientReport};
 
 use pg_base::{Error, ProtocolFault};
 use pg_read_frontend::FrontendFault;
+use pg_write_backend::BackendFault;
 use std::alloc::{AllocError, Global};
 
 /// No memory was there. No call of this library returns it.
@@ -62,7 +63,8 @@ pub const BASE64: i32 = -17;
 /// The length of a message is below 4, or that of a client's first message below 8.
 pub const BAD_LENGTH: i32 = -18;
 
-/// A text to be sent holds a NUL, or the name of a setting is empty.
+/// A text to be sent holds a NUL, or would end its list: the name of a setting or of a mechanism is
+/// empty, or the letter of a field is 0.
 pub const TEXT_HOLDS_NUL: i32 = -19;
 
 /// The values of a Bind can't be counted.
@@ -163,6 +165,19 @@ pub fn report(alloc: Global, error: Error, fault: &mut PgmsgFault) -> i32
 {
     let words = error.to_string(alloc);
     fill(number_of(error), place_of(error), &words, fault)
+}
+
+/// The number of what is wrong with a message to a client.
+pub fn number_of_backend(fault: BackendFault) -> i32
+    ensures number { result ≡ backend_number fault }
+    ensures below { result <ℤ pos 0 }
+{
+    match fault {
+        BackendFault::TooMany(_) => TOO_MANY,
+        BackendFault::TextHoldsNul => TEXT_HOLDS_NUL,
+        BackendFault::KeyLength(_) => BAD_KEY_LENGTH,
+        BackendFault::TooLong(_) => MESSAGE_TOO_LONG,
+    }
 }
 
 // The number of what is wrong with a message from a client.
