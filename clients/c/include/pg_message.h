@@ -67,7 +67,8 @@ enum {
     PGMSG_BASE64 = -17,
     /* The length of a message is below 4, or that of a client's first message below 8. */
     PGMSG_BAD_LENGTH = -18,
-    /* A text to be sent holds a NUL, or the name of a setting is empty. */
+    /* A text to be sent holds a NUL, or would end its list: the name of a setting or of a mechanism is
+ * empty, or the letter of a field is 0. */
     PGMSG_TEXT_HOLDS_NUL = -19,
     /* The values of a Bind can't be counted. */
     PGMSG_BAD_PARAMS = -20,
@@ -293,6 +294,33 @@ typedef struct {
     pgmsg_list arguments;
     uint16_t result_format;
 } pgmsg_function_call;
+
+/* Some bytes. */
+typedef struct {
+    const uint8_t *bytes;
+    size_t bytes_len;
+} pgmsg_bytes;
+
+/* A column of a result that is written. `table` and `attribute` say which column of a table it is,
+ * and are 0 where it is none; `type_size` is below 0 where the sizes of values differ; 0 in
+ * `format` is text and 1 binary. */
+typedef struct {
+    const uint8_t *name;
+    size_t name_len;
+    uint32_t table;
+    int16_t attribute;
+    uint32_t type_id;
+    int16_t type_size;
+    int32_t type_modifier;
+    int16_t format;
+} pgmsg_column_text;
+
+/* A field of an error or a notice that is written, by the letter of what it says. */
+typedef struct {
+    uint8_t letter;
+    const uint8_t *text;
+    size_t text_len;
+} pgmsg_field_text;
 
 /* One direction of a connection that is passed on. Set `limit` to the most bytes of a message that
  * is taken whole, `left` to 0, and `is_first` where a client's first message comes next;
@@ -650,6 +678,97 @@ size_t pgmsg_read_types(const uint8_t *body, size_t body_len, pgmsg_list list, u
  * there are. As many as there is room for are written. */
 size_t pgmsg_read_settings(const uint8_t *body, size_t body_len, pgmsg_parameter_status *settings,
     size_t settings_len);
+
+/* Says to the client that it is who it says. */
+ptrdiff_t pgmsg_put_authentication_ok(uint8_t *out, size_t out_len);
+
+/* Asks the client for its password as it is. */
+ptrdiff_t pgmsg_put_authentication_cleartext(uint8_t *out, size_t out_len);
+
+/* Asks the client for the MD5 digest of its password, with this salt. */
+ptrdiff_t pgmsg_put_authentication_md5(const uint8_t salt[4], uint8_t *out, size_t out_len);
+
+/* Asks the client for an exchange of SASL by one of these mechanisms, the best first. A name that
+ * is empty or holds a NUL is refused as a text that holds a NUL: the client would read other
+ * names. */
+ptrdiff_t pgmsg_put_authentication_sasl(const pgmsg_bytes *mechanisms, size_t mechanisms_len,
+    uint8_t *out, size_t out_len);
+
+/* The next of the exchange of SASL. */
+ptrdiff_t pgmsg_put_authentication_continue(const uint8_t *data, size_t data_len, uint8_t *out,
+    size_t out_len);
+
+/* The last of the exchange of SASL, before `pgmsg_put_authentication_ok`. */
+ptrdiff_t pgmsg_put_authentication_final(const uint8_t *data, size_t data_len, uint8_t *out,
+    size_t out_len);
+
+/* The newest minor version of the protocol that the server speaks, and the names of the options
+ * that it doesn't know. A NUL in one is refused. */
+ptrdiff_t pgmsg_put_negotiate_version(uint32_t minor, const pgmsg_bytes *options,
+    size_t options_len, uint8_t *out, size_t out_len);
+
+/* The process that serves the client, and the secret key that a request to cancel its work has to
+ * name too: 4 bytes, or up to 256 of a server that speaks version 3.2 of the protocol. */
+ptrdiff_t pgmsg_put_backend_key_data(uint32_t process_id, const uint8_t *secret_key,
+    size_t secret_key_len, uint8_t *out, size_t out_len);
+
+/* The value of a setting, at the start of a session and whenever it changes. A NUL in a text is
+ * refused. */
+ptrdiff_t pgmsg_put_parameter_status(const uint8_t *name, size_t name_len, const uint8_t *value,
+    size_t value_len, uint8_t *out, size_t out_len);
+
+/* The server is ready for the next query. `status` is `I` where no transaction is open, `T` where
+ * one is, and `E` where one is and has failed. */
+ptrdiff_t pgmsg_put_ready(uint8_t status, uint8_t *out, size_t out_len);
+
+/* The columns of a result. A name that holds a NUL is refused. */
+ptrdiff_t pgmsg_put_columns(const pgmsg_column_text *columns, size_t columns_len, uint8_t *out,
+    size_t out_len);
+
+/* The values of a row, each in the format that was asked for, or NULL. */
+ptrdiff_t pgmsg_put_row(const pgmsg_value *values, size_t values_len, uint8_t *out, size_t out_len);
+
+/* The types of the parameters of a statement. */
+ptrdiff_t pgmsg_put_parameter_types(const uint32_t *types, size_t types_len, uint8_t *out,
+    size_t out_len);
+
+/* A message without a body: `1` is ParseComplete, `2` BindComplete, `3` CloseComplete, `I`
+ * EmptyQueryResponse, `c` CopyDone, `n` NoData and `s` PortalSuspended. */
+ptrdiff_t pgmsg_put_no_body(uint8_t tag, uint8_t *out, size_t out_len);
+
+/* A command has ended. `command` is its tag, as `INSERT 0 1`; a NUL in it is refused. */
+ptrdiff_t pgmsg_put_command_complete(const uint8_t *command, size_t command_len, uint8_t *out,
+    size_t out_len);
+
+/* Where the data of a COPY goes: to the server by `G`, from it by `H`, and both ways by `W`.
+ * `format` is that of the data as a whole, and `codes` are those of the columns: 0 is text and 1
+ * binary. */
+ptrdiff_t pgmsg_put_copy_response(uint8_t tag, int8_t format, const int16_t *codes,
+    size_t codes_len, uint8_t *out, size_t out_len);
+
+/* The result of a function that was called, or NULL. */
+ptrdiff_t pgmsg_put_function_result(const uint8_t *value, size_t value_len, bool is_null,
+    uint8_t *out, size_t out_len);
+
+/* A message with any tag and any body: what only passes through, or what this library doesn't
+ * know. */
+ptrdiff_t pgmsg_put_raw_frame(uint8_t tag, const uint8_t *body, size_t body_len, uint8_t *out,
+    size_t out_len);
+
+/* An error, by its fields in order: a client asks for `S`, its severity, `C`, its code, and `M`,
+ * its message. A field of the letter 0, or a text that holds a NUL, is refused: it would end the
+ * fields. */
+ptrdiff_t pgmsg_put_error(const pgmsg_field_text *fields, size_t fields_len, uint8_t *out,
+    size_t out_len);
+
+/* A notice, with fields as in `pgmsg_put_error`. */
+ptrdiff_t pgmsg_put_notice(const pgmsg_field_text *fields, size_t fields_len, uint8_t *out,
+    size_t out_len);
+
+/* What the session was notified of: by which process, on which channel, and what was said. A NUL in
+ * a text is refused. */
+ptrdiff_t pgmsg_put_notification(uint32_t process_id, const uint8_t *channel, size_t channel_len,
+    const uint8_t *payload, size_t payload_len, uint8_t *out, size_t out_len);
 
 /* What is at the front of a stream that is passed on: 1 for a whole message that is wanted whole,
  * or a first one; 2 for the next bytes of one that isn't; 0 where more bytes are needed. Messages

@@ -16,3 +16,5 @@ pub mod ReadRowLemmas
 pub mod RefusalLemmas
 pub mod RelayPassageLemmas
 pub mod RelayRefusalLemmas
+pub mod ServerLettersLemmas
+pub mod ServerListsLemmas

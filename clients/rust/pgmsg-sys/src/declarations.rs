@@ -59,7 +59,8 @@ pub const PGMSG_BASE64: i32 = -17;
 /// The length of a message is below 4, or that of a client's first message below 8.
 pub const PGMSG_BAD_LENGTH: i32 = -18;
 
-/// A text to be sent holds a NUL, or the name of a setting is empty.
+/// A text to be sent holds a NUL, or would end its list: the name of a setting or of a mechanism is
+/// empty, or the letter of a field is 0.
 pub const PGMSG_TEXT_HOLDS_NUL: i32 = -19;
 
 /// The values of a Bind can't be counted.
@@ -343,6 +344,39 @@ pub struct pgmsg_function_call {
     pub formats: pgmsg_list,
     pub arguments: pgmsg_list,
     pub result_format: u16,
+}
+
+/// Some bytes.
+#[repr(C)]
+#[derive(Clone, Copy, Debug)]
+pub struct pgmsg_bytes {
+    pub bytes: *const u8,
+    pub bytes_len: usize,
+}
+
+/// A column of a result that is written. `table` and `attribute` say which column of a table it is,
+/// and are 0 where it is none; `type_size` is below 0 where the sizes of values differ; 0 in
+/// `format` is text and 1 binary.
+#[repr(C)]
+#[derive(Clone, Copy, Debug)]
+pub struct pgmsg_column_text {
+    pub name: *const u8,
+    pub name_len: usize,
+    pub table: u32,
+    pub attribute: i16,
+    pub type_id: u32,
+    pub type_size: i16,
+    pub type_modifier: i32,
+    pub format: i16,
+}
+
+/// A field of an error or a notice that is written, by the letter of what it says.
+#[repr(C)]
+#[derive(Clone, Copy, Debug)]
+pub struct pgmsg_field_text {
+    pub letter: u8,
+    pub text: *const u8,
+    pub text_len: usize,
 }
 
 /// One direction of a connection that is passed on. Set `limit` to the most bytes of a message that
@@ -983,6 +1017,177 @@ extern "C" {
         settings: *mut pgmsg_parameter_status,
         settings_len: usize,
     ) -> usize;
+
+    /// Says to the client that it is who it says.
+    pub fn pgmsg_put_authentication_ok(out: *mut u8, out_len: usize) -> isize;
+
+    /// Asks the client for its password as it is.
+    pub fn pgmsg_put_authentication_cleartext(out: *mut u8, out_len: usize) -> isize;
+
+    /// Asks the client for the MD5 digest of its password, with this salt.
+    pub fn pgmsg_put_authentication_md5(
+        salt: *const [u8; 4],
+        out: *mut u8,
+        out_len: usize,
+    ) -> isize;
+
+    /// Asks the client for an exchange of SASL by one of these mechanisms, the best first. A name
+    /// that is empty or holds a NUL is refused as a text that holds a NUL: the client would read
+    /// other names.
+    pub fn pgmsg_put_authentication_sasl(
+        mechanisms: *const pgmsg_bytes,
+        mechanisms_len: usize,
+        out: *mut u8,
+        out_len: usize,
+    ) -> isize;
+
+    /// The next of the exchange of SASL.
+    pub fn pgmsg_put_authentication_continue(
+        data: *const u8,
+        data_len: usize,
+        out: *mut u8,
+        out_len: usize,
+    ) -> isize;
+
+    /// The last of the exchange of SASL, before `pgmsg_put_authentication_ok`.
+    pub fn pgmsg_put_authentication_final(
+        data: *const u8,
+        data_len: usize,
+        out: *mut u8,
+        out_len: usize,
+    ) -> isize;
+
+    /// The newest minor version of the protocol that the server speaks, and the names of the
+    /// options that it doesn't know. A NUL in one is refused.
+    pub fn pgmsg_put_negotiate_version(
+        minor: u32,
+        options: *const pgmsg_bytes,
+        options_len: usize,
+        out: *mut u8,
+        out_len: usize,
+    ) -> isize;
+
+    /// The process that serves the client, and the secret key that a request to cancel its work has
+    /// to name too: 4 bytes, or up to 256 of a server that speaks version 3.2 of the protocol.
+    pub fn pgmsg_put_backend_key_data(
+        process_id: u32,
+        secret_key: *const u8,
+        secret_key_len: usize,
+        out: *mut u8,
+        out_len: usize,
+    ) -> isize;
+
+    /// The value of a setting, at the start of a session and whenever it changes. A NUL in a text
+    /// is refused.
+    pub fn pgmsg_put_parameter_status(
+        name: *const u8,
+        name_len: usize,
+        value: *const u8,
+        value_len: usize,
+        out: *mut u8,
+        out_len: usize,
+    ) -> isize;
+
+    /// The server is ready for the next query. `status` is `I` where no transaction is open, `T`
+    /// where one is, and `E` where one is and has failed.
+    pub fn pgmsg_put_ready(status: u8, out: *mut u8, out_len: usize) -> isize;
+
+    /// The columns of a result. A name that holds a NUL is refused.
+    pub fn pgmsg_put_columns(
+        columns: *const pgmsg_column_text,
+        columns_len: usize,
+        out: *mut u8,
+        out_len: usize,
+    ) -> isize;
+
+    /// The values of a row, each in the format that was asked for, or NULL.
+    pub fn pgmsg_put_row(
+        values: *const pgmsg_value,
+        values_len: usize,
+        out: *mut u8,
+        out_len: usize,
+    ) -> isize;
+
+    /// The types of the parameters of a statement.
+    pub fn pgmsg_put_parameter_types(
+        types: *const u32,
+        types_len: usize,
+        out: *mut u8,
+        out_len: usize,
+    ) -> isize;
+
+    /// A message without a body: `1` is ParseComplete, `2` BindComplete, `3` CloseComplete, `I`
+    /// EmptyQueryResponse, `c` CopyDone, `n` NoData and `s` PortalSuspended.
+    pub fn pgmsg_put_no_body(tag: u8, out: *mut u8, out_len: usize) -> isize;
+
+    /// A command has ended. `command` is its tag, as `INSERT 0 1`; a NUL in it is refused.
+    pub fn pgmsg_put_command_complete(
+        command: *const u8,
+        command_len: usize,
+        out: *mut u8,
+        out_len: usize,
+    ) -> isize;
+
+    /// Where the data of a COPY goes: to the server by `G`, from it by `H`, and both ways by `W`.
+    /// `format` is that of the data as a whole, and `codes` are those of the columns: 0 is text and
+    /// 1 binary.
+    pub fn pgmsg_put_copy_response(
+        tag: u8,
+        format: i8,
+        codes: *const i16,
+        codes_len: usize,
+        out: *mut u8,
+        out_len: usize,
+    ) -> isize;
+
+    /// The result of a function that was called, or NULL.
+    pub fn pgmsg_put_function_result(
+        value: *const u8,
+        value_len: usize,
+        is_null: bool,
+        out: *mut u8,
+        out_len: usize,
+    ) -> isize;
+
+    /// A message with any tag and any body: what only passes through, or what this library doesn't
+    /// know.
+    pub fn pgmsg_put_raw_frame(
+        tag: u8,
+        body: *const u8,
+        body_len: usize,
+        out: *mut u8,
+        out_len: usize,
+    ) -> isize;
+
+    /// An error, by its fields in order: a client asks for `S`, its severity, `C`, its code, and
+    /// `M`, its message. A field of the letter 0, or a text that holds a NUL, is refused: it would
+    /// end the fields.
+    pub fn pgmsg_put_error(
+        fields: *const pgmsg_field_text,
+        fields_len: usize,
+        out: *mut u8,
+        out_len: usize,
+    ) -> isize;
+
+    /// A notice, with fields as in `pgmsg_put_error`.
+    pub fn pgmsg_put_notice(
+        fields: *const pgmsg_field_text,
+        fields_len: usize,
+        out: *mut u8,
+        out_len: usize,
+    ) -> isize;
+
+    /// What the session was notified of: by which process, on which channel, and what was said. A
+    /// NUL in a text is refused.
+    pub fn pgmsg_put_notification(
+        process_id: u32,
+        channel: *const u8,
+        channel_len: usize,
+        payload: *const u8,
+        payload_len: usize,
+        out: *mut u8,
+        out_len: usize,
+    ) -> isize;
 
     /// What is at the front of a stream that is passed on: 1 for a whole message that is wanted
     /// whole, or a first one; 2 for the next bytes of one that isn't; 0 where more bytes are

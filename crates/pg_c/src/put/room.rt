@@ -8,17 +8,18 @@ use crate::put::HEADER;
 use pg_base::io::Sink;
 use pg_request::message::FrontendMessage;
 
-// A place in the room, after what is written.
+/// A place in the room, after what is written.
 #[derive(Drop)]
-struct Room<'a> {
+pub(crate) struct Room<'a> {
     out: &'a mut [u8],
     at: usize,
     ghost within: { at ≤ length out.now },
 }
 
 impl<'a> Room<'a> {
+    /// The front of the room.
     #[inline(always)]
-    fn new(out: &'a mut [u8]) -> Room<'a>
+    pub(crate) fn new(out: &'a mut [u8]) -> Room<'a>
         ensures same_reference { result.out.ghost_name ≡ out.entry.ghost_name }
         ensures bytes { result.out.now ≡ out.old }
         ensures at { result.at ≡ 0 }

@@ -1,0 +1,28 @@
+-- What a call that writes a message to a client into the caller's room answers, as a number of C's
+-- `ptrdiff_t`.
+pub mod Letters
+pub mod Lists
+use Rattle.std.specs.Prelude.{◌≡◌, ◌≢◌, ◌≤◌, ℕ, ℤ, pos, List, length, Result, Ok, Err, IfOk}
+use Rattle.pg_base.specs.declared.error.ProtocolFault.{ProtocolFault}
+use Rattle.pg_write_backend.specs.Frame.{IsWritten}
+use Rattle.pg_write_backend.specs.Message.{Message, law_of, IsRead}
+use Rattle.pg_write_backend.specs.declared.error.BackendFault.{BackendFault}
+use Rattle.pg_c.specs.Put.{IsRefused}
+use Rattle.pg_c.specs.Refusal.{backend_number}
+
+abbrev pub number_of_answer : Result ℕ BackendFault → ℤ
+number_of_answer (Ok len) = pos len
+number_of_answer (Err fault) = backend_number fault
+
+-- the length of the message, which is given where the room is that long; or the number of its first
+-- fault, and the room is as it was; what was given is read back as what the message says
+pub record PutsServerMessage (m : Message) (old new : List ℕ) (result : ℤ) : Type 0 where
+  pub answer : Result ℕ BackendFault
+  pub is : IsWritten (law_of m) old new answer
+  pub number : result ≡ number_of_answer answer
+  pub read : IfOk answer (λ len. len ≤ length old → IsRead m)
+
+-- the message of the kind with this letter is put; a letter of no kind is refused
+pub record PutsByLetter {K : Type 0} (letter_of : K → ℕ) (message : K → Message) (fault : ProtocolFault) (letter : ℕ) (old new : List ℕ) (result : ℤ) : Type 0 where
+  pub known : (kind : K) → letter_of kind ≡ letter → PutsServerMessage (message kind) old new result
+  pub unknown : ((kind : K) → letter_of kind ≢ letter) → IsRefused fault old new result

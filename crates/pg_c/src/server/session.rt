@@ -1,0 +1,84 @@
+//! What the server says of the session.
+
+ghost use Rattle.std.specs.Prelude.{◌≡◌, map};
+ghost use Rattle.pg_base.specs.declared.error.ProtocolFault.TheVariants.{UnknownStatus};
+ghost use Rattle.pg_write_backend.specs.Message as messages;
+ghost use Rattle.pg_c.specs.Server.{PutsServerMessage, PutsByLetter};
+ghost use Rattle.pg_c.specs.Server.Lists.{bytes_of};
+ghost use Rattle.pg_c.specs.Server.Letters.{ready_letter, ready_of};
+
+use crate::refusal::UNKNOWN_STATUS;
+use crate::server::authentication::PgmsgBytes;
+use crate::server::put;
+use pg_write_backend::message::{
+    BackendKeyDataText, NegotiateProtocolVersionText, ParameterStatusText, ReadyForQueryText,
+};
+
+/// The newest minor version of the protocol that the server speaks, and the names of the options that
+/// it doesn't know. A NUL in one is refused.
+#[unsafe(no_mangle)]
+pub extern "C" fn pgmsg_put_negotiate_version(
+    minor: u32,
+    options: &[PgmsgBytes<'_>],
+    out: &mut [u8],
+) -> isize
+    ensures { PutsServerMessage
+        (messages.NegotiateProtocolVersion (record { minor = minor; options = map bytes_of options.now }))
+        out.old out.new result }
+{
+    put(&NegotiateProtocolVersionText { minor, options }, out)
+}
+
+/// The process that serves the client, and the secret key that a request to cancel its work has to name
+/// too: 4 bytes, or up to 256 of a server that speaks version 3.2 of the protocol.
+#[unsafe(no_mangle)]
+pub extern "C" fn pgmsg_put_backend_key_data(
+    process_id: u32,
+    secret_key: &[u8],
+    out: &mut [u8],
+) -> isize
+    ensures { PutsServerMessage
+        (messages.BackendKeyData (record { process_id = process_id; secret_key = secret_key.now }))
+        out.old out.new result }
+{
+    let key = BackendKeyDataText {
+        process_id,
+        secret_key,
+    };
+    put(&key, out)
+}
+
+/// The value of a setting, at the start of a session and whenever it changes. A NUL in a text is
+/// refused.
+#[unsafe(no_mangle)]
+pub extern "C" fn pgmsg_put_parameter_status(name: &[u8], value: &[u8], out: &mut [u8]) -> isize
+    ensures { PutsServerMessage
+        (messages.ParameterStatus (record { name = name.now; value = value.now }))
+        out.old out.new result }
+{
+    put(&ParameterStatusText { name, value }, out)
+}
+
+/// The server is ready for the next query. `status` is `I` where no transaction is open, `T` where one
+/// is, and `E` where one is and has failed.
+#[unsafe(no_mangle)]
+pub extern "C" fn pgmsg_put_ready(status: u8, out: &mut [u8]) -> isize
+    ensures { PutsByLetter ready_letter messages.ReadyForQuery (UnknownStatus status) status
+        out.old out.new result }
+{
+    match ready_of(status) {
+        Some(ready) => put(&ready, out),
+        None => UNKNOWN_STATUS as isize,
+    }
+}
+
+fn ready_of(status: u8) -> Option<ReadyForQueryText>
+    ensures { result ≡ ready_of status }
+{
+    match status {
+        b'I' => Some(ReadyForQueryText::Idle),
+        b'T' => Some(ReadyForQueryText::Transaction),
+        b'E' => Some(ReadyForQueryText::Error),
+        _ => None,
+    }
+}
