@@ -44,10 +44,10 @@ out_leads Replace state frame next added out f p = p.0
 out_leads AddBefore state frame next added out f p = rw p.3 (lead_append p.0 (frame ∷ []) state state next p.1 (next, f, refl))
 out_leads AddAfter state frame next added out f p = rw p.3 (next, f, p.1)
 
-pub relayed_lead : {U : Type 0} (wanted : U → ℕ → ℕ → Bool) (Answers : U → Option ℕ → List ℕ → Answer → List ℕ → U → Type 0) (state : Expects) (user : U) (came sent : List (Option ℕ × List ℕ)) (last : Expects) (end : U) → Relayed wanted Answers state user came sent last end → Lead state came last × Lead state sent last
-relayed_lead wanted Answers state user [] sent last end p = (p.0, rw p.2 p.0)
-relayed_lead wanted Answers state user (frame ∷ more) sent last end p =
-    let tail = relayed_lead wanted Answers p.0 p.1 more p.3 last end p.7 in
+pub relayed_lead : {U : Type 0} (wanted : U → ℕ → ℕ → Bool) (Answers : U → Option ℕ → List ℕ → Answer → List ℕ → U → Type 0) (limit : ℕ) (state : Expects) (user : U) (came sent : List (Option ℕ × List ℕ)) (last : Expects) (end : U) → Relayed wanted Answers limit state user came sent last end → Lead state came last × Lead state sent last
+relayed_lead wanted Answers limit state user [] sent last end p = (p.0, rw p.2 p.0)
+relayed_lead wanted Answers limit state user (frame ∷ more) sent last end p =
+    let tail = relayed_lead wanted Answers limit p.0 p.1 more p.3 last end p.7 in
     let out : Lead state p.2 p.0 =
     elim p.5 [
       | inl a ↦ out_leads a.answer state frame p.0 a.added p.2 p.4 a.go_out
@@ -58,10 +58,10 @@ relayed_lead wanted Answers state user (frame ∷ more) sent last end p =
 kept_out : (answer : Answer) (state : Expects) (frame : Option ℕ × List ℕ) (next : Expects) (added : List ℕ) (out : List (Option ℕ × List ℕ)) → answer ≡ Keep → GoOut answer state frame next added out → out ≡ frame ∷ []
 kept_out answer state frame next added out e p = rw e at p
 
-kept_sent : {U : Type 0} (wanted : U → ℕ → ℕ → Bool) (Answers : U → Option ℕ → List ℕ → Answer → List ℕ → U → Type 0) → ((user : U) (tag : Option ℕ) (frame : List ℕ) (answer : Answer) (added : List ℕ) (later : U) → Answers user tag frame answer added later → answer ≡ Keep) → (state : Expects) (user : U) (came sent : List (Option ℕ × List ℕ)) (last : Expects) (end : U) → Relayed wanted Answers state user came sent last end → sent ≡ came
-kept_sent wanted Answers keeps state user [] sent last end p = p.2
-kept_sent wanted Answers keeps state user (frame ∷ more) sent last end p =
-    let tail = kept_sent wanted Answers keeps p.0 p.1 more p.3 last end p.7 in
+kept_sent : {U : Type 0} (wanted : U → ℕ → ℕ → Bool) (Answers : U → Option ℕ → List ℕ → Answer → List ℕ → U → Type 0) → ((user : U) (tag : Option ℕ) (frame : List ℕ) (answer : Answer) (added : List ℕ) (later : U) → Answers user tag frame answer added later → answer ≡ Keep) → (limit : ℕ) (state : Expects) (user : U) (came sent : List (Option ℕ × List ℕ)) (last : Expects) (end : U) → Relayed wanted Answers limit state user came sent last end → sent ≡ came
+kept_sent wanted Answers keeps limit state user [] sent last end p = p.2
+kept_sent wanted Answers keeps limit state user (frame ∷ more) sent last end p =
+    let tail = kept_sent wanted Answers keeps limit p.0 p.1 more p.3 last end p.7 in
     let out : p.2 ≡ frame ∷ [] =
     elim p.5 [
       | inl a ↦ kept_out a.answer state frame p.0 a.added p.2 (keeps user frame.0 frame.1 a.answer a.added p.1 a.answers) a.go_out
@@ -71,5 +71,5 @@ kept_sent wanted Answers keeps state user (frame ∷ more) sent last end p =
 
 pub kept_passed : {U : Type 0} (wanted : U → ℕ → ℕ → Bool) (Answers : U → Option ℕ → List ℕ → Answer → List ℕ → U → Type 0) → ((user : U) (tag : Option ℕ) (frame : List ℕ) (answer : Answer) (added : List ℕ) (later : U) → Answers user tag frame answer added later → answer ≡ Keep) → (start : Expects) (first : U) (bytes out : List ℕ) (user : U) (relay : Relaying) → HasPassed wanted Answers start first bytes out user relay → bytes ≡ out ++ relay.held
 kept_passed wanted Answers keeps start first bytes out user relay p =
-    let same : p.sent ≡ p.came = kept_sent wanted Answers keeps start first p.came p.sent relay.expects user p.relayed in
+    let same : p.sent ≡ p.came = kept_sent wanted Answers keeps relay.limit start first p.came p.sent relay.expects user p.relayed in
     p.bytes_are ∙ sym (append_assoc (bytes_in p.came) p.given relay.held) ∙ ap (λ (l : List (Option ℕ × List ℕ)). bytes_in l ++ p.given ++ relay.held) (sym same) ∙ ap (λ (l : List ℕ). l ++ relay.held) (sym p.out_is)

@@ -1,14 +1,17 @@
 -- However a stream was cut into pieces, the same frames came.
-use Rattle.std.proofs.Common.{◌≡◌, ◌<◌, ℕ, Bool, List, [], ◌∷◌, ◌++◌, length, Option, inl, inr, refl, sym, ap, ◌∙◌, append_assoc, append-nil, arith, length-append}
+use Rattle.std.proofs.Common.{◌≡◌, ◌<◌, ℕ, ℤ, Bool, List, [], ◌∷◌, ◌++◌, length, Option, inl, inr, refl, sym, ap, ◌∙◌, append_assoc, append-nil, arith, length-append}
 use Rattle.pg_frontend_frames.specs.declared.frame.Expects.{Expects}
 use Rattle.pg_relay.specs.Answer.{bytes_in, Lead}
-use Rattle.pg_relay.specs.Frame.{HasHead, IsFrame}
+use Rattle.pg_relay.specs.Frame.{HasHead, HasLowLength, IsFrame}
 use Rattle.pg_relay.specs.Pass.{IsGiven, HasPassed}
+use Rattle.pg_relay.specs.Pass.Stops.{StopsAtRelay}
 use Rattle.pg_relay.specs.Relay.{Relaying, IsKept, IsUnfinished}
 use Rattle.pg_relay.specs.declared.answer.Answer.{Answer}
-use Rattle.pg_relay.proofs.FrameLemmas.{one_head}
+use Rattle.pg_relay.specs.declared.error.RelayError.TheVariants.{BadLength}
+use Rattle.pg_relay.proofs.FrameLemmas.{head_stays, low_has_no_head, one_head}
 use Rattle.pg_relay.proofs.MessagesLemmas.{relayed_lead}
-use Rattle.pg_relay.proofs.RelayLemmas.{unfinished_counts}
+use Rattle.pg_relay.proofs.PassLemmas.{nothing_given}
+use Rattle.pg_relay.proofs.RelayLemmas.{unfinished_counts, unfinished_is_not_low}
 use Rattle.pg_relay.proofs.RunLemmas.{frame_at, one_frame}
 
 -- no whole frame stands at the front
@@ -51,4 +54,25 @@ rest_has_no_frame wants given relay (inr g) k =
 
 pub one_passage : {U : Type 0} (wanted : U → ℕ → ℕ → Bool) (Answers : U → Option ℕ → List ℕ → Answer → List ℕ → U → Type 0) (start : Expects) (first : U) (bytes a b : List ℕ) (u v : U) (r s : Relaying) (p : HasPassed wanted Answers start first bytes a u r) (q : HasPassed wanted Answers start first bytes b v s) → IsKept r.limit r.expects r.held r.left → IsKept s.limit s.expects s.held s.left → (p.came ≡ q.came) × (r.expects ≡ s.expects) × (p.given ++ r.held ≡ q.given ++ s.held)
 one_passage wanted Answers start first bytes a b u v r s p q k l =
-    one_way start bytes p.came q.came r.expects s.expects (p.given ++ r.held) (q.given ++ s.held) (relayed_lead wanted Answers start first p.came p.sent r.expects u p.relayed).0 p.bytes_are (rest_has_no_frame (wanted u) p.given r p.part k) (relayed_lead wanted Answers start first q.came q.sent s.expects v q.relayed).0 q.bytes_are (rest_has_no_frame (wanted v) q.given s q.part l)
+    one_way start bytes p.came q.came r.expects s.expects (p.given ++ r.held) (q.given ++ s.held) (relayed_lead wanted Answers r.limit start first p.came p.sent r.expects u p.relayed).0 p.bytes_are (rest_has_no_frame (wanted u) p.given r p.part k) (relayed_lead wanted Answers s.limit start first q.came q.sent s.expects v q.relayed).0 q.bytes_are (rest_has_no_frame (wanted v) q.given s q.part l)
+
+-- a length that is too low is the end of a stream: no frame begins with it, and nothing of it is given or held
+low_has_no_frame : (state : Expects) (bytes : List ℕ) (announced : ℤ) → HasLowLength state bytes announced → HasNoFrame state bytes
+low_has_no_frame state bytes announced low t frame after next e f =
+    low_has_no_head state bytes announced t (length frame) low (frame_at state bytes frame after t next e f)
+
+rest_is_not_low : (wants : ℕ → ℕ → Bool) (given : List ℕ) (relay : Relaying) (announced : ℤ) → IsGiven wants relay.expects given relay.left → IsKept relay.limit relay.expects relay.held relay.left → HasLowLength relay.expects (given ++ relay.held) announced → ⊥
+rest_is_not_low wants given relay announced (inl g) k low =
+    let same : given ++ relay.held ≡ relay.held = ap (λ (l : List ℕ). l ++ relay.held) g.0 in
+    unfinished_is_not_low relay.limit relay.expects relay.held announced k.unfinished (rw same at low)
+rest_is_not_low wants given relay announced (inr g) k low =
+    low_has_no_head relay.expects (given ++ relay.held) announced g.tag g.count low (head_stays relay.expects given relay.held g.tag g.count g.head)
+
+pub low_stops : {U : Type 0} (wanted : U → ℕ → ℕ → Bool) (Answers : U → Option ℕ → List ℕ → Answer → List ℕ → U → Type 0) (start : Expects) (first : U) (before rest a b : List ℕ) (u v : U) (r s : Relaying) (announced : ℤ) → StopsAtRelay wanted Answers start first before rest a u r (BadLength announced) → HasPassed wanted Answers start first (before ++ rest) b v s → IsKept s.limit s.expects s.held s.left → ⊥
+low_stops wanted Answers start first before rest a b u v r s announced p q k =
+    let passed = p.passed in
+    let nothing : passed.given ≡ [] = nothing_given (wanted u) r.expects passed.given r.left p.is.0 passed.part in
+    let front : before ≡ bytes_in passed.came ++ r.held = passed.bytes_are ∙ ap (λ (l : List ℕ). bytes_in passed.came ++ (l ++ r.held)) nothing in
+    let all : before ++ rest ≡ bytes_in passed.came ++ (r.held ++ rest) = ap (λ (l : List ℕ). l ++ rest) front ∙ append_assoc (bytes_in passed.came) r.held rest in
+    let one = one_way start (before ++ rest) passed.came q.came r.expects s.expects (r.held ++ rest) (q.given ++ s.held) (relayed_lead wanted Answers r.limit start first passed.came passed.sent r.expects u passed.relayed).0 all (low_has_no_frame r.expects (r.held ++ rest) announced p.is.1) (relayed_lead wanted Answers s.limit start first q.came q.sent s.expects v q.relayed).0 q.bytes_are (rest_has_no_frame (wanted v) q.given s q.part k) in
+    rest_is_not_low (wanted v) q.given s announced q.part k (rw (one.1, one.2) at p.is.1)

@@ -30,13 +30,13 @@ goes_out AddBefore state frame next added f = (f.frames ++ frame ∷ [], (f.fram
 goes_out AddAfter state frame next added f = (frame ∷ f.frames, (f.frames, f.lead, f.are, refl), ap (λ (l : List ℕ). frame.1 ++ l) (sym f.are))
 
 -- one more frame came, and for it these went out
-pub relayed_more : {U : Type 0} (wanted : U → ℕ → ℕ → Bool) (Answers : U → Option ℕ → List ℕ → Answer → List ℕ → U → Type 0) (state : Expects) (user : U) (came sent : List (Option ℕ × List ℕ)) (last : Expects) (end : U) (frame : Option ℕ × List ℕ) (next : Expects) (later : U) (out : List (Option ℕ × List ℕ)) → Relayed wanted Answers state user came sent last end → IsFrame last frame.0 frame.1 next → (IsAnswered wanted Answers last end frame next later out ⊎ IsUnasked wanted end frame later out) → Relayed wanted Answers state user (came ++ frame ∷ []) (sent ++ out) next later
-relayed_more wanted Answers state user [] sent last end frame next later out p f a =
+pub relayed_more : {U : Type 0} (wanted : U → ℕ → ℕ → Bool) (Answers : U → Option ℕ → List ℕ → Answer → List ℕ → U → Type 0) (limit : ℕ) (state : Expects) (user : U) (came sent : List (Option ℕ × List ℕ)) (last : Expects) (end : U) (frame : Option ℕ × List ℕ) (next : Expects) (later : U) (out : List (Option ℕ × List ℕ)) → Relayed wanted Answers limit state user came sent last end → IsFrame last frame.0 frame.1 next → (IsAnswered wanted Answers limit last end frame next later out ⊎ IsUnasked wanted end frame later out) → Relayed wanted Answers limit state user (came ++ frame ∷ []) (sent ++ out) next later
+relayed_more wanted Answers limit state user [] sent last end frame next later out p f a =
     let whole : sent ++ out ≡ out ++ [] = ap (λ (l : List (Option ℕ × List ℕ)). l ++ out) p.2 ∙ sym (append-nil out) in
     (next, later, out, [], rw p.0 f, rw (p.0, p.1) a, whole, (refl, refl, refl))
-relayed_more wanted Answers state user (m ∷ ms) sent last end frame next later out p f a =
+relayed_more wanted Answers limit state user (m ∷ ms) sent last end frame next later out p f a =
     let whole : sent ++ out ≡ p.2 ++ (p.3 ++ out) = ap (λ (l : List (Option ℕ × List ℕ)). l ++ out) p.6 ∙ append_assoc p.2 p.3 out in
-    (p.0, p.1, p.2, p.3 ++ out, p.4, p.5, whole, relayed_more wanted Answers p.0 p.1 ms p.3 last end frame next later out p.7 f a)
+    (p.0, p.1, p.2, p.3 ++ out, p.4, p.5, whole, relayed_more wanted Answers limit p.0 p.1 ms p.3 last end frame next later out p.7 f a)
 
 -- between frames nothing is given
 pub nothing_given : (wants : ℕ → ℕ → Bool) (state : Expects) (given : List ℕ) (left : ℕ) → left ≡ 0 → IsGiven wants state given left → given ≡ []

@@ -19,19 +19,19 @@ use Rattle.pg_relay.proofs.PassLemmas.{bytes_in-append, bytes_in-one, goes_out, 
 abbrev pub with_held : Relaying → List ℕ → Relaying
 with_held relay piece = record { limit = relay.limit; expects = relay.expects; held = relay.held ++ piece; left = relay.left }
 
-passed_held : {U : Type 0} (wanted : U → ℕ → ℕ → Bool) (Answers : U → Option ℕ → List ℕ → Answer → List ℕ → U → Type 0) (start : Expects) (first : U) (bytes out : List ℕ) (user : U) (old : Relaying) (piece rest : List ℕ) (new : Relaying) (later : U) (after : List ℕ) → HasPassed wanted Answers start first bytes out user (with_held old piece) → old.held ++ piece ≡ new.held ++ rest → Holds (wanted user) old new → later ≡ user → after ≡ out → HasPassed wanted Answers start first bytes after later (with_held new rest)
-passed_held wanted Answers start first bytes out user old piece rest new later after p conserved h same is = record {
+passed_held : {U : Type 0} (wanted : U → ℕ → ℕ → Bool) (Answers : U → Option ℕ → List ℕ → Answer → List ℕ → U → Type 0) (start : Expects) (first : U) (bytes out : List ℕ) (user : U) (old : Relaying) (piece rest : List ℕ) (new : Relaying) (later : U) (after : List ℕ) → HasPassed wanted Answers start first bytes out user (with_held old piece) → new.limit ≡ old.limit → old.held ++ piece ≡ new.held ++ rest → Holds (wanted user) old new → later ≡ user → after ≡ out → HasPassed wanted Answers start first bytes after later (with_held new rest)
+passed_held wanted Answers start first bytes out user old piece rest new later after p limits conserved h same is = record {
   came = p.came;
   sent = p.sent;
   given = p.given;
-  relayed = rw (h.expects, same) p.relayed;
+  relayed = rw (limits, h.expects, same) p.relayed;
   bytes_are = p.bytes_are ∙ ap (λ (l : List ℕ). bytes_in p.came ++ (p.given ++ l)) conserved;
   out_is = is ∙ p.out_is;
   part = inl (nothing_given (wanted user) old.expects p.given old.left h.between p.part, h.left);
 }
 
-passed_frame : {U : Type 0} (wanted : U → ℕ → ℕ → Bool) (Answers : U → Option ℕ → List ℕ → Answer → List ℕ → U → Type 0) (start : Expects) (first : U) (bytes out : List ℕ) (user : U) (old : Relaying) (piece : List ℕ) (tag : Option ℕ) (frame rest : List ℕ) (new : Relaying) (later : U) (after : List ℕ) → HasPassed wanted Answers start first bytes out user (with_held old piece) → old.held ++ piece ≡ frame ++ new.held ++ rest → ComesWhole (wanted user) old tag frame new → PutsAnswer Answers user old.expects tag frame new.expects later out after → HasPassed wanted Answers start first bytes after later (with_held new rest)
-passed_frame wanted Answers start first bytes out user old piece tag frame rest new later after p conserved w a =
+passed_frame : {U : Type 0} (wanted : U → ℕ → ℕ → Bool) (Answers : U → Option ℕ → List ℕ → Answer → List ℕ → U → Type 0) (start : Expects) (first : U) (bytes out : List ℕ) (user : U) (old : Relaying) (piece : List ℕ) (tag : Option ℕ) (frame rest : List ℕ) (new : Relaying) (later : U) (after : List ℕ) → HasPassed wanted Answers start first bytes out user (with_held old piece) → new.limit ≡ old.limit → old.held ++ piece ≡ frame ++ new.held ++ rest → ComesWhole (wanted user) old tag frame new → PutsAnswer Answers user old.expects tag frame new.expects later out after → HasPassed wanted Answers start first bytes after later (with_held new rest)
+passed_frame wanted Answers start first bytes out user old piece tag frame rest new later after p limits conserved w a =
     let m : Option ℕ × List ℕ = (tag, frame) in
     let go = goes_out a.answer old.expects m new.expects a.added a.fits in
     let nothing : p.given ≡ [] = nothing_given (wanted user) old.expects p.given old.left w.between p.part in
@@ -45,14 +45,14 @@ passed_frame wanted Answers start first bytes out user old piece tag frame rest 
       came = p.came ++ m ∷ [];
       sent = p.sent ++ go.0;
       given = [];
-      relayed = relayed_more wanted Answers start first p.came p.sent old.expects user m new.expects later go.0 p.relayed w.is_frame (inl (record { asked = w.taken.wanted; answer = a.answer; added = a.added; answers = a.answers; go_out = go.1 }));
+      relayed = rw limits (relayed_more wanted Answers old.limit start first p.came p.sent old.expects user m new.expects later go.0 p.relayed w.is_frame (inl (record { asked = w.taken; answer = a.answer; added = a.added; answers = a.answers; go_out = go.1 })));
       bytes_are = came ∙ sym (append_assoc front frame following) ∙ ap (λ (l : List ℕ). l ++ following) (sym (bytes_in-one p.came m));
       out_is = sent ∙ ap (λ (l : List ℕ). bytes_in p.sent ++ l) (sym go.2) ∙ sym (bytes_in-append p.sent go.0) ∙ sym (append-nil (bytes_in (p.sent ++ go.0)));
       part = inl (refl, w.left);
     }
 
-passed_part : {U : Type 0} (wanted : U → ℕ → ℕ → Bool) (Answers : U → Option ℕ → List ℕ → Answer → List ℕ → U → Type 0) (start : Expects) (first : U) (bytes out : List ℕ) (user : U) (old : Relaying) (piece b : List ℕ) (left : ℕ) (rest : List ℕ) (new : Relaying) (later : U) (after : List ℕ) → HasPassed wanted Answers start first bytes out user (with_held old piece) → old.held ++ piece ≡ b ++ new.held ++ rest → ComesInParts (wanted user) old b left new → later ≡ user → after ≡ out ++ b → HasPassed wanted Answers start first bytes after later (with_held new rest)
-passed_part wanted Answers start first bytes out user old piece b zero rest new later after p conserved w same is =
+passed_part : {U : Type 0} (wanted : U → ℕ → ℕ → Bool) (Answers : U → Option ℕ → List ℕ → Answer → List ℕ → U → Type 0) (start : Expects) (first : U) (bytes out : List ℕ) (user : U) (old : Relaying) (piece b : List ℕ) (left : ℕ) (rest : List ℕ) (new : Relaying) (later : U) (after : List ℕ) → HasPassed wanted Answers start first bytes out user (with_held old piece) → new.limit ≡ old.limit → old.held ++ piece ≡ b ++ new.held ++ rest → ComesInParts (wanted user) old b left new → later ≡ user → after ≡ out ++ b → HasPassed wanted Answers start first bytes after later (with_held new rest)
+passed_part wanted Answers start first bytes out user old piece b zero rest new later after p limits conserved w same is =
     let more = part_goes_on (wanted user) old p.given b 0 p.part w.place in
     let all = p.given ++ b in
     let m : Option ℕ × List ℕ = (more.0, all) in
@@ -68,12 +68,12 @@ passed_part wanted Answers start first bytes out user old piece b zero rest new 
       came = p.came ++ m ∷ [];
       sent = p.sent ++ m ∷ [];
       given = [];
-      relayed = relayed_more wanted Answers start first p.came p.sent old.expects user m new.expects later (m ∷ []) p.relayed whole (inr (record { unasked = rw counts at more.3; same = same; goes_out = refl }));
+      relayed = rw limits (relayed_more wanted Answers old.limit start first p.came p.sent old.expects user m new.expects later (m ∷ []) p.relayed whole (inr (record { unasked = rw counts at more.3; same = same; goes_out = refl })));
       bytes_are = came ∙ sym (append_assoc front all following) ∙ ap (λ (l : List ℕ). l ++ following) (sym (bytes_in-one p.came m));
       out_is = sent ∙ sym (bytes_in-one p.sent m) ∙ sym (append-nil (bytes_in (p.sent ++ m ∷ [])));
       part = inl (refl, w.left_is);
     }
-passed_part wanted Answers start first bytes out user old piece b (suc k) rest new later after p conserved w same is =
+passed_part wanted Answers start first bytes out user old piece b (suc k) rest new later after p limits conserved w same is =
     let more = part_goes_on (wanted user) old p.given b (suc k) p.part w.place in
     let front = bytes_in p.came in
     let following = new.held ++ rest in
@@ -81,7 +81,7 @@ passed_part wanted Answers start first bytes out user old piece b (suc k) rest n
       came = p.came;
       sent = p.sent;
       given = p.given ++ b;
-      relayed = rw (w.expects, same) p.relayed;
+      relayed = rw (limits, w.expects, same) p.relayed;
       bytes_are = p.bytes_are ∙ ap (λ (l : List ℕ). front ++ (p.given ++ l)) (conserved ∙ append_assoc b new.held rest) ∙ ap (λ (l : List ℕ). front ++ l) (sym (append_assoc p.given b following));
       out_is = is ∙ ap (λ (l : List ℕ). l ++ b) p.out_is ∙ append_assoc (bytes_in p.sent) p.given b;
       part = inr (rw (same, w.expects, w.left_is) (record { tag = more.0; count = more.1; head = more.2; unwanted = more.3; counts = more.4; more = omega arith }));
@@ -89,11 +89,11 @@ passed_part wanted Answers start first bytes out user old piece b (suc k) rest n
 
 pub passed_step : {U : Type 0} (wanted : U → ℕ → ℕ → Bool) (Answers : U → Option ℕ → List ℕ → Answer → List ℕ → U → Type 0) (start : Expects) (first : U) (bytes out : List ℕ) (user : U) (old : Relaying) (piece : List ℕ) (event : Event) (rest : List ℕ) (new : Relaying) (later : U) (after : List ℕ) → HasPassed wanted Answers start first bytes out user (with_held old piece) → Takes (wanted user) old piece event rest new → PutsOut Answers user old.expects event new.expects later out after → HasPassed wanted Answers start first bytes after later (with_held new rest)
 passed_step wanted Answers start first bytes out user old piece (Frame tag frame) rest new later after p t o =
-    passed_frame wanted Answers start first bytes out user old piece tag (bytes_of frame) rest new later after p t.conserved t.comes o
+    passed_frame wanted Answers start first bytes out user old piece tag (bytes_of frame) rest new later after p t.limit t.conserved t.comes o
 passed_step wanted Answers start first bytes out user old piece (Part part left) rest new later after p t o =
-    passed_part wanted Answers start first bytes out user old piece (bytes_of part) left rest new later after p t.conserved t.comes o.0 o.1
+    passed_part wanted Answers start first bytes out user old piece (bytes_of part) left rest new later after p t.limit t.conserved t.comes o.0 o.1
 passed_step wanted Answers start first bytes out user old piece Held rest new later after p t o =
-    passed_held wanted Answers start first bytes out user old piece rest new later after p t.conserved t.comes o.0 o.1
+    passed_held wanted Answers start first bytes out user old piece rest new later after p t.limit t.conserved t.comes o.0 o.1
 
 -- a piece that comes is not yet taken
 pub passed_fed : {U : Type 0} (wanted : U → ℕ → ℕ → Bool) (Answers : U → Option ℕ → List ℕ → Answer → List ℕ → U → Type 0) (start : Expects) (first : U) (bytes out : List ℕ) (user : U) (relay : Relaying) (piece : List ℕ) → HasPassed wanted Answers start first bytes out user relay → HasPassed wanted Answers start first (bytes ++ piece) out user (with_held relay piece)

@@ -62,7 +62,7 @@ unfinished_short limit expects.Tagged held (inl short) = inl short
 unfinished_short limit state held (inr on) = inr (omega (arith, on.short, on.within))
 
 -- and no fault
-unfinished_is_not_low : (limit : ℕ) (state : Expects) (held : List ℕ) (announced : ℤ) → IsUnfinished limit state held → HasLowLength state held announced → ⊥
+pub unfinished_is_not_low : (limit : ℕ) (state : Expects) (held : List ℕ) (announced : ℤ) → IsUnfinished limit state held → HasLowLength state held announced → ⊥
 unfinished_is_not_low limit state held announced (inl short) low = omega (arith, short, low_fits state held announced low)
 unfinished_is_not_low limit state held announced (inr on) low = low_has_no_head state held announced on.tag on.count low on.head
 

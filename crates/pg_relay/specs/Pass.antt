@@ -4,7 +4,7 @@ use Rattle.std.specs.Prelude.{◌≡◌, ◌+◌, ◌<◌, ◌⊎◌, ℕ, Bool,
 use Rattle.pg_frontend_frames.specs.declared.frame.Expects.{Expects}
 use Rattle.pg_relay.specs.Answer.{bytes_in, Lead, Fits, placed}
 use Rattle.pg_relay.specs.Frame.{HasHead, IsFrame}
-use Rattle.pg_relay.specs.Relay.{Relaying, is_wanted, bytes_of}
+use Rattle.pg_relay.specs.Relay.{Relaying, is_wanted, IsTaken, bytes_of}
 use Rattle.pg_relay.specs.declared.answer.Answer.{Answer}
 use Rattle.pg_relay.specs.declared.answer.Answer.TheVariants.{Keep, Omit, Replace, AddBefore, AddAfter}
 use Rattle.pg_relay.specs.declared.event.Event.{Event}
@@ -18,9 +18,9 @@ GoOut Replace state frame next added out = Lead state out next × (added ≡ byt
 GoOut AddBefore state frame next added out = (more : List (Option ℕ × List ℕ)) × Lead state more state × (added ≡ bytes_in more) × (out ≡ more ++ frame ∷ [])
 GoOut AddAfter state frame next added out = (more : List (Option ℕ × List ℕ)) × Lead next more next × (added ≡ bytes_in more) × (out ≡ frame ∷ more)
 
--- a frame that is wanted whole: its user answers, and may be another then
-pub record IsAnswered {U : Type 0} (wanted : U → ℕ → ℕ → Bool) (Answers : U → Option ℕ → List ℕ → Answer → List ℕ → U → Type 0) (state : Expects) (user : U) (frame : Option ℕ × List ℕ) (next : Expects) (later : U) (out : List (Option ℕ × List ℕ)) : Type 0 where
-  pub asked : is_wanted (wanted user) frame.0 (length frame.1) ≡ true
+-- a frame that is wanted whole and is within the limit: its user answers, and may be another then
+pub record IsAnswered {U : Type 0} (wanted : U → ℕ → ℕ → Bool) (Answers : U → Option ℕ → List ℕ → Answer → List ℕ → U → Type 0) (limit : ℕ) (state : Expects) (user : U) (frame : Option ℕ × List ℕ) (next : Expects) (later : U) (out : List (Option ℕ × List ℕ)) : Type 0 where
+  pub asked : IsTaken (wanted user) limit frame.0 (length frame.1)
   pub answer : Answer
   pub added : List ℕ
   pub answers : Answers user frame.0 frame.1 answer added later
@@ -33,10 +33,10 @@ pub record IsUnasked {U : Type 0} (wanted : U → ℕ → ℕ → Bool) (user : 
   pub goes_out : out ≡ frame ∷ []
 
 -- these frames came, one after the other, and for them those went out
-abbrev pub Relayed : {U : Type 0} → (U → ℕ → ℕ → Bool) → (U → Option ℕ → List ℕ → Answer → List ℕ → U → Type 0) → Expects → U → List (Option ℕ × List ℕ) → List (Option ℕ × List ℕ) → Expects → U → Type 0
-Relayed wanted Answers state user [] sent last end = (state ≡ last) × (user ≡ end) × (sent ≡ [])
-Relayed {U = U} wanted Answers state user (frame ∷ more) sent last end =
-    (next : Expects) × (later : U) × (out : List (Option ℕ × List ℕ)) × (following : List (Option ℕ × List ℕ)) × IsFrame state frame.0 frame.1 next × (IsAnswered wanted Answers state user frame next later out ⊎ IsUnasked wanted user frame later out) × (sent ≡ out ++ following) × Relayed wanted Answers next later more following last end
+abbrev pub Relayed : {U : Type 0} → (U → ℕ → ℕ → Bool) → (U → Option ℕ → List ℕ → Answer → List ℕ → U → Type 0) → ℕ → Expects → U → List (Option ℕ × List ℕ) → List (Option ℕ × List ℕ) → Expects → U → Type 0
+Relayed wanted Answers limit state user [] sent last end = (state ≡ last) × (user ≡ end) × (sent ≡ [])
+Relayed {U = U} wanted Answers limit state user (frame ∷ more) sent last end =
+    (next : Expects) × (later : U) × (out : List (Option ℕ × List ℕ)) × (following : List (Option ℕ × List ℕ)) × IsFrame state frame.0 frame.1 next × (IsAnswered wanted Answers limit state user frame next later out ⊎ IsUnasked wanted user frame later out) × (sent ≡ out ++ following) × Relayed wanted Answers limit next later more following last end
 
 -- the front of a frame that isn't wanted whole went out, and so many bytes are to come
 pub record GoesOutInParts (wants : ℕ → ℕ → Bool) (state : Expects) (given : List ℕ) (left : ℕ) : Type 0 where
@@ -56,7 +56,7 @@ pub record HasPassed {U : Type 0} (wanted : U → ℕ → ℕ → Bool) (Answers
   pub came : List (Option ℕ × List ℕ)
   pub sent : List (Option ℕ × List ℕ)
   pub given : List ℕ
-  pub relayed : Relayed wanted Answers start first came sent relay.expects user
+  pub relayed : Relayed wanted Answers relay.limit start first came sent relay.expects user
   pub bytes_are : bytes ≡ bytes_in came ++ (given ++ relay.held)
   pub out_is : out ≡ bytes_in sent ++ given
   pub part : IsGiven (wanted user) relay.expects given relay.left

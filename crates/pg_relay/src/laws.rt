@@ -1,16 +1,18 @@
 //! What follows of what a relay passes on: the contract of each function is a law. Those of clones call the
 //! clone; the others do nothing.
 
-ghost use Rattle.std.specs.Prelude.{◌≡◌, ◌++◌, ℕ, List, [], Option, Ok, Decides};
+ghost use Rattle.std.specs.Prelude.{◌≡◌, ◌++◌, ℕ, ℤ, List, [], Option, Ok, Decides};
 ghost use Rattle.pg_base.specs.Cutting.{IsCutInto};
 ghost use Rattle.pg_frontend_frames.specs.declared.frame.Expects.{Expects};
 ghost use Rattle.pg_frontend_frames.specs.declared.frame.Expects.TheVariants.{Tagged};
 ghost use Rattle.pg_relay.specs.Answer.{bytes_in, Lead, messages_in};
 ghost use Rattle.pg_relay.specs.Pass.{HasPassed, Relayed};
+ghost use Rattle.pg_relay.specs.Pass.Stops.{StopsAtRelay};
 ghost use Rattle.pg_relay.specs.Relay.{IsKept, Relaying};
 ghost use Rattle.pg_relay.specs.declared.answer.Answer.{Answer};
 ghost use Rattle.pg_relay.specs.declared.answer.Answer.TheVariants.{Keep};
 ghost use Rattle.pg_relay.specs.declared.error.RelayError.{RelayError};
+ghost use Rattle.pg_relay.specs.declared.error.RelayError.TheVariants.{BadLength};
 
 use crate::answer::Answer;
 use crate::error::RelayError;
@@ -31,7 +33,7 @@ pub fn what_is_kept_goes_out_as_it_came<U: Answers>()
 /// The frames that came and those that went out follow one another as they are expected, and after both the same
 /// is expected.
 pub fn what_goes_out_is_whole_frames<U: Answers>()
-    ensures { (start last : Expects) (first user : U) (came sent : List (Option ℕ × List ℕ)) → Relayed U.wanted U.answers start first came sent last user → Lead start came last × Lead start sent last }
+    ensures { (limit : ℕ) (start last : Expects) (first user : U) (came sent : List (Option ℕ × List ℕ)) → Relayed U.wanted U.answers limit start first came sent last user → Lead start came last × Lead start sent last }
 {}
 
 /// However the bytes were cut into pieces, the same frames came, and as many bytes follow them, given in parts or
@@ -39,6 +41,12 @@ pub fn what_goes_out_is_whole_frames<U: Answers>()
 /// [`Relay::left`](crate::Relay::left) say.
 pub fn frames_come_however_they_are_cut<U: Answers>()
     ensures { (start : Expects) (first : U) (bytes a b : List ℕ) (u v : U) (r s : Relaying) (p : HasPassed U.wanted U.answers start first bytes a u r) (q : HasPassed U.wanted U.answers start first bytes b v s) → IsKept r.limit r.expects r.held r.left → IsKept s.limit s.expects s.held s.left → (p.came ≡ q.came) × (r.expects ≡ s.expects) × (p.given ++ r.held ≡ q.given ++ s.held) }
+{}
+
+/// Where a length is too low, what follows it is never passed on, however the bytes are cut and whatever its user
+/// answers.
+pub fn no_more_passes_after_a_low_length<U: Answers>()
+    ensures { (start : Expects) (first : U) (before rest a b : List ℕ) (u v : U) (r s : Relaying) (announced : ℤ) → StopsAtRelay U.wanted U.answers start first before rest a u r (BadLength announced) → HasPassed U.wanted U.answers start first (before ++ rest) b v s → IsKept s.limit s.expects s.held s.left → ⊥ }
 {}
 
 /// Frames with tags are messages, and their bytes are cut into these and no others.
