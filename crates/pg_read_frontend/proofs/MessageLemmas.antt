@@ -1,11 +1,11 @@
 -- One part of a body after the other.
-use Rattle.std.proofs.Common.{◌≡◌, ℕ, ◌-◌, List, length, take, drop, refl, ap, arith, length-drop}
-use Rattle.std.proofs.lemmas.List.{take_all}
+use Rattle.std.proofs.Common.{◌≡◌, ℕ, ◌-◌, List, [], length, take, drop, refl, ap, subst, arith, length-drop}
+use Rattle.std.proofs.lemmas.List.{take_all, drop_all}
 use Rattle.pg_base.specs.declared.error.ProtocolFault.{ProtocolFault}
 use Rattle.pg_base.specs.declared.error.ProtocolFault.TheVariants.{BodyTooLong}
 use Rattle.pg_base.proofs.ReadingLemmas.{number_fits}
 use Rattle.pg_format.specs.Format.{Format}
-use Rattle.pg_format.specs.Format.Ends.{Trails}
+use Rattle.pg_format.specs.Format.Ends.{Trails, exactly}
 use Rattle.pg_format.specs.Format.Parts.{be_u32}
 use Rattle.pg_format.specs.Format.Places.{IsReadAt}
 use Rattle.pg_format.specs.Format.Sequences.{BreaksAfter, ◌⨾◌}
@@ -27,6 +27,10 @@ infixr 5 ◌then◌
 pub ◌then◌ : {A B : Type 0} {g : Format A} {h : Format B} {body : List ℕ} {at mid end : ℕ} {a : A} {b : B}
     → IsReadAt g body at a mid → IsReadAt h body mid b end → IsReadAt (g ⨾ h) body at (a, b) end
 ◌then◌ {body = body} {mid = mid} p q = record { within = q.within; reads = record { mid = drop mid body; first = p.reads; second = q.reads } }
+
+-- what ends where the body does is the whole body
+pub whole : {A : Type 0} {g : Format A} {body : List ℕ} {end : ℕ} {a : A} → IsReadAt g body 0 a end → end ≡ length body → (exactly g).Reads body a []
+whole {g = g} {body = body} {end = end} {a = a} p is = (subst (λ (rest : List ℕ). g.Reads body a rest) (drop_all end body (omega (arith, is))) p.reads, refl)
 
 -- bytes that follow the end, as the page has them
 pub trailing : (body : List ℕ) (at : ℕ) (fault : FrontendFault) → TrailsAt body at fault

@@ -1,8 +1,20 @@
 use Rattle.std.proofs.Common.{drop, inl, inr}
 use Rattle.std.proofs.lemmas.Result.{err_from_is_err_and}
 use Rattle.pg_format.specs.Messages.{Bind}
-use Rattle.pg_read_frontend.proofs.MessageLemmas.{after, ◌then◌, trailing}
+use Rattle.pg_read_frontend.proofs.MessageLemmas.{after, ◌then◌, whole, trailing}
 use Rattle.pg_read_frontend.proofs.message.bind.BindRef.read.Goals as goal
+
+pub returns-in_err-portal : goal.returns-in_err-portal
+returns-in_err-portal c =
+    let p = err_from_is_err_and c.from_residual.result c.from_residual.ensures.1 in
+    let f = c.in_err-portal.ensures in
+    rw (p.1, p.2) (f.0, f.1, inl (inl f.2))
+
+pub returns-in_err-statement : goal.returns-in_err-statement
+returns-in_err-statement c =
+    let p = err_from_is_err_and c.from_residual-in_err-statement.result c.from_residual-in_err-statement.ensures.1 in
+    let f = c.in_err-statement.ensures in
+    rw (p.1, p.2) (f.0, f.1, inl (inr (after c.in_ok-portal.ensures (inl f.2))))
 
 pub returns-in_err-formats : goal.returns-in_err-formats
 returns-in_err-formats c =
@@ -29,3 +41,8 @@ returns-in_err-end_at c =
     let f = trailing c.args.body.now c.in_ok-result_formats.end c.in_err-end_at.field-0.0 c.in_err-end_at.ensures.trailing in
     let value : Bind = record { portal = c.in_ok-portal.portal.now; statement = c.in_ok-statement.statement.now; formats = c.in_ok-formats.formats; values = c.in_ok-values.values; result_formats = c.in_ok-result_formats.result_formats } in
     rw (p.1, p.2) (f.0, f.1, inr (record { value = value; mid = drop c.in_ok-result_formats.end c.args.body.now; reads = all.reads; breaks = f.2 }))
+
+pub returns : goal.returns
+returns c =
+    let all = c.in_ok-portal.ensures then c.in_ok-statement.ensures then c.in_ok-formats.ensures then c.in_ok-values.ensures then c.in_ok-result_formats.ensures in
+    whole all c.in_ok-end_at.ensures.end

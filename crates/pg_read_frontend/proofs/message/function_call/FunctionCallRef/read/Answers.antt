@@ -1,8 +1,14 @@
 use Rattle.std.proofs.Common.{drop, inl, inr}
 use Rattle.std.proofs.lemmas.Result.{err_from_is_err_and}
 use Rattle.pg_format.specs.Messages.{FunctionCall}
-use Rattle.pg_read_frontend.proofs.MessageLemmas.{after, ◌then◌, trailing}
+use Rattle.pg_read_frontend.proofs.MessageLemmas.{after, ◌then◌, whole, trailing}
 use Rattle.pg_read_frontend.proofs.message.function_call.FunctionCallRef.read.Goals as goal
+
+pub returns-in_err-object_id : goal.returns-in_err-object_id
+returns-in_err-object_id c =
+    let p = err_from_is_err_and c.from_residual.result c.from_residual.ensures.1 in
+    let f = c.in_err-object_id.ensures in
+    rw (p.1, p.2) (f.0, f.1, inl (inl f.2))
 
 pub returns-in_err-formats : goal.returns-in_err-formats
 returns-in_err-formats c =
@@ -29,3 +35,8 @@ returns-in_err-end_at c =
     let f = trailing c.args.body.now c.in_ok-result_format.end c.in_err-end_at.field-0.0 c.in_err-end_at.ensures.trailing in
     let value : FunctionCall = record { object_id = c.in_ok-object_id.object_id; formats = c.in_ok-formats.formats; arguments = c.in_ok-arguments.arguments; result_format = c.in_ok-result_format.result_format } in
     rw (p.1, p.2) (f.0, f.1, inr (record { value = value; mid = drop c.in_ok-result_format.end c.args.body.now; reads = all.reads; breaks = f.2 }))
+
+pub returns : goal.returns
+returns c =
+    let all = c.in_ok-object_id.ensures then c.in_ok-formats.ensures then c.in_ok-arguments.ensures then c.in_ok-result_format.ensures in
+    whole all c.in_ok-end_at.ensures.end

@@ -2,8 +2,14 @@ use Rattle.std.proofs.Common.{drop, inl, inr}
 use Rattle.std.proofs.lemmas.Result.{err_from_is_err_and}
 use Rattle.pg_format.specs.Messages.{Targeted}
 use Rattle.pg_read_frontend.specs.Target.{shown_target}
-use Rattle.pg_read_frontend.proofs.MessageLemmas.{after, ◌then◌, trailing}
+use Rattle.pg_read_frontend.proofs.MessageLemmas.{after, ◌then◌, whole, trailing}
 use Rattle.pg_read_frontend.proofs.message.target.TargetRef.read.Goals as goal
+
+pub returns-in_err-target : goal.returns-in_err-target
+returns-in_err-target c =
+    let p = err_from_is_err_and c.from_residual.result c.from_residual.ensures.1 in
+    let f = c.in_err-target.ensures in
+    rw (p.1, p.2) (f.0, f.1, inl (inl f.2))
 
 pub returns-in_err-name : goal.returns-in_err-name
 returns-in_err-name c =
@@ -18,3 +24,8 @@ returns-in_err-end_at c =
     let f = trailing c.args.body.now c.in_ok-name.end c.in_err-end_at.field-0.0 c.in_err-end_at.ensures.trailing in
     let value : Targeted = record { target = shown_target c.in_ok-target.target; name = c.in_ok-name.name.now } in
     rw (p.1, p.2) (f.0, f.1, inr (record { value = value; mid = drop c.in_ok-name.end c.args.body.now; reads = all.reads; breaks = f.2 }))
+
+pub returns : goal.returns
+returns c =
+    let all = c.in_ok-target.ensures then c.in_ok-name.ensures in
+    whole all c.in_ok-end_at.ensures.end
