@@ -15,6 +15,8 @@ enum status {
     STATUS_PROTOCOL = 6,      /* what came is not what the protocol allows */
     STATUS_LOCAL = 7,         /* a file can't be read, or output can't be written */
     STATUS_MEMORY = 8,        /* out of memory */
+    STATUS_UNRECORDED = 9,    /* a recording can't be written any more */
+    STATUS_DAMAGED = 10,      /* a file is no recording, or has a fault */
     STATUS_INTERRUPTED = 130, /* Ctrl-C */
     STATUS_TERMINATED = 143   /* SIGTERM */
 };
