@@ -1,0 +1,119 @@
+# Lines of the trace, beside those that libpq writes of the same sessions. Sourced by `test`.
+#
+# libpq traces a message of the server when it reads it, so messages of both sides come in another order than on the
+# wire: the lines of each side are compared in order.
+
+# What libpq 15 writes no line for: what comes before the session is open, but settings; the data of a COPY that
+# the program takes; a ReadyForQuery after a function's answer.
+untraced='
+/^[FB]\t[0-9]+\t/ { is_left_out = 0 }
+/^B\t[0-9]+\t(ParameterStatus|BackendKeyData)/ { is_open = 1 }
+!is_open && /^B\t[0-9]+\t(Authentication|ErrorResponse)/ { is_left_out = 1 }
+session ~ /^(copy_out|large)$/ && /^B\t[0-9]+\t$/ { is_left_out = 1 }
+session == "function" && before ~ /^(FunctionCall|Error)Response$/ && /^B\t[0-9]+\tReadyForQuery/ { is_left_out = 1 }
+/^[FB]\t[0-9]+\t/ { before = $3; if (is_left_out) print $3 == "" ? "CopyData" : $3 >> left_out }
+!is_left_out'
+
+# The lines of libpq by their sides, those of the client first. What begins no line goes on with the one before.
+by_sides() {
+    local side
+    for side in F B; do
+        awk -v side="$side" '/^[FB]\t[0-9]+\t/ { current = substr($0, 1, 1) } current == side' "$1"
+    done
+}
+
+# Whether there is what a program over libpq 15 is built with; it is then built.
+build_sessions() {
+    local flags
+    if ! command -v pg_config > /dev/null || ! "${CC:-cc}" -E -I"$(pg_config --includedir)" -x c - \
+        <<< '#include <libpq-fe.h>' > /dev/null 2>&1; then
+        echo "left out: libpq's own trace, since there are no headers of libpq (libpq-dev)"
+        return 1
+    fi
+    flags=(-std=c11 -Wall -Wextra -Wpedantic -I"$(pg_config --includedir)" -L"$(pg_config --libdir)")
+    "${CC:-cc}" "${flags[@]}" c/tests/trace_sessions*.c -lpq -o "$work/trace_sessions" || return 1
+    libpq=$("$work/trace_sessions")
+    if [[ $libpq != 15.* ]]; then
+        echo "left out: libpq's own trace, since libpq is $libpq, and other versions than 15 write other lines"
+        return 1
+    fi
+}
+
+# Runs a session with libpq's trace to a file, through a program that keeps what both sides say to a port.
+run_session() {
+    local session=$1 port=$2
+    tests/forward.py "$port" "$work/said_by_client" "$work/said_by_server" > "$work/port_of_forward" &
+    local forwarding=$!
+    await test -s "$work/port_of_forward"
+    PGHOST=127.0.0.1 PGPORT=$(cat "$work/port_of_forward") timeout 60 \
+        "$work/trace_sessions" "$session" "$work/trace" 2> "$work/errors"
+    status=$?
+    reap "$forwarding"
+    rm "$work/port_of_forward"
+}
+
+# Runs a session, and compares both traces of it.
+compare_traces() {
+    local name=$1 session=${1%% *} programs
+    run_session "$session" "$2"
+    if [ "$status" != 0 ]; then
+        bad "the trace of $name" "status $status; $(cat "$work/errors")"
+        return
+    fi
+    by_sides "$work/trace" > "$work/by_libpq"
+    for programs in out out/sanitized; do
+        : > "$work/left_out"
+        "$programs/trace_lines" "$work/said_by_client" "$work/said_by_server" > "$work/lines" 2> "$work/errors"
+        awk -F '\t' -v session="$session" -v left_out="$work/left_out" "$untraced" "$work/lines" > "$work/by_us"
+        verdict "the trace of $name, $programs: $(wc -l < "$work/by_libpq") lines" \
+            "$(diff "$work/by_libpq" "$work/by_us" 2>&1 | cut -c 1-300 | head -n 4)$(cat "$work/errors")"
+    done
+    traced=$((traced + $(wc -l < "$work/by_libpq")))
+    cat "$work/left_out" >> "$work/all_left_out"
+}
+
+# A password is asked for by each method, and one is wrong. Encryption is asked for and refused.
+compare_logins() {
+    local user
+    [ -n "$(sql "SELECT 1 FROM pg_roles WHERE rolname = 'by_scram'")" ] || make_users
+    for user in by_clear by_md5 by_scram; do
+        PGUSER=$user PGPASSWORD="pass word '1" compare_traces "login $user" "$PGPORT"
+    done
+    PGUSER=by_scram PGPASSWORD=wrong compare_traces 'login with a wrong password' "$PGPORT"
+    PGSSLMODE=prefer compare_traces 'login without the encryption that was asked for' "$PGPORT"
+}
+
+test_trace() {
+    local session traced=0 libpq
+    build_sessions || return
+    : > "$work/all_left_out"
+    export PGSSLMODE=disable PGGSSENCMODE=disable
+    for session in errors queries copy_in copy_out copy_dropped prepared notify pipeline function large notices; do
+        compare_traces "$session" "$PGPORT"
+    done
+    compare_logins
+    unset PGSSLMODE PGGSSENCMODE
+    echo "$traced lines are those of libpq $libpq, which writes none for" \
+        "$(sort "$work/all_left_out" | uniq -c | awk '{ printf "%s%d %s", (NR > 1 ? ", " : ""), $1, $2 }')"
+}
+
+# A server that says what PostgreSQL says rarely or never.
+test_odd_trace() {
+    local traced=0 libpq serving
+    build_sessions || return
+    : > "$work/all_left_out"
+    tests/trace_server.py > "$work/port_of_server" &
+    serving=$!
+    await test -s "$work/port_of_server"
+    PGUSER=postgres PGSSLMODE=disable PGGSSENCMODE=disable compare_traces odd "$(cat "$work/port_of_server")"
+    reap "$serving"
+}
+
+test_trace_lines() {
+    local programs
+    for programs in out out/sanitized; do
+        try "$programs/trace_test"
+        expect "the trace of broken messages, $programs: $output" 0
+    done
+    test_odd_trace
+}
