@@ -1,123 +1,171 @@
-/* Passes connections on to a server, and prints each message that the server sends. */
+/* Passes connections on to a server, and records or prints what both sides say; prints a recording. */
 #define _DEFAULT_SOURCE
 
-#include "address.h"
 #include "options.h"
 #include "proxy.h"
 #include "wait.h"
 
-#include <arpa/inet.h>
-#include <errno.h>
-#include <netinet/in.h>
-#include <stdio.h>
+#include <getopt.h>
+#include <signal.h>
 #include <string.h>
-#include <sys/socket.h>
 #include <unistd.h>
 
 static const char usage[] =
-    "usage: pg_record [-h HOST] [-p PORT] [-1] LISTEN_PORT\n"
-    "Accepts connections on 127.0.0.1, one after the other, and passes them on to the server at HOST and\n"
-    "PORT. Prints a line for each message of the server: its name, its length and its body in hexadecimal\n"
-    "digits. LISTEN_PORT 0 is a free one. Ends after one connection with -1.\n";
+    "usage: pg_record [-h HOST] [-p PORT] [-1] [-o FILE] [OPTION..] LISTEN_PORT\n"
+    "       pg_record --print FILE [--trace | --stream] [--numbers]\n"
+    "Accepts connections on 127.0.0.1 and passes them on to the server at HOST and PORT. LISTEN_PORT 0 is a free\n"
+    "one. Ends after the first session with -1.\n"
+    "  -o FILE         record both sides to a new file\n"
+    "  --trace         print messages of both sides as libpq's PQtrace does\n"
+    "  --stream        print them by their names, the fields in hexadecimal digits\n"
+    "  --numbers       begin each line with the number of its connection\n"
+    "  --passwords     don't leave out passwords and messages of SASL\n"
+    "  --encryption    let the server answer requests for encryption, which are answered by a no else, and\n"
+    "                  pass on unread what is encrypted\n"
+    "  --keep-passing  go on when FILE can't be written any more, which ends all sessions else\n"
+    "  --print FILE    print a recording, as by --stream where not as by --trace\n"
+    "Prints a line for each message of the server where neither -o nor a kind of line is given.\n";
 
-/* Connections that wait while one is served. */
-enum { WAITING = 64 };
+/* What the arguments ask for. */
+struct wishes {
+    struct options options;
+    unsigned long port;
+    const char *file;
+    const char *printed;
+    bool is_single;
+    bool prints;
+    struct printer printer;
+    struct passing passing;
+};
 
-/* Opens a port of this machine, and says which. */
-static enum status listen_on(unsigned long port, int *listening)
+enum letter { TRACE = 256, STREAM, NUMBERS, PASSWORDS, ENCRYPTION, KEEP_PASSING, PRINT };
+
+static const struct option names[] = {
+    {"trace", no_argument, NULL, TRACE},
+    {"stream", no_argument, NULL, STREAM},
+    {"numbers", no_argument, NULL, NUMBERS},
+    {"passwords", no_argument, NULL, PASSWORDS},
+    {"encryption", no_argument, NULL, ENCRYPTION},
+    {"keep-passing", no_argument, NULL, KEEP_PASSING},
+    {"print", required_argument, NULL, PRINT},
+    {NULL, 0, NULL, 0},
+};
+
+static void ask_for_lines(struct wishes *wishes, enum printer_form form)
 {
-    struct sockaddr_in here = {
-        .sin_family = AF_INET,
-        .sin_port = htons((uint16_t)port),
-        .sin_addr.s_addr = htonl(INADDR_LOOPBACK),
-    };
-    socklen_t len = sizeof here;
-    int on = 1;
-    *listening = socket(AF_INET, SOCK_STREAM, 0);
-    if (*listening < 0)
-        return complain(STATUS_UNREACHABLE, "no socket: %s", strerror(errno));
-    (void)setsockopt(*listening, SOL_SOCKET, SO_REUSEADDR, &on, sizeof on);
-    if (bind(*listening, (struct sockaddr *)&here, len) < 0 || listen(*listening, WAITING) < 0
-        || getsockname(*listening, (struct sockaddr *)&here, &len) < 0) {
-        enum status status = complain(STATUS_UNREACHABLE, "port %lu of 127.0.0.1 can't be used: %s", port,
-                                      strerror(errno));
-        close(*listening);
-        return status;
-    }
-    fprintf(stderr, "listening on 127.0.0.1 port %d\n", ntohs(here.sin_port));
-    return STATUS_OK;
+    wishes->prints = true;
+    wishes->printer.form = form;
 }
 
-static enum status accept_client(int listening, int *client)
+static bool take_option(struct wishes *wishes, int letter, const char *value)
 {
-    do
-        *client = accept(listening, NULL, NULL);
-    while (*client < 0 && (errno == EINTR || errno == ECONNABORTED));
-    if (*client < 0)
-        return complain(STATUS_LOCAL, "no connection can be accepted: %s", strerror(errno));
-    if (!set_nonblocking(*client)) {
-        close(*client);
-        return complain(STATUS_LOCAL, "a socket can't be set: %s", strerror(errno));
+    switch (letter) {
+    case '1': wishes->is_single = true; return true;
+    case 'o': wishes->file = value; return true;
+    case TRACE: ask_for_lines(wishes, PRINT_TRACE); return true;
+    case STREAM: ask_for_lines(wishes, PRINT_LINES); return true;
+    case NUMBERS: wishes->printer.shows_numbers = true; return true;
+    case PASSWORDS: wishes->passing.tape.leaves_out = false; return true;
+    case ENCRYPTION: wishes->passing.passes_encryption = true; return true;
+    case KEEP_PASSING: wishes->passing.tape.goes_on = true; return true;
+    case PRINT: wishes->printed = value; return true;
+    default: return options_take(&wishes->options, letter, value);
     }
-    tune(*client);
-    return STATUS_OK;
 }
 
-static enum status serve_one(int listening, const struct address *server_address)
+/* Takes the arguments. False where they fit no form. */
+static bool take_arguments(struct wishes *wishes, int argc, char **argv)
 {
-    int client, server;
-    enum status status = accept_client(listening, &client);
+    int letter;
+    wishes->printer.form = PRINT_LINES;
+    wishes->passing.tape.leaves_out = true;
+    while ((letter = getopt_long(argc, argv, "h:p:1o:", names, NULL)) != -1)
+        if (!take_option(wishes, letter, optarg))
+            return false;
+    if (wishes->printed != NULL)
+        return argc == optind && wishes->file == NULL;
+    return argc - optind == 1 && read_number(argv[optind], 65535, &wishes->port);
+}
+
+static enum status print_recording(struct wishes *wishes)
+{
+    struct recording recording;
+    struct entry entry;
+    enum status status = recording_open(&recording, wishes->printed);
     if (status != STATUS_OK)
         return status;
-    status = address_connect(server_address, &server);
-    if (status == STATUS_OK) {
-        status = proxy(client, server);
-        close(server);
+    while ((status = recording_next(&recording, &entry)) == STATUS_OK && entry.kind != 0) {
+        status = printer_take(&wishes->printer, &entry);
+        if (status != STATUS_OK)
+            break;
     }
-    close(client);
-    return status;
+    recording_close(&recording);
+    enum status ending = printer_end(&wishes->printer);
+    return status == STATUS_OK ? ending : status;
 }
 
-/* Whether more connections are served after one that ended so. */
-static bool goes_on(enum status status)
-{
-    return status == STATUS_OK || status == STATUS_UNREACHABLE || status == STATUS_BROKEN;
-}
-
-static enum status serve(const struct options *options, unsigned long port, bool is_single)
+static enum status serve(struct wishes *wishes)
 {
     struct address address;
     int listening;
-    enum status status = address_find(&address, options->host, options->port);
+    enum status status = address_find(&address, wishes->options.host, wishes->options.port);
     if (status == STATUS_OK)
-        status = listen_on(port, &listening);
+        status = listener_open(wishes->port, &listening);
     if (status == STATUS_OK) {
-        do
-            status = serve_one(listening, &address);
-        while (!is_single && goes_on(status));
+        wishes->passing.server = &address;
+        catch_signals();
+        status = proxy(listening, &wishes->passing, wishes->is_single);
         close(listening);
     }
     address_free(&address);
     return status;
 }
 
+/* Serves, and prints what is asked for, or the server's messages where nothing is recorded. */
+static enum status serve_and_print(struct wishes *wishes)
+{
+    struct tape *tape = &wishes->passing.tape;
+    if (!wishes->prints && wishes->file == NULL) {
+        ask_for_lines(wishes, PRINT_SERVER);
+        tape->leaves_out = false;
+    }
+    if (!wishes->prints)
+        return serve(wishes);
+    tape->printer = &wishes->printer;
+    enum status status = serve(wishes);
+    enum status ending = printer_end(&wishes->printer);
+    return status == STATUS_OK ? ending : status;
+}
+
+/* The same while a file is written. A file that is too long is no reason to be killed. */
+static enum status record(struct wishes *wishes)
+{
+    struct recorder recorder;
+    struct tape *tape = &wishes->passing.tape;
+    signal(SIGXFSZ, SIG_IGN);
+    enum status status = recorder_create(&recorder, wishes->file);
+    if (status != STATUS_OK)
+        return status;
+    tape->recorder = &recorder;
+    status = serve_and_print(wishes);
+    enum status ending = recorder_close(&recorder);
+    if (tape->lost != STATUS_OK)
+        return tape->lost;
+    return status == STATUS_OK ? ending : status;
+}
+
 int main(int argc, char **argv)
 {
-    struct options options = {0};
-    bool is_single = false;
-    unsigned long port;
-    int letter;
+    struct wishes wishes = {0};
     prepare_process();
     if (options_show_help(argc, argv, usage))
         return STATUS_OK;
-    while ((letter = getopt(argc, argv, "h:p:1")) != -1) {
-        if (letter == '1')
-            is_single = true;
-        else if (!options_take(&options, letter, optarg))
-            return options_refuse(usage);
-    }
-    if (argc - optind != 1 || !read_number(argv[optind], 65535, &port))
+    if (!take_arguments(&wishes, argc, argv))
         return options_refuse(usage);
-    enum status status = options_complete_server(&options);
-    return status == STATUS_OK ? serve(&options, port, is_single) : status;
+    if (wishes.printed != NULL)
+        return print_recording(&wishes);
+    enum status status = options_complete_server(&wishes.options);
+    if (status != STATUS_OK)
+        return status;
+    return wishes.file != NULL ? record(&wishes) : serve_and_print(&wishes);
 }

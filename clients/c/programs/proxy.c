@@ -1,184 +1,165 @@
 #define _DEFAULT_SOURCE
 
 #include "proxy.h"
-#include "record.h"
 #include "wait.h"
 
-#include <errno.h>
-#include <string.h>
-#include <sys/socket.h>
-#include <unistd.h>
+#include <stdlib.h>
+#include <sys/resource.h>
 
 enum {
-    PIECE = 65536,
-    /* How long a client may take to hang up after the server did, in milliseconds. */
-    PATIENCE = 2000,
-    REQUEST = 8 /* the length of a request for encryption */
+    MOST_SESSIONS = 1000,
+    OTHER_DESCRIPTORS = 16, /* the most that aren't of a session */
+    ACCEPTED_AT_ONCE = 16,
+    PAUSE = 50, /* in milliseconds, where something is short */
+    FIRST = 1   /* the place of the first session, after the listening socket */
 };
 
-/* Bytes that go one way. No more are read until these are written. */
-struct flow {
-    int from;
-    int to;
-    bool is_ended;  /* no more comes */
-    bool is_closed; /* and all has been passed on */
-    size_t start;
-    size_t end;
-    uint8_t bytes[PIECE];
+struct proxy {
+    int listening;
+    struct passing *passing;
+    struct session **sessions;
+    struct pollfd *ready; /* the listening socket, and two of each session */
+    size_t count;
+    size_t most;
+    bool is_short;       /* no client could be accepted, for want of something */
+    bool is_single_over; /* the first session has ended */
+    enum status ending;  /* how it did */
 };
 
-struct session {
-    struct flow up;   /* to the server */
-    struct flow down; /* to the client */
-    bool is_opening;  /* the client may still ask for encryption */
-    struct record record;
-};
-
-static bool is_pending(const struct flow *flow)
+/* How many sessions the process has descriptors for, after raising their limit where it may. */
+static size_t most_sessions(void)
 {
-    return flow->start < flow->end;
-}
-
-static void move_to_front(struct flow *flow)
-{
-    memmove(flow->bytes, flow->bytes + flow->start, flow->end - flow->start);
-    flow->end -= flow->start;
-    flow->start = 0;
-}
-
-/* Reads once, and answers how many bytes came. A connection that broke has ended. */
-static size_t flow_read(struct flow *flow)
-{
-    move_to_front(flow);
-    ssize_t count = read(flow->from, flow->bytes + flow->end, PIECE - flow->end);
-    if (count == 0 || (count < 0 && !is_temporary(errno)))
-        flow->is_ended = true;
-    if (count <= 0)
-        return 0;
-    flow->end += (size_t)count;
-    return (size_t)count;
-}
-
-/* Writes what is taken at once, and hands the end on after the last byte. */
-static void flow_write(struct flow *flow)
-{
-    if (is_pending(flow)) {
-        ssize_t count = write(flow->to, flow->bytes + flow->start, flow->end - flow->start);
-        if (count > 0) {
-            flow->start += (size_t)count;
-        } else if (count < 0 && !is_temporary(errno)) {
-            flow->start = flow->end;
-            flow->is_ended = true;
-        }
+    struct rlimit limit;
+    rlim_t wanted = 2 * MOST_SESSIONS + OTHER_DESCRIPTORS;
+    if (getrlimit(RLIMIT_NOFILE, &limit) < 0)
+        return 1;
+    if (limit.rlim_cur < wanted) {
+        struct rlimit raised = {.rlim_cur = limit.rlim_max < wanted ? limit.rlim_max : wanted, .rlim_max = limit.rlim_max};
+        if (setrlimit(RLIMIT_NOFILE, &raised) == 0)
+            limit = raised;
     }
-    if (flow->is_ended && !is_pending(flow) && !flow->is_closed) {
-        flow->is_closed = true;
-        (void)shutdown(flow->to, SHUT_WR);
+    if (limit.rlim_cur >= wanted)
+        return MOST_SESSIONS;
+    return limit.rlim_cur > OTHER_DESCRIPTORS + 2 ? (size_t)(limit.rlim_cur - OTHER_DESCRIPTORS) / 2 : 1;
+}
+
+static bool proxy_begin(struct proxy *proxy, int listening, struct passing *passing)
+{
+    *proxy = (struct proxy){.listening = listening, .passing = passing, .most = most_sessions()};
+    proxy->sessions = calloc(proxy->most, sizeof *proxy->sessions);
+    proxy->ready = calloc(1 + 2 * proxy->most, sizeof *proxy->ready);
+    return proxy->sessions != NULL && proxy->ready != NULL;
+}
+
+static void proxy_end(struct proxy *proxy)
+{
+    for (size_t i = 0; i < proxy->count; i++)
+        session_end(proxy->sessions[i]);
+    free(proxy->sessions);
+    free(proxy->ready);
+}
+
+/* How long nothing need be done, in milliseconds, or -1 where only descriptors say. */
+static int patience(const struct proxy *proxy)
+{
+    int64_t first = proxy->is_short ? milliseconds() + PAUSE : INT64_MAX;
+    for (size_t i = 0; i < proxy->count; i++) {
+        const struct session *session = proxy->sessions[i];
+        int64_t due = session->upstream.is_full ? milliseconds() + PAUSE : session->deadline;
+        if (due != 0 && due < first)
+            first = due;
     }
+    if (first == INT64_MAX)
+        return -1;
+    int64_t left = first - milliseconds();
+    return left < 0 ? 0 : (int)left;
 }
 
-/* Whether eight bytes ask for encryption, by TLS or by GSSAPI, whose number is one more. */
-static bool asks_for_encryption(const uint8_t *bytes)
+static enum status wait_for_all(struct proxy *proxy)
 {
-    uint8_t request[REQUEST];
-    if (pgmsg_put_ssl_request(request, sizeof request) != REQUEST)
-        return false;
-    return memcmp(bytes, request, REQUEST - 1) == 0
-        && (bytes[REQUEST - 1] == request[REQUEST - 1] || bytes[REQUEST - 1] == request[REQUEST - 1] + 1);
-}
-
-/* Answers each request for encryption at the front by a no, which isn't the server's and isn't recorded.
- * Ends the opening when something else is at the front. */
-static void open_session(struct session *session)
-{
-    struct flow *up = &session->up, *down = &session->down;
-    move_to_front(down);
-    while (up->end - up->start >= REQUEST && down->end < PIECE) {
-        if (!asks_for_encryption(up->bytes + up->start)) {
-            session->is_opening = false;
-            return;
-        }
-        up->start += REQUEST;
-        down->bytes[down->end++] = 'N';
-    }
-    if (up->is_ended)
-        session->is_opening = false;
-}
-
-static short wanted(bool reads, bool writes)
-{
-    return (short)((reads ? POLLIN : 0) | (writes ? POLLOUT : 0));
-}
-
-/* Waits until something can be read or written. A descriptor that nothing is wanted of isn't waited for:
- * an end of it would be reported at once, again and again. */
-static enum status wait_for_either(const struct session *session, struct pollfd ready[2])
-{
-    const struct flow *up = &session->up, *down = &session->down;
-    bool reads_up = !up->is_ended && up->end - up->start < (session->is_opening ? REQUEST : 1);
-    bool reads_down = !down->is_ended && !is_pending(down);
-    ready[0] = (struct pollfd){.fd = up->from, .events = wanted(reads_up, is_pending(down))};
-    ready[1] = (struct pollfd){.fd = down->from,
-                               .events = wanted(reads_down, is_pending(up) && !session->is_opening)};
-    for (int i = 0; i < 2; i++)
-        if (ready[i].events == 0)
-            ready[i].fd = -1;
-    return wait_for(ready, 2, -1);
-}
-
-static bool is_readable(const struct pollfd *ready)
-{
-    return (ready->events & POLLIN) != 0 && (ready->revents & (POLLIN | POLLHUP | POLLERR)) != 0;
-}
-
-static enum status step(struct session *session)
-{
-    struct flow *up = &session->up, *down = &session->down;
-    struct pollfd ready[2];
-    enum status status = wait_for_either(session, ready);
-    if (status != STATUS_OK)
-        return status;
-    if (is_readable(&ready[0]))
-        flow_read(up);
-    if (is_readable(&ready[1])) {
-        size_t count = flow_read(down);
-        status = record_bytes(&session->record, down->bytes + down->end - count, count);
-    }
-    if (session->is_opening)
-        open_session(session);
-    if (!session->is_opening)
-        flow_write(up);
-    flow_write(down);
+    bool accepts = proxy->count < proxy->most && !proxy->is_short;
+    proxy->ready[0] = (struct pollfd){.fd = accepts ? proxy->listening : -1, .events = POLLIN};
+    for (size_t i = 0; i < proxy->count; i++)
+        session_wants(proxy->sessions[i], &proxy->ready[FIRST + 2 * i]);
+    enum status status = wait_for(proxy->ready, 1 + 2 * proxy->count, patience(proxy));
+    proxy->is_short = false;
     return status;
 }
 
-/* Reads on what the client sends, for a while: a socket that is closed before it is read to its end may
- * take back what was written to it. */
-static enum status linger(struct flow *up)
+/* Takes away a session that is over. */
+static void remove_session(struct proxy *proxy, size_t place)
 {
-    struct pollfd ready = {.fd = up->from, .events = POLLIN};
-    while (!up->is_ended) {
-        enum status status = wait_for(&ready, 1, PATIENCE);
-        if (status != STATUS_OK || ready.revents == 0)
+    struct session *session = proxy->sessions[place];
+    if (session->number == 1) {
+        proxy->is_single_over = true;
+        proxy->ending = session->ending;
+    }
+    session_end(session);
+    proxy->sessions[place] = proxy->sessions[--proxy->count];
+}
+
+static bool is_due(const struct session *session, const struct pollfd ready[2], int64_t now)
+{
+    return ready[0].revents != 0 || ready[1].revents != 0 || session->upstream.is_full
+        || (session->deadline != 0 && session->deadline <= now);
+}
+
+/* Goes on with each session that can. The last first: one that is over gives its place to the last. */
+static enum status step_all(struct proxy *proxy)
+{
+    enum status status = STATUS_OK;
+    int64_t now = milliseconds();
+    for (size_t i = proxy->count; i > 0 && status == STATUS_OK; i--) {
+        struct session *session = proxy->sessions[i - 1];
+        const struct pollfd *ready = &proxy->ready[FIRST + 2 * (i - 1)];
+        if (!is_due(session, ready, now))
+            continue;
+        status = session_step(session, proxy->passing, ready);
+        if (session->stage == STAGE_OVER)
+            remove_session(proxy, i - 1);
+    }
+    return status;
+}
+
+/* Accepts those that wait. */
+static enum status accept_all(struct proxy *proxy)
+{
+    for (int turn = 0; turn < ACCEPTED_AT_ONCE && proxy->count < proxy->most; turn++) {
+        char peer[PEER_ROOM];
+        int client;
+        enum status status = listener_accept(proxy->listening, &client, peer, &proxy->is_short);
+        if (status != STATUS_OK || client < 0)
             return status;
-        up->start = up->end = 0;
-        flow_read(up);
+        struct session *session = session_begin(client, peer);
+        if (session == NULL) {
+            complain_of_memory();
+            continue;
+        }
+        proxy->sessions[proxy->count++] = session;
     }
     return STATUS_OK;
 }
 
-enum status proxy(int client, int server)
+static enum status turn(struct proxy *proxy)
 {
-    struct session session = {.is_opening = true};
-    session.up.from = session.down.to = client;
-    session.up.to = session.down.from = server;
-    if (!record_begin(&session.record))
-        return complain_of_memory();
-    enum status status = STATUS_OK;
-    while (status == STATUS_OK && !session.down.is_closed)
-        status = step(&session);
+    enum status status = wait_for_all(proxy);
     if (status == STATUS_OK)
-        status = linger(&session.up);
-    enum status ending = record_end(&session.record);
-    return status == STATUS_OK ? ending : status;
+        status = step_all(proxy);
+    if (status == STATUS_OK && proxy->ready[0].revents != 0)
+        status = accept_all(proxy);
+    return status;
+}
+
+enum status proxy(int listening, struct passing *passing, bool is_single)
+{
+    struct proxy proxy;
+    enum status status = STATUS_OK;
+    if (!proxy_begin(&proxy, listening, passing))
+        status = complain_of_memory();
+    while (status == STATUS_OK && !(is_single && proxy.is_single_over))
+        status = turn(&proxy);
+    if (status == STATUS_OK)
+        status = proxy.ending;
+    proxy_end(&proxy);
+    return status;
 }

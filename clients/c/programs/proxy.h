@@ -1,11 +1,11 @@
-/* The passing on of one connection. */
+/* The passing on of many connections. */
 #ifndef PROXY_H
 #define PROXY_H
 
-#include "status.h"
+#include "session.h"
 
-/* Passes bytes between two sockets that don't block until the server ends, and records what the server
- * says. A client that asks for encryption is refused it, since nothing could be recorded then. */
-enum status proxy(int client, int server);
+/* Serves clients of a listening socket, all at once, until a signal comes or nothing may pass any more; with
+ * `is_single` until the first session has ended, whose status it answers. */
+enum status proxy(int listening, struct passing *passing, bool is_single);
 
 #endif

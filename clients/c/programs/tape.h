@@ -1,0 +1,23 @@
+/* Where what passes goes: to a recording, to standard output, or both. */
+#ifndef TAPE_H
+#define TAPE_H
+
+#include "printer.h"
+#include "recording.h"
+
+struct tape {
+    struct recorder *recorder; /* NULL where nothing is recorded */
+    struct printer *printer;   /* NULL where nothing is printed */
+    bool leaves_out;           /* no passwords are taken */
+    bool goes_on;              /* what passes does so also where it can't be recorded any more */
+    enum status lost;          /* why nothing is recorded any more */
+    uint32_t opened;           /* how many connections have been */
+};
+
+/* Takes what is to be a record. Answers why nothing may pass any more. */
+enum status tape_take(struct tape *tape, uint8_t kind, uint32_t connection, const uint8_t *content, size_t len);
+
+/* Takes the opening of a connection, and gives its number. */
+enum status tape_open(struct tape *tape, const char *peer, uint32_t *connection);
+
+#endif

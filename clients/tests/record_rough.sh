@@ -1,0 +1,127 @@
+# Recordings whose recorder is killed, or has no room, and clients that are slow, many or send much. Sourced by `test`.
+# RECORD_MEGABYTES may say how long the COPY is that is recorded in little memory: 10240 takes some minutes, and as
+# much room in the folder for temporary files.
+
+# The most memory that a process held, in kB.
+peak_of() {
+    sed -n 's/^VmHWM:[^0-9]*\([0-9]*\) kB/\1/p' "/proc/$1/status"
+}
+
+# Tests that the recorder held less than so many kB.
+holds_less() {
+    local peak
+    peak=$(peak_of "$recording")
+    if [ "${peak:-$2}" -lt "$2" ]; then
+        ok "$1: $peak kB"
+    else
+        bad "$1" "$peak kB"
+    fi
+}
+
+# A number of rows of a kilobyte, through the recorder.
+rows_through() {
+    query_through "COPY (SELECT repeat('x', 1023) FROM generate_series(1, $1)) TO STDOUT" 2> "$work/errors.rows"
+}
+
+# Whether a recording has more than what opens a session.
+has_records() {
+    [ "$(stat -c %s "$1")" -gt 10000 ]
+}
+
+# Kills a recorder while rows pass, a hundred times.
+test_killed_recordings() {
+    local turn tape=$work/killed.tape wrong= cut=0 rows programs=out
+    for turn in {1..100}; do
+        start_taping "$tape"
+        rows_through 1000000 > /dev/null &
+        rows=$!
+        query_through 'SELECT 7' > /dev/null 2>&1 &
+        await has_records "$tape"
+        sleep "0.0$((RANDOM % 80 + 10))"
+        kill -9 "$recording"
+        wait "$recording" "$rows" $! 2> /dev/null
+        read_back "killed recordings, $turn" "$tape"
+        grep -q 'ends within' "$work/errors.read" && cut=$((cut + 1))
+        try "$programs/pg_record" --print "$tape" --trace
+        [ "$status" = 0 ] || wrong+=" $turn: status $status, $errors"
+    done
+    verdict "a recorder that is killed 100 times: each file is read to its last whole record; $cut end within one" "$wrong"
+}
+
+# Starts pg_record so that its files can have so many kilobytes.
+start_limited() {
+    local limit=$1 tape=$2
+    rm -f "$tape"
+    : > "$work/errors.record"
+    (ulimit -f "$limit" && exec "$programs/pg_record" -o "$tape" "${@:3}" 0) > /dev/null 2> "$work/errors.record" &
+    recording=$!
+    await grep -q '^listening on' "$work/errors.record"
+    record_port=$(sed -n 's/^listening on 127.0.0.1 port //p' "$work/errors.record")
+}
+
+# Tests what becomes of sessions where a recording has no room: they end.
+ends_when_full() {
+    try rows_through 20000
+    same "$1: the session ends" "$([ "$status" != 0 ] && echo ended)" ended
+    reap "$recording"
+    same "$1: it has its own status" "$? $(grep -c "$3" "$work/errors.record")" '9 1'
+    read_back "$1" "$2"
+}
+
+test_full_disk() {
+    local tape=$work/full.tape mounted=$work/small
+    try "$programs/pg_record" -o /dev/full 0
+    expect 'no room for a recording' 9 'No space left'
+    start_limited 2000 "$tape"
+    ends_when_full 'a file that may not grow' "$tape" 'File too large'
+    start_limited 2000 "$tape" --keep-passing
+    same 'sessions go on without a recording' "$(rows_through 20000 | wc -l) $(query_through 'SELECT 7')" '20000 7'
+    kill "$recording"
+    reap "$recording"
+    same 'the status says so' "$? $(grep -c 'nothing is recorded from here on' "$work/errors.record")" '9 1'
+    read_back 'a recording that ended before' "$tape"
+    mkdir "$mounted"
+    if ! mount -t tmpfs -o size=1m tmpfs "$mounted" 2> /dev/null; then
+        echo 'left out: a full disk, since none can be mounted'
+        return
+    fi
+    start_taping "$mounted/tape"
+    ends_when_full 'a full disk' "$mounted/tape" 'No space left'
+    umount "$mounted"
+}
+
+# Clients that send little, much, or nothing, beside one that asks.
+test_rough_clients() {
+    local programs=out tape=$work/rough.tape begun
+    start_taping "$tape"
+    tests/record_clients.py "$record_port" > "$work/said_by_clients" 2> "$work/errors.clients" &
+    await grep -q begun "$work/said_by_clients"
+    begun=$(date +%s%N)
+    same 'a hundred half-open connections, a byte a second, a gigabyte announced: others are served' \
+        "$(for turn in {1..20}; do query_through 'SELECT 7'; done | sort | uniq -c | tr -s ' ')" ' 20 7'
+    same 'twenty times in under 5 seconds' "$(($(date +%s%N) - begun < 5000000000))" 1
+    wait $!
+    same 'the slow client gets its answer' "$? $(tail -n 1 "$work/said_by_clients")" '0 answered'
+    holds_less 'in little memory' 40000
+    stop_taping "$tape"
+    read_back 'rough clients' "$tape"
+    same 'what says no first message is not recorded' "$(count_records O)" 22
+}
+
+test_taped_memory() {
+    local programs=out tape=$work/much.tape megabytes=${RECORD_MEGABYTES:-200}
+    start_taping "$tape"
+    same "COPY of $megabytes MB while recording" "$(rows_through $((megabytes * 1024)) | wc -l)" $((megabytes * 1024))
+    holds_less 'its memory' 16000
+    stop_taping "$tape"
+    read_back 'much' "$tape"
+    rm -f "$tape"
+}
+
+test_record_rough() {
+    test_killed_recordings
+    test_full_disk
+    test_rough_clients
+    test_taped_memory
+    ok "the second reader reads each of $recordings_read recordings, $records_read records"
+}
