@@ -136,6 +136,13 @@ test_taped_encryption() {
     stop_taping "$tape"
     read_back 'no encryption' "$tape"
     same 'encryption is answered by a no' "$status $output $(count_records O)$(count_records E)" '0 7 10'
+    start_taping "$tape"
+    exec 3<> "/dev/tcp/127.0.0.1/$record_port"
+    printf '\26\3\1\2\0' >&3
+    same 'TLS that is not asked for ends the connection' "$(timeout 10 cat <&3; echo $?)" 0
+    exec 3>&-
+    stop_recording
+    same 'the recorder says so' "$(grep -c 'begins with TLS' "$work/errors.record")" 1
     start_taping "$tape" -h 127.0.0.1 --encryption
     PGSSLMODE=prefer try query_through 'SELECT 7'
     stop_taping "$tape"

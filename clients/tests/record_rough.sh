@@ -42,8 +42,7 @@ test_killed_recordings() {
         wait "$recording" "$rows" $! 2> /dev/null
         read_back "killed recordings, $turn" "$tape"
         grep -q 'ends within' "$work/errors.read" && cut=$((cut + 1))
-        try "$programs/pg_record" --print "$tape" --trace
-        [ "$status" = 0 ] || wrong+=" $turn: status $status, $errors"
+        "$programs/pg_record" --print "$tape" --trace > /dev/null 2> "$work/errors" || wrong+=" $turn: $(cat "$work/errors")"
     done
     verdict "a recorder that is killed 100 times: each file is read to its last whole record; $cut end within one" "$wrong"
 }
@@ -118,7 +117,16 @@ test_taped_memory() {
     rm -f "$tape"
 }
 
+# Random messages of both sides, in random pieces.
+test_taped_pieces() {
+    local tape=$work/pieces.tape
+    try tests/record_pieces.py "$programs/pg_record" "$tape" 40
+    expect "random pieces pass unchanged, and are recorded but for what is left out: $output" 0
+    read_back 'pieces' "$tape"
+}
+
 test_record_rough() {
+    test_taped_pieces
     test_killed_recordings
     test_full_disk
     test_rough_clients

@@ -2,7 +2,7 @@
 
 #include <stdbool.h>
 
-enum { BYTES_AT_ONCE = 8, VALUES = 256 };
+enum { BYTES_AT_ONCE = 16, VALUES = 256 };
 
 /* tables[0] has the remainder of each byte, tables[n] that of it with n bytes of zeros after it. */
 static uint32_t tables[BYTES_AT_ONCE][VALUES];
@@ -31,12 +31,18 @@ static uint32_t four_bytes(const uint8_t *at)
     return at[0] | (uint32_t)at[1] << 8 | (uint32_t)at[2] << 16 | (uint32_t)at[3] << 24;
 }
 
-/* The remainder after eight bytes more. */
-static uint32_t take_eight(uint32_t rest, const uint8_t *at)
+/* What four bytes add to the remainder after those bytes and the ones up to the place of a table. */
+static uint32_t share_of(uint32_t four, int place)
 {
-    uint32_t low = rest ^ four_bytes(at), high = four_bytes(at + 4);
-    return tables[7][low & 255] ^ tables[6][low >> 8 & 255] ^ tables[5][low >> 16 & 255] ^ tables[4][low >> 24]
-        ^ tables[3][high & 255] ^ tables[2][high >> 8 & 255] ^ tables[1][high >> 16 & 255] ^ tables[0][high >> 24];
+    return tables[place + 3][four & 255] ^ tables[place + 2][four >> 8 & 255] ^ tables[place + 1][four >> 16 & 255]
+        ^ tables[place][four >> 24];
+}
+
+/* The remainder after sixteen bytes more. */
+static uint32_t take_sixteen(uint32_t rest, const uint8_t *at)
+{
+    return share_of(rest ^ four_bytes(at), 12) ^ share_of(four_bytes(at + 4), 8) ^ share_of(four_bytes(at + 8), 4)
+        ^ share_of(four_bytes(at + 12), 0);
 }
 
 uint32_t checksum_of(const uint8_t *bytes, size_t len)
@@ -45,7 +51,7 @@ uint32_t checksum_of(const uint8_t *bytes, size_t len)
     if (!is_ready)
         make_tables();
     for (; len >= BYTES_AT_ONCE; len -= BYTES_AT_ONCE, bytes += BYTES_AT_ONCE)
-        rest = take_eight(rest, bytes);
+        rest = take_sixteen(rest, bytes);
     for (; len > 0; len--, bytes++)
         rest = rest >> 8 ^ tables[0][(rest ^ *bytes) & 255];
     return ~rest;

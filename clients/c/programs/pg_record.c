@@ -12,11 +12,12 @@
 
 static const char usage[] =
     "usage: pg_record [-h HOST] [-p PORT] [-1] [-o FILE] [OPTION..] LISTEN_PORT\n"
-    "       pg_record --print FILE [--trace | --stream] [--numbers]\n"
+    "       pg_record --print FILE [--trace[=whole] | --stream] [--numbers]\n"
     "Accepts connections on 127.0.0.1 and passes them on to the server at HOST and PORT. LISTEN_PORT 0 is a free\n"
     "one. Ends after the first session with -1.\n"
     "  -o FILE         record both sides to a new file\n"
     "  --trace         print messages of both sides as libpq's PQtrace does\n"
+    "  --trace=whole   the same, with first messages and the data of a COPY, of which it shows little\n"
     "  --stream        print them by their names, the fields in hexadecimal digits\n"
     "  --numbers       begin each line with the number of its connection\n"
     "  --passwords     don't leave out passwords and messages of SASL\n"
@@ -41,7 +42,7 @@ struct wishes {
 enum letter { TRACE = 256, STREAM, NUMBERS, PASSWORDS, ENCRYPTION, KEEP_PASSING, PRINT };
 
 static const struct option names[] = {
-    {"trace", no_argument, NULL, TRACE},
+    {"trace", optional_argument, NULL, TRACE},
     {"stream", no_argument, NULL, STREAM},
     {"numbers", no_argument, NULL, NUMBERS},
     {"passwords", no_argument, NULL, PASSWORDS},
@@ -57,12 +58,22 @@ static void ask_for_lines(struct wishes *wishes, enum printer_form form)
     wishes->printer.form = form;
 }
 
+/* Takes the style of a trace, where one is said. */
+static bool ask_for_trace(struct wishes *wishes, const char *style)
+{
+    ask_for_lines(wishes, PRINT_TRACE);
+    if (style == NULL)
+        return true;
+    wishes->printer.style = TRACE_WHOLE;
+    return strcmp(style, "whole") == 0;
+}
+
 static bool take_option(struct wishes *wishes, int letter, const char *value)
 {
     switch (letter) {
     case '1': wishes->is_single = true; return true;
     case 'o': wishes->file = value; return true;
-    case TRACE: ask_for_lines(wishes, PRINT_TRACE); return true;
+    case TRACE: return ask_for_trace(wishes, value);
     case STREAM: ask_for_lines(wishes, PRINT_LINES); return true;
     case NUMBERS: wishes->printer.shows_numbers = true; return true;
     case PASSWORDS: wishes->passing.tape.leaves_out = false; return true;

@@ -2,7 +2,6 @@
 #include "numbers.h"
 #include "said_words.h"
 #include "server_words.h"
-#include "trace.h"
 
 #include <errno.h>
 #include <inttypes.h>
@@ -31,7 +30,7 @@ static void print_message(const struct printer *printer, const struct shown *sho
                           const uint8_t *body, size_t len)
 {
     if (printer->form == PRINT_TRACE)
-        (void)trace_message(stdout, TRACE_AS_LIBPQ, side_of(shown), tag, body, len);
+        (void)trace_message(stdout, printer->style, side_of(shown), tag, body, len);
     else if (!shown->is_client)
         print_server_message(tag, body, len);
     else if (shown->is_first)
@@ -111,7 +110,7 @@ static void take_left_out(const struct printer *printer, const struct shown *sho
     uint32_t length = get_four(entry->content + 1);
     print_number(printer, entry->connection);
     if (printer->form == PRINT_TRACE)
-        trace_left_out(stdout, TRACE_AS_LIBPQ, side_of(shown), tag, length);
+        trace_left_out(stdout, printer->style, side_of(shown), tag, length);
     else if (!shown->is_client)
         print_server_head(tag, length);
     else
@@ -192,9 +191,12 @@ static enum status take_entry(struct printer *printer, const struct entry *entry
     return STATUS_OK;
 }
 
-static enum status flush_lines(void)
+static enum status flush_lines(struct printer *printer)
 {
-    if (fflush(stdout) == EOF || ferror(stdout))
+    if (printer->is_refused)
+        return STATUS_LOCAL;
+    printer->is_refused = fflush(stdout) == EOF || ferror(stdout);
+    if (printer->is_refused)
         return complain(STATUS_LOCAL, "standard output can't be written: %s", strerror(errno));
     return STATUS_OK;
 }
@@ -202,7 +204,7 @@ static enum status flush_lines(void)
 enum status printer_take(struct printer *printer, const struct entry *entry)
 {
     enum status status = take_entry(printer, entry);
-    return status == STATUS_OK ? flush_lines() : status;
+    return status == STATUS_OK ? flush_lines(printer) : status;
 }
 
 enum status printer_end(struct printer *printer)
@@ -211,5 +213,5 @@ enum status printer_end(struct printer *printer)
         end_connection(printer, &printer->all[printer->count - 1]);
     free(printer->all);
     printer->all = NULL;
-    return flush_lines();
+    return flush_lines(printer);
 }

@@ -4,6 +4,7 @@
 
 #include "buffer.h"
 #include "recording.h"
+#include "trace.h"
 
 enum printer_form {
     PRINT_SERVER, /* messages of the server, as `pg_tool stream` does */
@@ -29,7 +30,9 @@ struct shown_connection {
 
 struct printer {
     enum printer_form form;
-    bool shows_numbers; /* a connection's number and a space begin each line */
+    enum trace_style style; /* of a trace */
+    bool is_refused;        /* standard output can't be written */
+    bool shows_numbers;     /* a connection's number and a space begin each line */
     struct shown_connection *all;
     size_t count;
     size_t room;
