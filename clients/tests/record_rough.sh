@@ -23,28 +23,12 @@ rows_through() {
     query_through "COPY (SELECT repeat('x', 1023) FROM generate_series(1, $1)) TO STDOUT" 2> "$work/errors.rows"
 }
 
-# Whether a recording has more than what opens a session.
-has_records() {
-    [ "$(stat -c %s "$1")" -gt 10000 ]
-}
-
 # Kills a recorder while rows pass, a hundred times.
 test_killed_recordings() {
-    local turn tape=$work/killed.tape wrong= cut=0 rows programs=out
-    for turn in {1..100}; do
-        start_taping "$tape"
-        rows_through 1000000 > /dev/null &
-        rows=$!
-        query_through 'SELECT 7' > /dev/null 2>&1 &
-        await has_records "$tape"
-        sleep "0.0$((RANDOM % 80 + 10))"
-        kill -9 "$recording"
-        wait "$recording" "$rows" $! 2> /dev/null
-        read_back "killed recordings, $turn" "$tape"
-        grep -q 'ends within' "$work/errors.read" && cut=$((cut + 1))
-        "$programs/pg_record" --print "$tape" --trace > /dev/null 2> "$work/errors" || wrong+=" $turn: $(cat "$work/errors")"
-    done
-    verdict "a recorder that is killed 100 times: each file is read to its last whole record; $cut end within one" "$wrong"
+    try tests/record_kills.py out/pg_record "$work/killed.tape" 100
+    expect "a recorder that is killed: each file is read to its last whole record: $output" 0
+    recordings_read=$((recordings_read + 100))
+    records_read=$((records_read + $(sed 's/.*files, \([0-9]*\) .*/\1/' <<< "$output")))
 }
 
 # Starts pg_record so that its files can have so many kilobytes.

@@ -1,0 +1,84 @@
+#!/usr/bin/env python3
+"""Kills a recorder while rows pass: record_kills.py PG_RECORD RECORDING TURNS
+
+Three clients ask PGPORT's server for rows through it each time. Both readers must read each file to its last whole
+record. Prints how many files were read, their records, and how many files end within one.
+"""
+
+import pathlib
+import random
+import re
+import struct
+import subprocess
+import sys
+import threading
+import time
+import socket
+
+sys.path.insert(0, str(pathlib.Path(__file__).resolve().parents[1] / "python/examples"))
+import read_recording  # noqa: E402
+
+SETTINGS = b"user\0postgres\0database\0postgres\0\0"
+STARTUP = struct.pack(">II", 8 + len(SETTINGS), 196608) + SETTINGS
+ROWS = b"COPY (SELECT repeat('x', 1023) FROM generate_series(1, 1000000)) TO STDOUT\0"
+LOADED = 10_000
+
+
+def ask(port):
+    """Asks for rows, and takes them until the connection ends."""
+    try:
+        with socket.create_connection(("127.0.0.1", port)) as client:
+            client.sendall(STARTUP + b"Q" + struct.pack(">I", 4 + len(ROWS)) + ROWS)
+            while client.recv(1 << 16):
+                pass
+    except ConnectionError:
+        pass
+
+
+def killed(program, path):
+    """Leaves a recording whose recorder was killed."""
+    path.unlink(missing_ok=True)
+    recorder = subprocess.Popen([program, "-o", path, "0"], stderr=subprocess.PIPE, text=True)
+    with recorder.stderr:
+        port = int(recorder.stderr.readline().split()[-1])
+    clients = [threading.Thread(target=ask, args=(port,)) for _ in range(3)]
+    for client in clients:
+        client.start()
+    while path.stat().st_size < LOADED:
+        time.sleep(0.001)
+    time.sleep(random.random() / 30)
+    recorder.kill()
+    recorder.wait()
+    for client in clients:
+        client.join()
+
+
+def read_by_both(program, path):
+    """How many records a recording has, and whether it ends within one."""
+    with open(path, "rb") as file:
+        read_recording.head_of(file)
+        records = list(read_recording.records(file))
+    is_cut = records[-1] is None
+    run = subprocess.run([program, "--print", path, "--trace"], stdout=subprocess.DEVNULL, stderr=subprocess.PIPE, text=True)
+    named = re.search(r"ends within a record: .* to offset (\d+)", run.stderr)
+    if run.returncode != 0 or bool(named) != is_cut:
+        sys.exit(f"status {run.returncode}: {run.stderr}")
+    whole = records[-2] if is_cut else records[-1]
+    end = whole[0] + read_recording.RECORD_HEAD.size + len(whole[4]) + read_recording.CHECKSUM.size
+    if end != (int(named[1]) if is_cut else path.stat().st_size):
+        sys.exit(f"the last whole record ends at {end}: {run.stderr}")
+    return len(records) - is_cut, is_cut
+
+
+def main():
+    program, path, turns = sys.argv[1], pathlib.Path(sys.argv[2]), int(sys.argv[3])
+    count, cut = 0, 0
+    for _ in range(turns):
+        killed(program, path)
+        records, is_cut = read_by_both(program, path)
+        count, cut = count + records, cut + is_cut
+    print(turns, "files,", count, "records,", cut, "end within one")
+
+
+if __name__ == "__main__":
+    main()
