@@ -173,6 +173,29 @@ is_encrypted() {
     PGHOST=127.0.0.1 PGSSLMODE=require "$bin/psql" -X -c 'SELECT 1'
 }
 
+# What is printed at once is what the recording prints later: libpq's notation of the bytes of each connection.
+test_taped_trace() {
+    local number wrong= tape=$work/trace.tape
+    rm -f "$tape"
+    start_recording "$work/live" -o "$tape" --trace
+    query_through 'SELECT 7' > /dev/null
+    query_through 'SELECT * FROM no_such_table' > /dev/null 2>&1
+    query_through 'COPY (SELECT 7) TO STDOUT' > /dev/null
+    raw_session
+    stop_taping "$tape"
+    read_back 'trace' "$tape"
+    try "$programs/pg_record" --print "$tape" --trace
+    same "a trace of $(wc -l < "$work/live") lines is the same later" "$status $(cmp "$work/live" "$work/output" 2>&1)" '0 '
+    for number in 1 2 3 4; do
+        "$programs/pg_record" --print "$tape" --trace --only "$number" > "$work/trace"
+        read_recording "$tape" "$number" F > "$work/of_client"
+        read_recording "$tape" "$number" B > "$work/of_server"
+        "$programs/trace_lines" "$work/of_client" "$work/of_server" > "$work/by_bytes"
+        by_sides "$work/trace" | cmp - "$work/by_bytes" > /dev/null 2>&1 || wrong+=" $number"
+    done
+    verdict 'and that of the bytes of each connection' "$wrong"
+}
+
 # Each byte of a recording changed, and each length of it, for both readers.
 test_taped_bytes() {
     local tape=$work/bytes.tape
@@ -195,5 +218,6 @@ test_record_files() {
     test_taped_clients
     test_taped_cancel
     test_taped_encryption
+    test_taped_trace
     test_taped_bytes
 }

@@ -12,7 +12,7 @@
 
 static const char usage[] =
     "usage: pg_record [-h HOST] [-p PORT] [-1] [-o FILE] [OPTION..] LISTEN_PORT\n"
-    "       pg_record --print FILE [--trace[=whole] | --stream] [--numbers]\n"
+    "       pg_record --print FILE [--trace[=whole] | --stream] [--numbers | --only NUMBER]\n"
     "Accepts connections on 127.0.0.1 and passes them on to the server at HOST and PORT. LISTEN_PORT 0 is a free\n"
     "one. Ends after the first session with -1.\n"
     "  -o FILE         record both sides to a new file\n"
@@ -20,6 +20,7 @@ static const char usage[] =
     "  --trace=whole   the same, with first messages and the data of a COPY, of which it shows little\n"
     "  --stream        print them by their names, the fields in hexadecimal digits\n"
     "  --numbers       begin each line with the number of its connection\n"
+    "  --only NUMBER   print the connection of that number alone\n"
     "  --passwords     don't leave out passwords and messages of SASL\n"
     "  --encryption    let the server answer requests for encryption, which are answered by a no else, and\n"
     "                  pass on unread what is encrypted\n"
@@ -39,12 +40,13 @@ struct wishes {
     struct passing passing;
 };
 
-enum letter { TRACE = 256, STREAM, NUMBERS, PASSWORDS, ENCRYPTION, KEEP_PASSING, PRINT };
+enum letter { TRACE = 256, STREAM, NUMBERS, ONLY, PASSWORDS, ENCRYPTION, KEEP_PASSING, PRINT };
 
 static const struct option names[] = {
     {"trace", optional_argument, NULL, TRACE},
     {"stream", no_argument, NULL, STREAM},
     {"numbers", no_argument, NULL, NUMBERS},
+    {"only", required_argument, NULL, ONLY},
     {"passwords", no_argument, NULL, PASSWORDS},
     {"encryption", no_argument, NULL, ENCRYPTION},
     {"keep-passing", no_argument, NULL, KEEP_PASSING},
@@ -68,6 +70,15 @@ static bool ask_for_trace(struct wishes *wishes, const char *style)
     return strcmp(style, "whole") == 0;
 }
 
+static bool ask_for_one(struct wishes *wishes, const char *value)
+{
+    unsigned long number;
+    if (!read_number(value, UINT32_MAX, &number) || number == 0)
+        return false;
+    wishes->printer.only = (uint32_t)number;
+    return true;
+}
+
 static bool take_option(struct wishes *wishes, int letter, const char *value)
 {
     switch (letter) {
@@ -76,6 +87,7 @@ static bool take_option(struct wishes *wishes, int letter, const char *value)
     case TRACE: return ask_for_trace(wishes, value);
     case STREAM: ask_for_lines(wishes, PRINT_LINES); return true;
     case NUMBERS: wishes->printer.shows_numbers = true; return true;
+    case ONLY: return ask_for_one(wishes, value);
     case PASSWORDS: wishes->passing.tape.leaves_out = false; return true;
     case ENCRYPTION: wishes->passing.passes_encryption = true; return true;
     case KEEP_PASSING: wishes->passing.tape.goes_on = true; return true;

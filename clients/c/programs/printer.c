@@ -203,6 +203,8 @@ static enum status flush_lines(struct printer *printer)
 
 enum status printer_take(struct printer *printer, const struct entry *entry)
 {
+    if (printer->only != 0 && printer->only != entry->connection)
+        return STATUS_OK;
     enum status status = take_entry(printer, entry);
     return status == STATUS_OK ? flush_lines(printer) : status;
 }

@@ -31,6 +31,7 @@ struct shown_connection {
 struct printer {
     enum printer_form form;
     enum trace_style style; /* of a trace */
+    uint32_t only;          /* the number of the connection that is shown, 0 for all */
     bool is_refused;        /* standard output can't be written */
     bool shows_numbers;     /* a connection's number and a space begin each line */
     struct shown_connection *all;

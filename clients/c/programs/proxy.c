@@ -34,7 +34,8 @@ static size_t most_sessions(void)
     if (getrlimit(RLIMIT_NOFILE, &limit) < 0)
         return 1;
     if (limit.rlim_cur < wanted) {
-        struct rlimit raised = {.rlim_cur = limit.rlim_max < wanted ? limit.rlim_max : wanted, .rlim_max = limit.rlim_max};
+        struct rlimit raised = limit;
+        raised.rlim_cur = limit.rlim_max < wanted ? limit.rlim_max : wanted;
         if (setrlimit(RLIMIT_NOFILE, &raised) == 0)
             limit = raised;
     }
