@@ -109,7 +109,19 @@ test_taped_pieces() {
     read_back 'pieces' "$tape"
 }
 
+# A message that is too long to be printed passes, and those after it are printed.
+test_long_message() {
+    local programs=out
+    start_recording "$work/lines"
+    same 'a message of 70 MB passes' "$(query_through "SELECT repeat('x', 70000000)" | wc -c)" 70000001
+    same 'what follows it is printed' "$(tail -n 2 "$work/lines" | cut -d ' ' -f 1)" $'CommandComplete\nReadyForQuery'
+    same 'that it is not is said' "$(grep -c "a message of 70000011 bytes isn't shown" "$work/errors.record")" 1
+    holds_less 'and it is not held' 16000
+    stop_recording
+}
+
 test_record_rough() {
+    test_long_message
     test_taped_pieces
     test_killed_recordings
     test_full_disk
