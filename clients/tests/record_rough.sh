@@ -73,6 +73,26 @@ test_full_disk() {
     umount "$mounted"
 }
 
+# A client that is killed while it gets rows, and a server's end.
+test_taped_ends() {
+    local tape=$work/ends.tape
+    start_taping "$tape"
+    PGHOST=127.0.0.1 PGPORT=$record_port "$bin/psql" -X -c "SELECT repeat('x', 1023) FROM generate_series(1, 1000000)" > /dev/null &
+    await has_records "$tape"
+    kill -9 $!
+    wait $! 2> /dev/null
+    try query_through 'SELECT pg_terminate_backend(pg_backend_pid())'
+    expect 'a session that the server ends' 2 'terminating connection'
+    stop_taping "$tape"
+    read_back 'ends' "$tape"
+    same 'who ended first is recorded' "$(read_recording "$tape" 1 C) $(read_recording "$tape" 2 C)" 'F B'
+}
+
+# Whether a recording has more than what opens a session.
+has_records() {
+    [ "$(stat -c %s "$1")" -gt 10000 ]
+}
+
 # Clients that send little, much, or nothing, beside one that asks.
 test_rough_clients() {
     local programs=out tape=$work/rough.tape begun
@@ -125,6 +145,7 @@ test_record_rough() {
     test_taped_pieces
     test_killed_recordings
     test_full_disk
+    test_taped_ends
     test_rough_clients
     test_taped_memory
     ok "the second reader reads each of $recordings_read recordings, $records_read records"

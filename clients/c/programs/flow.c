@@ -41,7 +41,7 @@ void flow_write(struct flow *flow)
             flow->start += (size_t)count;
         } else if (count < 0 && !is_temporary(errno)) {
             flow->start = flow->known = flow->end;
-            flow->is_ended = true;
+            flow->is_ended = flow->is_refused = true;
         }
     }
     if (flow->is_ended && flow->start == flow->end && !flow->is_closed) {

@@ -13,8 +13,9 @@ enum { FLOW_ROOM = 65536 };
 struct flow {
     int from;
     int to;
-    bool is_ended;  /* no more comes */
-    bool is_closed; /* and all has been passed on */
+    bool is_ended;   /* no more comes */
+    bool is_refused; /* that is so since none can be written */
+    bool is_closed;  /* all has been passed on, and the end too */
     size_t start;   /* where those begin that aren't written */
     size_t known;   /* where those end that may be written */
     size_t end;     /* where those end that were read */

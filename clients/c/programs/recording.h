@@ -38,8 +38,8 @@
  *
  * A file that ends within a record is whole up to the record before: a reader says so, and that is no fault. Faults
  * are, by the offset of the record: the checksum of its head; then a length above the most; a kind that isn't here; a
- * content of another length than its kind has; the checksum of the content; a connection that is opened out of turn,
- * or isn't open. Nothing after a fault is read. */
+ * content of another length than its kind has; the checksum of the content; a C of neither side; a connection
+ * that is opened out of turn, or isn't open. Nothing after a fault is read. */
 #ifndef RECORDING_H
 #define RECORDING_H
 

@@ -28,7 +28,7 @@ static void flow_begin(struct flow *flow, int from, int to)
 {
     flow->from = from;
     flow->to = to;
-    flow->is_ended = flow->is_closed = false;
+    flow->is_ended = flow->is_refused = flow->is_closed = false;
     flow->start = flow->known = flow->end = 0;
 }
 
@@ -106,12 +106,18 @@ static bool is_readable(const struct pollfd *ready)
     return (ready->events & POLLIN) != 0 && (ready->revents & (POLLIN | POLLHUP | POLLERR)) != 0;
 }
 
+/* Whether the side has ended that a flow comes from, and the other one goes to. */
+static bool has_ended(const struct flow *from, const struct flow *to)
+{
+    return (from->is_ended && !from->is_refused) || to->is_refused;
+}
+
 /* Notes which side ended first. */
 static void note_end(struct session *session)
 {
-    if (session->first_end == 0 && session->up.is_ended)
+    if (session->first_end == 0 && has_ended(&session->up, &session->down))
         session->first_end = RECORD_FROM_CLIENT;
-    if (session->first_end == 0 && session->down.is_ended)
+    if (session->first_end == 0 && has_ended(&session->down, &session->up))
         session->first_end = RECORD_FROM_SERVER;
 }
 
