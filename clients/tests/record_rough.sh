@@ -31,12 +31,12 @@ test_killed_recordings() {
     records_read=$((records_read + $(sed 's/.*files, \([0-9]*\) .*/\1/' <<< "$output")))
 }
 
-# Starts pg_record so that its files can have so many kilobytes.
+# Starts pg_record with a limit of the shell's.
 start_limited() {
     local limit=$1 tape=$2
     rm -f "$tape"
     : > "$work/errors.record"
-    (ulimit -f "$limit" && exec "$programs/pg_record" -o "$tape" "${@:3}" 0) > /dev/null 2> "$work/errors.record" &
+    (ulimit $limit && exec "$programs/pg_record" -o "$tape" "${@:3}" 0) > /dev/null 2> "$work/errors.record" &
     recording=$!
     await grep -q '^listening on' "$work/errors.record"
     record_port=$(sed -n 's/^listening on 127.0.0.1 port //p' "$work/errors.record")
@@ -55,9 +55,9 @@ test_full_disk() {
     local tape=$work/full.tape mounted=$work/small
     try "$programs/pg_record" -o /dev/full 0
     expect 'no room for a recording' 9 'No space left'
-    start_limited 2000 "$tape"
+    start_limited '-f 2000' "$tape"
     ends_when_full 'a file that may not grow' "$tape" 'File too large'
-    start_limited 2000 "$tape" --keep-passing
+    start_limited '-f 2000' "$tape" --keep-passing
     same 'sessions go on without a recording' "$(rows_through 20000 | wc -l) $(query_through 'SELECT 7')" '20000 7'
     kill "$recording"
     reap "$recording"
@@ -111,6 +111,23 @@ test_rough_clients() {
     same 'what says no first message is not recorded' "$(count_records O)" 22
 }
 
+# More connections than there is memory for: those that are there are served, and later ones.
+test_short_memory() {
+    local programs=out tape=$work/short.tape descriptor descriptors=()
+    start_limited '-v 12000' "$tape"
+    for _ in {1..150}; do
+        exec {descriptor}<> "/dev/tcp/127.0.0.1/$record_port"
+        descriptors+=("$descriptor")
+    done
+    await grep -q 'out of memory' "$work/errors.record"
+    for descriptor in "${descriptors[@]}"; do
+        exec {descriptor}>&-
+    done
+    same 'after more clients than memory: the next one is served' "$(query_through 'SELECT 7')" 7
+    stop_taping "$tape"
+    read_back 'short memory' "$tape"
+}
+
 test_taped_memory() {
     local programs=out tape=$work/much.tape megabytes=${RECORD_MEGABYTES:-200}
     start_taping "$tape"
@@ -147,6 +164,7 @@ test_record_rough() {
     test_full_disk
     test_taped_ends
     test_rough_clients
+    test_short_memory
     test_taped_memory
     ok "the second reader reads each of $recordings_read recordings, $records_read records"
 }
