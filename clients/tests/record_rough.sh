@@ -111,6 +111,23 @@ test_rough_clients() {
     same 'what says no first message is not recorded' "$(count_records O)" 22
 }
 
+# More half-open connections than there are descriptors for: they are given up sooner.
+test_short_descriptors() {
+    local programs=out tape=$work/short.tape descriptor descriptors=()
+    start_limited '-n 64' "$tape"
+    for _ in {1..30}; do
+        exec {descriptor}<> "/dev/tcp/127.0.0.1/$record_port"
+        descriptors+=("$descriptor")
+    done
+    same 'beside more half-open connections than descriptors others are served' \
+        "$(PGCONNECT_TIMEOUT=20 query_through 'SELECT 7')" 7
+    for descriptor in "${descriptors[@]}"; do
+        exec {descriptor}>&-
+    done
+    stop_taping "$tape"
+    read_back 'short descriptors' "$tape"
+}
+
 # More connections than there is memory for: those that are there are served, and later ones.
 test_short_memory() {
     local programs=out tape=$work/short.tape descriptor descriptors=()
@@ -164,6 +181,7 @@ test_record_rough() {
     test_full_disk
     test_taped_ends
     test_rough_clients
+    test_short_descriptors
     test_short_memory
     test_taped_memory
     ok "the second reader reads each of $recordings_read recordings, $records_read records"

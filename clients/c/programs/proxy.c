@@ -141,6 +141,13 @@ static enum status accept_all(struct proxy *proxy)
     return STATUS_OK;
 }
 
+/* Where there is no place for another client, those that say nothing get less time. */
+static void hurry_all(const struct proxy *proxy)
+{
+    for (size_t i = 0; i < proxy->count && proxy->count == proxy->most; i++)
+        session_hurry(proxy->sessions[i]);
+}
+
 static enum status turn(struct proxy *proxy)
 {
     enum status status = wait_for_all(proxy);
@@ -148,6 +155,7 @@ static enum status turn(struct proxy *proxy)
         status = step_all(proxy);
     if (status == STATUS_OK && proxy->ready[0].revents != 0)
         status = accept_all(proxy);
+    hurry_all(proxy);
     return status;
 }
 

@@ -12,6 +12,8 @@
 enum {
     /* How long the first message of a client, or a connection to the server, may take, in milliseconds. */
     OPENING_PATIENCE = 60000,
+    /* The same while there is no place for another client. */
+    CROWDED_PATIENCE = 2000,
     /* How long a client may take to hang up after the server did. */
     CLOSING_PATIENCE = 2000
 };
@@ -45,7 +47,8 @@ struct session *session_begin(int client, const char *peer)
     session->client = client;
     session->is_served = session->is_encrypted = session->is_recorded_closed = false;
     session->first_end = 0;
-    session->deadline = milliseconds() + OPENING_PATIENCE;
+    session->begun = milliseconds();
+    session->deadline = session->begun + OPENING_PATIENCE;
     session->upstream = (struct upstream){.socket = -1};
     session->of_client = (struct framing){.is_client = true, .is_first = true};
     session->of_server = (struct framing){0};
@@ -53,6 +56,12 @@ struct session *session_begin(int client, const char *peer)
     flow_begin(&session->down, -1, client);
     strcpy(session->peer, peer);
     return session;
+}
+
+void session_hurry(struct session *session)
+{
+    if (session->stage == STAGE_OPENING)
+        session->deadline = session->begun + CROWDED_PATIENCE;
 }
 
 void session_end(struct session *session)

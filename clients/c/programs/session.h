@@ -33,7 +33,8 @@ struct session {
     bool is_encrypted; /* bytes pass unread */
     uint8_t first_end; /* the side that ended first, or 0 */
     bool is_recorded_closed;
-    int64_t deadline;  /* when it is given up, in milliseconds, or 0 */
+    int64_t begun;     /* when it was accepted, in milliseconds */
+    int64_t deadline;  /* when it is given up, or 0 */
     struct upstream upstream;
     struct framing of_client;
     struct framing of_server;
@@ -47,6 +48,9 @@ int64_t milliseconds(void);
 
 /* Begins with a client that was accepted. NULL where there is no memory, and the client's connection is closed. */
 struct session *session_begin(int client, const char *peer);
+
+/* Gives a client less time for its first message, since others wait. */
+void session_hurry(struct session *session);
 
 /* What is waited for: the client's descriptor and the server's. One that nothing is wanted of isn't waited for: an
  * end of it would be reported at once, again and again. */
