@@ -68,6 +68,9 @@ test_taped_sessions() {
     try through "$bin/psql" -X -q -c 'LISTEN a' -c "NOTIFY a, 'words'"
     same 'a notification while recording' "$status $(grep -c 'payload "words"' "$work/output")" '0 1'
     raw_session
+    try "$programs/pg_record" -o "$work/other.tape" "$record_port"
+    expect 'a port that is in use' 2 'in use'
+    same 'leaves no recording' "$(ls "$work/other.tape" 2> /dev/null)" ''
     stop_taping "$tape"
     read_back 'sessions' "$tape"
     same 'six sessions are recorded, each to its end' "$(count_records O) $(count_records C)" '6 6'

@@ -90,7 +90,7 @@ static enum status take_answer(struct session *session, struct passing *passing)
 }
 
 /* Takes a request for encryption: the server's to answer, or answered by a no. */
-static enum status take_request(struct session *session, const struct passing *passing, size_t length)
+static void take_request(struct session *session, const struct passing *passing, size_t length)
 {
     struct flow *up = &session->up;
     if (passing->passes_encryption) {
@@ -101,7 +101,6 @@ static enum status take_request(struct session *session, const struct passing *p
         up->start += length;
         up->known = up->start;
     }
-    return STATUS_OK;
 }
 
 /* Takes the first bytes of TLS, where a client begins it without a request. */
@@ -124,13 +123,12 @@ static enum status take_first(struct session *session, struct passing *passing)
     enum first first = look(session, &length);
     if (first == FIRST_SHORT && up->is_ended)
         session->stage = STAGE_OVER;
-    if (first == FIRST_SHORT)
-        return STATUS_OK;
-    if (first == FIRST_ASKS && (session->is_served || !passing->passes_encryption))
-        return take_request(session, passing, length);
-    if (!session->is_served)
+    else if (first == FIRST_ASKS && (session->is_served || !passing->passes_encryption))
+        take_request(session, passing, length);
+    else if (first != FIRST_SHORT && !session->is_served)
         return connect_session(session, passing);
-    begin_passing(session);
+    else if (first == FIRST_OPENS)
+        begin_passing(session);
     return STATUS_OK;
 }
 

@@ -171,6 +171,8 @@ static enum status record(struct wishes *wishes)
         return status;
     tape->recorder = &recorder;
     status = serve_and_print(wishes);
+    if (status == STATUS_UNREACHABLE)
+        recorder_forget(&recorder);
     enum status ending = recorder_close(&recorder);
     if (tape->lost != STATUS_OK)
         return tape->lost;

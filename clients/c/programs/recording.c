@@ -124,6 +124,13 @@ enum status recorder_add(struct recorder *recorder, uint8_t kind, uint32_t conne
     return STATUS_OK;
 }
 
+void recorder_forget(const struct recorder *recorder)
+{
+    struct stat state;
+    if (fstat(recorder->file, &state) == 0 && S_ISREG(state.st_mode) && state.st_size == RECORDING_HEAD)
+        (void)unlink(recorder->path);
+}
+
 enum status recorder_close(struct recorder *recorder)
 {
     if (close(recorder->file) < 0)

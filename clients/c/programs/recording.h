@@ -82,6 +82,9 @@ enum status recorder_create(struct recorder *recorder, const char *path);
 enum status recorder_add(struct recorder *recorder, uint8_t kind, uint32_t connection, const uint8_t *content,
                          size_t len);
 
+/* Takes the file away where it has no record, so that its name can be used again. */
+void recorder_forget(const struct recorder *recorder);
+
 /* Closes the file, and says where that fails. */
 enum status recorder_close(struct recorder *recorder);
 
