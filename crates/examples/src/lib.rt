@@ -4,3 +4,4 @@
 pub mod copy_load;
 pub mod listen;
 pub mod record;
+pub mod trace;
