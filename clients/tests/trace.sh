@@ -11,30 +11,40 @@ untraced='
 !is_open && /^B\t[0-9]+\t(Authentication|ErrorResponse)/ { is_left_out = 1 }
 session ~ /^(copy_out|large)$/ && /^B\t[0-9]+\t$/ { is_left_out = 1 }
 session == "function" && before ~ /^(FunctionCall|Error)Response$/ && /^B\t[0-9]+\tReadyForQuery/ { is_left_out = 1 }
-/^[FB]\t[0-9]+\t/ { before = $3; if (is_left_out) print $3 == "" ? "CopyData" : $3 >> left_out }
+/^[FB]\t[0-9]+\t/ { before = $3; if (is_left_out) print ($3 == "" ? "CopyData" : $3) >> left_out }
 !is_left_out'
 
 # The lines of libpq by their sides, those of the client first. What begins no line goes on with the one before.
 by_sides() {
     local side
     for side in F B; do
-        awk -v side="$side" '/^[FB]\t[0-9]+\t/ { current = substr($0, 1, 1) } current == side' "$1"
+        LC_ALL=C awk -v side="$side" '/^[FB]\t[0-9]+\t/ { current = substr($0, 1, 1) } current == side' "$1"
     done
 }
 
-# Whether there is what a program over libpq 15 is built with; it is then built.
+# Whether libpq's trace can be had: then there is a program over libpq 15, and its version is in $libpq.
 build_sessions() {
     local flags
+    if [ -n "${libpq:-}" ]; then
+        return
+    fi
+    if ! has_python; then
+        echo "left out: libpq's own trace, since there is no Python from 3.11 on"
+        return 1
+    fi
     if ! command -v pg_config > /dev/null || ! "${CC:-cc}" -E -I"$(pg_config --includedir)" -x c - \
         <<< '#include <libpq-fe.h>' > /dev/null 2>&1; then
         echo "left out: libpq's own trace, since there are no headers of libpq (libpq-dev)"
         return 1
     fi
     flags=(-std=c11 -Wall -Wextra -Wpedantic -I"$(pg_config --includedir)" -L"$(pg_config --libdir)")
-    "${CC:-cc}" "${flags[@]}" c/tests/trace_sessions*.c -lpq -o "$work/trace_sessions" || return 1
+    try "${CC:-cc}" "${flags[@]}" c/tests/trace_sessions*.c -lpq -o "$work/trace_sessions"
+    expect 'a program over libpq' 0
+    [ "$status" = 0 ] || return
     libpq=$("$work/trace_sessions")
     if [[ $libpq != 15.* ]]; then
         echo "left out: libpq's own trace, since libpq is $libpq, and other versions than 15 write other lines"
+        libpq=
         return 1
     fi
 }
@@ -54,22 +64,25 @@ run_session() {
 
 # Runs a session, and compares both traces of it.
 compare_traces() {
-    local name=$1 session=${1%% *} programs
+    local name=$1 session=${1%% *} programs difference lines
     run_session "$session" "$2"
     if [ "$status" != 0 ]; then
         bad "the trace of $name" "status $status; $(cat "$work/errors")"
         return
     fi
     by_sides "$work/trace" > "$work/by_libpq"
+    lines=$(wc -l < "$work/by_libpq")
     for programs in out out/sanitized; do
         : > "$work/left_out"
         "$programs/trace_lines" "$work/said_by_client" "$work/said_by_server" > "$work/lines" 2> "$work/errors"
-        awk -F '\t' -v session="$session" -v left_out="$work/left_out" "$untraced" "$work/lines" > "$work/by_us"
-        verdict "the trace of $name, $programs: $(wc -l < "$work/by_libpq") lines" \
-            "$(diff "$work/by_libpq" "$work/by_us" 2>&1 | cut -c 1-300 | head -n 4)$(cat "$work/errors")"
+        LC_ALL=C awk -F '\t' -v session="$session" -v left_out="$work/left_out" "$untraced" "$work/lines" > "$work/by_us"
+        difference=$(diff -a "$work/by_libpq" "$work/by_us" | cut -c 1-300 | head -n 4; cat "$work/errors")
+        verdict "the trace of $name, $programs: $lines lines" "$difference"
     done
-    traced=$((traced + $(wc -l < "$work/by_libpq")))
-    cat "$work/left_out" >> "$work/all_left_out"
+    if [ -z "$difference" ]; then
+        traced=$((traced + lines))
+        cat "$work/left_out" >> "$work/all_left_out"
+    fi
 }
 
 # A password is asked for by each method, and one is wrong. Encryption is asked for and refused.
@@ -84,7 +97,7 @@ compare_logins() {
 }
 
 test_trace() {
-    local session traced=0 libpq
+    local session traced=0
     build_sessions || return
     : > "$work/all_left_out"
     export PGSSLMODE=disable PGGSSENCMODE=disable
@@ -99,7 +112,7 @@ test_trace() {
 
 # A server that says what PostgreSQL says rarely or never.
 test_odd_trace() {
-    local traced=0 libpq serving
+    local traced=0 serving
     build_sessions || return
     : > "$work/all_left_out"
     tests/trace_server.py > "$work/port_of_server" &

@@ -25,7 +25,8 @@ enum trace_style {
 /* Prints a message: its side, its length without its tag, its name and its parts. `tag` is 0 of a client's first
  * message, and of the one after an SSLRequest or a GSSENCRequest. A text is printed as it is, so it may end the
  * line. Where something follows the last part, the next line says how many bytes were printed, and how many there
- * are. Passwords and what follows the method of an Authentication are never printed.
+ * are. Passwords and what follows the method of an Authentication are never printed. `body` isn't NULL, also where
+ * there is none of it.
  *
  * A body that is broken is printed up to the part that can't be read, and then why, after ` broken: `. Answers
  * whether the body is whole. */
