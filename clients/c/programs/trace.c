@@ -29,30 +29,37 @@ static ptrdiff_t check_client(uint8_t tag, const uint8_t *body, size_t len, pgms
     }
 }
 
-/* Whether a message is whole: no words, or why it is refused. Bytes that follow its last part are no fault, nor is a
- * tag that the library doesn't know. */
-static void check(const struct trace_parts *parts, enum trace_side side, uint8_t tag, pgmsg_fault *fault)
+/* Whether a message is whole. Bytes that follow its last part are no fault, nor is a tag that the library doesn't
+ * know. */
+static bool is_whole(const struct trace_parts *parts, enum trace_side side, uint8_t tag, pgmsg_fault *fault)
 {
     ptrdiff_t answer = side == TRACE_CLIENT ? check_client(tag, parts->body, parts->len, fault)
                                             : pgmsg_read_end(tag, parts->body, parts->len, fault);
-    if (answer >= 0 || answer == PGMSG_TRAILING_BYTES || answer == PGMSG_UNKNOWN_MESSAGE_TYPE)
-        fault->words_len = 0;
+    return answer >= 0 || answer == PGMSG_TRAILING_BYTES || answer == PGMSG_UNKNOWN_MESSAGE_TYPE;
 }
 
-/* Ends a line by what is wrong with the body, or else by how much of it follows the last part. */
-static bool end_line(const struct trace_parts *parts, const pgmsg_fault *fault)
+/* Ends the line of a body that the library refuses. */
+static bool end_refused(FILE *out, const pgmsg_fault *fault)
 {
-    FILE *out = parts->out;
-    if (fault->words_len > 0)
+    /* Words need memory, and are left out where there is none. */
+    if (fault->words_len == 0)
+        fprintf(out, " broken: %s\n", pgmsg_strerror(fault->number).text);
+    else
         fprintf(out, " broken: %.*s\n", (int)fault->words_len, (const char *)fault->words);
-    else if (parts->is_short)
-        fprintf(out, " broken: a part is cut off after offset %zu\n", parts->at);
+    return false;
+}
+
+/* Ends a line, and adds how much of the body follows the last part. */
+static bool end_line(const struct trace_parts *parts)
+{
+    if (parts->is_short)
+        fprintf(parts->out, " broken: a part is cut off after offset %zu\n", parts->at);
     else if (parts->at < parts->len)
-        fprintf(out, "\nmismatched message length: consumed %zu, expected %zu\n", parts->at + LENGTH_FIELD,
+        fprintf(parts->out, "\nmismatched message length: consumed %zu, expected %zu\n", parts->at + LENGTH_FIELD,
                 parts->len + LENGTH_FIELD);
     else
-        putc('\n', out);
-    return fault->words_len == 0 && !parts->is_short;
+        putc('\n', parts->out);
+    return !parts->is_short;
 }
 
 /* Begins a line, and answers what is known of the tag. */
@@ -77,31 +84,30 @@ static bool print_tagged(struct trace_parts *parts, enum trace_side side, uint8_
     const struct trace_kind *kind = begin_line(parts->out, side, tag, parts->len + LENGTH_FIELD);
     bool is_shown = parts->style == TRACE_WHOLE || kind->shown == SHOWN_BY_LIBPQ;
     bool has_parts = is_shown && kind->print != NULL;
-    pgmsg_fault fault = {0};
+    pgmsg_fault fault;
     print_name(parts->out, parts->style, kind, tag, has_parts);
     if (has_parts)
         kind->print(parts);
     else if (is_shown && kind->shown == UNKNOWN_TO_LIBPQ)
         trace_hide_rest(parts);
-    check(parts, side, tag, &fault);
-    return end_line(parts, &fault);
+    return is_whole(parts, side, tag, &fault) ? end_line(parts) : end_refused(parts->out, &fault);
 }
 
 /* Prints a client's first message, which libpq prints as unknown. */
 static bool print_first(struct trace_parts *parts)
 {
     pgmsg_first first;
-    pgmsg_fault fault = {0};
+    pgmsg_fault fault;
     size_t length = parts->len + LENGTH_FIELD;
-    bool is_whole = pgmsg_read_first(parts->body, parts->len, &first, &fault) == 0;
+    bool is_refused = pgmsg_read_first(parts->body, parts->len, &first, &fault) < 0;
     begin_line(parts->out, TRACE_CLIENT, 0, length);
-    if (parts->style == TRACE_WHOLE && is_whole) {
+    if (parts->style == TRACE_WHOLE && !is_refused) {
         trace_first(parts, first.kind);
-        return end_line(parts, &fault);
+    } else {
+        fprintf(parts->out, "Unknown message: length is %zu", length);
+        trace_hide_rest(parts);
     }
-    fprintf(parts->out, "Unknown message: length is %zu", length);
-    trace_hide_rest(parts);
-    return end_line(parts, &fault);
+    return is_refused ? end_refused(parts->out, &fault) : end_line(parts);
 }
 
 bool trace_message(FILE *out, enum trace_style style, enum trace_side side, uint8_t tag, const uint8_t *body,
