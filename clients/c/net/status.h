@@ -17,6 +17,7 @@ enum status {
     STATUS_MEMORY = 8,        /* out of memory */
     STATUS_UNRECORDED = 9,    /* a recording can't be written any more */
     STATUS_DAMAGED = 10,      /* a file is no recording, or has a fault */
+    STATUS_DIFFERENT = 11,    /* a client does otherwise than the recorded one */
     STATUS_INTERRUPTED = 130, /* Ctrl-C */
     STATUS_TERMINATED = 143   /* SIGTERM */
 };
