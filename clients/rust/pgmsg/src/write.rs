@@ -1,9 +1,9 @@
 //! Messages to the server.
 
-mod buffer;
+pub(crate) mod buffer;
 mod copy;
 mod names;
-mod parameters;
+pub(crate) mod parameters;
 mod prepared;
 mod query;
 mod raw;
@@ -19,7 +19,7 @@ pub use session::Mechanism;
 pub use values::Values;
 
 use crate::error::Refusal;
-use buffer::Spare;
+use buffer::{append, Spare};
 use std::fmt;
 
 /// Messages to the server, one after the other, as bytes.
@@ -87,44 +87,11 @@ impl<B: Buffer> Messages<B> {
         self.as_bytes().is_empty()
     }
 
-    /// Appends what a call writes. It calls again with more room where the first room is too small.
-    ///
-    /// The call gives a length, and has written as much where there is room for it, as the calls of
-    /// the library do.
+    /// Appends what a call writes, as [`append`] does.
     #[inline]
     fn put(&mut self, call: impl Fn(Spare<'_>) -> isize) -> Result<&mut Self, Refusal> {
-        let room = self.buffer.spare();
-        let most = room.len();
-        let length = call(room);
-        // A number below 0 is above each length as a `usize`.
-        if length as usize > most {
-            return self.put_in_more(length, call);
-        }
-        // SAFETY: the call has written so many bytes at the front of the room.
-        unsafe { self.buffer.extend(length as usize) };
+        append(&mut self.buffer, call)?;
         Ok(self)
-    }
-
-    /// Appends what a call writes that gave a length above that of the room, or a refusal.
-    #[cold]
-    fn put_in_more(
-        &mut self,
-        length: isize,
-        call: impl Fn(Spare<'_>) -> isize,
-    ) -> Result<&mut Self, Refusal> {
-        let length = usize::try_from(length).map_err(|_| Refusal::from_number(length))?;
-        self.buffer.reserve(length)?;
-        let room = self.buffer.spare();
-        let most = room.len();
-        let number = call(room);
-        match usize::try_from(number) {
-            Ok(length) if length <= most => {
-                // SAFETY: the call has written so many bytes at the front of the room.
-                unsafe { self.buffer.extend(length) };
-                Ok(self)
-            }
-            _ => Err(Refusal::from_number(number)),
-        }
     }
 }
 
@@ -164,29 +131,5 @@ impl<B: Buffer> fmt::Debug for Messages<B> {
         f.debug_struct("Messages")
             .field("len", &self.len())
             .finish_non_exhaustive()
-    }
-}
-
-#[cfg(test)]
-mod tests {
-    use super::*;
-
-    #[test]
-    fn a_length_that_changes_between_two_calls_is_refused() {
-        let mut messages = Messages::new();
-        let refused = messages.put(|out| out.len() as isize + 1).map(|_| ());
-        match refused {
-            Err(Refusal::Unexpected(length)) => assert!(length > 1),
-            other => panic!("{other:?}"),
-        }
-        assert!(messages.is_empty());
-    }
-
-    #[test]
-    fn a_length_without_memory_is_refused() {
-        let mut messages = Messages::new();
-        let refused = messages.put(|_| isize::MAX).map(|_| ());
-        assert_eq!(refused, Err(Refusal::OutOfMemory));
-        assert!(messages.is_empty());
     }
 }

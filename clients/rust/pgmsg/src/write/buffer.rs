@@ -139,3 +139,69 @@ impl<B: Room> Room for &mut B {
         (**self).reserve(length)
     }
 }
+
+/// Appends what a call writes. It calls again with more room where the first room is too small.
+///
+/// The call gives a length, and has written as much where there is room for it, as the calls of the
+/// library do.
+#[inline]
+pub(crate) fn append<B: Room>(
+    buffer: &mut B,
+    call: impl Fn(Spare<'_>) -> isize,
+) -> Result<(), Refusal> {
+    let room = buffer.spare();
+    let most = room.len();
+    let length = call(room);
+    // A number below 0 is above each length as a `usize`.
+    if length as usize > most {
+        return append_in_more(buffer, length, call);
+    }
+    // SAFETY: the call has written so many bytes at the front of the room.
+    unsafe { buffer.extend(length as usize) };
+    Ok(())
+}
+
+/// Appends what a call writes that gave a length above that of the room, or a refusal.
+#[cold]
+fn append_in_more<B: Room>(
+    buffer: &mut B,
+    length: isize,
+    call: impl Fn(Spare<'_>) -> isize,
+) -> Result<(), Refusal> {
+    let length = usize::try_from(length).map_err(|_| Refusal::from_number(length))?;
+    buffer.reserve(length)?;
+    let room = buffer.spare();
+    let most = room.len();
+    let number = call(room);
+    match usize::try_from(number) {
+        Ok(length) if length <= most => {
+            // SAFETY: the call has written so many bytes at the front of the room.
+            unsafe { buffer.extend(length) };
+            Ok(())
+        }
+        _ => Err(Refusal::from_number(number)),
+    }
+}
+
+#[cfg(test)]
+mod tests {
+    use super::*;
+
+    #[test]
+    fn a_length_that_changes_between_two_calls_is_refused() {
+        let mut bytes = Vec::new();
+        match append(&mut bytes, |out| out.len() as isize + 1) {
+            Err(Refusal::Unexpected(length)) => assert!(length > 1),
+            other => panic!("{other:?}"),
+        }
+        assert!(bytes.is_empty());
+    }
+
+    #[test]
+    fn a_length_without_memory_is_refused() {
+        let mut bytes = Vec::new();
+        let refused = append(&mut bytes, |_| isize::MAX);
+        assert_eq!(refused, Err(Refusal::OutOfMemory));
+        assert!(bytes.is_empty());
+    }
+}
