@@ -1,11 +1,12 @@
-//! Messages of the PostgreSQL wire protocol, version 3.0, as a client sends and receives them, and as
-//! a server receives them.
+//! Messages of the PostgreSQL wire protocol, version 3.0, as a client and a server send and receive
+//! them.
 //!
 //! This crate is a safe interface to `libpg_message`, the message layer of the project
 //! Tarnwhisk, whose code is proved. It has no sockets and no state of a connection:
-//! [`write::Messages`] collects bytes for the server, the functions of [`mod@read`] take apart the
-//! bytes that the server sent, and those of [`client`] the bytes that a client sent, without copying
-//! texts or values.
+//! [`write::Messages`] collects bytes for the server, and the functions of [`mod@read`] take apart the
+//! bytes that the server sent, without copying texts or values. On the other side
+//! [`server::Messages`] collects bytes for a client, and the functions of [`client`] take apart those
+//! that a client sent.
 //!
 //! ```
 //! use pgmsg::read::{self, Kind, TransactionStatus};
@@ -50,6 +51,7 @@ pub mod client;
 mod error;
 mod format;
 pub mod read;
+pub mod server;
 pub mod write;
 
 pub use error::{Fault, Refusal};

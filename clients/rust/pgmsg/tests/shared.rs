@@ -3,7 +3,7 @@
 use bytes::{Bytes, BytesMut};
 use pgmsg::read::{split_frame, Kind, RowIndex};
 use pgmsg::write::Messages;
-use pgmsg::Refusal;
+use pgmsg::{server, Refusal};
 
 const STREAM: &[u8] = b"D\0\0\0\x0f\0\x02\0\0\0\x015\xff\xff\xff\xffZ\0\0\0\x05I";
 
@@ -84,4 +84,19 @@ fn messages_are_appended_to_a_buffer_that_is_shared() {
         (refused, buffer.is_empty()),
         (Err(Refusal::TextHoldsNul), true)
     );
+}
+
+#[test]
+fn messages_to_a_client_are_shared_too() {
+    let mut buffer = BytesMut::new();
+    let mut messages = server::Messages::from(&mut buffer);
+    messages
+        .row_of([Some("5"), None])
+        .and_then(|messages| messages.raw_frame(b'Z', b"I"))
+        .expect("they have no fault");
+    assert_eq!(buffer, STREAM);
+    let mut messages = server::Messages::new();
+    messages.no_data().expect("a NoData has no fault");
+    let start = messages.as_bytes().as_ptr();
+    assert_eq!(Bytes::from(messages).as_ptr(), start);
 }

@@ -103,7 +103,21 @@ pub struct Field<'a> {
     pub value: &'a [u8],
 }
 
-impl Field<'_> {
+impl<'a> Field<'a> {
+    /// A field of a kind, for an error or a notice that is written.
+    ///
+    /// ```
+    /// # use pgmsg::read::{Field, FieldKind};
+    /// let field = Field::new(FieldKind::Code, "42P01");
+    /// assert_eq!((field.letter, field.value), (b'C', &b"42P01"[..]));
+    /// ```
+    pub fn new<T: AsRef<[u8]> + ?Sized>(kind: FieldKind, value: &'a T) -> Field<'a> {
+        Field {
+            letter: kind.letter(),
+            value: value.as_ref(),
+        }
+    }
+
     /// What the field says.
     pub fn kind(&self) -> FieldKind {
         FieldKind::from_letter(self.letter)

@@ -1,5 +1,6 @@
 //! The columns of a result in the server's encoding.
 
+use super::Column;
 use crate::answer::{answer, fill, part};
 use crate::error::Fault;
 use crate::format::FormatCode;
@@ -23,6 +24,43 @@ pub struct RawColumn<'a> {
     pub type_modifier: i32,
     /// The format of the values.
     pub format: FormatCode,
+}
+
+impl<'a> RawColumn<'a> {
+    /// A column of text, of no table and of a type whose values vary in size, for a result that is
+    /// written. Its fields can be changed.
+    ///
+    /// ```
+    /// # use pgmsg::read::RawColumn;
+    /// let mut id = RawColumn::new("id", 23);
+    /// id.type_size = 4;
+    /// assert_eq!((id.name, id.type_modifier, id.table), (&b"id"[..], -1, None));
+    /// ```
+    pub fn new<T: AsRef<[u8]> + ?Sized>(name: &'a T, type_id: u32) -> RawColumn<'a> {
+        RawColumn {
+            name: name.as_ref(),
+            table: None,
+            attribute: None,
+            type_id,
+            type_size: -1,
+            type_modifier: -1,
+            format: FormatCode(0),
+        }
+    }
+}
+
+impl<'a> From<Column<'a>> for RawColumn<'a> {
+    fn from(column: Column<'a>) -> RawColumn<'a> {
+        RawColumn {
+            name: column.name.as_bytes(),
+            table: column.table,
+            attribute: column.attribute,
+            type_id: column.type_id,
+            type_size: column.type_size,
+            type_modifier: column.type_modifier,
+            format: column.format,
+        }
+    }
 }
 
 /// Reads the body of a RowDescription, whose names need not be UTF-8.

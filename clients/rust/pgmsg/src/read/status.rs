@@ -129,6 +129,18 @@ pub enum TransactionStatus {
     Failed,
 }
 
+impl TransactionStatus {
+    /// The letter of the status in a ReadyForQuery.
+    #[inline]
+    pub const fn letter(self) -> u8 {
+        match self {
+            TransactionStatus::Idle => b'I',
+            TransactionStatus::InTransaction => b'T',
+            TransactionStatus::Failed => b'E',
+        }
+    }
+}
+
 /// Reads the body of a ReadyForQuery.
 ///
 /// ```

@@ -128,7 +128,7 @@ impl<'a> Parameters<'a> {
 
 /// The values as the library takes them: a [`Value`] is one of the library.
 #[inline]
-pub(super) fn values(values: &[Value<'_>]) -> *const sys::pgmsg_value {
+pub(crate) fn values(values: &[Value<'_>]) -> *const sys::pgmsg_value {
     values.as_ptr().cast()
 }
 
