@@ -6,7 +6,7 @@
 //! [`write::Messages`] collects bytes for the server, and the functions of [`mod@read`] take apart the
 //! bytes that the server sent, without copying texts or values. On the other side
 //! [`server::Messages`] collects bytes for a client, and the functions of [`client`] take apart those
-//! that a client sent.
+//! that a client sent. A [`relay::Relay`] passes the bytes of either on.
 //!
 //! ```
 //! use pgmsg::read::{self, Kind, TransactionStatus};
@@ -51,6 +51,7 @@ pub mod client;
 mod error;
 mod format;
 pub mod read;
+pub mod relay;
 pub mod server;
 pub mod write;
 

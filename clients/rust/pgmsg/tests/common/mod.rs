@@ -3,6 +3,8 @@
 // Each test file is a crate of its own and uses a part.
 #![allow(dead_code)]
 
+pub mod passing;
+
 use pgmsg::{Fault, Refusal};
 
 /// The refusal of a call that read, and its offset.

@@ -1,0 +1,259 @@
+//! A stream that is passed on message by message: the core of a proxy or a pooler.
+//!
+//! A [`Relay`] takes the bytes of one direction of a connection in pieces of any length, and gives back
+//! what goes out: each message whole that its user wants whole, and of all others the bytes as they
+//! come. [`Relay::pass`] asks for an [`Answer`] to each whole message, by which it goes out as it came,
+//! or not at all, or other messages go out in its place, before it or after it.
+//!
+//! ```
+//! use pgmsg::read::{Field, FieldKind};
+//! use pgmsg::relay::{Answer, Relay, Wanted};
+//! use pgmsg::server::Messages;
+//!
+//! // A server's stream, in which no client sees the text of an error.
+//! let mut relay = Relay::of_server(1 << 20, Wanted::tags(b"E"));
+//! let mut out = Vec::new();
+//! for piece in [&b"1\0\0\0\x04E\0\0"[..], b"\0\x0dMsecret\0\0Z\0\0\0\x05I"] {
+//!     relay.pass(piece, &mut out, |_| {
+//!         let mut messages = Messages::new();
+//!         messages.error(&[Field::new(FieldKind::Message, "no")])?;
+//!         Ok(Answer::Replace(messages.into_bytes()))
+//!     })?;
+//! }
+//! assert_eq!(out, b"1\0\0\0\x04E\0\0\0\x09Mno\0\0Z\0\0\0\x05I");
+//! # Ok::<(), pgmsg::Fault>(())
+//! ```
+
+mod answer;
+mod event;
+mod front;
+mod pass;
+mod wanted;
+
+pub use answer::{check_frames, Answer};
+pub use event::{Event, Frame};
+pub use wanted::Wanted;
+
+use crate::error::{Fault, Refusal};
+use crate::sys;
+use front::{front_of, Front};
+use std::fmt;
+
+/// Takes the bytes of one direction of a connection in pieces, and gives back what goes out.
+///
+/// A message that lies in one piece is given where it lies. Only the front of a message that goes on
+/// after the piece is held, and only where it is wanted whole and has no more bytes than the limit.
+/// Memory is asked for as these bytes come, and never for a length that a message announces.
+pub struct Relay {
+    relay: sys::pgmsg_relay,
+    wanted: Wanted,
+    /// The front of a message, or all of it where it has been given.
+    held: Vec<u8>,
+    /// How many bytes of the message are needed at least, where its front is held.
+    needed: usize,
+    /// Whether what is held has been given.
+    is_given: bool,
+}
+
+impl Relay {
+    /// A relay of a server's stream, from a message with a tag on, that takes messages of up to `limit`
+    /// bytes whole, tag and length among them.
+    ///
+    /// The single byte by which a server answers a request for encryption is no part of its stream.
+    pub fn of_server(limit: usize, wanted: Wanted) -> Relay {
+        Relay::new(limit, wanted, false)
+    }
+
+    /// A relay of a client's stream from the start of a connection, that takes messages of up to `limit`
+    /// bytes whole. Those without a tag always come whole.
+    pub fn of_client(limit: usize, wanted: Wanted) -> Relay {
+        Relay::new(limit, wanted, true)
+    }
+
+    fn new(limit: usize, wanted: Wanted, is_first: bool) -> Relay {
+        Relay {
+            relay: sys::pgmsg_relay {
+                limit,
+                left: 0,
+                is_first,
+            },
+            wanted,
+            held: Vec::new(),
+            needed: 0,
+            is_given: false,
+        }
+    }
+
+    /// The most bytes of a message that is taken whole.
+    #[inline]
+    pub fn limit(&self) -> usize {
+        self.relay.limit
+    }
+
+    /// Which messages are wanted whole.
+    #[inline]
+    pub fn wanted(&self) -> &Wanted {
+        &self.wanted
+    }
+
+    /// Changes which messages are wanted whole, from the next one on whose front is not held yet.
+    #[inline]
+    pub fn want(&mut self, wanted: Wanted) {
+        self.wanted = wanted;
+    }
+
+    /// Whether a message without a tag comes next, or goes on.
+    #[inline]
+    pub fn expects_first(&self) -> bool {
+        self.relay.is_first
+    }
+
+    /// What is held: the front of a message that is not whole yet.
+    #[inline]
+    pub fn held(&self) -> &[u8] {
+        match self.is_given {
+            true => &[],
+            false => &self.held,
+        }
+    }
+
+    /// How many bytes are still to come of a message that is passed on in parts.
+    #[inline]
+    pub fn left(&self) -> usize {
+        self.relay.left
+    }
+
+    /// Takes the front of a piece off it, and gives what comes of that: a whole message, a part of one,
+    /// or nothing yet, and then the piece is empty.
+    ///
+    /// Once tag and length are there, a message is refused with [`BadLength`](Refusal::BadLength) where
+    /// its length is below 4, or 8 of one without a tag, and with
+    /// [`FrameTooLong`](Refusal::FrameTooLong) where it is wanted whole and is longer than the limit.
+    /// Where bytes are to be held, there may be no memory. Relay and piece are as they were then.
+    ///
+    /// ```
+    /// use pgmsg::relay::{Event, Relay, Wanted};
+    ///
+    /// let mut relay = Relay::of_client(10_000, Wanted::tags(b"Q"));
+    /// let mut piece = &b"\0\0\0\x09\0\x03\0\0\0S\0\0\0\x04Q\0\0\0\x06"[..];
+    /// let mut found = Vec::new();
+    /// while let Some(event) = relay.next(&mut piece)? {
+    ///     found.push(match event {
+    ///         Event::Frame(frame) => (frame.tag, frame.bytes.len()),
+    ///         Event::Part { bytes, .. } => (None, bytes.len()),
+    ///         other => panic!("{other:?}"),
+    ///     });
+    /// }
+    /// assert_eq!(found, [(None, 9), (None, 5)]);
+    /// assert_eq!((piece, relay.held()), (&b""[..], &b"Q\0\0\0\x06"[..]));
+    /// # Ok::<(), pgmsg::Fault>(())
+    /// ```
+    #[inline]
+    pub fn next<'a, 'p: 'a>(
+        &'a mut self,
+        piece: &mut &'p [u8],
+    ) -> Result<Option<Event<'a>>, Fault> {
+        if self.is_given {
+            self.held.clear();
+            self.is_given = false;
+        }
+        if piece.is_empty() {
+            Ok(None)
+        } else if self.held.is_empty() {
+            self.next_in_piece(piece)
+        } else {
+            self.next_joined(piece)
+        }
+    }
+
+    /// Where nothing is held.
+    #[inline]
+    fn next_in_piece<'a, 'p: 'a>(
+        &'a mut self,
+        piece: &mut &'p [u8],
+    ) -> Result<Option<Event<'a>>, Fault> {
+        let (count, tag) = match front_of(&mut self.relay, &self.wanted, piece)? {
+            Front::Short(needed) => {
+                hold(&mut self.held, piece)?;
+                self.needed = needed;
+                *piece = &[];
+                return Ok(None);
+            }
+            Front::Whole(tag, count) => (count, Some(tag)),
+            Front::Part(count) => (count, None),
+        };
+        let bytes = piece.get(..count).ok_or_else(|| Fault::unexpected(count))?;
+        *piece = &piece[count..];
+        Ok(Some(Event::new(&self.relay, tag, bytes)))
+    }
+
+    /// Where the front of a message is held.
+    fn next_joined<'a, 'p: 'a>(
+        &'a mut self,
+        piece: &mut &'p [u8],
+    ) -> Result<Option<Event<'a>>, Fault> {
+        let before = self.held.len();
+        let joined = self.join(piece);
+        if joined.is_err() {
+            self.held.truncate(before);
+        }
+        let (tag, rest) = match joined? {
+            (Front::Short(needed), _) => {
+                self.needed = needed;
+                *piece = &[];
+                return Ok(None);
+            }
+            (Front::Whole(tag, _), rest) => (Some(tag), rest),
+            (Front::Part(_), rest) => (None, rest),
+        };
+        *piece = rest;
+        self.is_given = true;
+        Ok(Some(Event::new(&self.relay, tag, &self.held)))
+    }
+
+    /// Holds what is missing of the message at the front: first of its tag and its length, then of all of
+    /// it. What comes of it, and the rest of the piece, which is empty where bytes are missing still.
+    fn join<'p>(&mut self, piece: &'p [u8]) -> Result<(Front, &'p [u8]), Fault> {
+        let (mut needed, mut rest) = (self.needed, piece);
+        loop {
+            let missing = needed.saturating_sub(self.held.len());
+            let (bytes, after) = rest.split_at(missing.min(rest.len()));
+            hold(&mut self.held, bytes)?;
+            rest = after;
+            if self.held.len() < needed {
+                return Ok((Front::Short(needed), rest));
+            }
+            match front_of(&mut self.relay, &self.wanted, &self.held)? {
+                Front::Short(more) if more > needed => needed = more,
+                Front::Whole(tag, count) if count == needed => {
+                    return Ok((Front::Whole(tag, count), rest))
+                }
+                Front::Part(count) if count == needed => return Ok((Front::Part(count), rest)),
+                Front::Short(count) | Front::Whole(_, count) | Front::Part(count) => {
+                    return Err(Fault::unexpected(count))
+                }
+            }
+        }
+    }
+}
+
+/// Shows how many bytes are held, and not the bytes, which may have a password.
+impl fmt::Debug for Relay {
+    fn fmt(&self, f: &mut fmt::Formatter<'_>) -> fmt::Result {
+        f.debug_struct("Relay")
+            .field("limit", &self.limit())
+            .field("wanted", &self.wanted)
+            .field("expects_first", &self.expects_first())
+            .field("held", &self.held().len())
+            .field("left", &self.left())
+            .finish()
+    }
+}
+
+/// Adds bytes to what is held, or leaves it as it was.
+fn hold(held: &mut Vec<u8>, bytes: &[u8]) -> Result<(), Refusal> {
+    held.try_reserve(bytes.len())
+        .map_err(|_| Refusal::OutOfMemory)?;
+    held.extend_from_slice(bytes);
+    Ok(())
+}

@@ -1,0 +1,90 @@
+//! What goes out in a message's place.
+
+use super::Frame;
+use crate::answer::answer;
+use crate::error::{Fault, Refusal};
+use crate::sys;
+
+/// What its user answers to a whole message.
+///
+/// What is added has to be whole messages, as [`server::Messages`](crate::server::Messages) and
+/// [`write::Messages`](crate::write::Messages) have them.
+#[derive(Clone, Debug, PartialEq, Eq)]
+#[non_exhaustive]
+pub enum Answer {
+    /// It goes out as it came.
+    Keep,
+    /// Nothing goes out in its place.
+    Omit,
+    /// These messages go out in its place.
+    Replace(Vec<u8>),
+    /// These messages go out, and then it.
+    AddBefore(Vec<u8>),
+    /// It goes out, and then these messages.
+    AddAfter(Vec<u8>),
+}
+
+impl Answer {
+    /// The bytes that go out in the place of a message, which are these two one after the other.
+    ///
+    /// Refused with [`NotFrames`](Refusal::NotFrames) where what goes out is no run of whole messages
+    /// after which the stream goes on as it does after the message: so a client's first message can't be
+    /// left out where a message with a tag comes next.
+    ///
+    /// ```
+    /// use pgmsg::relay::{Answer, Event, Relay, Wanted};
+    ///
+    /// let mut relay = Relay::of_server(100, Wanted::ALL);
+    /// match relay.next(&mut &b"1\0\0\0\x04"[..])? {
+    ///     Some(Event::Frame(frame)) => {
+    ///         let answer = Answer::AddAfter(b"2\0\0\0\x04".to_vec());
+    ///         assert_eq!(answer.place(&frame)?, [b"1\0\0\0\x04", b"2\0\0\0\x04"]);
+    ///         assert!(Answer::Replace(b"2\0\0\0".to_vec()).place(&frame).is_err());
+    ///     }
+    ///     other => panic!("{other:?}"),
+    /// }
+    /// # Ok::<(), pgmsg::Fault>(())
+    /// ```
+    pub fn place<'a>(&'a self, frame: &Frame<'a>) -> Result<[&'a [u8]; 2], Fault> {
+        let (before, after) = (frame.tag.is_none(), frame.precedes_first);
+        Ok(match self {
+            Answer::Keep => [frame.bytes, &[]],
+            Answer::Omit => [led(before, &[], after)?, &[]],
+            Answer::Replace(added) => [led(before, added, after)?, &[]],
+            Answer::AddBefore(added) => [led(before, added, before)?, frame.bytes],
+            Answer::AddAfter(added) => [frame.bytes, led(after, added, after)?],
+        })
+    }
+}
+
+/// The bytes, where they lead from what is expected before them to what is expected after them.
+fn led(before: bool, bytes: &[u8], after: bool) -> Result<&[u8], Fault> {
+    match check_frames(bytes, before)? == after {
+        true => Ok(bytes),
+        false => Err(Refusal::NotFrames.into()),
+    }
+}
+
+/// Whether a message without a tag comes next after some bytes, which are whole messages one after the
+/// other, where the first of them has no tag if `is_first`.
+///
+/// Other bytes are refused with [`NotFrames`](Refusal::NotFrames).
+///
+/// ```
+/// # use pgmsg::relay::check_frames;
+/// assert_eq!(check_frames(b"S\0\0\0\x04H\0\0\0\x04", false), Ok(false));
+/// assert_eq!(check_frames(b"\0\0\0\x08\x04\xd2\x16\x2f", true), Ok(true));
+/// assert!(check_frames(b"S\0\0\0\x04H\0", false).is_err());
+/// ```
+pub fn check_frames(bytes: &[u8], is_first: bool) -> Result<bool, Fault> {
+    let mut expects_first = is_first;
+    answer(|fault| {
+        // SAFETY: `bytes` is a slice, valid for its length; `expects_first` and `fault` are apart from
+        // it.
+        let number = unsafe {
+            sys::pgmsg_check_frames(bytes.as_ptr(), bytes.len(), &mut expects_first, fault)
+        };
+        number as isize
+    })?;
+    Ok(expects_first)
+}

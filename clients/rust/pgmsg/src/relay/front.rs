@@ -1,0 +1,47 @@
+//! What is at the front of a stream that is passed on.
+
+use super::Wanted;
+use crate::answer::answer;
+use crate::error::Fault;
+use crate::sys;
+
+/// What the library finds at the front of some bytes.
+pub(super) enum Front {
+    /// Too few bytes: it needs so many at least.
+    Short(usize),
+    /// A message, with its tag or none, of so many bytes.
+    Whole(Option<u8>, usize),
+    /// So many bytes that go out as they are.
+    Part(usize),
+}
+
+/// What is at the front of some bytes, which the relay takes where it is whole or a part.
+#[inline]
+pub(super) fn front_of(
+    relay: &mut sys::pgmsg_relay,
+    wanted: &Wanted,
+    bytes: &[u8],
+) -> Result<Front, Fault> {
+    let is_first = relay.is_first;
+    let mut passage = sys::pgmsg_passage::default();
+    let number = answer(|fault| {
+        // SAFETY: `bytes` is a slice, valid for its length; what is written is apart from it, and of
+        // the types of the library.
+        let number = unsafe {
+            sys::pgmsg_relay_next(
+                relay,
+                wanted.flags(),
+                bytes.as_ptr(),
+                bytes.len(),
+                &mut passage,
+                fault,
+            )
+        };
+        number as isize
+    })?;
+    Ok(match number {
+        0 => Front::Short(passage.length),
+        1 => Front::Whole(Some(passage.tag).filter(|_| !is_first), passage.length),
+        _ => Front::Part(passage.length),
+    })
+}

@@ -1,0 +1,69 @@
+//! Which messages are wanted whole.
+
+use std::fmt;
+
+/// Which messages a relay gives whole, by their tags. All others go out in parts as their bytes come,
+/// whatever their length.
+///
+/// ```
+/// use pgmsg::relay::Wanted;
+///
+/// const QUERIES: Wanted = Wanted::tags(b"QP");
+/// assert!(QUERIES.wants(b'Q') && !QUERIES.wants(b'd'));
+/// assert!(Wanted::ALL.without(b"d").wants(b'Q'));
+/// ```
+#[derive(Clone, Copy, PartialEq, Eq)]
+pub struct Wanted([u8; 256]);
+
+impl Wanted {
+    /// Every message.
+    pub const ALL: Wanted = Wanted([1; 256]);
+
+    /// No message with a tag.
+    pub const NONE: Wanted = Wanted([0; 256]);
+
+    /// Messages with these tags.
+    pub const fn tags(tags: &[u8]) -> Wanted {
+        Wanted::NONE.set(tags, 1)
+    }
+
+    /// All these but messages with those tags.
+    pub const fn without(self, tags: &[u8]) -> Wanted {
+        self.set(tags, 0)
+    }
+
+    const fn set(self, tags: &[u8], flag: u8) -> Wanted {
+        let mut flags = self.0;
+        let mut at = 0;
+        while at < tags.len() {
+            flags[tags[at] as usize] = flag;
+            at += 1;
+        }
+        Wanted(flags)
+    }
+
+    /// Whether messages with a tag are wanted whole.
+    #[inline]
+    pub const fn wants(&self, tag: u8) -> bool {
+        self.0[tag as usize] != 0
+    }
+
+    /// A byte for each tag, which is 0 where it is not wanted.
+    #[inline]
+    pub(super) fn flags(&self) -> &[u8; 256] {
+        &self.0
+    }
+}
+
+/// Shows the tags as a byte string.
+impl fmt::Debug for Wanted {
+    fn fmt(&self, f: &mut fmt::Formatter<'_>) -> fmt::Result {
+        let tags = (0..=u8::MAX).filter(|&tag| self.wants(tag));
+        let tags = tags.flat_map(std::ascii::escape_default);
+        write!(
+            f,
+            "Wanted(b\"{}\")",
+            tags.map(char::from).collect::<String>()
+        )
+    }
+}
