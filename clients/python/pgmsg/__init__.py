@@ -1,10 +1,10 @@
-"""Messages of the PostgreSQL wire protocol, version 3.0, as a client sends and receives them, and as a server receives
-them.
+"""Messages of the PostgreSQL wire protocol, version 3.0, as a client and a server send and receive them.
 
 An interface to the shared library libpg_message, whose code is proved. It has no sockets and no state of a connection:
 `Messages` collects bytes for the server, and `next_frame` and the calls `read_*` take apart the bytes that the server
 sent; `next_first_frame`, `next_frontend_frame` and others of `read_*` those that a client sent. What they give of a
-body are views of it, `memoryview`, which keep its memory; `bytes(view)` and `str(view, "utf-8")` copy.
+body are views of it, `memoryview`, which keep its memory; `bytes(view)` and `str(view, "utf-8")` copy. `ServerMessages`
+collects bytes for a client, and a `Relay` passes on those of either.
 
     >>> import pgmsg
     >>> bytes(pgmsg.Messages().query("SELECT 1"))
@@ -104,16 +104,19 @@ from .raw_answers import (
     read_raw_mechanisms,
     read_raw_parameter_status,
 )
+from .relay import Answer, Part, Place, Relay, WholeFrame, check_frames
 from .rows import Column, Row, read_columns, read_parameter_types, read_row
+from .server import ServerMessages, column
 
 __version__ = VERSION
 
 __all__ = [
-    "Authentication", "Bind", "Challenge", "Code", "Column", "CopyResponse", "Execute", "Fault", "Field", "First",
-    "FirstFrame", "FirstKind", "Format", "Frame", "FrontendFrame", "FrontendKind", "FunctionCall", "Incomplete",
-    "Items", "KeyData", "Kind", "MAX_FIRST_LENGTH", "Messages", "Method", "Notification", "ParameterStatus", "Parse",
-    "RawAuthentication", "RawColumn", "RawFrame", "RawIncomplete", "RawKeyData", "RawParameterStatus", "Row",
-    "SaslInitial", "Setting", "Severity", "Stream", "Target", "TransactionStatus", "VERSION", "copy_head", "frames",
+    "Answer", "Authentication", "Bind", "Challenge", "Code", "Column", "CopyResponse", "Execute", "Fault", "Field",
+    "First", "FirstFrame", "FirstKind", "Format", "Frame", "FrontendFrame", "FrontendKind", "FunctionCall",
+    "Incomplete", "Items", "KeyData", "Kind", "MAX_FIRST_LENGTH", "Messages", "Method", "Notification",
+    "ParameterStatus", "Parse", "Part", "Place", "RawAuthentication", "RawColumn", "RawFrame", "RawIncomplete",
+    "RawKeyData", "RawParameterStatus", "Relay", "Row", "SaslInitial", "ServerMessages", "Setting", "Severity",
+    "Stream", "Target", "TransactionStatus", "VERSION", "WholeFrame", "check_frames", "column", "copy_head", "frames",
     "library", "next_first_frame", "next_frame", "next_frontend_frame", "next_raw_frame", "read_authentication",
     "read_bind", "read_challenge", "read_codes", "read_columns", "read_command_tag", "read_copy_response", "read_empty",
     "read_end", "read_execute", "read_fields", "read_first", "read_function_call", "read_key_data", "read_mechanisms",

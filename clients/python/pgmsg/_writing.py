@@ -1,4 +1,4 @@
-"""What the messages to a server are written into, and what the calls that write them share."""
+"""What messages are written into, and what the calls that write them share."""
 
 from __future__ import annotations
 
@@ -19,7 +19,7 @@ LEAST_ROOM = 1 << 10
 
 
 class Room:
-    """Messages to the server, one after the other."""
+    """Messages, one after the other."""
 
     def __init__(self) -> None:
         self.clear()

@@ -13,7 +13,8 @@ import test_faults
 import test_memory
 import test_messages
 import test_raw
-from pgmsg import Fault, Messages
+import test_server
+from pgmsg import Fault, Messages, ServerMessages
 
 MANY_REQUESTS = 1000
 
@@ -46,6 +47,14 @@ class TestRefusedMemory(unittest.TestCase):
                 self.assertIsInstance(raised, MemoryError)
                 self.assertEqual(bytes(messages), BEFORE)
             self.assertEqual(bytes(messages), BEFORE + due)
+
+    def test_messages_to_a_client(self):
+        for call, due in test_server.SAMPLES:
+            messages = ServerMessages().no_data()
+            for raised in self.each_refused(lambda: call(messages)):
+                self.assertIsInstance(raised, MemoryError)
+                self.assertEqual(bytes(messages), b"n\0\0\0\x04")
+            self.assertEqual(bytes(messages), b"n\0\0\0\x04" + due)
 
     def test_bodies(self):
         for call, body, *_ in test_memory.VIEWS + test_memory.COPIES:

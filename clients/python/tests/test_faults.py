@@ -105,7 +105,7 @@ READERS = [
     pgmsg.read_function_call,
 ]
 
-# A call that writes, and the code: the words are those of the header.
+# A call that writes or passes on, and the code.
 REFUSED = [
     (lambda: Messages().query("\0"), Code.TEXT_HOLDS_NUL),
     (lambda: Messages().query(b"\xff"), Code.NOT_UTF8),
@@ -114,6 +114,9 @@ REFUSED = [
     (lambda: Messages().bind(formats=[0] * 65536), Code.TOO_MANY_PARAM_FORMATS),
     (lambda: Messages().bind(result_formats=[0] * 65536), Code.TOO_MANY_RESULT_FORMATS),
     (lambda: pgmsg.copy_head(TOO_LONG), Code.MESSAGE_TOO_LONG),
+    (lambda: pgmsg.ServerMessages().row([None] * 65536), Code.TOO_MANY),
+    (lambda: pgmsg.check_frames(b"Z"), Code.NOT_FRAMES),
+    (lambda: pgmsg.Relay.of_server(5).next(b"Z\0\0\0\5I"), Code.FRAME_TOO_LONG),
 ]
 
 # Codes that no test here provokes, with the reason.

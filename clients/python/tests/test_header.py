@@ -18,6 +18,14 @@ LEFT_OUT = {
     "pgmsg_strerror": "a Fault has the words",
 }
 
+# Calls that have one of another name, or several.
+OTHERS = {
+    "put_copy_head": pgmsg.copy_head,
+    "put_no_body": pgmsg.ServerMessages.no_data,
+    "put_copy_response": pgmsg.ServerMessages.copy_in_response,
+    "relay_next": pgmsg.Relay.next,
+}
+
 COMPILER = shutil.which("cc")
 
 DECLARED = declare.parse(support.HEADER.read_text())
@@ -26,10 +34,11 @@ DECLARED = declare.parse(support.HEADER.read_text())
 def wrapper(name):
     """The call of the package that stands for one of C, or None."""
     short = declare.short(name)
-    if short == "put_copy_head":
-        return pgmsg.copy_head
+    if short in OTHERS:
+        return OTHERS[short]
     if short.startswith("put_"):
-        return getattr(pgmsg.Messages, short.removeprefix("put_"), None)
+        message = short.removeprefix("put_")
+        return getattr(pgmsg.Messages, message, None) or getattr(pgmsg.ServerMessages, message, None)
     return getattr(pgmsg, short, None)
 
 

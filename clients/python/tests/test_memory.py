@@ -7,7 +7,7 @@ import weakref
 
 import support  # noqa: F401
 import pgmsg
-from pgmsg import Fault, Messages, _memory
+from pgmsg import Fault, Messages, ServerMessages, _memory
 
 ROW = b"\0\2\0\0\0\2ab\xff\xff\xff\xff"
 
@@ -46,6 +46,7 @@ VIEWS = [
     (pgmsg.read_text, b"SELECT 1\0", 0, 8),
     (lambda body: pgmsg.read_sasl_initial(body).mechanism, b"X\0\0\0\0\1a", 0, 1),
     (lambda body: pgmsg.read_sasl_initial(body).response, b"X\0\0\0\0\1a", 6, 1),
+    (lambda body: pgmsg.Relay.of_server(100).next(body)[0].body(), b"Z\0\0\0\x05I", 5, 1),
     (lambda body: pgmsg.read_bind(body).statement, BIND, 2, 1),
     (lambda body: pgmsg.read_bind(body).values[0], BIND, 12, 2),
     (lambda body: pgmsg.read_function_call(body).arguments[0], CALL, 12, 2),
@@ -68,6 +69,10 @@ COPIES = [
     (lambda body: pgmsg.read_types(body, pgmsg.Items(0, 1)), b"\0\0\0\x17"),
     (pgmsg.read_empty, b""),
     (lambda body: Messages().copy_data(body).query(body).startup([(body, body)]).bind([body]), b"ab"),
+    (lambda body: ServerMessages().row([body]).error([("M", body)]).columns([pgmsg.column(body, 25)]), b"ab"),
+    (lambda body: ServerMessages().authentication_sasl([body]).raw_frame(0, body), b"ab"),
+    (lambda body: pgmsg.Relay.of_server(100, b"").pass_on(body), b"Z\0\0\0\x05I"),
+    (pgmsg.check_frames, b"Z\0\0\0\x05I"),
 ]
 
 REFUSED = [
@@ -84,6 +89,9 @@ REFUSED = [
     (lambda body: Messages().query(body), b"\0"),
     (lambda body: Messages().startup([(b"user", b"ann"), (body, body)]), b"\0"),
     (lambda body: Messages().batch(body, [body]), b"\0"),
+    (lambda body: ServerMessages().authentication_sasl([b"A", body]), b"\0"),
+    (lambda body: ServerMessages().error([("S", b""), ("M", body)]), b"\0"),
+    (pgmsg.check_frames, b"Z\0\0\0\x03"),
 ]
 
 
