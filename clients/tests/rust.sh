@@ -2,8 +2,8 @@
 
 oldest_rust=1.63
 
-# The example of the crate that loads a table, where it is built.
-rust_copy=
+# The folder of the examples of the crate, where they are built.
+rust_examples=
 
 # The folders of a rustc and a cargo that are new enough, with the version: the first of the PATH, and the system's.
 rust_folders() {
@@ -32,7 +32,7 @@ test_rust() {
         by_cargo test --quiet --workspace "${features[@]}"
         expect "the Rust crates, $version" 0
         if [ "$first" = yes ]; then
-            rust_copy=out/rust/$version/debug/examples/copy
+            rust_examples=out/rust/$version/debug/examples
             test_rust_words
             test_rust_package
         fi
@@ -108,9 +108,23 @@ END
     same "$name" "$status $output" '0 14'
 }
 
+# Builds the examples of the crate by the first cargo, where they aren't there; false where there is no cargo.
+build_rust_examples() {
+    local folder version features=() bytes=$PWD/rust/stand-in/bytes
+    read -r folder version < <(rust_folders)
+    if [ -z "$rust_examples" ] && [ -n "$folder" ]; then
+        rm -f rust/Cargo.lock
+        by_cargo build --quiet --package pgmsg --examples
+        expect 'the examples of the Rust crate' 0
+        rust_examples=out/rust/$version/debug/examples
+    fi
+    [ -n "$rust_examples" ]
+}
+
 # Loads a table, and fails to, by the example of the crate.
 test_rust_copy() {
-    if [ -z "$rust_copy" ]; then
+    local rust_copy=$rust_examples/copy
+    if [ -z "$rust_examples" ]; then
         return
     fi
     sql 'CREATE TABLE by_rust (id int, name text)'
