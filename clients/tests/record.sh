@@ -105,6 +105,7 @@ test_lines() {
     printf '1\ta\tb\t2\n' | through "$programs/pg_copy" by_copy > /dev/null
     raw_session
     stop_recording
+    cp "$work/lines" "$work/recorded"
     same 'each kind of message is recorded' "$(cut -d ' ' -f 1 "$work/lines" | sort -u)" "$all_kinds"
     same 'the error of the query has code 42P01' \
         "$(grep '^ErrorResponse ' "$work/lines" | grep -c '00433432503031004d')" 1

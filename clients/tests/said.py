@@ -2,7 +2,8 @@
 """Keeps what clients say to a server, and compares it with what pg_server_tool reads of it.
 
     said.py keep FOLDER PORT       passes connections on to a port of this machine, and keeps what each client says in a
-                                   file of the folder; prints its own port
+                                   file of the folder, and what the server answers in one of its name with .answers;
+                                   prints its own port
     said.py read FOLDER PROGRAM    PG_SERVER_TOOL must read each file as messages and nothing else, which a model apart from
                                    the crates writes as the same bytes, and the program must print the same lines;
                                    prints each kind
@@ -32,16 +33,16 @@ def keep(folder, port):
         client, _ = listener.accept()
         server = socket.create_connection(("127.0.0.1", port))
         said = open(folder / f"{number:04}", "wb", buffering=0)
-        for way in (client, server, said), (server, client, None):
+        answered = open(folder / f"{number:04}.answers", "wb", buffering=0)
+        for way in (client, server, said), (server, client, answered):
             threading.Thread(target=pass_on, args=way, daemon=True).start()
 
 
-def pass_on(source, target, said):
-    """Passes bytes on to their end, and keeps them where there is a file for them."""
+def pass_on(source, target, kept):
+    """Passes bytes on to their end, and keeps them."""
     with contextlib.suppress(OSError):
         while data := source.recv(PIECE):
-            if said:
-                said.write(data)
+            kept.write(data)
             target.sendall(data)
     with contextlib.suppress(OSError):
         target.shutdown(socket.SHUT_WR)
@@ -63,7 +64,8 @@ def lines_of(command, said):
 def read(folder, program):
     """Reads each file and writes it again."""
     kinds = collections.Counter()
-    for file in sorted(folder.iterdir()):
+    files = [file for file in sorted(folder.iterdir()) if not file.suffix]
+    for file in files:
         said = file.read_bytes()
         lines = lines_of([os.environ["PG_SERVER_TOOL"], "stream"], said)
         if lines_of([program], said) != lines:
@@ -72,7 +74,7 @@ def read(folder, program):
             raise ValueError(f"{file.name} is written otherwise: {' '.join(line.split()[0] for line in lines)}")
         kinds.update(line.split()[0] for line in lines)
     print(" ".join(sorted(kinds)))
-    print(f"{kinds.total()} messages of {len(list(folder.iterdir()))} connections", file=sys.stderr)
+    print(f"{kinds.total()} messages of {len(files)} connections", file=sys.stderr)
 
 
 def main():

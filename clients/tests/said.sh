@@ -91,17 +91,24 @@ startup
 sync
 terminate"
 
+# Keeps what clients say, and what is answered to them, once.
+keep_said() {
+    if [ ! -d "$work/connections" ]; then
+        start_keeping
+        say_by_psql
+        say_by_pgbench
+        say_by_python
+        say_by_tokio_postgres
+        kill "$keeping"
+    fi
+}
+
 test_said() {
     if [ -z "${PG_SERVER_TOOL:-}" ]; then
         echo 'left out: what clients say, since PG_SERVER_TOOL names no pg_server_tool'
         return
     fi
-    start_keeping
-    say_by_psql
-    say_by_pgbench
-    say_by_python
-    say_by_tokio_postgres
-    kill "$keeping"
+    keep_said
     try tests/said.py read "$work/connections" "$programs/said_lines"
     expect "what clients say is read, also in C, and written as the same bytes: $errors" 0
     same 'each kind of message is said' "$(comm -23 <(echo "$said_kinds") <(tr ' ' '\n' <<< "$output" | sort))" ''
