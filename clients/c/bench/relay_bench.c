@@ -1,0 +1,107 @@
+/* How long passing a stream on by the library takes, beside memcpy of the same bytes:
+ *
+ *     relay_bench
+ *
+ * The stream lies in one buffer, into which a proxy reads a piece of 64 KiB at a time, and what goes out is copied to
+ * another place, as write(2) does. Prints a line for each length of messages: nanoseconds of a piece by both, and the
+ * quotient. */
+#include "pg_message.h"
+#include "turns.h"
+
+#include <stdbool.h>
+#include <stdio.h>
+#include <stdlib.h>
+#include <string.h>
+
+enum { HEADER = 5, PIECE = 1 << 16, LIMIT = 1 << 20, PIECES = 256, STREAM = PIECE * PIECES, TIMES = 1 };
+
+/* A stream of messages of a length, and whether they are wanted whole. */
+struct work {
+    size_t length;
+    bool is_whole;
+    uint8_t wanted[256];
+    uint8_t *stream;
+};
+
+/* What goes out at once at most: a message and a piece. */
+static uint8_t out[LIMIT + PIECE];
+
+/* How many bytes at the front go out, once a piece is there. */
+static size_t count_passed(pgmsg_relay *relay, const uint8_t *wanted, const uint8_t *front, size_t len)
+{
+    pgmsg_passage passage;
+    pgmsg_fault fault;
+    size_t count = 0;
+    int32_t found;
+    while ((found = pgmsg_relay_next(relay, wanted, front + count, len - count, &passage, &fault)) > 0)
+        count += passage.length;
+    if (found < 0)
+        abort();
+    return count;
+}
+
+static uint64_t by_library(const void *work, int times)
+{
+    const struct work *of = work;
+    uint64_t sum = 0;
+    for (int i = 0; i < times; i++) {
+        pgmsg_relay relay = {.limit = LIMIT, .left = 0, .is_first = false};
+        const uint8_t *front = of->stream;
+        for (size_t end = PIECE; end <= STREAM; end += PIECE) {
+            size_t count = count_passed(&relay, of->wanted, front, (size_t)(of->stream + end - front));
+            memcpy(out, front, count);
+            sum += out[0];
+            front += count;
+        }
+        if (front != of->stream + STREAM || relay.left > 0)
+            abort();
+    }
+    return sum;
+}
+
+static uint64_t by_memcpy(const void *work, int times)
+{
+    const struct work *of = work;
+    uint64_t sum = 0;
+    for (int i = 0; i < times; i++) {
+        for (size_t at = 0; at < STREAM; at += PIECE) {
+            memcpy(out, of->stream + at, PIECE);
+            sum += out[0];
+        }
+    }
+    return sum;
+}
+
+/* Fills the stream with messages of the length; the last one has what is left. */
+static void make(struct work *work)
+{
+    for (size_t at = 0, len; at < STREAM; at += len) {
+        len = STREAM - at < 2 * work->length ? STREAM - at : work->length;
+        uint32_t said = (uint32_t)(len - 1);
+        uint8_t head[HEADER] = {'D', (uint8_t)(said >> 24), (uint8_t)(said >> 16), (uint8_t)(said >> 8), (uint8_t)said};
+        memset(work->stream + at, 'x', len);
+        memcpy(work->stream + at, head, HEADER);
+    }
+    memset(work->wanted, work->is_whole, sizeof work->wanted);
+}
+
+int main(void)
+{
+    static const size_t lengths[] = {50, 1000, 1 << 16, 1 << 20};
+    static struct work work;
+    uint64_t sum = 0;
+    work.stream = malloc(STREAM);
+    if (work.stream == NULL)
+        return 1;
+    printf("\n| messages passed on | the library, ns for 64 KiB | memcpy, ns | quotient |\n|---|---|---|---|\n");
+    for (size_t i = 0; i < 2 * sizeof lengths / sizeof *lengths; i++) {
+        work.length = lengths[i / 2];
+        work.is_whole = i % 2 == 0;
+        make(&work);
+        struct turns of = take_turns(by_library, by_memcpy, &work, TIMES, &sum);
+        printf("| of %zu bytes, %s | %.0f | %.0f | %.2f |\n", work.length, work.is_whole ? "whole" : "in parts",
+               of.library / PIECES, of.hand / PIECES, of.library / of.hand);
+    }
+    free(work.stream);
+    return sum == 0;
+}
