@@ -1,10 +1,10 @@
 //! What a server sends, as a server, a proxy or a pooler writes it: each message by [`encode`] or [`write`].
 
 pub use pg_write_backend::message::{
-    AuthenticationText, BackendKeyDataText, BackendText, ColumnText, CommandCompleteText,
-    CopyDataText, CopyDirection, CopyResponseText, DataRowText, FunctionCallResponseText,
+    AsItem, AuthenticationText, BackendKeyDataText, BackendText, ColumnText, CommandCompleteText,
+    CopyDataText, CopyDirection, CopyResponseText, DataRowText, FunctionCallResponseText, Item,
     NegotiateProtocolVersionText, NoBodyText, NoticeFieldText, NoticeKind, NoticeText,
     NotificationText, ParameterDescriptionText, ParameterStatusText, RawText, ReadyForQueryText,
-    RowDescriptionText, encode, write,
+    RowDescriptionText, SaslText, encode, write,
 };
 pub use pg_write_backend::{BackendError, BackendFault};
