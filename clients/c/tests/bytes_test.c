@@ -16,5 +16,7 @@ int main(void)
     test_client_lists(&tally);
     test_client_faults(&tally);
     test_relay(&tally);
+    test_server(&tally);
+    test_server_faults(&tally);
     return report(&tally);
 }

@@ -12,8 +12,12 @@ struct sample {
     size_t len;
 };
 
-/* A message of each call that writes one. */
+/* A message of each call that writes one: of those to the server, and of those to a client. */
 const struct sample *put_samples(size_t *count);
+const struct sample *server_samples(size_t *count);
+
+/* Puts messages into rooms, some of which are too short. */
+void test_rooms(struct tally *tally, const struct sample *put, size_t count);
 
 void test_put(struct tally *tally);
 void test_put_faults(struct tally *tally);
@@ -25,5 +29,7 @@ void test_client(struct tally *tally);
 void test_client_lists(struct tally *tally);
 void test_client_faults(struct tally *tally);
 void test_relay(struct tally *tally);
+void test_server(struct tally *tally);
+void test_server_faults(struct tally *tally);
 
 #endif

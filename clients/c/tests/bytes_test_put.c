@@ -210,14 +210,19 @@ static void test_keys(struct tally *tally)
     }
 }
 
+void test_rooms(struct tally *tally, const struct sample *put, size_t count)
+{
+    for (size_t i = 0; i < count; i++) {
+        test_room(tally, &put[i], ROOM);
+        test_room(tally, &put[i], put[i].len);
+        test_room(tally, &put[i], put[i].len - 1);
+        test_room(tally, &put[i], 0);
+    }
+}
+
 void test_put(struct tally *tally)
 {
-    for (size_t i = 0; i < sizeof samples / sizeof *samples; i++) {
-        test_room(tally, &samples[i], ROOM);
-        test_room(tally, &samples[i], samples[i].len);
-        test_room(tally, &samples[i], samples[i].len - 1);
-        test_room(tally, &samples[i], 0);
-    }
+    test_rooms(tally, samples, sizeof samples / sizeof *samples);
     test_heads(tally);
     test_keys(tally);
 }

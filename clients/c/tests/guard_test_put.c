@@ -1,4 +1,5 @@
-/* Messages to the server: of texts and lists at pages that can't be touched, into room at such a page. */
+/* Messages to the server and to a client: of texts and lists at pages that can't be touched, into room at such a
+ * page. */
 #include "bytes_test.h"
 #include "guard_test.h"
 
@@ -17,10 +18,13 @@ struct inputs {
     const uint32_t *types;
     const pgmsg_value *values;
     const pgmsg_setting *settings;
+    const pgmsg_bytes *names;
+    const pgmsg_field_text *fields;
+    const pgmsg_column_text *columns;
 };
 
 /* Where inputs and a message are. */
-static struct guarded texts, digests, formats, codes, types, values, settings, outs;
+static struct guarded texts, digests, formats, codes, types, values, settings, names, fields, columns, outs;
 
 /* Each call that writes a message, by its arguments. */
 #define CALLS(CALL)                                                                                                 \
@@ -57,7 +61,28 @@ static struct guarded texts, digests, formats, codes, types, values, settings, o
     CALL(function_call, (number, in->codes, in->n, in->values, in->n, 1, out, out_len))                             \
     CALL(copy_data, (in->text, in->n, out, out_len))                                                                \
     CALL(copy_done, (out, out_len))                                                                                 \
-    CALL(copy_fail, (in->text, in->n, out, out_len))
+    CALL(copy_fail, (in->text, in->n, out, out_len))                                                                \
+    CALL(authentication_ok, (out, out_len))                                                                         \
+    CALL(authentication_cleartext, (out, out_len))                                                                  \
+    CALL(authentication_md5, (in->digest, out, out_len))                                                            \
+    CALL(authentication_sasl, (in->names, in->n, out, out_len))                                                     \
+    CALL(authentication_continue, (in->text, in->n, out, out_len))                                                  \
+    CALL(authentication_final, (in->text, in->n, out, out_len))                                                     \
+    CALL(negotiate_version, (number, in->names, in->n, out, out_len))                                               \
+    CALL(backend_key_data, (number, in->text, in->n, out, out_len))                                                 \
+    CALL(parameter_status, (in->text, in->n, in->text, in->n, out, out_len))                                        \
+    CALL(ready, ("ITE?"[in->n % 4], out, out_len))                                                                  \
+    CALL(columns, (in->columns, in->n, out, out_len))                                                               \
+    CALL(row, (in->values, in->n, out, out_len))                                                                    \
+    CALL(parameter_types, (in->types, in->n, out, out_len))                                                         \
+    CALL(no_body, ("123Icns?"[in->n % 8], out, out_len))                                                            \
+    CALL(command_complete, (in->text, in->n, out, out_len))                                                         \
+    CALL(copy_response, ("GHW?"[in->n % 4], -1, (const int16_t *)in->codes, in->n, out, out_len))                   \
+    CALL(function_result, (in->text, in->n, in->n % 2 == 1, out, out_len))                                          \
+    CALL(raw_frame, ((uint8_t)in->n, in->text, in->n, out, out_len))                                                \
+    CALL(error, (in->fields, in->n, out, out_len))                                                                  \
+    CALL(notice, (in->fields, in->n, out, out_len))                                                                 \
+    CALL(notification, (number, in->text, in->n, in->text, in->n, out, out_len))
 
 #define FUNCTION(name, arguments)                                                            \
     static ptrdiff_t put_##name(const struct inputs *in, uint8_t *out, size_t out_len)      \
@@ -85,6 +110,9 @@ static struct inputs guarded_inputs(size_t n, enum side side)
     uint32_t *type = (uint32_t *)(void *)place(&types, n * sizeof *type, side);
     pgmsg_value *value = (pgmsg_value *)(void *)place(&values, n * sizeof *value, side);
     pgmsg_setting *setting = (pgmsg_setting *)(void *)place(&settings, n * sizeof *setting, side);
+    pgmsg_bytes *name = (pgmsg_bytes *)(void *)place(&names, n * sizeof *name, side);
+    pgmsg_field_text *field = (pgmsg_field_text *)(void *)place(&fields, n * sizeof *field, side);
+    pgmsg_column_text *column = (pgmsg_column_text *)(void *)place(&columns, n * sizeof *column, side);
     for (size_t i = 0; i < DIGEST; i++)
         digest[i] = (uint8_t)(16 * i + n);
     for (size_t i = 0; i < n; i++) {
@@ -94,8 +122,11 @@ static struct inputs guarded_inputs(size_t n, enum side side)
         type[i] = (uint32_t)i * 65539;
         value[i] = (pgmsg_value){place(&texts, len, side), len, i % 5 == 4};
         setting[i] = (pgmsg_setting){place(&texts, name_len, side), name_len, place(&texts, len, side), len};
+        name[i] = (pgmsg_bytes){place(&texts, name_len, side), name_len};
+        field[i] = (pgmsg_field_text){(uint8_t)('A' + i), place(&texts, len, side), len};
+        column[i] = (pgmsg_column_text){place(&texts, len, side), len, type[i], (int16_t)i, type[i], -1, -1, 1};
     }
-    return (struct inputs){n, text, digest, format, code, type, value, setting};
+    return (struct inputs){n, text, digest, format, code, type, value, setting, name, field, column};
 }
 
 /* Whether some bytes are as they were. */
@@ -146,11 +177,14 @@ static void test_sample(struct tally *tally, const struct sample *sample, enum s
 
 static void test_side(struct tally *tally, enum side side)
 {
-    size_t count;
-    const struct sample *samples = put_samples(&count);
+    static const struct sample *(*const sources[])(size_t *count) = {put_samples, server_samples};
     name_call("a sample");
-    for (size_t i = 0; i < count; i++)
-        test_sample(tally, &samples[i], side);
+    for (size_t source = 0; source < sizeof sources / sizeof *sources; source++) {
+        size_t count;
+        const struct sample *samples = sources[source](&count);
+        for (size_t i = 0; i < count; i++)
+            test_sample(tally, &samples[i], side);
+    }
     for (size_t call = 0; call < sizeof calls / sizeof *calls; call++) {
         name_call(calls[call].name);
         for (size_t n = 0; n <= MOST; n++)
@@ -164,7 +198,8 @@ static void test_side(struct tally *tally, enum side side)
 
 void test_guarded_put(struct tally *tally)
 {
-    struct guarded *const pages[] = {&texts, &digests, &formats, &codes, &types, &values, &settings, &outs};
+    struct guarded *const pages[] = {&texts,    &digests, &formats, &codes,   &types, &values,
+                                     &settings, &names,   &fields,  &columns, &outs};
     for (size_t i = 0; i < sizeof pages / sizeof *pages; i++)
         *pages[i] = guarded_page();
     for (uint8_t *text = texts.from; text < texts.end; text++)

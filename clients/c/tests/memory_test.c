@@ -25,5 +25,6 @@ int main(void)
     test_memory_none(&tally);
     test_memory_client(&tally);
     test_memory_relay(&tally);
+    test_memory_server(&tally);
     return report(&tally);
 }

@@ -51,5 +51,6 @@ void test_memory_read(struct tally *tally);
 void test_memory_none(struct tally *tally);
 void test_memory_client(struct tally *tally);
 void test_memory_relay(struct tally *tally);
+void test_memory_server(struct tally *tally);
 
 #endif

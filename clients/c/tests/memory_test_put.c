@@ -1,63 +1,11 @@
 /* Messages to the server, which ask for no memory: each request is refused. */
-#include "bytes_test.h"
-#include "memory_test.h"
-#include "refusing.h"
+#include "memory_test_bytes.h"
 
-#include <stdio.h>
-#include <string.h>
-
-enum { ROOM = 5 << 20 };
-
-static uint8_t out[ROOM], untouched[ROOM], expected[ROOM];
 static uint8_t formats[MOST_ITEMS];
 static uint16_t codes[MOST_ITEMS];
 static uint32_t types[MOST_ITEMS];
 static pgmsg_value values[MOST_ITEMS];
 static pgmsg_setting settings[MOST_ITEMS];
-
-/* Bytes by hand, each call of which gives where they end. */
-static uint8_t *add(uint8_t *to, const void *bytes, size_t len)
-{
-    memcpy(to, bytes, len);
-    return to + len;
-}
-
-static uint8_t *add_u16(uint8_t *to, size_t number)
-{
-    to[0] = (uint8_t)(number >> 8);
-    to[1] = (uint8_t)number;
-    return to + 2;
-}
-
-static uint8_t *add_u32(uint8_t *to, size_t number)
-{
-    return add_u16(add_u16(to, number >> 16), number);
-}
-
-/* Ends a message that begins with a tag, by its length. */
-static uint8_t *end(uint8_t *from, uint8_t *to)
-{
-    add_u32(from + 1, (size_t)(to - from) - 1);
-    return to;
-}
-
-/* A message of a tag, some bytes, letters, and some bytes. */
-static uint8_t *add_text(uint8_t *to, char tag, const void *before, size_t before_len, size_t n, size_t zeros)
-{
-    uint8_t *from = to;
-    *to = (uint8_t)tag;
-    to = add(to + 5, before, before_len);
-    to = add(to, letters, n);
-    memset(to, 0, zeros);
-    return end(from, to + zeros);
-}
-
-static uint8_t *add_value(uint8_t *to, const pgmsg_value *value)
-{
-    if (value->is_null)
-        return add_u32(to, UINT32_MAX);
-    return add(add_u32(to, value->bytes_len), value->bytes, value->bytes_len);
-}
 
 /* A Bind of the first of the values and the formats. */
 static uint8_t *add_bind(uint8_t *to, size_t formats_len, const pgmsg_value *bound, size_t values_len,
@@ -123,7 +71,7 @@ static pgmsg_setting setting_of(size_t n)
 
 /* A message of each size: the call, and its bytes. */
 #define MESSAGE(name, call, bytes)                                \
-    static ptrdiff_t put_##name(size_t n, size_t out_len)         \
+    static ptrdiff_t put_##name(size_t n, uint8_t *out, size_t out_len) \
     {                                                             \
         pgmsg_value value = value_of(n);                          \
         pgmsg_setting setting = setting_of(n);                    \
@@ -182,7 +130,7 @@ MESSAGE(run_portal, pgmsg_put_raw_execute(letters, n, 0, out, out_len), add_text
 MESSAGE(argument, pgmsg_put_function_call(1598, codes, 0, &value, 1, 1, out, out_len), add_call(to, 0, &value, 1))
 MESSAGE(arguments, pgmsg_put_function_call(1598, codes, n, values, n, 1, out, out_len), add_call(to, n, values, n))
 
-static ptrdiff_t put_first_response(size_t n, size_t out_len)
+static ptrdiff_t put_first_response(size_t n, uint8_t *out, size_t out_len)
 {
     return pgmsg_put_sasl_mechanism((const uint8_t *)"GSS", 3, true, letters, n, out, out_len);
 }
@@ -194,7 +142,7 @@ static uint8_t *spell_first_response(size_t n, uint8_t *to)
     return add_text(to, 'p', before, sizeof before, n, 0);
 }
 
-static ptrdiff_t put_initial(size_t n, size_t out_len)
+static ptrdiff_t put_initial(size_t n, uint8_t *out, size_t out_len)
 {
     return pgmsg_put_sasl_initial(letters, n, true, out, out_len);
 }
@@ -206,7 +154,7 @@ static uint8_t *spell_initial(size_t n, uint8_t *to)
     return add_text(to, 'p', before, sizeof before, n, 0);
 }
 
-static ptrdiff_t put_types(size_t n, size_t out_len)
+static ptrdiff_t put_types(size_t n, uint8_t *out, size_t out_len)
 {
     return pgmsg_put_parse(0, letters, 1, types, n, out, out_len);
 }
@@ -220,7 +168,7 @@ static uint8_t *spell_types(size_t n, uint8_t *to)
     return end(from, to);
 }
 
-static ptrdiff_t put_raw_types(size_t n, size_t out_len)
+static ptrdiff_t put_raw_types(size_t n, uint8_t *out, size_t out_len)
 {
     return pgmsg_put_raw_parse(letters, 0, letters, 1, types, n, out, out_len);
 }
@@ -229,15 +177,6 @@ static uint8_t *spell_raw_types(size_t n, uint8_t *to)
 {
     return spell_types(n, to);
 }
-
-struct message {
-    const char *name;
-    ptrdiff_t (*put)(size_t n, size_t out_len);
-    uint8_t *(*spell)(size_t n, uint8_t *to);
-    size_t most;
-};
-
-#define PLACED(name, most) {#name, put_##name, spell_##name, most}
 
 static const struct message messages[] = {
     PLACED(query, LONG), PLACED(copy_data, LONG), PLACED(copy_fail, LONG), PLACED(password, LONG),
@@ -253,49 +192,8 @@ static const struct message messages[] = {
     PLACED(arguments, MOST_ITEMS),
 };
 
-/* Whether the front of `out` is untouched; it is made so again. */
-static bool was_untouched(size_t len)
-{
-    bool was = memcmp(out, untouched, len) == 0;
-    memset(out, UNTOUCHED, len);
-    return was;
-}
-
-/* Puts a message into just its room, and into a byte too few, with each request refused. */
-static void test_message(struct tally *tally, const struct message *message, size_t n)
-{
-    size_t len = (size_t)(message->spell(n, expected) - expected);
-    unsigned failed = tally->failed;
-    refuse_all();
-    ptrdiff_t answer = message->put(n, len);
-    CHECK(tally, !was_refused());
-    CHECK(tally, answer == (ptrdiff_t)len);
-    CHECK(tally, memcmp(out, expected, len) == 0 && out[len] == UNTOUCHED);
-    memset(out, UNTOUCHED, len);
-    refuse_all();
-    answer = message->put(n, len - 1);
-    CHECK(tally, !was_refused());
-    CHECK(tally, answer == (ptrdiff_t)len);
-    CHECK(tally, was_untouched(len + 1));
-    if (tally->failed > failed)
-        fprintf(stderr, "%s of size %zu\n", message->name, n);
-}
-
-/* The same of a message that has one size. */
-static void test_sample(struct tally *tally, const struct sample *sample)
-{
-    refuse_all();
-    ptrdiff_t answer = sample->put(out, sample->len);
-    CHECK(tally, !was_refused());
-    CHECK(tally, answer == (ptrdiff_t)sample->len);
-    CHECK(tally, are_bytes(out, sample->len, sample->bytes, sample->len));
-    memset(out, UNTOUCHED, sample->len);
-}
-
 static void make_parts(void)
 {
-    memset(untouched, UNTOUCHED, sizeof untouched);
-    memset(out, UNTOUCHED, sizeof out);
     for (size_t i = 0; i < MOST_ITEMS; i++) {
         formats[i] = i % 3 == 1;
         codes[i] = formats[i];
@@ -307,14 +205,9 @@ static void make_parts(void)
 
 void test_memory_put(struct tally *tally)
 {
-    size_t sizes[MOST_SIZES], samples_count;
-    size_t sizes_count = list_sizes(sizes);
+    size_t count;
+    const struct sample *samples = put_samples(&count);
     make_parts();
-    for (size_t i = 0; i < sizeof messages / sizeof *messages; i++)
-        for (size_t j = 0; j < sizes_count; j++)
-            if (sizes[j] <= messages[i].most)
-                test_message(tally, &messages[i], sizes[j]);
-    const struct sample *samples = put_samples(&samples_count);
-    for (size_t i = 0; i < samples_count; i++)
-        test_sample(tally, &samples[i]);
+    test_sizes(tally, messages, sizeof messages / sizeof *messages);
+    test_samples(tally, samples, count);
 }

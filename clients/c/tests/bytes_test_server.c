@@ -1,0 +1,159 @@
+/* Messages to a client. */
+#include "bytes_test.h"
+
+static const pgmsg_bytes mechanisms[] = {
+    {BYTES("SCRAM-SHA-256-PLUS")},
+    {BYTES("SCRAM-SHA-256")},
+    {BYTES("\377")},
+};
+
+static const pgmsg_bytes options[] = {{BYTES("_pq_.a")}, {BYTES("")}, {BYTES("\377b")}};
+
+static const int16_t codes[] = {0, 1, -2, 258};
+static const uint32_t types[] = {23, 0x80000000, 0, UINT32_MAX};
+static const uint8_t salt[4] = {1, 0, 254, 255};
+
+static const pgmsg_value values[] = {
+    {BYTES("42"), false},
+    {BYTES("not sent"), true},
+    {BYTES(""), false},
+    {BYTES("eightbyt"), false},
+    {BYTES("\0\1\2\377"), false},
+    {BYTES("nine byte"), false},
+};
+
+static const pgmsg_column_text columns[] = {
+    {BYTES("id"), 16385, 1, 23, 4, -1, 0},
+    {BYTES(""), 0, 0, UINT32_MAX, -1, 65540, 1},
+    {BYTES("n\377"), UINT32_MAX, INT16_MIN, 0, INT16_MIN, INT32_MIN, -2},
+};
+
+static const pgmsg_field_text fields[] = {
+    {'S', BYTES("ERROR")},
+    {'C', BYTES("42601")},
+    {'M', BYTES("")},
+    {255, BYTES("\377")},
+};
+
+/* Each message once, by a function of the room for it. */
+#define MESSAGE(name, call)                              \
+    static ptrdiff_t name(uint8_t *out, size_t out_len) \
+    {                                                    \
+        return call;                                     \
+    }
+
+MESSAGE(ok, pgmsg_put_authentication_ok(out, out_len))
+MESSAGE(cleartext, pgmsg_put_authentication_cleartext(out, out_len))
+MESSAGE(md5, pgmsg_put_authentication_md5(salt, out, out_len))
+MESSAGE(sasl, pgmsg_put_authentication_sasl(mechanisms, 3, out, out_len))
+MESSAGE(bare_sasl, pgmsg_put_authentication_sasl(mechanisms, 0, out, out_len))
+MESSAGE(sasl_continue, pgmsg_put_authentication_continue(BYTES("r=ab\0\377"), out, out_len))
+MESSAGE(bare_continue, pgmsg_put_authentication_continue(BYTES(""), out, out_len))
+MESSAGE(sasl_final, pgmsg_put_authentication_final(BYTES("v=YQ=="), out, out_len))
+MESSAGE(bare_final, pgmsg_put_authentication_final(BYTES(""), out, out_len))
+MESSAGE(negotiate_version, pgmsg_put_negotiate_version(2, options, 3, out, out_len))
+MESSAGE(bare_version, pgmsg_put_negotiate_version(UINT32_MAX, options, 0, out, out_len))
+MESSAGE(key_data, pgmsg_put_backend_key_data(0x80000001, BYTES("\377\0\0\1"), out, out_len))
+MESSAGE(long_key_data, pgmsg_put_backend_key_data(7, BYTES("a key of 28 bytes, not of 4\0"), out, out_len))
+MESSAGE(parameter_status, pgmsg_put_parameter_status(BYTES("TimeZone"), BYTES("UTC"), out, out_len))
+MESSAGE(bare_status, pgmsg_put_parameter_status(BYTES(""), BYTES(""), out, out_len))
+MESSAGE(idle, pgmsg_put_ready('I', out, out_len))
+MESSAGE(open, pgmsg_put_ready('T', out, out_len))
+MESSAGE(failed, pgmsg_put_ready('E', out, out_len))
+MESSAGE(row_description, pgmsg_put_columns(columns, 3, out, out_len))
+MESSAGE(no_columns, pgmsg_put_columns(columns, 0, out, out_len))
+MESSAGE(row, pgmsg_put_row(values, 6, out, out_len))
+MESSAGE(bare_row, pgmsg_put_row(values, 0, out, out_len))
+MESSAGE(parameter_types, pgmsg_put_parameter_types(types, 4, out, out_len))
+MESSAGE(no_types, pgmsg_put_parameter_types(types, 0, out, out_len))
+MESSAGE(parse_complete, pgmsg_put_no_body('1', out, out_len))
+MESSAGE(bind_complete, pgmsg_put_no_body('2', out, out_len))
+MESSAGE(close_complete, pgmsg_put_no_body('3', out, out_len))
+MESSAGE(empty_query, pgmsg_put_no_body('I', out, out_len))
+MESSAGE(copy_done, pgmsg_put_no_body('c', out, out_len))
+MESSAGE(no_data, pgmsg_put_no_body('n', out, out_len))
+MESSAGE(suspended, pgmsg_put_no_body('s', out, out_len))
+MESSAGE(command_complete, pgmsg_put_command_complete(BYTES("INSERT 0 1"), out, out_len))
+MESSAGE(bare_command, pgmsg_put_command_complete(BYTES(""), out, out_len))
+MESSAGE(copy_in, pgmsg_put_copy_response('G', 0, codes, 1, out, out_len))
+MESSAGE(copy_out, pgmsg_put_copy_response('H', -1, codes, 0, out, out_len))
+MESSAGE(copy_both, pgmsg_put_copy_response('W', 1, codes, 4, out, out_len))
+MESSAGE(function_result, pgmsg_put_function_result(BYTES("r\0"), false, out, out_len))
+MESSAGE(empty_result, pgmsg_put_function_result(BYTES(""), false, out, out_len))
+MESSAGE(null_result, pgmsg_put_function_result(BYTES("not sent"), true, out, out_len))
+MESSAGE(raw_frame, pgmsg_put_raw_frame('!', BYTES("any\0"), out, out_len))
+MESSAGE(bare_frame, pgmsg_put_raw_frame(0, BYTES(""), out, out_len))
+MESSAGE(error, pgmsg_put_error(fields, 4, out, out_len))
+MESSAGE(bare_error, pgmsg_put_error(fields, 0, out, out_len))
+MESSAGE(notice, pgmsg_put_notice(fields, 1, out, out_len))
+MESSAGE(bare_notice, pgmsg_put_notice(fields, 0, out, out_len))
+MESSAGE(notification, pgmsg_put_notification(258, BYTES("chan\377"), BYTES("said"), out, out_len))
+MESSAGE(bare_notification, pgmsg_put_notification(UINT32_MAX, BYTES(""), BYTES(""), out, out_len))
+
+#define SAMPLE(put, literal) {put, literal, sizeof(literal) - 1}
+
+static const struct sample samples[] = {
+    SAMPLE(ok, "R\0\0\0\10" "\0\0\0\0"),
+    SAMPLE(cleartext, "R\0\0\0\10" "\0\0\0\3"),
+    SAMPLE(md5, "R\0\0\0\14" "\0\0\0\5" "\1\0\376\377"),
+    SAMPLE(sasl, "R\0\0\0\54" "\0\0\0\12" "SCRAM-SHA-256-PLUS\0" "SCRAM-SHA-256\0" "\377\0" "\0"),
+    SAMPLE(bare_sasl, "R\0\0\0\11" "\0\0\0\12" "\0"),
+    SAMPLE(sasl_continue, "R\0\0\0\16" "\0\0\0\13" "r=ab\0\377"),
+    SAMPLE(bare_continue, "R\0\0\0\10" "\0\0\0\13"),
+    SAMPLE(sasl_final, "R\0\0\0\16" "\0\0\0\14" "v=YQ=="),
+    SAMPLE(bare_final, "R\0\0\0\10" "\0\0\0\14"),
+    SAMPLE(negotiate_version, "v\0\0\0\27" "\0\0\0\2" "\0\0\0\3" "_pq_.a\0" "\0" "\377b\0"),
+    SAMPLE(bare_version, "v\0\0\0\14" "\377\377\377\377" "\0\0\0\0"),
+    SAMPLE(key_data, "K\0\0\0\14" "\200\0\0\1" "\377\0\0\1"),
+    SAMPLE(long_key_data, "K\0\0\0\44" "\0\0\0\7" "a key of 28 bytes, not of 4\0"),
+    SAMPLE(parameter_status, "S\0\0\0\21" "TimeZone\0" "UTC\0"),
+    SAMPLE(bare_status, "S\0\0\0\6" "\0" "\0"),
+    SAMPLE(idle, "Z\0\0\0\5" "I"),
+    SAMPLE(open, "Z\0\0\0\5" "T"),
+    SAMPLE(failed, "Z\0\0\0\5" "E"),
+    SAMPLE(row_description,
+           "T\0\0\0\103" "\0\3"
+           "id\0" "\0\0\100\1" "\0\1" "\0\0\0\27" "\0\4" "\377\377\377\377" "\0\0"
+           "\0" "\0\0\0\0" "\0\0" "\377\377\377\377" "\377\377" "\0\1\0\4" "\0\1"
+           "n\377\0" "\377\377\377\377" "\200\0" "\0\0\0\0" "\200\0" "\200\0\0\0" "\377\376"),
+    SAMPLE(no_columns, "T\0\0\0\6" "\0\0"),
+    SAMPLE(row, "D\0\0\0\65" "\0\6" "\0\0\0\2" "42" "\377\377\377\377" "\0\0\0\0" "\0\0\0\10" "eightbyt"
+                "\0\0\0\4" "\0\1\2\377" "\0\0\0\11" "nine byte"),
+    SAMPLE(bare_row, "D\0\0\0\6" "\0\0"),
+    SAMPLE(parameter_types, "t\0\0\0\26" "\0\4" "\0\0\0\27" "\200\0\0\0" "\0\0\0\0" "\377\377\377\377"),
+    SAMPLE(no_types, "t\0\0\0\6" "\0\0"),
+    SAMPLE(parse_complete, "1\0\0\0\4"),
+    SAMPLE(bind_complete, "2\0\0\0\4"),
+    SAMPLE(close_complete, "3\0\0\0\4"),
+    SAMPLE(empty_query, "I\0\0\0\4"),
+    SAMPLE(copy_done, "c\0\0\0\4"),
+    SAMPLE(no_data, "n\0\0\0\4"),
+    SAMPLE(suspended, "s\0\0\0\4"),
+    SAMPLE(command_complete, "C\0\0\0\17" "INSERT 0 1\0"),
+    SAMPLE(bare_command, "C\0\0\0\5" "\0"),
+    SAMPLE(copy_in, "G\0\0\0\11" "\0" "\0\1" "\0\0"),
+    SAMPLE(copy_out, "H\0\0\0\7" "\377" "\0\0"),
+    SAMPLE(copy_both, "W\0\0\0\17" "\1" "\0\4" "\0\0" "\0\1" "\377\376" "\1\2"),
+    SAMPLE(function_result, "V\0\0\0\12" "\0\0\0\2" "r\0"),
+    SAMPLE(empty_result, "V\0\0\0\10" "\0\0\0\0"),
+    SAMPLE(null_result, "V\0\0\0\10" "\377\377\377\377"),
+    SAMPLE(raw_frame, "!\0\0\0\10" "any\0"),
+    SAMPLE(bare_frame, "\0\0\0\0\4"),
+    SAMPLE(error, "E\0\0\0\30" "SERROR\0" "C42601\0" "M\0" "\377\377\0" "\0"),
+    SAMPLE(bare_error, "E\0\0\0\5" "\0"),
+    SAMPLE(notice, "N\0\0\0\14" "SERROR\0" "\0"),
+    SAMPLE(bare_notice, "N\0\0\0\5" "\0"),
+    SAMPLE(notification, "A\0\0\0\23" "\0\0\1\2" "chan\377\0" "said\0"),
+    SAMPLE(bare_notification, "A\0\0\0\12" "\377\377\377\377" "\0" "\0"),
+};
+
+const struct sample *server_samples(size_t *count)
+{
+    *count = sizeof samples / sizeof *samples;
+    return samples;
+}
+
+void test_server(struct tally *tally)
+{
+    test_rooms(tally, samples, sizeof samples / sizeof *samples);
+}

@@ -1,0 +1,171 @@
+/* Messages to a client that are refused. */
+#define _DEFAULT_SOURCE
+
+#include "bytes_test.h"
+
+#include <stdlib.h>
+#include <string.h>
+#include <sys/mman.h>
+
+enum { ROOM = 64, UNTOUCHED = 0xaa, MOST_UNSIGNED = 65535, MOST_SIGNED = 32767, MAX_KEY = 256 };
+
+/* A byte more than the longest message has, without its tag. */
+#define TOO_LONG ((size_t)1 << 31)
+
+/* Checks that a call answers a number, and leaves `out` as it was. */
+#define REFUSES(tally, number, call)                         \
+    do {                                                     \
+        uint8_t out[ROOM], before[ROOM];                     \
+        memset(out, UNTOUCHED, sizeof out);                  \
+        memcpy(before, out, sizeof out);                     \
+        CHECK((tally), (call) == (number));                  \
+        CHECK((tally), memcmp(out, before, ROOM) == 0);      \
+    } while (0)
+
+/* Checks a call on a text that begins, goes on or ends with a NUL: by the text, its length, and lists of which it is
+ * the last item. */
+#define REFUSES_NUL(tally, call)                                                                        \
+    do {                                                                                                \
+        static const char *const texts[] = {"\0a", "a\0b", "ab\0"};                                     \
+        static const size_t lengths[] = {2, 3, 3};                                                      \
+        for (size_t i = 0; i < 3; i++) {                                                                \
+            const uint8_t *text = (const uint8_t *)texts[i];                                            \
+            size_t len = lengths[i];                                                                    \
+            const pgmsg_bytes names[] = {{BYTES("a")}, {text, len}};                                    \
+            const pgmsg_field_text fields[] = {{'S', BYTES("a")}, {'C', text, len}};                    \
+            const pgmsg_column_text columns[] = {{BYTES("a"), 0, 0, 0, 0, 0, 0}, {text, len, 0, 0, 0, 0, 0, 0}}; \
+            (void)names, (void)fields, (void)columns;                                                   \
+            REFUSES((tally), PGMSG_TEXT_HOLDS_NUL, call);                                               \
+        }                                                                                               \
+    } while (0)
+
+static void refuse_texts(struct tally *tally)
+{
+    REFUSES_NUL(tally, pgmsg_put_authentication_sasl(names, 2, out, ROOM));
+    REFUSES_NUL(tally, pgmsg_put_negotiate_version(2, names, 2, out, ROOM));
+    REFUSES_NUL(tally, pgmsg_put_parameter_status(text, len, BYTES("v"), out, ROOM));
+    REFUSES_NUL(tally, pgmsg_put_parameter_status(BYTES("n"), text, len, out, ROOM));
+    REFUSES_NUL(tally, pgmsg_put_columns(columns, 2, out, ROOM));
+    REFUSES_NUL(tally, pgmsg_put_command_complete(text, len, out, ROOM));
+    REFUSES_NUL(tally, pgmsg_put_error(fields, 2, out, ROOM));
+    REFUSES_NUL(tally, pgmsg_put_notice(fields, 2, out, ROOM));
+    REFUSES_NUL(tally, pgmsg_put_notification(1, text, len, BYTES("p"), out, ROOM));
+    REFUSES_NUL(tally, pgmsg_put_notification(1, BYTES("c"), text, len, out, ROOM));
+}
+
+/* What would end a list. */
+static void refuse_ends(struct tally *tally)
+{
+    static const pgmsg_bytes names[] = {{BYTES("a")}, {BYTES("")}};
+    static const pgmsg_field_text fields[] = {{'S', BYTES("a")}, {0, BYTES("b")}};
+    REFUSES(tally, PGMSG_TEXT_HOLDS_NUL, pgmsg_put_authentication_sasl(names, 2, out, ROOM));
+    REFUSES(tally, PGMSG_TEXT_HOLDS_NUL, pgmsg_put_authentication_sasl(names + 1, 1, out, ROOM));
+    REFUSES(tally, PGMSG_TEXT_HOLDS_NUL, pgmsg_put_error(fields, 2, out, ROOM));
+    REFUSES(tally, PGMSG_TEXT_HOLDS_NUL, pgmsg_put_notice(fields + 1, 1, out, ROOM));
+}
+
+/* Whether a letter is one of some. */
+static bool is_one_of(int letter, const char *letters)
+{
+    return letter != 0 && strchr(letters, letter) != NULL;
+}
+
+/* Every letter that isn't known, and no other. */
+static void refuse_letters(struct tally *tally)
+{
+    static const int16_t no_code;
+    for (int letter = 0; letter < 256; letter++) {
+        uint8_t tag = (uint8_t)letter;
+        ptrdiff_t unknown = PGMSG_UNKNOWN_MESSAGE_TYPE;
+        REFUSES(tally, is_one_of(letter, "ITE") ? 6 : PGMSG_UNKNOWN_STATUS, pgmsg_put_ready(tag, out, 5));
+        REFUSES(tally, is_one_of(letter, "123Icns") ? 5 : unknown, pgmsg_put_no_body(tag, out, 4));
+        REFUSES(tally, is_one_of(letter, "GHW") ? 8 : unknown, pgmsg_put_copy_response(tag, 0, &no_code, 0, out, 7));
+    }
+}
+
+/* Keys of each length that no server gives, and of those at the limits. */
+static void refuse_keys(struct tally *tally)
+{
+    uint8_t key[MAX_KEY + 1] = {0};
+    for (size_t n = 0; n < 4; n++)
+        REFUSES(tally, PGMSG_BAD_KEY_LENGTH, pgmsg_put_backend_key_data(1, key, n, out, ROOM));
+    REFUSES(tally, 13, pgmsg_put_backend_key_data(1, key, 4, out, 12));
+    REFUSES(tally, MAX_KEY + 9, pgmsg_put_backend_key_data(1, key, MAX_KEY, out, ROOM));
+    REFUSES(tally, PGMSG_BAD_KEY_LENGTH, pgmsg_put_backend_key_data(1, key, MAX_KEY + 1, out, ROOM));
+}
+
+/* The most items, and one more; of columns a count before a NUL. */
+static void refuse_counts(struct tally *tally, uint8_t *zeros)
+{
+    const uint32_t *types = (const uint32_t *)(const void *)zeros;
+    const int16_t *codes = (const int16_t *)(const void *)zeros;
+    pgmsg_value *values = calloc(MOST_UNSIGNED + 1, sizeof *values);
+    pgmsg_column_text *columns = calloc(MOST_UNSIGNED + 1, sizeof *columns);
+    CHECK(tally, values != NULL && columns != NULL);
+    for (size_t i = 0; i <= MOST_UNSIGNED && values != NULL && columns != NULL; i++) {
+        values[i].bytes = zeros;
+        columns[i].name = zeros;
+        columns[i].name_len = i == MOST_UNSIGNED;
+    }
+    if (values != NULL && columns != NULL) {
+        REFUSES(tally, 7 + 4 * MOST_UNSIGNED, pgmsg_put_row(values, MOST_UNSIGNED, out, ROOM));
+        REFUSES(tally, PGMSG_TOO_MANY, pgmsg_put_row(values, MOST_UNSIGNED + 1, out, ROOM));
+        REFUSES(tally, 7 + 19 * MOST_UNSIGNED, pgmsg_put_columns(columns, MOST_UNSIGNED, out, ROOM));
+        REFUSES(tally, PGMSG_TOO_MANY, pgmsg_put_columns(columns, MOST_UNSIGNED + 1, out, ROOM));
+    }
+    REFUSES(tally, 7 + 4 * MOST_UNSIGNED, pgmsg_put_parameter_types(types, MOST_UNSIGNED, out, ROOM));
+    REFUSES(tally, PGMSG_TOO_MANY, pgmsg_put_parameter_types(types, MOST_UNSIGNED + 1, out, ROOM));
+    REFUSES(tally, 8 + 2 * MOST_SIGNED, pgmsg_put_copy_response('G', 0, codes, MOST_SIGNED, out, ROOM));
+    REFUSES(tally, PGMSG_TOO_MANY, pgmsg_put_copy_response('W', 0, codes, MOST_SIGNED + 1, out, ROOM));
+    free(values);
+    free(columns);
+}
+
+/* The longest messages, which have no room, and those a byte longer. `n` bytes of data are in a message of `n` and
+ * `beside` bytes, which counts its tag. */
+#define COMPARES_LONGEST(tally, beside, call)                                 \
+    do {                                                                      \
+        size_t n = TOO_LONG - (beside);                                       \
+        const pgmsg_value value = {data, n, false};                           \
+        const pgmsg_value longer = {data, n + 1, false};                      \
+        const pgmsg_value *passed = &value;                                   \
+        (void)passed;                                                         \
+        REFUSES((tally), (ptrdiff_t)TOO_LONG, call);                          \
+        n++;                                                                  \
+        passed = &longer;                                                     \
+        REFUSES((tally), PGMSG_MESSAGE_TOO_LONG, call);                       \
+    } while (0)
+
+static void compare_with_longest(struct tally *tally, const uint8_t *data)
+{
+    COMPARES_LONGEST(tally, 9, pgmsg_put_authentication_continue(data, n, out, ROOM));
+    COMPARES_LONGEST(tally, 9, pgmsg_put_authentication_final(data, n, out, ROOM));
+    COMPARES_LONGEST(tally, 5, pgmsg_put_raw_frame('d', data, n, out, ROOM));
+    COMPARES_LONGEST(tally, 9, pgmsg_put_function_result(data, n, false, out, ROOM));
+    COMPARES_LONGEST(tally, 11, pgmsg_put_row(passed, 1, out, ROOM));
+}
+
+/* Lengths whose sum is more than any: a limit is refused before a byte is read. */
+static void refuse_lengths(struct tally *tally, const uint8_t *data)
+{
+    const pgmsg_value values[] = {{data, TOO_LONG, true}, {data, TOO_LONG, false}};
+    REFUSES(tally, 11, pgmsg_put_row(values, 1, out, 10));
+    REFUSES(tally, PGMSG_MESSAGE_TOO_LONG, pgmsg_put_row(values, 2, out, ROOM));
+    REFUSES(tally, 9, pgmsg_put_function_result(data, TOO_LONG, true, out, 8));
+}
+
+void test_server_faults(struct tally *tally)
+{
+    uint8_t *zeros = mmap(NULL, TOO_LONG, PROT_READ, MAP_PRIVATE | MAP_ANONYMOUS | MAP_NORESERVE, -1, 0);
+    refuse_texts(tally);
+    refuse_ends(tally);
+    refuse_letters(tally);
+    refuse_keys(tally);
+    CHECK(tally, zeros != MAP_FAILED);
+    if (zeros == MAP_FAILED)
+        return;
+    refuse_counts(tally, zeros);
+    compare_with_longest(tally, zeros);
+    refuse_lengths(tally, zeros);
+    CHECK(tally, munmap(zeros, TOO_LONG) == 0);
+}
