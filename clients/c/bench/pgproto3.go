@@ -1,5 +1,6 @@
-// How long pgproto3, the messages of Go's driver pgx, takes to read the bodies that `read_bench bodies` prints. Prints
-// for each the nanoseconds of the library, its own, and the quotient: medians of processor time.
+// How long pgproto3, the messages of Go's driver pgx, takes to read the bodies that `read_bench bodies` prints, and to
+// write the rows of `put_bench rows`. Prints for each the nanoseconds of the library, its own, and the quotient: medians
+// of processor time.
 package main
 
 import (
@@ -36,20 +37,39 @@ func now() float64 {
 	return float64(usage.Utime.Nano() + usage.Stime.Nano())
 }
 
-// How long one reading of a body takes.
-func measure(message pgproto3.FrontendMessage, body []byte) float64 {
+// How long one turn of some work takes.
+func measure(work func()) float64 {
 	var all [rounds]float64
 	for round := range all {
 		begin := now()
 		for i := 0; i < times; i++ {
-			if err := message.Decode(body); err != nil {
-				fail(err)
-			}
+			work()
 		}
 		all[round] = (now() - begin) / times
 	}
 	sort.Float64s(all[:])
 	return all[rounds/2]
+}
+
+// How long one reading of a body takes.
+func measureReading(message pgproto3.FrontendMessage, body []byte) float64 {
+	return measure(func() {
+		if err := message.Decode(body); err != nil {
+			fail(err)
+		}
+	})
+}
+
+// How long one writing of a row takes, into room that is there.
+func measureRow(body []byte) float64 {
+	var row pgproto3.DataRow
+	if err := row.Decode(body); err != nil {
+		fail(err)
+	}
+	room := make([]byte, 0, 65536)
+	return measure(func() {
+		room = row.Encode(room[:0])
+	})
 }
 
 // Prints the line of a message: its words, its tag, its body and the library's nanoseconds are apart by tabs.
@@ -63,7 +83,12 @@ func compare(line string) {
 	if err != nil {
 		fail(err)
 	}
-	own := measure(messages[parts[1]], body)
+	var own float64
+	if parts[1] == "D" {
+		own = measureRow(body)
+	} else {
+		own = measureReading(messages[parts[1]], body)
+	}
 	fmt.Printf("| %s | %.1f | %.1f | %.2f |\n", parts[0], library, own, library/own)
 }
 
@@ -72,7 +97,7 @@ func main() {
 	for input := bufio.NewScanner(os.Stdin); input.Scan(); {
 		lines = append(lines, input.Text())
 	}
-	fmt.Print("\n| message of a client | the library, ns | pgproto3, ns | quotient |\n|---|---|---|---|\n")
+	fmt.Print("\n| message | the library, ns | pgproto3, ns | quotient |\n|---|---|---|---|\n")
 	for _, line := range lines {
 		compare(line)
 	}

@@ -1,5 +1,9 @@
-/* How long the calls that put messages take, beside C that is written by hand and refuses the same. Prints a
- * line for each message: nanoseconds of both, and the quotient. */
+/* How long the calls that put messages take, beside C that is written by hand and refuses the same:
+ *
+ *     put_bench         prints a line for each message: nanoseconds of both, and the quotient
+ *     put_bench rows    prints of each row its words, its tag, its body in hexadecimal digits and the nanoseconds that
+ *                       the library takes, apart by tabs
+ */
 #include "put_by_hand.h"
 #include "turns.h"
 
@@ -7,13 +11,13 @@
 #include <stdlib.h>
 #include <string.h>
 
-enum { ROOM = 65536, BYTES = 4096 };
+enum { ROOM = 65536, BYTES = 4096, HEADER = 5, CELLS = 50 };
 
 static uint8_t bytes[BYTES];
 static const struct text nothing = {bytes, 0}, name = {bytes, 9}, query = {bytes, 86}, part = {bytes, 64};
 static const uint32_t types[8] = {23, 25, 20, 21, 16, 700, 701, 1043};
 static const uint16_t binary = 1;
-static pgmsg_value short_values[8], long_values[2];
+static pgmsg_value short_values[8], long_values[2], cells[CELLS], numbers[CELLS];
 
 static void make_values(void)
 {
@@ -22,6 +26,10 @@ static void make_values(void)
         short_values[i] = (pgmsg_value){bytes, 8, false};
     for (size_t i = 0; i < 2; i++)
         long_values[i] = (pgmsg_value){bytes, BYTES, false};
+    for (size_t i = 0; i < CELLS; i++) {
+        cells[i] = (pgmsg_value){bytes, i * 7 % 23, i % 5 == 3};
+        numbers[i] = (pgmsg_value){bytes, i % 2 == 0 ? 4 : 8, i % 5 == 3};
+    }
 }
 
 typedef ptrdiff_t put(uint8_t *out, size_t out_len);
@@ -43,6 +51,10 @@ MESSAGE(bind, pgmsg_put_raw_bind(TEXT(nothing), TEXT(name), &binary, 1, short_va
 MESSAGE(long_bind, pgmsg_put_raw_bind(TEXT(nothing), TEXT(name), &binary, 1, long_values, 2, &binary, 1, out, out_len),
         hand_bind(nothing, name, &binary, 1, long_values, 2, &binary, 1, out, out_len))
 MESSAGE(execute, pgmsg_put_raw_execute(TEXT(nothing), 0, out, out_len), hand_execute(nothing, 0, out, out_len))
+MESSAGE(short_row, pgmsg_put_row(cells, 5, out, out_len), hand_row(cells, 5, out, out_len))
+MESSAGE(long_row, pgmsg_put_row(cells, CELLS, out, out_len), hand_row(cells, CELLS, out, out_len))
+MESSAGE(short_numbers, pgmsg_put_row(numbers, 5, out, out_len), hand_row(numbers, 5, out, out_len))
+MESSAGE(long_numbers, pgmsg_put_row(numbers, CELLS, out, out_len), hand_row(numbers, CELLS, out, out_len))
 
 struct message {
     const char *name;
@@ -59,6 +71,10 @@ static const struct message messages[] = {
     ROW("Parse of 86 bytes, 8 types", parse),
     ROW("Bind of 8 values of 8 bytes", bind),
     ROW("Bind of 2 values of 4096 bytes", long_bind),
+    ROW("DataRow of 5 texts, one NULL", short_row),
+    ROW("DataRow of 50 texts, 10 NULL", long_row),
+    ROW("DataRow of 5 numbers, one NULL", short_numbers),
+    ROW("DataRow of 50 numbers, 10 NULL", long_numbers),
 };
 
 static uint8_t out[ROOM], expected[ROOM];
@@ -94,16 +110,42 @@ static size_t compare(const struct message *message)
     return (size_t)len;
 }
 
-int main(void)
+static struct turns measure(const struct message *message, uint64_t *sum)
+{
+    int times = (int)(20000000 / (compare(message) + 100));
+    return take_turns(by_library, by_hand, message, times, sum);
+}
+
+static uint64_t print_quotients(void)
 {
     uint64_t sum = 0;
-    make_values();
     printf("\n| message | the library, ns | C by hand, ns | quotient |\n|---|---|---|---|\n");
     for (size_t i = 0; i < sizeof messages / sizeof *messages; i++) {
-        const struct message *message = &messages[i];
-        int times = (int)(20000000 / (compare(message) + 100));
-        struct turns of = take_turns(by_library, by_hand, message, times, &sum);
-        printf("| %s | %.1f | %.1f | %.2f |\n", message->name, of.library, of.hand, of.library / of.hand);
+        struct turns of = measure(&messages[i], &sum);
+        printf("| %s | %.1f | %.1f | %.2f |\n", messages[i].name, of.library, of.hand, of.library / of.hand);
     }
-    return sum == 0;
+    return sum;
+}
+
+static uint64_t print_rows(void)
+{
+    uint64_t sum = 0;
+    for (size_t i = 0; i < sizeof messages / sizeof *messages; i++) {
+        size_t len = compare(&messages[i]);
+        if (out[0] != 'D')
+            continue;
+        struct turns of = measure(&messages[i], &sum);
+        printf("%s\tD\t", messages[i].name);
+        for (size_t at = HEADER; at < len; at++)
+            printf("%02x", out[at]);
+        printf("\t%.1f\n", of.library);
+    }
+    return sum;
+}
+
+int main(int count, char **words)
+{
+    make_values();
+    bool are_rows = count == 2 && strcmp(words[1], "rows") == 0;
+    return (are_rows ? print_rows() : print_quotients()) == 0;
 }

@@ -1,4 +1,4 @@
-/* Messages to the server, written by hand. */
+/* Messages to the server, and rows, written by hand. */
 #include "put_by_hand.h"
 
 #include <stdbool.h>
@@ -175,5 +175,22 @@ ptrdiff_t hand_execute(struct text portal, uint32_t limit, uint8_t *out, size_t 
         return PGMSG_TEXT_HOLDS_NUL;
     if (out_len >= HEADER + len)
         add_u32(add_ended(add_header(out, 'E', len), portal), limit);
+    return (ptrdiff_t)(HEADER + len);
+}
+
+ptrdiff_t hand_row(const pgmsg_value *values, size_t values_len, uint8_t *out, size_t out_len)
+{
+    if (values_len > MOST_ITEMS)
+        return PGMSG_TOO_MANY;
+    size_t len = 2 + 4 * values_len;
+    for (size_t i = 0; i < values_len; i++) {
+        if (!values[i].is_null && values[i].bytes_len > MOST_BYTES)
+            return PGMSG_MESSAGE_TOO_LONG;
+        len += values[i].is_null ? 0 : values[i].bytes_len;
+    }
+    if (len > MOST_BYTES - 4)
+        return PGMSG_MESSAGE_TOO_LONG;
+    if (out_len >= HEADER + len)
+        add_values(add_header(out, 'D', len), values, values_len);
     return (ptrdiff_t)(HEADER + len);
 }

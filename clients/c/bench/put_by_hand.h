@@ -1,4 +1,4 @@
-/* Messages to the server, written by hand: the same bytes as the library's, refused for the same faults. */
+/* Messages to the server, and rows, written by hand: the same bytes as the library's, refused for the same faults. */
 #ifndef PUT_BY_HAND_H
 #define PUT_BY_HAND_H
 
@@ -19,5 +19,6 @@ ptrdiff_t hand_bind(struct text portal, struct text statement, const uint16_t *f
                     const pgmsg_value *values, size_t values_len, const uint16_t *results, size_t results_len,
                     uint8_t *out, size_t out_len);
 ptrdiff_t hand_execute(struct text portal, uint32_t limit, uint8_t *out, size_t out_len);
+ptrdiff_t hand_row(const pgmsg_value *values, size_t values_len, uint8_t *out, size_t out_len);
 
 #endif
