@@ -1,9 +1,10 @@
 //! The line that the program prints for a tag and a body.
 
 use bytes::Bytes;
+use pg_base::{BackendMessageFormat, Error};
 use pg_lines::{Fault, TaggedBody};
-use pg_message::error::Error;
-use pg_message::message::{BackendMessageFormat, ReceivedMessage, ServerMessage};
+use pg_receive::message::ReceivedMessage;
+use pg_server_message::message::ServerMessage;
 use std::alloc::{AllocError, Global};
 
 /// A decoded message whose parts can be printed.

@@ -3,7 +3,7 @@
 use crate::answer::Answer;
 use crate::write::{push_list, text};
 use pg_lines::Hex;
-use pg_message::message::{Authentication, AuthenticationSaslContinue};
+use pg_receive::message::{Authentication, AuthenticationSaslContinue};
 use std::alloc::AllocError;
 
 impl Answer for Authentication {

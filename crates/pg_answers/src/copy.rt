@@ -3,8 +3,9 @@
 use crate::answer::Answer;
 use crate::write::push_list;
 use bytes::Bytes;
+use pg_base::io::{CopyData, CopyDone};
 use pg_lines::Hex;
-use pg_message::message::{CopyData, CopyDone, CopyInResponse, CopyOutResponse, CopyResponseData};
+use pg_receive::message::{CopyInResponse, CopyOutResponse, CopyResponseData};
 use std::alloc::AllocError;
 
 impl Answer for CopyData<Bytes> {

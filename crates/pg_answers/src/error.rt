@@ -2,7 +2,7 @@
 
 use crate::answer::Answer;
 use crate::write::{OrNone, text, text_or_none};
-use pg_message::error::{PgDatabaseError, PgErrorPosition};
+use pg_receive::error::{PgDatabaseError, PgErrorPosition};
 use std::alloc::AllocError;
 use std::fmt;
 

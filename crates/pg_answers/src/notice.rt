@@ -3,7 +3,7 @@
 use crate::answer::Answer;
 use crate::write::{push_list, text};
 use pg_lines::Hex;
-use pg_message::message::Notice;
+use pg_receive::message::Notice;
 use std::alloc::AllocError;
 use std::fmt;
 

@@ -3,7 +3,7 @@
 use crate::answer::Answer;
 use crate::write::{OrNone, push_list, text};
 use pg_lines::Hex;
-use pg_message::message::{DataRow, Field, ParameterDescription, RowDescription};
+use pg_receive::message::{DataRow, Field, ParameterDescription, RowDescription};
 use std::alloc::AllocError;
 use std::fmt;
 

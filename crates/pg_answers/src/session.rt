@@ -3,7 +3,7 @@
 use crate::answer::Answer;
 use crate::write::text;
 use pg_lines::Hex;
-use pg_message::message::{
+use pg_receive::message::{
     BackendKeyData, CommandComplete, Notification, ParameterStatus, ReadyForQuery,
 };
 use std::alloc::AllocError;

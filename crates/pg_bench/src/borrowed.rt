@@ -4,7 +4,9 @@
 //! ReadyForQuery and ParameterStatus, and 0 where the stream has another kind.
 
 use crate::consumer::{Checksum, Consumer, Seen};
-use pg_message::message::{ColumnReader, RowReader, ServerMessageRef, next_frame, rows_affected};
+use pg_frames::next_frame;
+use pg_receive::message::{ColumnReader, RowReader, rows_affected};
+use pg_server_message::message::ServerMessageRef;
 use std::alloc::Global;
 
 /// Each pass appends the stream to an empty buffer, and takes the frames off its front.

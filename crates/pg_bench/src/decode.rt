@@ -5,10 +5,10 @@
 //! six of `GiveTo`, or memory runs out.
 
 use crate::consumer::{Checksum, Consumer, Seen};
-use pg_message::error::{PgDatabaseError, PgErrorPosition};
-use pg_message::message::{
-    DataRow, FrameReader, ReceivedMessage, RowDescription, ServerMessage, Visitor,
-};
+use pg_frames::FrameReader;
+use pg_receive::error::{PgDatabaseError, PgErrorPosition};
+use pg_receive::message::{DataRow, ReceivedMessage, RowDescription};
+use pg_server_message::message::{ServerMessage, Visitor};
 use std::alloc::Global;
 
 /// Reads the messages once; each pass decodes a clone of each.

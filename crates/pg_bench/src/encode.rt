@@ -5,8 +5,8 @@
 //! out, or `out` is too short.
 
 use crate::script::Script;
-use pg_message::error::Error;
-use pg_message::message::{TaggedMessage, encode_all, encode_strict};
+use pg_base::Error;
+use pg_send::message::{TaggedMessage, encode_all, encode_strict};
 use std::alloc::Global;
 
 /// Parses the script once, and encodes its messages one by one.

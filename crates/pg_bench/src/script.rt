@@ -3,10 +3,8 @@
 ghost use Rattle.std.specs.Prelude.{◌≡◌, ◌<◌, length, IfSome, vec_len, vec_capacity};
 
 use byteorder::{BigEndian, ByteOrder};
-use pg_message::io::{Oid, PgValueFormat, PortalId, StatementId};
-use pg_message::message::{
-    Bind, CopyData, Describe, Execute, Parse, Query, Sync, TaggedMessage, encode_frame,
-};
+use pg_base::io::{CopyData, Oid, PgValueFormat, PortalId, StatementId};
+use pg_send::message::{Bind, Describe, Execute, Parse, Query, Sync, TaggedMessage, encode_frame};
 
 const TEXTS: &[PgValueFormat] = &[PgValueFormat::Text; 16];
 

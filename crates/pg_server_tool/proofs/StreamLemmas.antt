@@ -1,12 +1,12 @@
 -- A message that is taken from a stream leaves fewer bytes of it.
 use Rattle.std.proofs.Common.{ℕ, ◌<◌, List, ◌++◌, length, ap, arith, length-append}
-use Rattle.pg_message.specs.pg_frontend_frames.declared.frame.Expects.{Expects}
-use Rattle.pg_message.specs.pg_frontend_frames.declared.frame.Expects.TheVariants as expects
-use Rattle.pg_message.specs.pg_frontend_frames.declared.message.ClientMessage.{ClientMessage}
-use Rattle.pg_message.specs.pg_frontend_frames.declared.message.ClientMessageKind.{ClientMessageKind}
-use Rattle.pg_message.specs.pg_frontend_frames.declared.message.ClientMessageKind.TheVariants as kinds
-use Rattle.pg_message.specs.pg_frontend_frames.Frame.{BeginsWith}
-use Rattle.pg_message.specs.pg_frontend_frames.Reader.{Reading, Takes}
+use Rattle.pg_frontend_frames.specs.declared.frame.Expects.{Expects}
+use Rattle.pg_frontend_frames.specs.declared.frame.Expects.TheVariants as expects
+use Rattle.pg_frontend_frames.specs.declared.message.ClientMessage.{ClientMessage}
+use Rattle.pg_frontend_frames.specs.declared.message.ClientMessageKind.{ClientMessageKind}
+use Rattle.pg_frontend_frames.specs.declared.message.ClientMessageKind.TheVariants as kinds
+use Rattle.pg_frontend_frames.specs.Frame.{BeginsWith}
+use Rattle.pg_frontend_frames.specs.Reader.{Reading, Takes}
 
 rest_is_shorter : (limit : ℕ) (state : Expects) (bytes : List ℕ) (kind : ClientMessageKind) (body rest : List ℕ) (next : Expects) → BeginsWith limit state bytes kind body rest next → length rest < length bytes
 rest_is_shorter limit expects.First bytes kinds.First body rest next p =

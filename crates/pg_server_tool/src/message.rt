@@ -1,11 +1,12 @@
 //! The words of a message: its name and its fields in the order of its body.
 
 use crate::word::{Setting, Value, push_list};
+use pg_frontend_frames::ClientMessageRef;
 use pg_lines::Hex;
-use pg_message::error::FrontendFault;
-use pg_message::frontend::{
-    BindRef, ClientMessageRef, FirstMessageRef, FormatCodes, FrontendMessageRef, FunctionCallRef,
-    ParseRef, Target, TargetRef, Values,
+use pg_read_frontend::FrontendFault;
+use pg_read_frontend::message::{
+    BindRef, FirstMessageRef, FormatCodes, FrontendMessageRef, FunctionCallRef, ParseRef, Target,
+    TargetRef, Values,
 };
 use std::alloc::AllocError;
 

@@ -1,10 +1,10 @@
 //! A message to a client with all that it borrows, as a line of `encode` names it.
 
-use pg_message::backend::{
+use pg_base::io::Oid;
+use pg_write_backend::message::{
     BackendKeyDataText, ColumnText, CopyDirection, CopyResponseText, NoBodyText, NoticeFieldText,
     NoticeKind, NotificationText, ParameterStatusText, ReadyForQueryText,
 };
-use pg_message::io::Oid;
 
 /// A message to a client.
 #[derive(Drop)]

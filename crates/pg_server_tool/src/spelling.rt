@@ -1,7 +1,7 @@
 //! What the words of a line spell.
 
+use pg_base::io::Oid;
 use pg_lines::{Fault, hex_array, hex_bytes, i8_of, i16_of, i32_of, u32_of};
-use pg_message::io::Oid;
 use std::alloc::Global;
 
 /// What a word can spell.
