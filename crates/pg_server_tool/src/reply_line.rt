@@ -40,10 +40,7 @@ fn without_fields(name: &str) -> Option<NoBodyText> {
 fn with_fields(name: Word<'_>, words: &mut Parts<'_>) -> Result<Reply, Fault> {
     match name.text {
         "authentication" => Ok(Reply::Authentication(request_of(words)?)),
-        "backendkeydata" => Ok(Reply::BackendKeyData(KeyData {
-            process_id: words.read()?,
-            secret_key: words.read()?,
-        })),
+        "backendkeydata" => Ok(Reply::BackendKeyData(key_data_of(words)?)),
         "commandcomplete" => Ok(Reply::CommandComplete(words.read()?)),
         "copydata" => Ok(Reply::CopyData(words.read()?)),
         "copyin" => copy_of(CopyDirection::In, words),
@@ -52,21 +49,11 @@ fn with_fields(name: Word<'_>, words: &mut Parts<'_>) -> Result<Reply, Fault> {
         "datarow" => Ok(Reply::DataRow(words.list()?)),
         "errorresponse" => notice_of(NoticeKind::Error, words),
         "functioncallresponse" => Ok(Reply::FunctionCallResponse(words.read()?)),
-        "negotiate" => Ok(Reply::NegotiateProtocolVersion(Negotiation {
-            minor: words.read()?,
-            options: words.list()?,
-        })),
+        "negotiate" => Ok(Reply::NegotiateProtocolVersion(negotiation_of(words)?)),
         "noticeresponse" => notice_of(NoticeKind::Notice, words),
-        "notification" => Ok(Reply::Notification(Notification {
-            process_id: words.read()?,
-            channel: words.read()?,
-            payload: words.read()?,
-        })),
+        "notification" => Ok(Reply::Notification(notification_of(words)?)),
         "parameterdescription" => Ok(Reply::ParameterDescription(words.list()?)),
-        "parameterstatus" => Ok(Reply::ParameterStatus(Setting {
-            name: words.read()?,
-            value: words.read()?,
-        })),
+        "parameterstatus" => Ok(Reply::ParameterStatus(setting_of(words)?)),
         "ready" => Ok(Reply::ReadyForQuery(ready_of(words.part()?)?)),
         "rowdescription" => Ok(Reply::RowDescription(words.list()?)),
         _ => Err(name.bad),
@@ -84,6 +71,39 @@ fn request_of(words: &mut Parts<'_>) -> Result<Request, Fault> {
         "final" => Ok(Request::SaslFinal(words.read()?)),
         _ => Err(method.bad),
     }
+}
+
+// `PROCESS HEX`
+fn key_data_of(words: &mut Parts<'_>) -> Result<KeyData, Fault> {
+    Ok(KeyData {
+        process_id: words.read()?,
+        secret_key: words.read()?,
+    })
+}
+
+// `MINOR NAMES`
+fn negotiation_of(words: &mut Parts<'_>) -> Result<Negotiation, Fault> {
+    Ok(Negotiation {
+        minor: words.read()?,
+        options: words.list()?,
+    })
+}
+
+// `PROCESS HEX HEX`
+fn notification_of(words: &mut Parts<'_>) -> Result<Notification, Fault> {
+    Ok(Notification {
+        process_id: words.read()?,
+        channel: words.read()?,
+        payload: words.read()?,
+    })
+}
+
+// `HEX HEX`
+fn setting_of(words: &mut Parts<'_>) -> Result<Setting, Fault> {
+    Ok(Setting {
+        name: words.read()?,
+        value: words.read()?,
+    })
 }
 
 // `FORMAT CODES`
