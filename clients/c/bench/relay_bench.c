@@ -3,8 +3,8 @@
  *     relay_bench
  *
  * The stream lies in one buffer, into which a proxy reads a piece of 64 KiB at a time, and what goes out is copied to
- * another place, as write(2) does. Prints a line for each length of messages: nanoseconds of a piece by both, and the
- * quotient. */
+ * another place, as write(2) does. Prints a line for each length of the stream, one of which fits into a cache of its
+ * processor, and of messages: nanoseconds of a piece by both, and the quotient. */
 #include "pg_message.h"
 #include "turns.h"
 
@@ -13,10 +13,11 @@
 #include <stdlib.h>
 #include <string.h>
 
-enum { HEADER = 5, PIECE = 1 << 16, LIMIT = 1 << 20, PIECES = 256, STREAM = PIECE * PIECES, TIMES = 1 };
+enum { HEADER = 5, PIECE = 1 << 16, LIMIT = 1 << 20, LONGEST_STREAM = 1 << 24 };
 
 /* A stream of messages of a length, and whether they are wanted whole. */
 struct work {
+    size_t stream_len;
     size_t length;
     bool is_whole;
     uint8_t wanted[256];
@@ -47,13 +48,13 @@ static uint64_t by_library(const void *work, int times)
     for (int i = 0; i < times; i++) {
         pgmsg_relay relay = {.limit = LIMIT, .left = 0, .is_first = false};
         const uint8_t *front = of->stream;
-        for (size_t end = PIECE; end <= STREAM; end += PIECE) {
+        for (size_t end = PIECE; end <= of->stream_len; end += PIECE) {
             size_t count = count_passed(&relay, of->wanted, front, (size_t)(of->stream + end - front));
             memcpy(out, front, count);
             sum += out[0];
             front += count;
         }
-        if (front != of->stream + STREAM || relay.left > 0)
+        if (front != of->stream + of->stream_len || relay.left > 0)
             abort();
     }
     return sum;
@@ -64,7 +65,7 @@ static uint64_t by_memcpy(const void *work, int times)
     const struct work *of = work;
     uint64_t sum = 0;
     for (int i = 0; i < times; i++) {
-        for (size_t at = 0; at < STREAM; at += PIECE) {
+        for (size_t at = 0; at < of->stream_len; at += PIECE) {
             memcpy(out, of->stream + at, PIECE);
             sum += out[0];
         }
@@ -75,8 +76,8 @@ static uint64_t by_memcpy(const void *work, int times)
 /* Fills the stream with messages of the length; the last one has what is left. */
 static void make(struct work *work)
 {
-    for (size_t at = 0, len; at < STREAM; at += len) {
-        len = STREAM - at < 2 * work->length ? STREAM - at : work->length;
+    for (size_t at = 0, len; at < work->stream_len; at += len) {
+        len = work->stream_len - at < 2 * work->length ? work->stream_len - at : work->length;
         uint32_t said = (uint32_t)(len - 1);
         uint8_t head[HEADER] = {'D', (uint8_t)(said >> 24), (uint8_t)(said >> 16), (uint8_t)(said >> 8), (uint8_t)said};
         memset(work->stream + at, 'x', len);
@@ -85,22 +86,31 @@ static void make(struct work *work)
     memset(work->wanted, work->is_whole, sizeof work->wanted);
 }
 
+/* Prints the line of a stream. */
+static void compare(struct work *work, uint64_t *sum)
+{
+    double pieces = (double)work->stream_len / PIECE;
+    make(work);
+    struct turns of = take_turns(by_library, by_memcpy, work, (int)(LONGEST_STREAM / work->stream_len), sum);
+    printf("| %zu KiB of %zu bytes, %s | %.0f | %.0f | %.2f |\n", work->stream_len / 1024, work->length,
+           work->is_whole ? "whole" : "in parts", of.library / pieces, of.hand / pieces, of.library / of.hand);
+}
+
 int main(void)
 {
-    static const size_t lengths[] = {50, 1000, 1 << 16, 1 << 20};
+    static const size_t lengths[] = {50, 1000, 1 << 16, 1 << 20}, streams[] = {1 << 19, LONGEST_STREAM};
     static struct work work;
     uint64_t sum = 0;
-    work.stream = malloc(STREAM);
+    work.stream = malloc(LONGEST_STREAM);
     if (work.stream == NULL)
         return 1;
     printf("\n| messages passed on | the library, ns for 64 KiB | memcpy, ns | quotient |\n|---|---|---|---|\n");
-    for (size_t i = 0; i < 2 * sizeof lengths / sizeof *lengths; i++) {
-        work.length = lengths[i / 2];
+    for (size_t i = 0; i < 4 * sizeof lengths / sizeof *lengths; i++) {
+        work.length = lengths[i / 4];
+        work.stream_len = streams[i / 2 % 2];
         work.is_whole = i % 2 == 0;
-        make(&work);
-        struct turns of = take_turns(by_library, by_memcpy, &work, TIMES, &sum);
-        printf("| of %zu bytes, %s | %.0f | %.0f | %.2f |\n", work.length, work.is_whole ? "whole" : "in parts",
-               of.library / PIECES, of.hand / PIECES, of.library / of.hand);
+        if (work.length <= work.stream_len)
+            compare(&work, &sum);
     }
     free(work.stream);
     return sum == 0;
