@@ -139,7 +139,7 @@ typedef struct {
     size_t value_len;
 } pgmsg_setting;
 
-/* The value of a parameter. */
+/* The value of a parameter, or of a row. */
 typedef struct {
     const uint8_t *bytes;
     size_t bytes_len;

@@ -150,7 +150,7 @@ pub struct pgmsg_setting {
     pub value_len: usize,
 }
 
-/// The value of a parameter.
+/// The value of a parameter, or of a row.
 #[repr(C)]
 #[derive(Clone, Copy, Debug)]
 pub struct pgmsg_value {

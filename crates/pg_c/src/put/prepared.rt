@@ -20,7 +20,7 @@ use pg_base::Error;
 use pg_base::io::{PortalId, StatementId, write_text};
 use pg_request::message::{Describe, Execute, Framed, Sync};
 
-/// The value of a parameter.
+/// The value of a parameter, or of a row.
 #[repr(C)]
 #[derive(Clone, Copy)]
 pub struct PgmsgValue<'a> {
