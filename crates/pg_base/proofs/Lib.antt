@@ -6,4 +6,3 @@ pub mod IdLemmas
 pub mod NumbersLemmas
 pub mod ReadingLemmas
 pub mod RoundTripLemmas
-pub mod SinkLemmas
