@@ -51,6 +51,7 @@ pub mod client;
 mod error;
 mod format;
 pub mod read;
+mod reading;
 pub mod relay;
 pub mod server;
 pub mod write;

@@ -76,8 +76,7 @@ mod session;
 
 use crate::error::Refusal;
 use crate::sys;
-use crate::write::buffer::{append, Spare};
-use crate::write::Buffer;
+use crate::write::{Buffer, Put};
 use std::fmt;
 
 /// Messages to a client, one after the other, as bytes.
@@ -124,9 +123,6 @@ impl Messages {
     }
 }
 
-/// A call of the library that writes a message of some bytes.
-type PutBytes = unsafe extern "C" fn(*const u8, usize, *mut u8, usize) -> isize;
-
 impl<B: Buffer> Messages<B> {
     /// The bytes to send.
     #[inline]
@@ -146,22 +142,6 @@ impl<B: Buffer> Messages<B> {
         self.as_bytes().is_empty()
     }
 
-    /// Appends what a call writes, as [`append`] does.
-    #[inline]
-    fn put(&mut self, call: impl Fn(Spare<'_>) -> isize) -> Result<&mut Self, Refusal> {
-        append(&mut self.buffer, call)?;
-        Ok(self)
-    }
-
-    /// Appends what a call of the library writes of some bytes.
-    #[inline]
-    fn put_bytes(&mut self, call: PutBytes, bytes: &[u8]) -> Result<&mut Self, Refusal> {
-        self.put(|mut out| {
-            // SAFETY: both are slices, valid for their lengths, and `&mut` keeps `out` apart.
-            unsafe { call(bytes.as_ptr(), bytes.len(), out.as_mut_ptr(), out.len()) }
-        })
-    }
-
     /// Appends a message without a body.
     #[inline]
     fn put_no_body(&mut self, tag: u8) -> Result<&mut Self, Refusal> {
@@ -169,6 +149,15 @@ impl<B: Buffer> Messages<B> {
             // SAFETY: `out` is room, valid for its length.
             unsafe { sys::pgmsg_put_no_body(tag, out.as_mut_ptr(), out.len()) }
         })
+    }
+}
+
+impl<B: Buffer> Put for Messages<B> {
+    type Buffer = B;
+
+    #[inline]
+    fn buffer(&mut self) -> &mut B {
+        &mut self.buffer
     }
 }
 

@@ -1,10 +1,11 @@
 //! Messages to the server.
 
-pub(crate) mod buffer;
+mod buffer;
 mod copy;
 mod names;
 pub(crate) mod parameters;
 mod prepared;
+mod put;
 mod query;
 mod raw;
 mod session;
@@ -18,8 +19,8 @@ pub use raw::RawParameters;
 pub use session::Mechanism;
 pub use values::Values;
 
-use crate::error::Refusal;
-use buffer::{append, Spare};
+pub(crate) use put::Put;
+
 use std::fmt;
 
 /// Messages to the server, one after the other, as bytes.
@@ -86,12 +87,14 @@ impl<B: Buffer> Messages<B> {
     pub fn is_empty(&self) -> bool {
         self.as_bytes().is_empty()
     }
+}
 
-    /// Appends what a call writes, as [`append`] does.
+impl<B: Buffer> Put for Messages<B> {
+    type Buffer = B;
+
     #[inline]
-    fn put(&mut self, call: impl Fn(Spare<'_>) -> isize) -> Result<&mut Self, Refusal> {
-        append(&mut self.buffer, call)?;
-        Ok(self)
+    fn buffer(&mut self) -> &mut B {
+        &mut self.buffer
     }
 }
 

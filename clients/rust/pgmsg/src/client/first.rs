@@ -1,7 +1,8 @@
 //! The first message of a connection.
 
-use crate::answer::{answer, fill, part};
+use crate::answer::part;
 use crate::error::Fault;
+use crate::reading::{list_items, read_parts};
 use crate::sys;
 use std::slice;
 
@@ -119,12 +120,8 @@ impl<'a, 's> IntoIterator for &'s Settings<'a> {
 /// # Ok::<(), pgmsg::Fault>(())
 /// ```
 pub fn first(body: &[u8]) -> Result<First<'_>, Fault> {
-    let mut read = sys::pgmsg_first::default();
-    answer(|fault| {
-        // SAFETY: `body` is a slice, valid for its length; `read` and `fault` are apart from it.
-        let number = unsafe { sys::pgmsg_read_first(body.as_ptr(), body.len(), &mut read, fault) };
-        number as isize
-    })?;
+    // SAFETY: the call is one of the library, which reads a body so.
+    let read = unsafe { read_parts(body, sys::pgmsg_read_first)? };
     match read.kind as i32 {
         sys::PGMSG_FIRST_STARTUP => Ok(First::Startup(Startup {
             minor: read.minor,
@@ -142,14 +139,8 @@ pub fn first(body: &[u8]) -> Result<First<'_>, Fault> {
 
 /// The settings in the body of a Startup.
 fn settings(body: &[u8]) -> Result<Settings<'_>, Fault> {
-    let mut room = Vec::new();
-    let settings = fill(&mut room, |room: &mut [sys::pgmsg_parameter_status]| {
-        // SAFETY: both are slices, valid for their lengths, and `&mut` keeps `room` apart.
-        let count = unsafe {
-            sys::pgmsg_read_settings(body.as_ptr(), body.len(), room.as_mut_ptr(), room.len())
-        };
-        Ok(count)
-    })?;
+    // SAFETY: the call is one of the library, which reads a body so.
+    let settings = unsafe { list_items(body, sys::pgmsg_read_settings)? };
     let settings = settings.iter().map(|setting| {
         Ok(Setting {
             name: part(body, setting.name)?,

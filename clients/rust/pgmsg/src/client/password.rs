@@ -1,9 +1,10 @@
 //! The answers to a request for authentication.
 
 use super::text;
-use crate::answer::{answer, part};
+use crate::answer::part;
 use crate::error::Fault;
 use crate::read::Cell;
+use crate::reading::read_parts;
 use crate::sys;
 use std::fmt;
 
@@ -79,13 +80,8 @@ pub struct SaslInitial<'b> {
 /// ```
 #[inline]
 pub fn sasl_initial(body: &[u8]) -> Result<SaslInitial<'_>, Fault> {
-    let mut read = sys::pgmsg_sasl_initial::default();
-    answer(|fault| {
-        // SAFETY: `body` is a slice, valid for its length; `read` and `fault` are apart from it.
-        let number =
-            unsafe { sys::pgmsg_read_sasl_initial(body.as_ptr(), body.len(), &mut read, fault) };
-        number as isize
-    })?;
+    // SAFETY: the call is one of the library, which reads a body so.
+    let read = unsafe { read_parts(body, sys::pgmsg_read_sasl_initial)? };
     Ok(SaslInitial {
         mechanism: part(body, read.mechanism)?,
         response: Cell::new(read.response).value(body),

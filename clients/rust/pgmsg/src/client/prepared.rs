@@ -1,8 +1,9 @@
 //! What prepares, describes, runs and closes statements and portals.
 
 use super::Types;
-use crate::answer::{answer, part};
+use crate::answer::part;
 use crate::error::Fault;
+use crate::reading::read_parts;
 use crate::sys;
 use std::num::NonZeroU32;
 
@@ -29,12 +30,8 @@ pub struct Parse<'b> {
 /// ```
 #[inline]
 pub fn parse(body: &[u8]) -> Result<Parse<'_>, Fault> {
-    let mut read = sys::pgmsg_parse::default();
-    answer(|fault| {
-        // SAFETY: `body` is a slice, valid for its length; `read` and `fault` are apart from it.
-        let number = unsafe { sys::pgmsg_read_parse(body.as_ptr(), body.len(), &mut read, fault) };
-        number as isize
-    })?;
+    // SAFETY: the call is one of the library, which reads a body so.
+    let read = unsafe { read_parts(body, sys::pgmsg_read_parse)? };
     Ok(Parse {
         statement: part(body, read.statement)?,
         query: part(body, read.query)?,
@@ -71,12 +68,8 @@ impl<'b> Target<'b> {
 /// ```
 #[inline]
 pub fn target(body: &[u8]) -> Result<Target<'_>, Fault> {
-    let mut read = sys::pgmsg_target::default();
-    answer(|fault| {
-        // SAFETY: `body` is a slice, valid for its length; `read` and `fault` are apart from it.
-        let number = unsafe { sys::pgmsg_read_target(body.as_ptr(), body.len(), &mut read, fault) };
-        number as isize
-    })?;
+    // SAFETY: the call is one of the library, which reads a body so.
+    let read = unsafe { read_parts(body, sys::pgmsg_read_target)? };
     let name = part(body, read.name)?;
     match read.letter {
         b'S' => Ok(Target::Statement(name)),
@@ -114,13 +107,8 @@ impl Execute<'_> {
 /// ```
 #[inline]
 pub fn execute(body: &[u8]) -> Result<Execute<'_>, Fault> {
-    let mut read = sys::pgmsg_execute::default();
-    answer(|fault| {
-        // SAFETY: `body` is a slice, valid for its length; `read` and `fault` are apart from it.
-        let number =
-            unsafe { sys::pgmsg_read_execute(body.as_ptr(), body.len(), &mut read, fault) };
-        number as isize
-    })?;
+    // SAFETY: the call is one of the library, which reads a body so.
+    let read = unsafe { read_parts(body, sys::pgmsg_read_execute)? };
     Ok(Execute {
         portal: part(body, read.portal)?,
         max_rows: read.max_rows,

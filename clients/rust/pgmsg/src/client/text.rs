@@ -1,7 +1,8 @@
 //! Messages that are a text or nothing.
 
-use crate::answer::{answer, part};
+use crate::answer::part;
 use crate::error::Fault;
+use crate::reading::{read_number, read_parts};
 use crate::sys;
 
 /// Reads the body of a Query, a CopyFail or a password: its text, without the NUL.
@@ -14,12 +15,8 @@ use crate::sys;
 /// ```
 #[inline]
 pub fn text(body: &[u8]) -> Result<&[u8], Fault> {
-    let mut text = sys::pgmsg_span::default();
-    answer(|fault| {
-        // SAFETY: `body` is a slice, valid for its length; `text` and `fault` are apart from it.
-        let number = unsafe { sys::pgmsg_read_text(body.as_ptr(), body.len(), &mut text, fault) };
-        number as isize
-    })?;
+    // SAFETY: the call is one of the library, which reads a body so.
+    let text = unsafe { read_parts(body, sys::pgmsg_read_text)? };
     part(body, text)
 }
 
@@ -32,10 +29,7 @@ pub fn text(body: &[u8]) -> Result<&[u8], Fault> {
 /// ```
 #[inline]
 pub fn empty(body: &[u8]) -> Result<(), Fault> {
-    answer(|fault| {
-        // SAFETY: `body` is a slice, valid for its length, and `fault` is apart from it.
-        let number = unsafe { sys::pgmsg_read_empty(body.as_ptr(), body.len(), fault) };
-        number as isize
-    })?;
+    // SAFETY: the call is one of the library, which reads a body so.
+    unsafe { read_number(body, sys::pgmsg_read_empty)? };
     Ok(())
 }

@@ -1,7 +1,8 @@
 //! What the server asks of a client that opens a session.
 
-use crate::answer::{answer, fill, grow, text};
+use crate::answer::{answer, grow, text};
 use crate::error::Fault;
+use crate::reading::{list_items, read_items, read_parts};
 use crate::sys;
 
 /// The bytes of the number of the method, which all else follows.
@@ -59,13 +60,8 @@ pub struct Challenge<'a> {
 /// # Ok::<(), pgmsg::Fault>(())
 /// ```
 pub fn authentication(body: &[u8]) -> Result<Authentication<'_>, Fault> {
-    let mut read = sys::pgmsg_authentication::default();
-    answer(|fault| {
-        // SAFETY: `body` is a slice, valid for its length; `read` and `fault` are apart from it.
-        let number =
-            unsafe { sys::pgmsg_read_authentication(body.as_ptr(), body.len(), &mut read, fault) };
-        number as isize
-    })?;
+    // SAFETY: the call is one of the library, which reads a body so.
+    let read = unsafe { read_parts(body, sys::pgmsg_read_authentication)? };
     match read.method {
         0 => Ok(Authentication::Ok),
         3 => Ok(Authentication::CleartextPassword),
@@ -78,14 +74,8 @@ pub fn authentication(body: &[u8]) -> Result<Authentication<'_>, Fault> {
 }
 
 fn mechanisms(body: &[u8]) -> Result<Vec<&str>, Fault> {
-    let mut room = Vec::new();
-    let places = fill(&mut room, |room: &mut [sys::pgmsg_span]| {
-        // SAFETY: both are slices, valid for their lengths, and `&mut` keeps `room` apart.
-        let count = unsafe {
-            sys::pgmsg_read_mechanisms(body.as_ptr(), body.len(), room.as_mut_ptr(), room.len())
-        };
-        Ok(count)
-    })?;
+    // SAFETY: the call is one of the library, which reads a body so.
+    let places = unsafe { list_items(body, sys::pgmsg_read_mechanisms)? };
     places.iter().map(|&place| text(body, place)).collect()
 }
 
@@ -135,21 +125,6 @@ fn challenge_into(
 }
 
 fn verifier(body: &[u8]) -> Result<Vec<u8>, Fault> {
-    let mut verifier = Vec::new();
-    fill(&mut verifier, |room| {
-        answer(|fault| {
-            // SAFETY: `body` and `room` are slices, valid for their lengths, and `&mut` keeps `room`
-            // and `fault` apart.
-            unsafe {
-                sys::pgmsg_read_verifier(
-                    body.as_ptr(),
-                    body.len(),
-                    room.as_mut_ptr(),
-                    room.len(),
-                    fault,
-                )
-            }
-        })
-    })?;
-    Ok(verifier)
+    // SAFETY: the call is one of the library, which reads a body so.
+    unsafe { read_items(body, sys::pgmsg_read_verifier) }
 }

@@ -1,8 +1,9 @@
 //! The columns of a result, and the types of a statement's parameters.
 
-use crate::answer::{answer, fill, text};
+use crate::answer::text;
 use crate::error::Fault;
 use crate::format::FormatCode;
+use crate::reading::read_items;
 use crate::sys;
 
 /// A column of a result.
@@ -35,22 +36,8 @@ pub struct Column<'a> {
 /// # Ok::<(), pgmsg::Fault>(())
 /// ```
 pub fn columns(body: &[u8]) -> Result<Vec<Column<'_>>, Fault> {
-    let mut room = Vec::new();
-    let columns = fill(&mut room, |room: &mut [sys::pgmsg_column]| {
-        answer(|fault| {
-            // SAFETY: `body` and `room` are slices, valid for their lengths, and `&mut` keeps `room`
-            // and `fault` apart.
-            unsafe {
-                sys::pgmsg_read_columns(
-                    body.as_ptr(),
-                    body.len(),
-                    room.as_mut_ptr(),
-                    room.len(),
-                    fault,
-                )
-            }
-        })
-    })?;
+    // SAFETY: the call is one of the library, which reads a body so.
+    let columns = unsafe { read_items(body, sys::pgmsg_read_columns)? };
     columns
         .iter()
         .map(|column| column_of(body, column))
@@ -77,21 +64,6 @@ fn column_of<'a>(body: &'a [u8], column: &sys::pgmsg_column) -> Result<Column<'a
 /// # Ok::<(), pgmsg::Fault>(())
 /// ```
 pub fn parameter_types(body: &[u8]) -> Result<Vec<u32>, Fault> {
-    let mut types = Vec::new();
-    fill(&mut types, |room| {
-        answer(|fault| {
-            // SAFETY: `body` and `room` are slices, valid for their lengths, and `&mut` keeps `room`
-            // and `fault` apart.
-            unsafe {
-                sys::pgmsg_read_parameter_types(
-                    body.as_ptr(),
-                    body.len(),
-                    room.as_mut_ptr(),
-                    room.len(),
-                    fault,
-                )
-            }
-        })
-    })?;
-    Ok(types)
+    // SAFETY: the call is one of the library, which reads a body so.
+    unsafe { read_items(body, sys::pgmsg_read_parameter_types) }
 }

@@ -1,7 +1,8 @@
 //! The fields of an error or a notice.
 
-use crate::answer::{answer, fill, part};
+use crate::answer::part;
 use crate::error::Fault;
+use crate::reading::{list_items, read_number};
 use crate::sys;
 use std::slice;
 
@@ -183,14 +184,8 @@ impl<'a, 'f> IntoIterator for &'f Fields<'a> {
 /// # Ok::<(), pgmsg::Fault>(())
 /// ```
 pub fn fields(body: &[u8]) -> Result<Fields<'_>, Fault> {
-    let mut room = Vec::new();
-    let fields = fill(&mut room, |room: &mut [sys::pgmsg_field]| {
-        // SAFETY: both are slices, valid for their lengths, and `&mut` keeps `room` apart.
-        let count = unsafe {
-            sys::pgmsg_read_fields(body.as_ptr(), body.len(), room.as_mut_ptr(), room.len())
-        };
-        Ok(count)
-    })?;
+    // SAFETY: the call is one of the library, which reads a body so.
+    let fields = unsafe { list_items(body, sys::pgmsg_read_fields)? };
     let fields = fields.iter().map(|field| {
         Ok(Field {
             letter: field.letter,
@@ -249,11 +244,8 @@ const SEVERITIES: [Severity; 8] = [
 /// # Ok::<(), pgmsg::Fault>(())
 /// ```
 pub fn severity(body: &[u8]) -> Result<Severity, Fault> {
-    let number = answer(|fault| {
-        // SAFETY: `body` is a slice, valid for its length, and `fault` is apart from it.
-        let number = unsafe { sys::pgmsg_read_severity(body.as_ptr(), body.len(), fault) };
-        number as isize
-    })?;
+    // SAFETY: the call is one of the library, which reads a body so.
+    let number = unsafe { read_number(body, sys::pgmsg_read_severity)? };
     let severity = SEVERITIES.get(number).copied();
     severity.ok_or_else(|| Fault::unexpected(number))
 }

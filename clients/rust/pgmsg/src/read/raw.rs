@@ -1,7 +1,8 @@
 //! What drivers read as it is, to judge it by rules of their own.
 
-use crate::answer::{answer, fill, part};
+use crate::answer::part;
 use crate::error::Fault;
+use crate::reading::{list_items, read_number, read_parts};
 use crate::sys;
 
 /// The text of a command's tag, without its NUL, by the body of its CommandComplete.
@@ -13,13 +14,8 @@ use crate::sys;
 /// ```
 #[inline]
 pub fn command_tag(body: &[u8]) -> Result<&[u8], Fault> {
-    let mut tag = sys::pgmsg_span::default();
-    answer(|fault| {
-        // SAFETY: `body` is a slice, valid for its length; `tag` and `fault` are apart from it.
-        let number =
-            unsafe { sys::pgmsg_read_command_tag(body.as_ptr(), body.len(), &mut tag, fault) };
-        number as isize
-    })?;
+    // SAFETY: the call is one of the library, which reads a body so.
+    let tag = unsafe { read_parts(body, sys::pgmsg_read_command_tag)? };
     part(body, tag)
 }
 
@@ -44,14 +40,8 @@ pub struct RawAuthentication<'a> {
 /// ```
 #[inline]
 pub fn raw_authentication(body: &[u8]) -> Result<RawAuthentication<'_>, Fault> {
-    let mut read = sys::pgmsg_raw_authentication::default();
-    answer(|fault| {
-        // SAFETY: `body` is a slice, valid for its length; `read` and `fault` are apart from it.
-        let number = unsafe {
-            sys::pgmsg_read_raw_authentication(body.as_ptr(), body.len(), &mut read, fault)
-        };
-        number as isize
-    })?;
+    // SAFETY: the call is one of the library, which reads a body so.
+    let read = unsafe { read_parts(body, sys::pgmsg_read_raw_authentication)? };
     Ok(RawAuthentication {
         method: read.method,
         content: part(body, read.content)?,
@@ -67,14 +57,8 @@ pub fn raw_authentication(body: &[u8]) -> Result<RawAuthentication<'_>, Fault> {
 /// # Ok::<(), pgmsg::Fault>(())
 /// ```
 pub fn raw_mechanisms(body: &[u8]) -> Result<Vec<&[u8]>, Fault> {
-    let mut room = Vec::new();
-    let places = fill(&mut room, |room: &mut [sys::pgmsg_span]| {
-        // SAFETY: both are slices, valid for their lengths, and `&mut` keeps `room` apart.
-        let count = unsafe {
-            sys::pgmsg_read_raw_mechanisms(body.as_ptr(), body.len(), room.as_mut_ptr(), room.len())
-        };
-        Ok(count)
-    })?;
+    // SAFETY: the call is one of the library, which reads a body so.
+    let places = unsafe { list_items(body, sys::pgmsg_read_raw_mechanisms)? };
     places.iter().map(|&place| part(body, place)).collect()
 }
 
@@ -98,13 +82,8 @@ pub struct RawKeyData<'a> {
 /// # Ok::<(), pgmsg::Fault>(())
 /// ```
 pub fn raw_key_data(body: &[u8]) -> Result<RawKeyData<'_>, Fault> {
-    let mut read = sys::pgmsg_raw_key_data::default();
-    answer(|fault| {
-        // SAFETY: `body` is a slice, valid for its length; `read` and `fault` are apart from it.
-        let number =
-            unsafe { sys::pgmsg_read_raw_key_data(body.as_ptr(), body.len(), &mut read, fault) };
-        number as isize
-    })?;
+    // SAFETY: the call is one of the library, which reads a body so.
+    let read = unsafe { read_parts(body, sys::pgmsg_read_raw_key_data)? };
     Ok(RawKeyData {
         process_id: read.process_id,
         secret_key: part(body, read.secret_key)?,
@@ -130,14 +109,8 @@ pub struct RawParameterStatus<'a> {
 /// # Ok::<(), pgmsg::Fault>(())
 /// ```
 pub fn raw_parameter_status(body: &[u8]) -> Result<RawParameterStatus<'_>, Fault> {
-    let mut read = sys::pgmsg_parameter_status::default();
-    answer(|fault| {
-        // SAFETY: `body` is a slice, valid for its length; `read` and `fault` are apart from it.
-        let number = unsafe {
-            sys::pgmsg_read_raw_parameter_status(body.as_ptr(), body.len(), &mut read, fault)
-        };
-        number as isize
-    })?;
+    // SAFETY: the call is one of the library, which reads a body so.
+    let read = unsafe { read_parts(body, sys::pgmsg_read_raw_parameter_status)? };
     Ok(RawParameterStatus {
         name: part(body, read.name)?,
         value: part(body, read.value)?,
@@ -153,10 +126,7 @@ pub fn raw_parameter_status(body: &[u8]) -> Result<RawParameterStatus<'_>, Fault
 /// ```
 #[inline]
 pub fn no_body(body: &[u8]) -> Result<(), Fault> {
-    answer(|fault| {
-        // SAFETY: `body` is a slice, valid for its length, and `fault` is apart from it.
-        let number = unsafe { sys::pgmsg_read_no_body(body.as_ptr(), body.len(), fault) };
-        number as isize
-    })?;
+    // SAFETY: the call is one of the library, which reads a body so.
+    unsafe { read_number(body, sys::pgmsg_read_no_body)? };
     Ok(())
 }

@@ -1,9 +1,10 @@
 //! The columns of a result in the server's encoding.
 
 use super::Column;
-use crate::answer::{answer, fill, part};
+use crate::answer::part;
 use crate::error::Fault;
 use crate::format::FormatCode;
+use crate::reading::read_items;
 use crate::sys;
 
 /// A column of a result whose name is in the server's encoding.
@@ -72,22 +73,8 @@ impl<'a> From<Column<'a>> for RawColumn<'a> {
 /// # Ok::<(), pgmsg::Fault>(())
 /// ```
 pub fn raw_columns(body: &[u8]) -> Result<Vec<RawColumn<'_>>, Fault> {
-    let mut room = Vec::new();
-    let columns = fill(&mut room, |room: &mut [sys::pgmsg_column]| {
-        answer(|fault| {
-            // SAFETY: `body` and `room` are slices, valid for their lengths, and `&mut` keeps `room`
-            // and `fault` apart.
-            unsafe {
-                sys::pgmsg_read_raw_columns(
-                    body.as_ptr(),
-                    body.len(),
-                    room.as_mut_ptr(),
-                    room.len(),
-                    fault,
-                )
-            }
-        })
-    })?;
+    // SAFETY: the call is one of the library, which reads a body so.
+    let columns = unsafe { read_items(body, sys::pgmsg_read_raw_columns)? };
     columns
         .iter()
         .map(|column| column_of(body, column))

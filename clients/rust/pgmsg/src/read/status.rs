@@ -1,7 +1,8 @@
 //! What a session and a command report of themselves.
 
-use crate::answer::{answer, part, text};
+use crate::answer::{part, text};
 use crate::error::Fault;
+use crate::reading::{read_number, read_parts};
 use crate::sys;
 
 /// A notification from another session.
@@ -25,13 +26,8 @@ pub struct Notification<'a> {
 /// # Ok::<(), pgmsg::Fault>(())
 /// ```
 pub fn notification(body: &[u8]) -> Result<Notification<'_>, Fault> {
-    let mut read = sys::pgmsg_notification::default();
-    answer(|fault| {
-        // SAFETY: `body` is a slice, valid for its length; `read` and `fault` are apart from it.
-        let number =
-            unsafe { sys::pgmsg_read_notification(body.as_ptr(), body.len(), &mut read, fault) };
-        number as isize
-    })?;
+    // SAFETY: the call is one of the library, which reads a body so.
+    let read = unsafe { read_parts(body, sys::pgmsg_read_notification)? };
     Ok(Notification {
         process_id: read.process_id,
         channel: part(body, read.channel)?,
@@ -58,14 +54,8 @@ pub struct ParameterStatus<'a> {
 /// # Ok::<(), pgmsg::Fault>(())
 /// ```
 pub fn parameter_status(body: &[u8]) -> Result<ParameterStatus<'_>, Fault> {
-    let mut read = sys::pgmsg_parameter_status::default();
-    answer(|fault| {
-        // SAFETY: `body` is a slice, valid for its length; `read` and `fault` are apart from it.
-        let number = unsafe {
-            sys::pgmsg_read_parameter_status(body.as_ptr(), body.len(), &mut read, fault)
-        };
-        number as isize
-    })?;
+    // SAFETY: the call is one of the library, which reads a body so.
+    let read = unsafe { read_parts(body, sys::pgmsg_read_parameter_status)? };
     Ok(ParameterStatus {
         name: text(body, read.name)?,
         value: text(body, read.value)?,
@@ -91,13 +81,8 @@ pub struct KeyData {
 /// # Ok::<(), pgmsg::Fault>(())
 /// ```
 pub fn key_data(body: &[u8]) -> Result<KeyData, Fault> {
-    let mut read = sys::pgmsg_key_data::default();
-    answer(|fault| {
-        // SAFETY: `body` is a slice, valid for its length; `read` and `fault` are apart from it.
-        let number =
-            unsafe { sys::pgmsg_read_key_data(body.as_ptr(), body.len(), &mut read, fault) };
-        number as isize
-    })?;
+    // SAFETY: the call is one of the library, which reads a body so.
+    let read = unsafe { read_parts(body, sys::pgmsg_read_key_data)? };
     Ok(KeyData {
         process_id: read.process_id,
         secret_key: read.secret_key,
@@ -150,11 +135,8 @@ impl TransactionStatus {
 /// ```
 #[inline]
 pub fn ready(body: &[u8]) -> Result<TransactionStatus, Fault> {
-    let letter = answer(|fault| {
-        // SAFETY: `body` is a slice, valid for its length, and `fault` is apart from it.
-        let letter = unsafe { sys::pgmsg_read_ready(body.as_ptr(), body.len(), fault) };
-        letter as isize
-    })?;
+    // SAFETY: the call is one of the library, which reads a body so.
+    let letter = unsafe { read_number(body, sys::pgmsg_read_ready)? };
     match u8::try_from(letter) {
         Ok(b'I') => Ok(TransactionStatus::Idle),
         Ok(b'T') => Ok(TransactionStatus::InTransaction),

@@ -3,7 +3,7 @@
 use super::Messages;
 use crate::error::Refusal;
 use crate::sys;
-use crate::write::Buffer;
+use crate::write::{Buffer, Put};
 
 impl<B: Buffer> Messages<B> {
     /// Ends a command, by its tag, such as `INSERT 0 1`: CommandComplete.

@@ -3,25 +3,19 @@
 use super::{texts_of, Messages};
 use crate::error::Refusal;
 use crate::sys;
-use crate::write::Buffer;
+use crate::write::{Buffer, Put};
 
 impl<B: Buffer> Messages<B> {
     /// Accepts the client: AuthenticationOk.
     #[inline]
     pub fn authentication_ok(&mut self) -> Result<&mut Self, Refusal> {
-        self.put(|mut out| {
-            // SAFETY: `out` is room, valid for its length.
-            unsafe { sys::pgmsg_put_authentication_ok(out.as_mut_ptr(), out.len()) }
-        })
+        self.put_same(sys::pgmsg_put_authentication_ok)
     }
 
     /// Asks for a password in clear: AuthenticationCleartextPassword.
     #[inline]
     pub fn authentication_cleartext(&mut self) -> Result<&mut Self, Refusal> {
-        self.put(|mut out| {
-            // SAFETY: `out` is room, valid for its length.
-            unsafe { sys::pgmsg_put_authentication_cleartext(out.as_mut_ptr(), out.len()) }
-        })
+        self.put_same(sys::pgmsg_put_authentication_cleartext)
     }
 
     /// Asks for a password as an MD5 digest with this salt: AuthenticationMD5Password.

@@ -4,7 +4,7 @@ use super::Messages;
 use crate::error::Refusal;
 use crate::format::{Format, FormatCode};
 use crate::sys;
-use crate::write::Buffer;
+use crate::write::{Buffer, Put};
 
 impl<B: Buffer> Messages<B> {
     /// Waits for the data of a COPY, which is spelled so as a whole and in each of its columns:

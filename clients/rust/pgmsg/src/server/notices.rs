@@ -4,7 +4,7 @@ use super::Messages;
 use crate::error::Refusal;
 use crate::read::Field;
 use crate::sys;
-use crate::write::Buffer;
+use crate::write::{Buffer, Put};
 
 impl<B: Buffer> Messages<B> {
     /// Ends a command by an error, with these fields: ErrorResponse. A client asks for a severity, a

@@ -5,7 +5,7 @@ use crate::error::Refusal;
 use crate::read::RawColumn;
 use crate::sys;
 use crate::write::parameters::values as values_of;
-use crate::write::{Buffer, Value};
+use crate::write::{Buffer, Put, Value};
 
 /// The most values of a row that are collected without an allocation.
 const FEW: usize = 16;

@@ -4,7 +4,7 @@ use super::{texts_of, Messages};
 use crate::error::Refusal;
 use crate::read::TransactionStatus;
 use crate::sys;
-use crate::write::Buffer;
+use crate::write::{Buffer, Put};
 
 impl<B: Buffer> Messages<B> {
     /// Gives what a request to cancel has to name: BackendKeyData.
@@ -17,18 +17,7 @@ impl<B: Buffer> Messages<B> {
         process_id: u32,
         secret_key: &[u8],
     ) -> Result<&mut Self, Refusal> {
-        self.put(|mut out| {
-            // SAFETY: both are slices, valid for their lengths, and `&mut` keeps `out` apart.
-            unsafe {
-                sys::pgmsg_put_backend_key_data(
-                    process_id,
-                    secret_key.as_ptr(),
-                    secret_key.len(),
-                    out.as_mut_ptr(),
-                    out.len(),
-                )
-            }
-        })
+        self.put_key(sys::pgmsg_put_backend_key_data, process_id, secret_key)
     }
 
     /// Reports a setting and its value, at the start of a session and when it changes:

@@ -1,6 +1,6 @@
 //! The data of a COPY.
 
-use super::{Buffer, Messages};
+use super::{Buffer, Messages, Put};
 use crate::error::Refusal;
 use crate::sys;
 
@@ -33,21 +33,13 @@ impl<B: Buffer> Messages<B> {
     /// Refused with [`MessageTooLong`](Refusal::MessageTooLong) above 2147483643 bytes.
     #[inline]
     pub fn copy_data(&mut self, data: &[u8]) -> Result<&mut Self, Refusal> {
-        self.put(|mut out| {
-            // SAFETY: both are slices, valid for their lengths, and `&mut` keeps `out` apart.
-            unsafe {
-                sys::pgmsg_put_copy_data(data.as_ptr(), data.len(), out.as_mut_ptr(), out.len())
-            }
-        })
+        self.put_bytes(sys::pgmsg_put_copy_data, data)
     }
 
     /// Ends the data of a COPY: CopyDone.
     #[inline]
     pub fn copy_done(&mut self) -> Result<&mut Self, Refusal> {
-        self.put(|mut out| {
-            // SAFETY: `out` is room, valid for its length.
-            unsafe { sys::pgmsg_put_copy_done(out.as_mut_ptr(), out.len()) }
-        })
+        self.put_same(sys::pgmsg_put_copy_done)
     }
 
     /// Makes a COPY fail, for this reason: CopyFail.
@@ -55,11 +47,6 @@ impl<B: Buffer> Messages<B> {
     /// Refused with [`TextHoldsNul`](Refusal::TextHoldsNul) where the reason holds a NUL.
     #[inline]
     pub fn copy_fail(&mut self, reason: &str) -> Result<&mut Self, Refusal> {
-        self.put(|mut out| {
-            // SAFETY: both are slices, valid for their lengths, and `&mut` keeps `out` apart.
-            unsafe {
-                sys::pgmsg_put_copy_fail(reason.as_ptr(), reason.len(), out.as_mut_ptr(), out.len())
-            }
-        })
+        self.put_bytes(sys::pgmsg_put_copy_fail, reason.as_bytes())
     }
 }

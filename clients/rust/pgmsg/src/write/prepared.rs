@@ -1,7 +1,7 @@
 //! Prepared statements and the values of their parameters.
 
 use super::parameters::{codes, values};
-use super::{Buffer, Messages, Parameters, Portal, Statement};
+use super::{Buffer, Messages, Parameters, Portal, Put, Statement};
 use crate::error::Refusal;
 use crate::sys;
 

@@ -1,6 +1,6 @@
 //! Queries, and what describes, runs and closes statements and portals.
 
-use super::{Buffer, Messages, Portal, Statement};
+use super::{Buffer, Messages, Portal, Put, Statement};
 use crate::error::Refusal;
 use crate::sys;
 use std::num::NonZeroU32;
@@ -11,30 +11,19 @@ impl<B: Buffer> Messages<B> {
     /// Refused with [`TextHoldsNul`](Refusal::TextHoldsNul) where the text holds a NUL.
     #[inline]
     pub fn query(&mut self, query: &str) -> Result<&mut Self, Refusal> {
-        self.put(|mut out| {
-            // SAFETY: both are slices, valid for their lengths, and `&mut` keeps `out` apart.
-            unsafe {
-                sys::pgmsg_put_query(query.as_ptr(), query.len(), out.as_mut_ptr(), out.len())
-            }
-        })
+        self.put_bytes(sys::pgmsg_put_query, query.as_bytes())
     }
 
     /// Asks for the parameters and the columns of a statement: Describe.
     #[inline]
     pub fn describe_statement(&mut self, statement: Statement) -> Result<&mut Self, Refusal> {
-        self.put(|mut out| {
-            // SAFETY: `out` is room, valid for its length.
-            unsafe { sys::pgmsg_put_describe_statement(statement.0, out.as_mut_ptr(), out.len()) }
-        })
+        self.put_number(sys::pgmsg_put_describe_statement, statement.0)
     }
 
     /// Asks for the columns of a portal: Describe.
     #[inline]
     pub fn describe_portal(&mut self, portal: Portal) -> Result<&mut Self, Refusal> {
-        self.put(|mut out| {
-            // SAFETY: `out` is room, valid for its length.
-            unsafe { sys::pgmsg_put_describe_portal(portal.0, out.as_mut_ptr(), out.len()) }
-        })
+        self.put_number(sys::pgmsg_put_describe_portal, portal.0)
     }
 
     /// Runs a portal, up to so many rows, or to the last one: Execute.
@@ -64,36 +53,24 @@ impl<B: Buffer> Messages<B> {
     /// Closes a statement: Close.
     #[inline]
     pub fn close_statement(&mut self, statement: Statement) -> Result<&mut Self, Refusal> {
-        self.put(|mut out| {
-            // SAFETY: `out` is room, valid for its length.
-            unsafe { sys::pgmsg_put_close_statement(statement.0, out.as_mut_ptr(), out.len()) }
-        })
+        self.put_number(sys::pgmsg_put_close_statement, statement.0)
     }
 
     /// Closes a portal: Close.
     #[inline]
     pub fn close_portal(&mut self, portal: Portal) -> Result<&mut Self, Refusal> {
-        self.put(|mut out| {
-            // SAFETY: `out` is room, valid for its length.
-            unsafe { sys::pgmsg_put_close_portal(portal.0, out.as_mut_ptr(), out.len()) }
-        })
+        self.put_number(sys::pgmsg_put_close_portal, portal.0)
     }
 
     /// Asks the server to send the answers that it holds back: Flush.
     #[inline]
     pub fn flush(&mut self) -> Result<&mut Self, Refusal> {
-        self.put(|mut out| {
-            // SAFETY: `out` is room, valid for its length.
-            unsafe { sys::pgmsg_put_flush(out.as_mut_ptr(), out.len()) }
-        })
+        self.put_same(sys::pgmsg_put_flush)
     }
 
     /// Ends a run of messages, which the server answers with ReadyForQuery: Sync.
     #[inline]
     pub fn sync(&mut self) -> Result<&mut Self, Refusal> {
-        self.put(|mut out| {
-            // SAFETY: `out` is room, valid for its length.
-            unsafe { sys::pgmsg_put_sync(out.as_mut_ptr(), out.len()) }
-        })
+        self.put_same(sys::pgmsg_put_sync)
     }
 }

@@ -1,7 +1,7 @@
 //! Messages whose names, formats and texts are the caller's own bytes.
 
 use super::parameters::values;
-use super::{Buffer, Messages, Value};
+use super::{Buffer, Messages, Put, Value};
 use crate::error::Refusal;
 use crate::format::FormatCode;
 use crate::sys;
@@ -45,19 +45,7 @@ impl<'a> RawParameters<'a> {
     }
 }
 
-/// A call of the library that takes some bytes.
-type PutBytes = unsafe extern "C" fn(*const u8, usize, *mut u8, usize) -> isize;
-
 impl<B: Buffer> Messages<B> {
-    /// Appends what a call of the library writes of some bytes.
-    #[inline]
-    fn put_bytes(&mut self, call: PutBytes, bytes: &[u8]) -> Result<&mut Self, Refusal> {
-        self.put(|mut out| {
-            // SAFETY: both are slices, valid for their lengths, and `&mut` keeps `out` apart.
-            unsafe { call(bytes.as_ptr(), bytes.len(), out.as_mut_ptr(), out.len()) }
-        })
-    }
-
     /// Prepares a statement of any name: Parse. An empty name is that of the unnamed one.
     ///
     /// `types` are the object ids of the parameters' types, from the first parameter on. The
@@ -271,18 +259,7 @@ impl<B: Buffer> Messages<B> {
         process_id: u32,
         secret_key: &[u8],
     ) -> Result<&mut Self, Refusal> {
-        self.put(|mut out| {
-            // SAFETY: both are slices, valid for their lengths, and `&mut` keeps `out` apart.
-            unsafe {
-                sys::pgmsg_put_cancel_request(
-                    process_id,
-                    secret_key.as_ptr(),
-                    secret_key.len(),
-                    out.as_mut_ptr(),
-                    out.len(),
-                )
-            }
-        })
+        self.put_key(sys::pgmsg_put_cancel_request, process_id, secret_key)
     }
 
     /// Asks for a connection that GSSAPI encrypts, before the session is opened: GSSENCRequest.
@@ -290,10 +267,7 @@ impl<B: Buffer> Messages<B> {
     /// The server answers with one byte, `G` or `N`, which is no message.
     #[inline]
     pub fn gss_enc_request(&mut self) -> Result<&mut Self, Refusal> {
-        self.put(|mut out| {
-            // SAFETY: `out` is room, valid for its length.
-            unsafe { sys::pgmsg_put_gss_enc_request(out.as_mut_ptr(), out.len()) }
-        })
+        self.put_same(sys::pgmsg_put_gss_enc_request)
     }
 }
 

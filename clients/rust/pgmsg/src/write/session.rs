@@ -1,6 +1,6 @@
 //! How a session begins and ends.
 
-use super::{Buffer, Messages};
+use super::{Buffer, Messages, Put};
 use crate::error::Refusal;
 use crate::sys;
 
@@ -60,10 +60,7 @@ impl<B: Buffer> Messages<B> {
     /// The server answers with one byte, `S` or `N`, which is no message.
     #[inline]
     pub fn ssl_request(&mut self) -> Result<&mut Self, Refusal> {
-        self.put(|mut out| {
-            // SAFETY: `out` is room, valid for its length.
-            unsafe { sys::pgmsg_put_ssl_request(out.as_mut_ptr(), out.len()) }
-        })
+        self.put_same(sys::pgmsg_put_ssl_request)
     }
 
     /// Sends a password in clear: PasswordMessage.
@@ -71,13 +68,7 @@ impl<B: Buffer> Messages<B> {
     /// Refused with [`TextHoldsNul`](Refusal::TextHoldsNul) where the password holds a NUL.
     #[inline]
     pub fn password(&mut self, password: &str) -> Result<&mut Self, Refusal> {
-        let bytes = password.as_bytes();
-        self.put(|mut out| {
-            // SAFETY: both are slices, valid for their lengths, and `&mut` keeps `out` apart.
-            unsafe {
-                sys::pgmsg_put_password(bytes.as_ptr(), bytes.len(), out.as_mut_ptr(), out.len())
-            }
-        })
+        self.put_bytes(sys::pgmsg_put_password, password.as_bytes())
     }
 
     /// Sends the digest of a password: PasswordMessage.
@@ -125,27 +116,13 @@ impl<B: Buffer> Messages<B> {
     /// Answers the challenge of a SASL exchange: SASLResponse.
     #[inline]
     pub fn sasl_response(&mut self, response: &str) -> Result<&mut Self, Refusal> {
-        let bytes = response.as_bytes();
-        self.put(|mut out| {
-            // SAFETY: both are slices, valid for their lengths, and `&mut` keeps `out` apart.
-            unsafe {
-                sys::pgmsg_put_sasl_response(
-                    bytes.as_ptr(),
-                    bytes.len(),
-                    out.as_mut_ptr(),
-                    out.len(),
-                )
-            }
-        })
+        self.put_bytes(sys::pgmsg_put_sasl_response, response.as_bytes())
     }
 
     /// Ends the session: Terminate.
     #[inline]
     pub fn terminate(&mut self) -> Result<&mut Self, Refusal> {
-        self.put(|mut out| {
-            // SAFETY: `out` is room, valid for its length.
-            unsafe { sys::pgmsg_put_terminate(out.as_mut_ptr(), out.len()) }
-        })
+        self.put_same(sys::pgmsg_put_terminate)
     }
 }
 

@@ -1,0 +1,76 @@
+//! How messages to the server and messages to a client are appended alike.
+
+use super::buffer::{append, Buffer, Spare};
+use crate::error::Refusal;
+
+/// A call of the library that writes a message which is always the same.
+type PutSame = unsafe extern "C" fn(*mut u8, usize) -> isize;
+
+/// A call of the library that writes a message of a number.
+type PutNumber = unsafe extern "C" fn(u32, *mut u8, usize) -> isize;
+
+/// A call of the library that writes a message of some bytes.
+type PutBytes = unsafe extern "C" fn(*const u8, usize, *mut u8, usize) -> isize;
+
+/// A call of the library that writes a message of a process and its key.
+type PutKey = unsafe extern "C" fn(u32, *const u8, usize, *mut u8, usize) -> isize;
+
+/// Messages that calls of the library are appended to.
+pub(crate) trait Put: Sized {
+    /// What they are appended to.
+    type Buffer: Buffer;
+
+    /// The bytes that are there, and the room after them.
+    fn buffer(&mut self) -> &mut Self::Buffer;
+
+    /// Appends what a call writes, as [`append`] does.
+    #[inline]
+    fn put(&mut self, call: impl Fn(Spare<'_>) -> isize) -> Result<&mut Self, Refusal> {
+        append(self.buffer(), call)?;
+        Ok(self)
+    }
+
+    /// Appends a message which is always the same.
+    #[inline]
+    fn put_same(&mut self, call: PutSame) -> Result<&mut Self, Refusal> {
+        self.put(move |mut out| {
+            // SAFETY: `out` is room, valid for its length.
+            unsafe { call(out.as_mut_ptr(), out.len()) }
+        })
+    }
+
+    /// Appends what a call writes of a number.
+    #[inline]
+    fn put_number(&mut self, call: PutNumber, number: u32) -> Result<&mut Self, Refusal> {
+        self.put(move |mut out| {
+            // SAFETY: `out` is room, valid for its length.
+            unsafe { call(number, out.as_mut_ptr(), out.len()) }
+        })
+    }
+
+    /// Appends what a call writes of some bytes.
+    #[inline]
+    fn put_bytes(&mut self, call: PutBytes, bytes: &[u8]) -> Result<&mut Self, Refusal> {
+        self.put(move |mut out| {
+            // SAFETY: both are slices, valid for their lengths, and `&mut` keeps `out` apart.
+            unsafe { call(bytes.as_ptr(), bytes.len(), out.as_mut_ptr(), out.len()) }
+        })
+    }
+
+    /// Appends what a call writes of a process and its key.
+    #[inline]
+    fn put_key(&mut self, call: PutKey, process_id: u32, key: &[u8]) -> Result<&mut Self, Refusal> {
+        self.put(move |mut out| {
+            // SAFETY: both are slices, valid for their lengths, and `&mut` keeps `out` apart.
+            unsafe {
+                call(
+                    process_id,
+                    key.as_ptr(),
+                    key.len(),
+                    out.as_mut_ptr(),
+                    out.len(),
+                )
+            }
+        })
+    }
+}
