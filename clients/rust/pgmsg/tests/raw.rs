@@ -1,29 +1,12 @@
 //! Messages with names, formats and texts of the caller's, with bytes written by hand in the
 //! layouts of "Message Formats" in the PostgreSQL documentation.
 
+mod common;
+
+use common::writing::{assert_refused, assert_writes};
 use pgmsg::write::{Messages, RawParameters, Value, Values};
 use pgmsg::{FormatCode, Refusal};
 use std::num::NonZeroU32;
-
-/// Asserts that a call on no messages writes these bytes.
-macro_rules! assert_writes {
-    ($bytes:expr, $($call:tt)+) => {
-        let mut messages = Messages::new();
-        messages.$($call)+.map(|_| ()).expect("it has no fault");
-        let bytes: &[u8] = $bytes;
-        assert_eq!(messages.as_bytes(), bytes);
-    };
-}
-
-/// Asserts that a call is refused, and leaves the message that was written before.
-macro_rules! assert_refused {
-    ($refusal:ident, $($call:tt)+) => {
-        let mut messages = Messages::new();
-        messages.sync().expect("a Sync has no fault");
-        assert_eq!(messages.$($call)+.map(|_| ()), Err(Refusal::$refusal));
-        assert_eq!(messages.as_bytes(), b"S\0\0\0\x04");
-    };
-}
 
 #[test]
 fn raw_parse() {

@@ -1,38 +1,13 @@
 //! Messages to a client, with bytes written by hand in the layouts of "Message Formats" in the
 //! PostgreSQL documentation.
 
+mod common;
+
+use common::writing::{assert_refused, assert_writes};
 use pgmsg::read::{Field, FieldKind, RawColumn, TransactionStatus};
 use pgmsg::server::Messages;
 use pgmsg::write::Value;
-use pgmsg::{Format, FormatCode, Refusal};
-
-/// The result of a call on no messages: what it wrote, or the refusal.
-fn written(
-    call: impl Fn(&mut Messages) -> Result<&mut Messages, Refusal>,
-) -> Result<Vec<u8>, Refusal> {
-    let mut messages = Messages::new();
-    call(&mut messages)?;
-    Ok(messages.into_bytes())
-}
-
-/// Asserts that a call on no messages writes these bytes.
-macro_rules! assert_writes {
-    ($bytes:expr, $($call:tt)+) => {
-        let bytes: &[u8] = $bytes;
-        assert_eq!(written(|m| m.$($call)+).as_deref(), Ok(bytes));
-    };
-}
-
-/// Asserts that a call is refused, and leaves the message that was written before.
-macro_rules! assert_refused {
-    ($refusal:ident, $($call:tt)+) => {
-        let mut messages = Messages::new();
-        messages.no_data().expect("a NoData has no fault");
-        let refusal = messages.$($call)+.map(|_| ());
-        assert_eq!(refusal, Err(Refusal::$refusal));
-        assert_eq!(messages.as_bytes(), b"n\0\0\0\x04");
-    };
-}
+use pgmsg::{Format, FormatCode};
 
 #[test]
 fn requests_for_authentication() {
@@ -150,12 +125,12 @@ fn rows_of_iterators_of_each_length() {
             .iter()
             .map(|text| Value::from(text.as_str()))
             .collect();
-        let expected = written(|m| m.row(&values));
-        assert_eq!(
-            written(|m| m.row_of(texts.iter().map(String::as_str))),
-            expected
+        let mut expected = Messages::new();
+        expected.row(&values).expect("a row has no fault");
+        assert_writes!(
+            expected.as_bytes(),
+            row_of(texts.iter().map(String::as_str))
         );
-        assert!(expected.is_ok());
     }
 }
 

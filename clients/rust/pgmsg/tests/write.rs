@@ -1,37 +1,12 @@
 //! Messages to the server, with bytes written by hand in the layouts of "Message Formats" in the
 //! PostgreSQL documentation.
 
+mod common;
+
+use common::writing::{assert_refused, assert_writes};
 use pgmsg::write::{copy_head, Mechanism, Messages, Parameters, Portal, Statement, Value};
 use pgmsg::{Format, Refusal};
 use std::num::NonZeroU32;
-
-/// The result of a call on no messages: what it wrote, or the refusal.
-fn written(
-    call: impl Fn(&mut Messages) -> Result<&mut Messages, Refusal>,
-) -> Result<Vec<u8>, Refusal> {
-    let mut messages = Messages::new();
-    call(&mut messages)?;
-    Ok(messages.into_bytes())
-}
-
-/// Asserts that a call on no messages writes these bytes.
-macro_rules! assert_writes {
-    ($bytes:expr, $($call:tt)+) => {
-        let bytes: &[u8] = $bytes;
-        assert_eq!(written(|m| m.$($call)+).as_deref(), Ok(bytes));
-    };
-}
-
-/// Asserts that a call is refused, and leaves the message that was written before.
-macro_rules! assert_refused {
-    ($refusal:ident, $($call:tt)+) => {
-        let mut messages = Messages::new();
-        messages.sync().expect("a Sync has no fault");
-        let refusal = messages.$($call)+.map(|_| ());
-        assert_eq!(refusal, Err(Refusal::$refusal));
-        assert_eq!(messages.as_bytes(), b"S\0\0\0\x04");
-    };
-}
 
 #[test]
 fn startup() {

@@ -1,9 +1,10 @@
 //! What the tests share.
 
 // Each test file is a crate of its own and uses a part.
-#![allow(dead_code)]
+#![allow(dead_code, unused_imports, unused_macros)]
 
 pub mod passing;
+pub mod writing;
 
 use pgmsg::{Fault, Refusal};
 
