@@ -6,6 +6,7 @@ import unittest
 
 import support  # noqa: F401
 from pgmsg import Code, Fault, Format, Messages, copy_head
+from writing import WritesMessages
 
 DIGEST = bytes(range(15)) + b"\xff"
 
@@ -84,20 +85,8 @@ MISTAKES = [
 ]
 
 
-class TestMessages(unittest.TestCase):
-    def test_each_alone(self):
-        for call, due in SAMPLES:
-            with self.subTest(due=due):
-                messages = Messages()
-                self.assertIs(call(messages), messages)
-                self.assertEqual(bytes(messages), due)
-                self.assertEqual(len(messages), len(due))
-
-    def test_all_together(self):
-        messages = Messages()
-        for call, _ in SAMPLES * 50:
-            call(messages)
-        self.assertEqual(bytes(messages), b"".join(due for _, due in SAMPLES) * 50)
+class TestMessages(WritesMessages, unittest.TestCase):
+    MESSAGES, SAMPLES, REFUSALS, MISTAKES = Messages, SAMPLES, REFUSALS, MISTAKES
 
     def test_at_the_end_of_the_room(self):
         for call, due in SAMPLES:
@@ -106,26 +95,6 @@ class TestMessages(unittest.TestCase):
                 fill = len(messages._room) - 5 - spare
                 call(messages.copy_data(bytes(fill)))
                 self.assertEqual(messages.view()[fill + 5 :], due)
-
-    def test_a_refusal_changes_nothing(self):
-        for call, code in REFUSALS:
-            with self.subTest(code=code):
-                messages = Messages().query("SELECT 1")
-                room = bytes(messages._room)
-                with self.assertRaises(Fault) as refused:
-                    call(messages)
-                self.assertIs(refused.exception.code, code)
-                self.assertEqual(refused.exception.at, 0)
-                self.assertEqual(bytes(messages), b"Q\0\0\0\x0dSELECT 1\0")
-                self.assertEqual(bytes(messages._room), room)
-                self.assertEqual(bytes(messages.sync()), b"Q\0\0\0\x0dSELECT 1\0S\0\0\0\x04")
-
-    def test_a_mistake_changes_nothing(self):
-        for call, error in MISTAKES:
-            with self.subTest(error=error):
-                messages = Messages().flush()
-                self.assertRaises(error, call, messages)
-                self.assertEqual(bytes(messages), b"H\0\0\0\x04")
 
     def test_clear(self):
         messages = Messages().query("SELECT 1")

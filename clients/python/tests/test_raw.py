@@ -3,7 +3,8 @@
 import unittest
 
 import support  # noqa: F401
-from pgmsg import Code, Fault, Messages, _header
+from pgmsg import Code, Messages, _header
+from writing import WritesMessages
 
 HAS_RAW = "pgmsg_put_raw_parse" in _header.PROTOTYPES
 
@@ -67,30 +68,9 @@ MISTAKES = [
 
 
 @unittest.skipUnless(HAS_RAW, "the header has no such calls")
-class TestRaw(unittest.TestCase):
-    def test_each(self):
-        for call, due in SAMPLES:
-            with self.subTest(due=due):
-                messages = Messages()
-                self.assertIs(call(messages), messages)
-                self.assertEqual(bytes(messages), due)
-
-    def test_a_refusal_changes_nothing(self):
-        for call, code in REFUSALS:
-            with self.subTest(code=code):
-                messages = Messages().query("SELECT 1")
-                room = bytes(messages._room)
-                with self.assertRaises(Fault) as refused:
-                    call(messages)
-                self.assertIs(refused.exception.code, Code[code])
-                self.assertEqual(bytes(messages._room), room)
-                self.assertEqual(bytes(messages), b"Q\0\0\0\x0dSELECT 1\0")
-
-    def test_a_mistake_changes_nothing(self):
-        for call, error in MISTAKES:
-            messages = Messages().flush()
-            self.assertRaises(error, call, messages)
-            self.assertEqual(bytes(messages), b"H\0\0\0\x04")
+class TestRaw(WritesMessages, unittest.TestCase):
+    MESSAGES, SAMPLES, MISTAKES = Messages, SAMPLES, MISTAKES
+    REFUSALS = [(call, Code[code]) for call, code in REFUSALS if HAS_RAW]
 
 
 if __name__ == "__main__":

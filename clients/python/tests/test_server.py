@@ -4,7 +4,8 @@ import unittest
 
 import support  # noqa: F401
 import pgmsg
-from pgmsg import Code, Fault, Kind, ServerMessages, TransactionStatus, column, next_frame
+from pgmsg import Code, Kind, ServerMessages, TransactionStatus, column, next_frame
+from writing import WritesMessages
 
 ID = column("id", 23, table=16385, attribute=-2, type_size=4, format=1)
 
@@ -98,37 +99,8 @@ MISTAKES = [
 ]
 
 
-class TestServerMessages(unittest.TestCase):
-    def test_each_alone(self):
-        for call, due in SAMPLES:
-            with self.subTest(due=due):
-                messages = ServerMessages()
-                self.assertIs(call(messages), messages)
-                self.assertEqual(bytes(messages), due)
-
-    def test_all_together(self):
-        messages = ServerMessages()
-        for call, _ in SAMPLES * 50:
-            call(messages)
-        self.assertEqual(bytes(messages), b"".join(due for _, due in SAMPLES) * 50)
-
-    def test_a_refusal_changes_nothing(self):
-        for call, code in REFUSALS:
-            with self.subTest(code=code):
-                messages = ServerMessages().no_data()
-                room = bytes(messages._room)
-                with self.assertRaises(Fault) as refused:
-                    call(messages)
-                self.assertIs(refused.exception.code, code)
-                self.assertEqual(bytes(messages), b"n\0\0\0\x04")
-                self.assertEqual(bytes(messages._room), room)
-
-    def test_a_mistake_changes_nothing(self):
-        for call, error in MISTAKES:
-            with self.subTest(error=error):
-                messages = ServerMessages().no_data()
-                self.assertRaises(error, call, messages)
-                self.assertEqual(bytes(messages), b"n\0\0\0\x04")
+class TestServerMessages(WritesMessages, unittest.TestCase):
+    MESSAGES, SAMPLES, REFUSALS, MISTAKES = ServerMessages, SAMPLES, REFUSALS, MISTAKES
 
 
 def written(call):
