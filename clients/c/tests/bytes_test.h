@@ -19,6 +19,9 @@ const struct sample *server_samples(size_t *count);
 /* Puts messages into rooms, some of which are too short. */
 void test_rooms(struct tally *tally, const struct sample *put, size_t count);
 
+/* Passes a test so many zeros, none of which takes memory before it is read. */
+void with_zeros(struct tally *tally, size_t len, void (*test)(struct tally *tally, const uint8_t *zeros));
+
 void test_put(struct tally *tally);
 void test_put_faults(struct tally *tally);
 void test_read(struct tally *tally);

@@ -1,9 +1,5 @@
 /* The number, the offset and the words of each fault of a client's bytes, and what a refusal leaves alone. */
-#define _DEFAULT_SOURCE
-
 #include "bytes_test_read.h"
-
-#include <sys/mman.h>
 
 static void words_of_streams(struct tally *tally)
 {
@@ -20,6 +16,8 @@ static void words_of_streams(struct tally *tally)
             pgmsg_next_first_frame(BYTES("\0\0\0\7"), 10000, &frame, &fault));
     REFUSES(tally, PGMSG_BAD_LENGTH, 0, "bad message length: -1",
             pgmsg_next_first_frame(BYTES("\377\377\377\377"), 0, &frame, &fault));
+    REFUSES(tally, PGMSG_FIRST_TOO_LONG, 0, "expected a first message of at most 9 bytes, got 10",
+            pgmsg_next_first_frame(BYTES("\0\0\0\12"), 9, &frame, &fault));
     REFUSES(tally, PGMSG_FIRST_TOO_LONG, 0, "expected a first message of at most 10000 bytes, got 10001",
             pgmsg_next_first_frame(BYTES("\0\0\47\21"), 10000, &frame, &fault));
     REFUSES(tally, PGMSG_FIRST_TOO_LONG, 0, "expected a first message of at most 0 bytes, got 2147483647",
@@ -49,6 +47,8 @@ static void words_of_firsts(struct tally *tally)
             pgmsg_read_first(BYTES("\4\322\26\60" "\0"), &first, &fault));
     REFUSES(tally, PGMSG_SHORT, 4, "expected 4 bytes at offset 4, got 3",
             pgmsg_read_first(BYTES("\4\322\26\56" "\0\0\0"), &first, &fault));
+    REFUSES(tally, PGMSG_BAD_KEY_LENGTH, 0, "bad secret key length: 0",
+            pgmsg_read_first(BYTES("\4\322\26\56" "\0\0\0\1"), &first, &fault));
     REFUSES(tally, PGMSG_BAD_KEY_LENGTH, 0, "bad secret key length: 3",
             pgmsg_read_first(BYTES("\4\322\26\56" "\0\0\0\1" "\1\2\3"), &first, &fault));
 }
@@ -110,6 +110,8 @@ static void words_of_values(struct tally *tally)
     REFUSES(tally, PGMSG_SHORT, 10, "expected 2147483647 bytes at offset 10, got 0",
             pgmsg_read_bind(BYTES("\0\0" "\0\0" "\0\1" "\177\377\377\377"), values, 0, &bind, &fault));
     REFUSES(tally, PGMSG_BAD_VALUE_LENGTH, 6, "bad value length at offset 6: -2",
+            pgmsg_read_bind(BYTES("\0\0" "\0\0" "\0\1" "\377\377\377\376"), values, 1, &bind, &fault));
+    REFUSES(tally, PGMSG_BAD_VALUE_LENGTH, 6, "bad value length at offset 6: -2",
             pgmsg_read_bind(BYTES("\0\0" "\0\0" "\0\1" "\377\377\377\376" "\0\0"), values, 0, &bind, &fault));
     REFUSES(tally, PGMSG_SHORT, 10, "expected 2 bytes at offset 10, got 1",
             pgmsg_read_bind(BYTES("\0\0" "\0\0" "\0\1" "\377\377\377\377" "\0"), values, 1, &bind, &fault));
@@ -121,19 +123,17 @@ static void words_of_values(struct tally *tally)
             pgmsg_read_function_call(BYTES("\0\0"), values, 2, &call, &fault));
     REFUSES(tally, PGMSG_BAD_VALUE_LENGTH, 12, "bad value length at offset 12: -2147483648",
             pgmsg_read_function_call(BYTES("\0\0\0\1" "\0\0" "\0\2" "\0\0\0\0" "\200\0\0\0"), values, 2, &call, &fault));
+    REFUSES(tally, PGMSG_SHORT, 12, "expected 2 bytes at offset 12, got 1",
+            pgmsg_read_function_call(BYTES("\0\0\0\1" "\0\0" "\0\1" "\0\0\0\2" "a"), values, 1, &call, &fault));
     REFUSES(tally, PGMSG_SHORT, 8, "expected 2 bytes at offset 8, got 0",
             pgmsg_read_function_call(BYTES("\0\0\0\1" "\0\0" "\0\0"), values, 2, &call, &fault));
     REFUSES(tally, PGMSG_TRAILING_BYTES, 10, "expected the end of the message at offset 10",
             pgmsg_read_function_call(BYTES("\0\0\0\1" "\0\0" "\0\0" "\0\1" "\0"), values, 2, &call, &fault));
 }
 
-/* Bodies that are refused before a byte of them is read, so that the memory of them is never there. */
-static void words_of_long_bodies(struct tally *tally)
+/* Bodies that are refused before a byte of them is read. */
+static void words_of_long_bodies(struct tally *tally, const uint8_t *body)
 {
-    void *body = too_long_body();
-    CHECK(tally, body != NULL);
-    if (body == NULL)
-        return;
     pgmsg_first first;
     pgmsg_parse parse;
     pgmsg_target target;
@@ -154,7 +154,6 @@ static void words_of_long_bodies(struct tally *tally)
     REFUSES_LONG(pgmsg_read_bind(body, TOO_LONG, values, 1, &bind, &fault));
     REFUSES_LONG(pgmsg_read_function_call(body, TOO_LONG, values, 1, &call, &fault));
 #undef REFUSES_LONG
-    CHECK(tally, munmap(body, TOO_LONG) == 0);
 }
 
 /* Checks that a call that fills something refuses, and leaves it alone. */
@@ -224,7 +223,7 @@ void test_client_faults(struct tally *tally)
     words_of_firsts(tally);
     words_of_bodies(tally);
     words_of_values(tally);
-    words_of_long_bodies(tally);
+    with_zeros(tally, TOO_LONG, words_of_long_bodies);
     what_is_left_alone(tally);
     what_has_no_fault(tally);
 }

@@ -1,10 +1,7 @@
 /* Messages to the server, and what is left of `out` where there is no room for them. */
-#include "bytes_test.h"
+#include "bytes_test_put.h"
 
-#include <stdio.h>
-#include <string.h>
-
-enum { ROOM = 320, UNTOUCHED = 0xaa, MIN_KEY = 4, MAX_KEY = 256 };
+enum { ROOM = 320, MIN_KEY = 4, MAX_KEY = 256 };
 
 static const pgmsg_setting settings[] = {
     {(const uint8_t *)"user", 4, (const uint8_t *)"ann", 3},
@@ -26,13 +23,6 @@ static const pgmsg_value values[] = {
 };
 
 static const pgmsg_value five = {(const uint8_t *)"5", 1, false};
-
-/* Each message once, by a function of the room for it. */
-#define MESSAGE(name, call)                              \
-    static ptrdiff_t name(uint8_t *out, size_t out_len) \
-    {                                                    \
-        return call;                                     \
-    }
 
 MESSAGE(startup, pgmsg_put_startup(settings, 2, out, out_len))
 MESSAGE(bare_startup, pgmsg_put_startup(settings, 0, out, out_len))
@@ -85,8 +75,6 @@ MESSAGE(raw_execute, pgmsg_put_raw_execute(BYTES("po"), UINT32_MAX, out, out_len
 MESSAGE(bare_raw_execute, pgmsg_put_raw_execute(BYTES(""), 0, out, out_len))
 MESSAGE(function_call, pgmsg_put_function_call(0x80000001, codes, 3, values, 3, 1, out, out_len))
 MESSAGE(bare_function_call, pgmsg_put_function_call(0, codes, 0, values, 0, 258, out, out_len))
-
-#define SAMPLE(put, literal) {put, literal, sizeof(literal) - 1}
 
 static const struct sample samples[] = {
     SAMPLE(startup, "\0\0\0\35" "\0\3\0\0" "user\0" "ann\0" "database\0" "d\0" "\0"),
@@ -153,15 +141,6 @@ const struct sample *put_samples(size_t *count)
     return samples;
 }
 
-/* Whether the bytes from an offset on are as they were. */
-static bool is_untouched(const uint8_t *out, size_t from)
-{
-    for (size_t i = from; i < ROOM; i++)
-        if (out[i] != UNTOUCHED)
-            return false;
-    return true;
-}
-
 /* Puts a message into so much room. It is there, and nothing after it, or else nothing at all. */
 static void test_room(struct tally *tally, const struct sample *sample, size_t room)
 {
@@ -170,10 +149,10 @@ static void test_room(struct tally *tally, const struct sample *sample, size_t r
     ptrdiff_t len = sample->put(out, room);
     CHECK(tally, len == (ptrdiff_t)sample->len);
     if (room < sample->len) {
-        CHECK(tally, is_untouched(out, 0));
+        CHECK(tally, are_untouched(out, ROOM));
     } else {
         CHECK(tally, are_bytes(out, sample->len, sample->bytes, sample->len));
-        CHECK(tally, is_untouched(out, sample->len));
+        CHECK(tally, are_untouched(out + sample->len, ROOM - sample->len));
     }
 }
 
@@ -201,10 +180,10 @@ static void test_keys(struct tally *tally)
         memset(out, UNTOUCHED, sizeof out);
         ptrdiff_t len = pgmsg_put_cancel_request(1, key, n, out, ROOM);
         if (n < MIN_KEY || n > MAX_KEY) {
-            CHECK(tally, len == PGMSG_BAD_KEY_LENGTH && is_untouched(out, 0));
+            CHECK(tally, len == PGMSG_BAD_KEY_LENGTH && are_untouched(out, ROOM));
         } else {
             const uint8_t head[] = {0, 0, (uint8_t)((n + 12) >> 8), (uint8_t)(n + 12), 4, 210, 22, 46, 0, 0, 0, 1};
-            CHECK(tally, len == (ptrdiff_t)n + 12 && is_untouched(out, n + 12));
+            CHECK(tally, len == (ptrdiff_t)n + 12 && are_untouched(out + len, ROOM - (size_t)len));
             CHECK(tally, memcmp(out, head, sizeof head) == 0 && memcmp(out + sizeof head, key, n) == 0);
         }
     }

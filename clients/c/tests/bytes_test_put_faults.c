@@ -1,16 +1,9 @@
 /* Messages to the server that are refused. */
-#define _DEFAULT_SOURCE
-
-#include "bytes_test.h"
+#include "bytes_test_put.h"
 
 #include <stdlib.h>
-#include <string.h>
-#include <sys/mman.h>
 
-enum { ROOM = 64, UNTOUCHED = 0xaa, TOO_MANY = 65536 };
-
-/* More data than a message can hold. */
-#define TOO_LONG ((size_t)1 << 31)
+enum { ROOM = 64, TOO_MANY = 65536 };
 
 static const uint8_t no_format[1];
 static const uint16_t no_code[1];
@@ -24,16 +17,6 @@ struct parts {
     pgmsg_value *values;
     uint32_t *types;
 };
-
-/* Checks that a call refuses by a number, and leaves `out` as it was. */
-#define REFUSES(tally, number, call)                         \
-    do {                                                     \
-        uint8_t out[ROOM], before[ROOM];                     \
-        memset(out, UNTOUCHED, sizeof out);                  \
-        memcpy(before, out, sizeof out);                     \
-        CHECK((tally), (call) == (number));                  \
-        CHECK((tally), memcmp(out, before, ROOM) == 0);      \
-    } while (0)
 
 /* A setting of two constant texts. */
 #define SETTING(name, value)                                                        \
@@ -73,18 +56,6 @@ static void refuse_texts(struct tally *tally)
     REFUSES(tally, PGMSG_TEXT_HOLDS_NUL,
             pgmsg_put_batch(BYTES("a\0b"), no_format, 0, &no_value, 0, no_format, 0, out, ROOM));
 }
-
-/* Checks a call on a text that begins, goes on or ends with a NUL: by the text and its length. */
-#define REFUSES_NUL(tally, call)                                   \
-    do {                                                           \
-        static const char *const texts[] = {"\0a", "a\0b", "ab\0"}; \
-        static const size_t lengths[] = {2, 3, 3};                 \
-        for (size_t i = 0; i < 3; i++) {                           \
-            const uint8_t *text = (const uint8_t *)texts[i];       \
-            size_t len = lengths[i];                               \
-            REFUSES((tally), PGMSG_TEXT_HOLDS_NUL, call);          \
-        }                                                          \
-    } while (0)
 
 /* Free texts of any bytes, which no reader would get back. */
 static void refuse_free_texts(struct tally *tally)
@@ -135,30 +106,21 @@ static void refuse_raw_counts(struct tally *tally, const struct parts *parts)
             pgmsg_put_function_call(0, no_code, 0, parts->values, TOO_MANY, 0, out, ROOM));
 }
 
-/* The longest messages, which have no room, and those a byte longer. */
+/* The longest messages, and those a byte longer. */
 static void compare_with_longest(struct tally *tally, const uint8_t *data)
 {
-    pgmsg_value value = {data, TOO_LONG - 17, false};
-    REFUSES(tally, (ptrdiff_t)TOO_LONG,
-            pgmsg_put_raw_bind(BYTES(""), BYTES(""), no_code, 0, &value, 1, no_code, 0, out, ROOM));
-    value.bytes_len++;
-    REFUSES(tally, PGMSG_MESSAGE_TOO_LONG,
-            pgmsg_put_raw_bind(BYTES(""), BYTES(""), no_code, 0, &value, 1, no_code, 0, out, ROOM));
-    value.bytes_len = TOO_LONG - 19;
-    REFUSES(tally, (ptrdiff_t)TOO_LONG, pgmsg_put_function_call(0, no_code, 0, &value, 1, 0, out, ROOM));
-    value.bytes_len++;
-    REFUSES(tally, PGMSG_MESSAGE_TOO_LONG, pgmsg_put_function_call(0, no_code, 0, &value, 1, 0, out, ROOM));
-    REFUSES(tally, (ptrdiff_t)TOO_LONG,
-            pgmsg_put_sasl_mechanism(BYTES("X"), true, data, TOO_LONG - 11, out, ROOM));
-    REFUSES(tally, PGMSG_MESSAGE_TOO_LONG,
-            pgmsg_put_sasl_mechanism(BYTES("X"), true, data, TOO_LONG - 10, out, ROOM));
+    COMPARES_LONGEST(tally, 17,
+                     pgmsg_put_raw_bind(BYTES(""), BYTES(""), no_code, 0, passed, 1, no_code, 0, out, ROOM));
+    COMPARES_LONGEST(tally, 19, pgmsg_put_function_call(0, no_code, 0, passed, 1, 0, out, ROOM));
+    COMPARES_LONGEST(tally, 11, pgmsg_put_sasl_mechanism(BYTES("X"), true, data, n, out, ROOM));
 }
 
-/* Of messages with free texts, by zeros. */
-static void refuse_raw_lengths(struct tally *tally, const uint8_t *data)
+/* Data that is refused before a byte of it is read. */
+static void refuse_lengths(struct tally *tally, const uint8_t *data)
 {
     const pgmsg_value value = {data, TOO_LONG, false};
 #define REFUSES_LONG(call) REFUSES(tally, PGMSG_MESSAGE_TOO_LONG, call)
+    REFUSES_LONG(pgmsg_put_copy_data(data, TOO_LONG, out, ROOM));
     REFUSES_LONG(pgmsg_put_password_bytes(data, TOO_LONG, out, ROOM));
     REFUSES_LONG(pgmsg_put_sasl_mechanism(data, TOO_LONG, false, BYTES(""), out, ROOM));
     REFUSES_LONG(pgmsg_put_sasl_mechanism(BYTES("\0"), true, data, TOO_LONG, out, ROOM));
@@ -175,19 +137,6 @@ static void refuse_raw_lengths(struct tally *tally, const uint8_t *data)
     REFUSES_LONG(pgmsg_put_function_call(0, no_code, 0, &value, 1, 0, out, ROOM));
 #undef REFUSES_LONG
     REFUSES(tally, PGMSG_BAD_KEY_LENGTH, pgmsg_put_cancel_request(1, data, TOO_LONG, out, ROOM));
-    compare_with_longest(tally, data);
-}
-
-/* Data that is refused before a byte of it is read, so that the memory of it is never there. */
-static void refuse_length(struct tally *tally)
-{
-    void *data = mmap(NULL, TOO_LONG, PROT_READ, MAP_PRIVATE | MAP_ANONYMOUS | MAP_NORESERVE, -1, 0);
-    CHECK(tally, data != MAP_FAILED);
-    if (data == MAP_FAILED)
-        return;
-    REFUSES(tally, PGMSG_MESSAGE_TOO_LONG, pgmsg_put_copy_data(data, TOO_LONG, out, ROOM));
-    refuse_raw_lengths(tally, data);
-    CHECK(tally, munmap(data, TOO_LONG) == 0);
 }
 
 static bool make_parts(struct parts *parts)
@@ -211,7 +160,8 @@ void test_put_faults(struct tally *tally)
     refuse_settings(tally);
     refuse_texts(tally);
     refuse_free_texts(tally);
-    refuse_length(tally);
+    with_zeros(tally, TOO_LONG, refuse_lengths);
+    with_zeros(tally, TOO_LONG, compare_with_longest);
     if (is_made) {
         refuse_counts(tally, &parts);
         refuse_raw_counts(tally, &parts);

@@ -1,27 +1,9 @@
 /* Messages from the server. */
-#define _DEFAULT_SOURCE
-
 #include "bytes_test_read.h"
-
-#include <sys/mman.h>
-
-void *too_long_body(void)
-{
-    void *body = mmap(NULL, TOO_LONG, PROT_READ, MAP_PRIVATE | MAP_ANONYMOUS | MAP_NORESERVE, -1, 0);
-    return body == MAP_FAILED ? NULL : body;
-}
 
 bool is_at(const void *body, pgmsg_span span, const char *text)
 {
     return are_bytes((const uint8_t *)body + span.at, span.len, text, strlen(text));
-}
-
-bool are_untouched(const void *bytes, size_t len)
-{
-    size_t i = 0;
-    while (i < len && ((const uint8_t *)bytes)[i] == UNTOUCHED)
-        i++;
-    return i == len;
 }
 
 bool is_fault_of(const pgmsg_fault *fault, int32_t number, size_t at, const char *words)
@@ -49,9 +31,6 @@ static void test_frames(struct tally *tally)
     CHECK(tally, pgmsg_next_frame(BYTES(""), &frame, &fault) == 0 && frame.length == 5);
     CHECK(tally, pgmsg_next_frame(BYTES("Z\0\0"), &frame, &fault) == 0 && frame.length == 5);
     CHECK(tally, pgmsg_next_frame(BYTES("D\0\0\1\0\0"), &frame, &fault) == 0 && frame.length == 257);
-    CHECK(tally, pgmsg_next_frame(BYTES("v\0\0\0\4"), &frame, &fault) == PGMSG_UNKNOWN_MESSAGE_TYPE);
-    CHECK(tally, is_fault(&fault, PGMSG_UNKNOWN_MESSAGE_TYPE, 0));
-    CHECK(tally, are_bytes(fault.words, fault.words_len, "unknown message type: 118", 25));
     CHECK(tally, pgmsg_next_frame(BYTES("Z\0\0\0\3"), &frame, &fault) == PGMSG_BAD_LENGTH);
     CHECK(tally, pgmsg_next_frame(BYTES("Z\377\377\377\377"), &frame, &fault) == PGMSG_BAD_LENGTH);
 }
@@ -74,8 +53,6 @@ static void test_rows(struct tally *tally)
     CHECK(tally, pgmsg_read_row(BYTES(body), cells, 0, &fault) == 3);
     CHECK(tally, pgmsg_read_row(BYTES("\0\0"), cells, 4, &fault) == 0);
     CHECK(tally, pgmsg_read_row(BYTES(""), cells, 4, &fault) == PGMSG_SHORT && is_fault(&fault, PGMSG_SHORT, 0));
-    CHECK(tally, pgmsg_read_row(BYTES("\0\1" "\0\0\0\5" "ab"), cells, 4, &fault) == PGMSG_SHORT);
-    CHECK(tally, is_fault(&fault, PGMSG_SHORT, 6));
     /* Cells without room are read too. */
     CHECK(tally, pgmsg_read_row(BYTES("\0\2" "\0\0\0\0" "\0\0\0\1"), cells, 1, &fault) == PGMSG_SHORT);
 }

@@ -1,10 +1,6 @@
 /* The words of numbers; the number, the offset and the words of each fault of bytes that are read, and what a refusal
  * leaves alone. */
-#define _DEFAULT_SOURCE
-
 #include "bytes_test_read.h"
-
-#include <sys/mman.h>
 
 static const char notice_not_utf8[] =
     "Postgres returned a non-UTF-8 string for its error message. This is most likely due to an error that occurred "
@@ -47,6 +43,8 @@ static void words_of_streams(struct tally *tally)
 {
     pgmsg_frame frame;
     REFUSES(tally, PGMSG_UNKNOWN_MESSAGE_TYPE, 0, "unknown message type: 118",
+            pgmsg_next_frame(BYTES("v\0\0\0\4"), &frame, &fault));
+    REFUSES(tally, PGMSG_UNKNOWN_MESSAGE_TYPE, 0, "unknown message type: 118",
             pgmsg_next_frame(BYTES("v\0\0\0\3"), &frame, &fault));
     REFUSES(tally, PGMSG_BAD_LENGTH, 0, "bad message length: 3", pgmsg_next_frame(BYTES("Z\0\0\0\3"), &frame, &fault));
     REFUSES(tally, PGMSG_BAD_LENGTH, 0, "bad message length: -1",
@@ -58,10 +56,20 @@ static void words_of_bodies(struct tally *tally)
     pgmsg_key_data key;
     pgmsg_notification notification;
     pgmsg_parameter_status status;
+    pgmsg_cell cell;
     pgmsg_column column;
+    pgmsg_copy_response response;
+    uint32_t type;
+    int16_t code;
     REFUSES(tally, PGMSG_UNKNOWN_STATUS, 0, "unknown transaction status: 81", pgmsg_read_ready(BYTES("Q"), &fault));
     REFUSES(tally, PGMSG_SHORT, 4, "expected 4 bytes at offset 4, got 2",
             pgmsg_read_key_data(BYTES("\0\0\x27\xc6\x89\x52"), &key, &fault));
+    REFUSES(tally, PGMSG_SHORT, 6, "expected 5 bytes at offset 6, got 2",
+            pgmsg_read_row(BYTES("\0\1\0\0\0\5ab"), &cell, 1, &fault));
+    REFUSES(tally, PGMSG_SHORT, 2, "expected 4 bytes at offset 2, got 2",
+            pgmsg_read_parameter_types(BYTES("\0\1\0\0"), &type, 1, &fault));
+    REFUSES(tally, PGMSG_SHORT, 3, "expected 2 bytes at offset 3, got 0",
+            pgmsg_read_copy_response(BYTES("\0\0\1"), &response, &code, 1, &fault));
     REFUSES(tally, PGMSG_SHORT, 2, "expected 1245165 bytes at offset 2, got 0",
             pgmsg_read_columns(BYTES("\377\377"), &column, 1, &fault));
     REFUSES(tally, PGMSG_MISSING_NUL, 6, "expected NUL after offset 6",
@@ -86,16 +94,14 @@ static void words_of_logins(struct tally *tally)
     REFUSES(tally, PGMSG_SHORT_SASL_ITEM, 0, "SASL item of fewer than two bytes",
             pgmsg_read_authentication(BYTES("\0\0\0\x0br"), &authentication, &fault));
     REFUSES(tally, PGMSG_BASE64, 0, "SASL value is not base64",
+            pgmsg_read_challenge(BYTES("\0\0\0\x0bs=*"), &challenge, salt, sizeof salt, nonce, sizeof nonce, &fault));
+    REFUSES(tally, PGMSG_BASE64, 0, "SASL value is not base64",
             pgmsg_read_authentication(BYTES("\0\0\0\x0cv=*"), &authentication, &fault));
 }
 
-/* Bodies that are refused before a byte of them is read, so that the memory of them is never there. */
-static void words_of_long_bodies(struct tally *tally)
+/* Bodies that are refused before a byte of them is read. */
+static void words_of_long_bodies(struct tally *tally, const uint8_t *body)
 {
-    void *body = too_long_body();
-    CHECK(tally, body != NULL);
-    if (body == NULL)
-        return;
     pgmsg_cell cell;
     pgmsg_column column;
     uint32_t type;
@@ -121,15 +127,13 @@ static void words_of_long_bodies(struct tally *tally)
     REFUSES_LONG(pgmsg_read_challenge(body, TOO_LONG, &challenge, salt, sizeof salt, nonce, sizeof nonce, &fault));
     REFUSES_LONG(pgmsg_read_verifier(body, TOO_LONG, verifier, sizeof verifier, &fault));
 #undef REFUSES_LONG
-    CHECK(tally, munmap(body, TOO_LONG) == 0);
 }
 
 /* What is not answered stays as it was. */
 static void what_is_left_alone(struct tally *tally)
 {
-    pgmsg_fault fault, untouched;
+    pgmsg_fault fault;
     memset(&fault, UNTOUCHED, sizeof fault);
-    memset(&untouched, UNTOUCHED, sizeof untouched);
     pgmsg_frame frame, before;
     memset(&frame, UNTOUCHED, sizeof frame);
     memset(&before, UNTOUCHED, sizeof before);
@@ -137,7 +141,7 @@ static void what_is_left_alone(struct tally *tally)
     CHECK(tally, frame.length == 11 && frame.tag == before.tag);
     CHECK(tally, frame.body.at == before.body.at && frame.body.len == before.body.len);
     CHECK(tally, pgmsg_read_ready(BYTES("I"), &fault) == 'I');
-    CHECK(tally, memcmp(&fault, &untouched, sizeof fault) == 0);
+    CHECK(tally, are_untouched(&fault, sizeof fault));
 
     uint32_t types[2] = {7, 7};
     CHECK(tally, pgmsg_read_parameter_types(BYTES("\0\2\0\0\0\1\0"), types, 2, &fault) == PGMSG_SHORT);
@@ -150,6 +154,6 @@ void test_read_faults(struct tally *tally)
     words_of_streams(tally);
     words_of_bodies(tally);
     words_of_logins(tally);
-    words_of_long_bodies(tally);
+    with_zeros(tally, TOO_LONG, words_of_long_bodies);
     what_is_left_alone(tally);
 }

@@ -103,9 +103,12 @@ static void test_stream(struct tally *tally)
 static void test_refused(struct tally *tally)
 {
     REFUSES_NEXT(tally, relay_of(false, 0), all, "Z\0\0\0\3", PGMSG_BAD_LENGTH, "bad message length: 3");
+    REFUSES_NEXT(tally, relay_of(false, 0), nothing, "D\0\0\0\3", PGMSG_BAD_LENGTH, "bad message length: 3");
     REFUSES_NEXT(tally, relay_of(false, 0), nothing, "D\377\377\377\377", PGMSG_BAD_LENGTH, "bad message length: -1");
     REFUSES_NEXT(tally, relay_of(true, 0), nothing, "\0\0\0\7" "\0\3\0", PGMSG_BAD_LENGTH, "bad message length: 7");
     REFUSES_NEXT(tally, relay_of(false, 0), all, "D\0\0\0\21", PGMSG_FRAME_TOO_LONG,
+                 "expected a message of at most 17 bytes, got 18");
+    REFUSES_NEXT(tally, relay_of(false, 0), all_but_rows, "Z\0\0\0\21", PGMSG_FRAME_TOO_LONG,
                  "expected a message of at most 17 bytes, got 18");
     REFUSES_NEXT(tally, relay_of(true, 0), nothing, "\0\0\0\22", PGMSG_FRAME_TOO_LONG,
                  "expected a message of at most 17 bytes, got 18");
@@ -142,6 +145,7 @@ static void test_checked(struct tally *tally)
     CHECKS(tally, SSL_REQUEST, true, true);
     CHECKS(tally, SSL_REQUEST SSL_REQUEST STARTUP QUERY, true, false);
     REFUSES_FRAMES(tally, "Z", false);
+    REFUSES_FRAMES(tally, "Z\0\0\0", false);
     REFUSES_FRAMES(tally, "Z\0\0\0\5", false);
     REFUSES_FRAMES(tally, "Z\0\0\0\3", false);
     REFUSES_FRAMES(tally, READY "Z", false);

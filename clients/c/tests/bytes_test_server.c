@@ -1,5 +1,5 @@
 /* Messages to a client. */
-#include "bytes_test.h"
+#include "bytes_test_put.h"
 
 static const pgmsg_bytes mechanisms[] = {
     {BYTES("SCRAM-SHA-256-PLUS")},
@@ -34,13 +34,6 @@ static const pgmsg_field_text fields[] = {
     {'M', BYTES("")},
     {255, BYTES("\377")},
 };
-
-/* Each message once, by a function of the room for it. */
-#define MESSAGE(name, call)                              \
-    static ptrdiff_t name(uint8_t *out, size_t out_len) \
-    {                                                    \
-        return call;                                     \
-    }
 
 MESSAGE(ok, pgmsg_put_authentication_ok(out, out_len))
 MESSAGE(cleartext, pgmsg_put_authentication_cleartext(out, out_len))
@@ -89,8 +82,6 @@ MESSAGE(notice, pgmsg_put_notice(fields, 1, out, out_len))
 MESSAGE(bare_notice, pgmsg_put_notice(fields, 0, out, out_len))
 MESSAGE(notification, pgmsg_put_notification(258, BYTES("chan\377"), BYTES("said"), out, out_len))
 MESSAGE(bare_notification, pgmsg_put_notification(UINT32_MAX, BYTES(""), BYTES(""), out, out_len))
-
-#define SAMPLE(put, literal) {put, literal, sizeof(literal) - 1}
 
 static const struct sample samples[] = {
     SAMPLE(ok, "R\0\0\0\10" "\0\0\0\0"),

@@ -1,54 +1,25 @@
 /* Messages to a client that are refused. */
-#define _DEFAULT_SOURCE
-
-#include "bytes_test.h"
+#include "bytes_test_put.h"
 
 #include <stdlib.h>
-#include <string.h>
-#include <sys/mman.h>
 
-enum { ROOM = 64, UNTOUCHED = 0xaa, MOST_UNSIGNED = 65535, MOST_SIGNED = 32767, MAX_KEY = 256 };
+enum { ROOM = 64, MOST_UNSIGNED = 65535, MOST_SIGNED = 32767, MAX_KEY = 256 };
 
-/* A byte more than the longest message has, without its tag. */
-#define TOO_LONG ((size_t)1 << 31)
-
-/* Checks that a call answers a number, and leaves `out` as it was. */
-#define REFUSES(tally, number, call)                         \
-    do {                                                     \
-        uint8_t out[ROOM], before[ROOM];                     \
-        memset(out, UNTOUCHED, sizeof out);                  \
-        memcpy(before, out, sizeof out);                     \
-        CHECK((tally), (call) == (number));                  \
-        CHECK((tally), memcmp(out, before, ROOM) == 0);      \
-    } while (0)
-
-/* Checks a call on a text that begins, goes on or ends with a NUL: by the text, its length, and lists of which it is
- * the last item. */
-#define REFUSES_NUL(tally, call)                                                                        \
-    do {                                                                                                \
-        static const char *const texts[] = {"\0a", "a\0b", "ab\0"};                                     \
-        static const size_t lengths[] = {2, 3, 3};                                                      \
-        for (size_t i = 0; i < 3; i++) {                                                                \
-            const uint8_t *text = (const uint8_t *)texts[i];                                            \
-            size_t len = lengths[i];                                                                    \
-            const pgmsg_bytes names[] = {{BYTES("a")}, {text, len}};                                    \
-            const pgmsg_field_text fields[] = {{'S', BYTES("a")}, {'C', text, len}};                    \
-            const pgmsg_column_text columns[] = {{BYTES("a"), 0, 0, 0, 0, 0, 0}, {text, len, 0, 0, 0, 0, 0, 0}}; \
-            (void)names, (void)fields, (void)columns;                                                   \
-            REFUSES((tally), PGMSG_TEXT_HOLDS_NUL, call);                                               \
-        }                                                                                               \
-    } while (0)
+/* Lists whose last item is a text that holds a NUL. */
+#define NAMES (const pgmsg_bytes[]){{BYTES("a")}, {text, len}}, 2
+#define FIELDS (const pgmsg_field_text[]){{'S', BYTES("a")}, {'C', text, len}}, 2
+#define COLUMNS (const pgmsg_column_text[]){{BYTES("a"), 0, 0, 0, 0, 0, 0}, {text, len, 0, 0, 0, 0, 0, 0}}, 2
 
 static void refuse_texts(struct tally *tally)
 {
-    REFUSES_NUL(tally, pgmsg_put_authentication_sasl(names, 2, out, ROOM));
-    REFUSES_NUL(tally, pgmsg_put_negotiate_version(2, names, 2, out, ROOM));
+    REFUSES_NUL(tally, pgmsg_put_authentication_sasl(NAMES, out, ROOM));
+    REFUSES_NUL(tally, pgmsg_put_negotiate_version(2, NAMES, out, ROOM));
     REFUSES_NUL(tally, pgmsg_put_parameter_status(text, len, BYTES("v"), out, ROOM));
     REFUSES_NUL(tally, pgmsg_put_parameter_status(BYTES("n"), text, len, out, ROOM));
-    REFUSES_NUL(tally, pgmsg_put_columns(columns, 2, out, ROOM));
+    REFUSES_NUL(tally, pgmsg_put_columns(COLUMNS, out, ROOM));
     REFUSES_NUL(tally, pgmsg_put_command_complete(text, len, out, ROOM));
-    REFUSES_NUL(tally, pgmsg_put_error(fields, 2, out, ROOM));
-    REFUSES_NUL(tally, pgmsg_put_notice(fields, 2, out, ROOM));
+    REFUSES_NUL(tally, pgmsg_put_error(FIELDS, out, ROOM));
+    REFUSES_NUL(tally, pgmsg_put_notice(FIELDS, out, ROOM));
     REFUSES_NUL(tally, pgmsg_put_notification(1, text, len, BYTES("p"), out, ROOM));
     REFUSES_NUL(tally, pgmsg_put_notification(1, BYTES("c"), text, len, out, ROOM));
 }
@@ -95,7 +66,7 @@ static void refuse_keys(struct tally *tally)
 }
 
 /* The most items, and one more; of columns a count before a NUL. */
-static void refuse_counts(struct tally *tally, uint8_t *zeros)
+static void refuse_counts(struct tally *tally, const uint8_t *zeros)
 {
     const uint32_t *types = (const uint32_t *)(const void *)zeros;
     const int16_t *codes = (const int16_t *)(const void *)zeros;
@@ -121,21 +92,7 @@ static void refuse_counts(struct tally *tally, uint8_t *zeros)
     free(columns);
 }
 
-/* The longest messages, which have no room, and those a byte longer. `n` bytes of data are in a message of `n` and
- * `beside` bytes, which counts its tag. */
-#define COMPARES_LONGEST(tally, beside, call)                                 \
-    do {                                                                      \
-        size_t n = TOO_LONG - (beside);                                       \
-        const pgmsg_value value = {data, n, false};                           \
-        const pgmsg_value longer = {data, n + 1, false};                      \
-        const pgmsg_value *passed = &value;                                   \
-        (void)passed;                                                         \
-        REFUSES((tally), (ptrdiff_t)TOO_LONG, call);                          \
-        n++;                                                                  \
-        passed = &longer;                                                     \
-        REFUSES((tally), PGMSG_MESSAGE_TOO_LONG, call);                       \
-    } while (0)
-
+/* The longest messages, and those a byte longer. */
 static void compare_with_longest(struct tally *tally, const uint8_t *data)
 {
     COMPARES_LONGEST(tally, 9, pgmsg_put_authentication_continue(data, n, out, ROOM));
@@ -156,16 +113,11 @@ static void refuse_lengths(struct tally *tally, const uint8_t *data)
 
 void test_server_faults(struct tally *tally)
 {
-    uint8_t *zeros = mmap(NULL, TOO_LONG, PROT_READ, MAP_PRIVATE | MAP_ANONYMOUS | MAP_NORESERVE, -1, 0);
     refuse_texts(tally);
     refuse_ends(tally);
     refuse_letters(tally);
     refuse_keys(tally);
-    CHECK(tally, zeros != MAP_FAILED);
-    if (zeros == MAP_FAILED)
-        return;
-    refuse_counts(tally, zeros);
-    compare_with_longest(tally, zeros);
-    refuse_lengths(tally, zeros);
-    CHECK(tally, munmap(zeros, TOO_LONG) == 0);
+    with_zeros(tally, TOO_LONG, refuse_counts);
+    with_zeros(tally, TOO_LONG, compare_with_longest);
+    with_zeros(tally, TOO_LONG, refuse_lengths);
 }

@@ -4,7 +4,7 @@
 #include <stdio.h>
 #include <string.h>
 
-enum { LONGEST = 128, PLENTY = 64, MOST_ROOM = 4, UNTOUCHED = 0xaa };
+enum { LONGEST = 128, PLENTY = 64, MOST_ROOM = 4 };
 
 /* Where bodies and what is read of them are. */
 static struct guarded bodies, ones, items, seconds, faults;

@@ -6,7 +6,7 @@
 #include <stdio.h>
 #include <string.h>
 
-enum { ROOM = 2048, MOST = 12, DIGEST = 16, HEAD = 5, UNTOUCHED = 0xaa, REFUSED_ROOM = 40 };
+enum { ROOM = 2048, MOST = 12, DIGEST = 16, HEAD = 5, REFUSED_ROOM = 40 };
 
 /* A text of n bytes, lists of n items, and a digest. */
 struct inputs {
@@ -129,20 +129,18 @@ static struct inputs guarded_inputs(size_t n, enum side side)
     return (struct inputs){n, text, digest, format, code, type, value, setting, name, field, column};
 }
 
-/* Whether some bytes are as they were. */
-static bool are_untouched(const uint8_t *from, const uint8_t *end)
+/* Whether the bytes of a message's page are as they were, from one place to another. */
+static bool is_page_untouched(const uint8_t *from, const uint8_t *end)
 {
-    while (from < end && *from == UNTOUCHED)
-        from++;
-    return from == end;
+    return are_untouched(from, (size_t)(end - from));
 }
 
 /* Checks what was put into so much room at an end of its page, and clears the page. */
 static bool is_put(const uint8_t *out, size_t out_len, ptrdiff_t answer, const uint8_t *due, ptrdiff_t due_answer)
 {
     size_t len = due_answer >= 0 && (size_t)due_answer <= out_len ? (size_t)due_answer : 0;
-    bool is_right = answer == due_answer && memcmp(out, due, len) == 0 && are_untouched(outs.from, out)
-                 && are_untouched(out + len, outs.end);
+    bool is_right = answer == due_answer && memcmp(out, due, len) == 0 && is_page_untouched(outs.from, out)
+                 && is_page_untouched(out + len, outs.end);
     memset(outs.from, UNTOUCHED, (size_t)(outs.end - outs.from));
     return is_right;
 }
@@ -193,7 +191,8 @@ static void test_side(struct tally *tally, enum side side)
     name_call("copy_head");
     uint8_t *head = place(&outs, HEAD, side);
     CHECK(tally, pgmsg_put_copy_head(0, head) == 0 && is_put(head, HEAD, HEAD, (const uint8_t *)"d\0\0\0\4", HEAD));
-    CHECK(tally, pgmsg_put_copy_head(SIZE_MAX, head) == PGMSG_MESSAGE_TOO_LONG && are_untouched(outs.from, outs.end));
+    CHECK(tally, pgmsg_put_copy_head(SIZE_MAX, head) == PGMSG_MESSAGE_TOO_LONG);
+    CHECK(tally, is_page_untouched(outs.from, outs.end));
 }
 
 void test_guarded_put(struct tally *tally)

@@ -27,6 +27,22 @@ struct message {
     size_t most;
 };
 
+/* The functions of such a message. */
+#define MESSAGE(name, call, bytes)                                      \
+    static ptrdiff_t put_##name(size_t n, uint8_t *out, size_t out_len) \
+    {                                                                   \
+        (void)n;                                                        \
+        return call;                                                    \
+    }                                                                   \
+    static uint8_t *spell_##name(size_t n, uint8_t *to)                 \
+    {                                                                   \
+        (void)n;                                                        \
+        return bytes;                                                   \
+    }
+
+/* A value of n letters. */
+#define VALUE (&(const pgmsg_value){letters, n, false})
+
 #define PLACED(name, most) {#name, put_##name, spell_##name, most}
 
 /* Puts messages of each size into just their room, and into a byte too few, with each request refused. */

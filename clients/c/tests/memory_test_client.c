@@ -1,4 +1,4 @@
-/* Calls that read a client's messages: none asks for memory but for the words of a fault. */
+/* Calls that read a client's messages, where each request is refused. */
 #include "memory_test.h"
 
 enum { ALL_VALUES = 65536, NULL_VALUE = 255 };
@@ -193,46 +193,6 @@ static void test_settings(struct tally *tally, size_t n)
     NEEDS_NONE(tally, pgmsg_read_settings(WRITTEN, settings, n / 2) == n);
 }
 
-/* Each fault once, whose words alone ask for memory. */
-static void test_faults(struct tally *tally)
-{
-    pgmsg_frame frame;
-    pgmsg_first first;
-    pgmsg_parse parse;
-    pgmsg_target target;
-    pgmsg_execute execute;
-    pgmsg_span text;
-    pgmsg_sasl_initial initial;
-    pgmsg_bind bind;
-    pgmsg_function_call call;
-    REFUSES(tally, PGMSG_UNKNOWN_MESSAGE_TYPE, 0, "unknown message type: 90",
-            pgmsg_next_frontend_frame(BYTES("Z\0\0\0\4"), &frame, &fault));
-    REFUSES(tally, PGMSG_BAD_LENGTH, 0, "bad message length: 3",
-            pgmsg_next_frontend_frame(BYTES("S\0\0\0\3"), &frame, &fault));
-    REFUSES(tally, PGMSG_BAD_LENGTH, 0, "bad message length: 7",
-            pgmsg_next_first_frame(BYTES("\0\0\0\7"), 10000, &frame, &fault));
-    REFUSES(tally, PGMSG_FIRST_TOO_LONG, 0, "expected a first message of at most 9 bytes, got 10",
-            pgmsg_next_first_frame(BYTES("\0\0\0\12"), 9, &frame, &fault));
-    REFUSES(tally, PGMSG_UNKNOWN_CODE, 0, "unknown code: 131072", pgmsg_read_first(BYTES("\0\2\0\0"), &first, &fault));
-    REFUSES(tally, PGMSG_BAD_KEY_LENGTH, 0, "bad secret key length: 0",
-            pgmsg_read_first(BYTES("\4\322\26\56" "\0\0\0\1"), &first, &fault));
-    REFUSES(tally, PGMSG_UNKNOWN_TARGET, 0, "neither a statement nor a portal: 115",
-            pgmsg_read_target(BYTES("sx\0"), &target, &fault));
-    REFUSES(tally, PGMSG_MISSING_NUL, 2, "expected NUL after offset 2", pgmsg_read_parse(BYTES("s\0a"), &parse, &fault));
-    REFUSES(tally, PGMSG_SHORT, 1, "expected 4 bytes at offset 1, got 2",
-            pgmsg_read_execute(BYTES("\0" "\0\0"), &execute, &fault));
-    REFUSES(tally, PGMSG_TRAILING_BYTES, 2, "expected the end of the message at offset 2",
-            pgmsg_read_text(BYTES("a\0b\0"), &text, &fault));
-    REFUSES(tally, PGMSG_TRAILING_BYTES, 0, "expected the end of the message at offset 0",
-            pgmsg_read_empty(BYTES("\0"), &fault));
-    REFUSES(tally, PGMSG_BAD_VALUE_LENGTH, 2, "bad value length at offset 2: -2",
-            pgmsg_read_sasl_initial(BYTES("A\0" "\377\377\377\376"), &initial, &fault));
-    REFUSES(tally, PGMSG_BAD_VALUE_LENGTH, 6, "bad value length at offset 6: -2",
-            pgmsg_read_bind(BYTES("\0\0" "\0\0" "\0\1" "\377\377\377\376"), values, 1, &bind, &fault));
-    REFUSES(tally, PGMSG_SHORT, 12, "expected 2 bytes at offset 12, got 1",
-            pgmsg_read_function_call(BYTES("\0\0\0\1" "\0\0" "\0\1" "\0\0\0\2" "a"), values, 1, &call, &fault));
-}
-
 void test_memory_client(struct tally *tally)
 {
     size_t sizes[MOST_SIZES];
@@ -246,5 +206,4 @@ void test_memory_client(struct tally *tally)
             test_settings(tally, sizes[i]);
         }
     }
-    test_faults(tally);
 }

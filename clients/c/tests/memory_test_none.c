@@ -1,17 +1,11 @@
 /* Calls that ask for no memory, where each request is refused. */
-#include "memory_test.h"
+#include "memory_test_bytes.h"
 
 static const char digits[] = "ABCDEFGHIJKLMNOPQRSTUVWXYZabcdefghijklmnopqrstuvwxyz0123456789+/";
 
 /* A body, and what is given of it. */
 static uint8_t body[2 * LONG];
 static uint8_t first[LONG], second[LONG];
-
-static void put_number(uint8_t *to, uint32_t number)
-{
-    for (int i = 0; i < 4; i++)
-        to[i] = (uint8_t)(number >> (24 - 8 * i));
-}
 
 static void test_small(struct tally *tally)
 {
@@ -57,12 +51,6 @@ static void test_small(struct tally *tally)
     NEEDS_NONE(tally, pgmsg_read_raw_mechanisms(BYTES("\0\0\0\12" "\351\0" "\0"), &span, 1) == 1 && span.len == 1);
 }
 
-static uint8_t *add(uint8_t *to, const void *bytes, size_t len)
-{
-    memcpy(to, bytes, len);
-    return to + len;
-}
-
 /* The letters in base64. */
 static uint8_t *add_base64(uint8_t *to, size_t n)
 {
@@ -85,8 +73,7 @@ static void test_sasl(struct tally *tally, size_t n)
     pgmsg_fault fault;
     pgmsg_authentication request;
     pgmsg_challenge challenge;
-    uint8_t *end = add(add_base64(add(body, "\0\0\0\13r=ab,s=", 11), n), ",i=8192", 7);
-    size_t len = (size_t)(end - body);
+    size_t len = (size_t)(add(add_base64(add(body, "\0\0\0\13r=ab,s=", 11), n), ",i=8192", 7) - body);
     NEEDS_NONE(tally, pgmsg_read_authentication(body, len, &request, &fault) == 0 && request.method == 11);
     NEEDS_NONE(tally, pgmsg_read_challenge(body, len, &challenge, first, LONG, second, LONG, &fault) == 0);
     CHECK(tally, challenge.iterations == 8192 && challenge.salt_len == n && challenge.nonce_len == 2);
@@ -112,7 +99,7 @@ static void test_lengths(struct tally *tally, size_t n)
     pgmsg_span tag;
     memset(body, 0, n + 16);
     body[1] = 1;
-    put_number(body + 2, (uint32_t)n);
+    add_u32(body + 2, n);
     memcpy(body + 6, letters, n);
     NEEDS_NONE(tally, pgmsg_read_row(body, n + 6, &cell, 1, &fault) == 1 && cell.len == (int32_t)n);
     memcpy(body, "\0\0\0\1a", 6);
@@ -124,7 +111,7 @@ static void test_lengths(struct tally *tally, size_t n)
     memcpy(body, "VPANIC", 7);
     NEEDS_NONE(tally, pgmsg_read_severity(body, n + 8, &fault) == 0);
     body[1] = 'd';
-    put_number(body + 2, (uint32_t)n + 4);
+    add_u32(body + 2, n + 4);
     NEEDS_NONE(tally, pgmsg_next_frame(body + 1, n + 5, &frame, &fault) == 1 && frame.body.len == n);
 }
 
@@ -137,10 +124,10 @@ static void test_counts(struct tally *tally, size_t n)
     uint32_t type;
     int16_t code;
     memset(body, 0, 4 * n + 16);
-    put_number(body, (uint32_t)n << 16);
+    add_u32(body, n << 16);
     NEEDS_NONE(tally, pgmsg_read_row(body, 4 * n + 2, &cell, 1, &fault) == (ptrdiff_t)n);
     NEEDS_NONE(tally, pgmsg_read_parameter_types(body, 4 * n + 2, &type, 1, &fault) == (ptrdiff_t)n);
-    put_number(body, (uint32_t)n << 8);
+    add_u32(body, n << 8);
     if (n <= INT16_MAX)
         NEEDS_NONE(tally, pgmsg_read_copy_response(body, 2 * n + 3, &response, &code, 1, &fault) == (ptrdiff_t)n);
 }

@@ -58,33 +58,8 @@ static uint8_t *add_settings(uint8_t *to, const pgmsg_setting *named, size_t cou
     return to;
 }
 
-/* A value, and a setting, of so many letters. */
-static pgmsg_value value_of(size_t n)
-{
-    return (pgmsg_value){letters, n, false};
-}
-
-static pgmsg_setting setting_of(size_t n)
-{
-    return (pgmsg_setting){(const uint8_t *)"user", 4, letters, n};
-}
-
-/* A message of each size: the call, and its bytes. */
-#define MESSAGE(name, call, bytes)                                \
-    static ptrdiff_t put_##name(size_t n, uint8_t *out, size_t out_len) \
-    {                                                             \
-        pgmsg_value value = value_of(n);                          \
-        pgmsg_setting setting = setting_of(n);                    \
-        (void)value, (void)setting;                               \
-        return call;                                              \
-    }                                                             \
-    static uint8_t *spell_##name(size_t n, uint8_t *to)           \
-    {                                                             \
-        pgmsg_value value = value_of(n);                          \
-        pgmsg_setting setting = setting_of(n);                    \
-        (void)value, (void)setting;                               \
-        return bytes;                                             \
-    }
+/* A setting of n letters. */
+#define SETTING (&(const pgmsg_setting){(const uint8_t *)"user", 4, letters, n})
 
 MESSAGE(query, pgmsg_put_query(letters, n, out, out_len), add_text(to, 'Q', "", 0, n, 1))
 MESSAGE(copy_data, pgmsg_put_copy_data(letters, n, out, out_len), add_text(to, 'd', "", 0, n, 0))
@@ -92,15 +67,15 @@ MESSAGE(copy_fail, pgmsg_put_copy_fail(letters, n, out, out_len), add_text(to, '
 MESSAGE(password, pgmsg_put_password(letters, n, out, out_len), add_text(to, 'p', "", 0, n, 1))
 MESSAGE(response, pgmsg_put_sasl_response(letters, n, out, out_len), add_text(to, 'p', "", 0, n, 0))
 MESSAGE(parse, pgmsg_put_parse(0, letters, n, types, 0, out, out_len), add_text(to, 'P', "", 1, n, 3))
-MESSAGE(setting, pgmsg_put_startup(&setting, 1, out, out_len), add_settings(to, &setting, 1))
+MESSAGE(setting, pgmsg_put_startup(SETTING, 1, out, out_len), add_settings(to, SETTING, 1))
 MESSAGE(settings, pgmsg_put_startup(settings, n, out, out_len), add_settings(to, settings, n))
-MESSAGE(value, pgmsg_put_bind(0, 0, formats, 0, &value, 1, formats, 0, out, out_len), add_bind(to, 0, &value, 1, 0))
+MESSAGE(value, pgmsg_put_bind(0, 0, formats, 0, VALUE, 1, formats, 0, out, out_len), add_bind(to, 0, VALUE, 1, 0))
 MESSAGE(values, pgmsg_put_bind(0, 0, formats, 0, values, n, formats, 0, out, out_len), add_bind(to, 0, values, n, 0))
 MESSAGE(formats, pgmsg_put_bind(0, 0, formats, n, values, 0, formats, n, out, out_len), add_bind(to, n, values, 0, n))
 MESSAGE(batch_query, pgmsg_put_batch(letters, n, formats, 0, values, 0, formats, 0, out, out_len),
         add_rest_of_batch(add_bind(add_text(to, 'P', "", 1, n, 3), 0, values, 0, 0)))
-MESSAGE(batch_value, pgmsg_put_batch(letters, 1, formats, 0, &value, 1, formats, 0, out, out_len),
-        add_rest_of_batch(add_bind(add_text(to, 'P', "", 1, 1, 3), 0, &value, 1, 0)))
+MESSAGE(batch_value, pgmsg_put_batch(letters, 1, formats, 0, VALUE, 1, formats, 0, out, out_len),
+        add_rest_of_batch(add_bind(add_text(to, 'P', "", 1, 1, 3), 0, VALUE, 1, 0)))
 MESSAGE(batch_items, pgmsg_put_batch(letters, 1, formats, n, values, n, formats, n, out, out_len),
         add_rest_of_batch(add_bind(add_text(to, 'P', "", 1, 1, 3), n, values, n, n)))
 
@@ -115,8 +90,8 @@ MESSAGE(bound_portal, pgmsg_put_raw_bind(letters, n, letters, 0, codes, 0, value
         add_text(to, 'B', "", 0, n, 8))
 MESSAGE(bound_statement, pgmsg_put_raw_bind(letters, 0, letters, n, codes, 0, values, 0, codes, 0, out, out_len),
         add_text(to, 'B', "", 1, n, 7))
-MESSAGE(raw_value, pgmsg_put_raw_bind(letters, 0, letters, 0, codes, 0, &value, 1, codes, 0, out, out_len),
-        add_bind(to, 0, &value, 1, 0))
+MESSAGE(raw_value, pgmsg_put_raw_bind(letters, 0, letters, 0, codes, 0, VALUE, 1, codes, 0, out, out_len),
+        add_bind(to, 0, VALUE, 1, 0))
 MESSAGE(raw_values, pgmsg_put_raw_bind(letters, 0, letters, 0, codes, 0, values, n, codes, 0, out, out_len),
         add_bind(to, 0, values, n, 0))
 MESSAGE(codes, pgmsg_put_raw_bind(letters, 0, letters, 0, codes, n, values, 0, codes, n, out, out_len),
@@ -127,7 +102,7 @@ MESSAGE(described_portal, pgmsg_put_raw_describe_portal(letters, n, out, out_len
 MESSAGE(closed_statement, pgmsg_put_raw_close_statement(letters, n, out, out_len), add_text(to, 'C', "S", 1, n, 1))
 MESSAGE(closed_portal, pgmsg_put_raw_close_portal(letters, n, out, out_len), add_text(to, 'C', "P", 1, n, 1))
 MESSAGE(run_portal, pgmsg_put_raw_execute(letters, n, 0, out, out_len), add_text(to, 'E', "", 0, n, 5))
-MESSAGE(argument, pgmsg_put_function_call(1598, codes, 0, &value, 1, 1, out, out_len), add_call(to, 0, &value, 1))
+MESSAGE(argument, pgmsg_put_function_call(1598, codes, 0, VALUE, 1, 1, out, out_len), add_call(to, 0, VALUE, 1))
 MESSAGE(arguments, pgmsg_put_function_call(1598, codes, n, values, n, 1, out, out_len), add_call(to, n, values, n))
 
 static ptrdiff_t put_first_response(size_t n, uint8_t *out, size_t out_len)

@@ -66,41 +66,30 @@ static uint8_t *item_column(uint8_t *to, size_t i)
     return add_u16(to, (uint16_t)column->format);
 }
 
-/* A message of each size: the call, and its bytes. */
-#define MESSAGE(name, call, bytes)                                      \
-    static ptrdiff_t put_##name(size_t n, uint8_t *out, size_t out_len) \
-    {                                                                   \
-        const pgmsg_value value = {letters, n, false};                  \
-        const pgmsg_bytes text = {letters, n + 1};                      \
-        const pgmsg_field_text field = {'M', letters, n};               \
-        const pgmsg_column_text column = {letters, n, 0, 0, 0, 0, 0, 0}; \
-        (void)value, (void)text, (void)field, (void)column;             \
-        return call;                                                    \
-    }                                                                   \
-    static uint8_t *spell_##name(size_t n, uint8_t *to)                 \
-    {                                                                   \
-        return bytes;                                                   \
-    }
+/* A text that is not empty, a field and a column, of n letters or one more. */
+#define TEXT (&(const pgmsg_bytes){letters, n + 1})
+#define FIELD (&(const pgmsg_field_text){'M', letters, n})
+#define COLUMN (&(const pgmsg_column_text){letters, n, 0, 0, 0, 0, 0, 0})
 
-MESSAGE(mechanism, pgmsg_put_authentication_sasl(&text, 1, out, out_len), add_text(to, 'R', "\0\0\0\12", 4, n + 1, 2))
+MESSAGE(mechanism, pgmsg_put_authentication_sasl(TEXT, 1, out, out_len), add_text(to, 'R', "\0\0\0\12", 4, n + 1, 2))
 MESSAGE(mechanisms, pgmsg_put_authentication_sasl(names, n, out, out_len),
         add_list(to, 'R', "\0\0\0\12", 4, n, item_name, true))
 MESSAGE(next, pgmsg_put_authentication_continue(letters, n, out, out_len), add_text(to, 'R', "\0\0\0\13", 4, n, 0))
 MESSAGE(last, pgmsg_put_authentication_final(letters, n, out, out_len), add_text(to, 'R', "\0\0\0\14", 4, n, 0))
 MESSAGE(md5, pgmsg_put_authentication_md5(salt, out, out_len),
-        add_list(to, 'R', "\0\0\0\5salt", 8 + 0 * n, 0, item_name, false))
-MESSAGE(option, pgmsg_put_negotiate_version(2, &text, 1, out, out_len),
+        add_list(to, 'R', "\0\0\0\5salt", 8, 0, item_name, false))
+MESSAGE(option, pgmsg_put_negotiate_version(2, TEXT, 1, out, out_len),
         add_text(to, 'v', "\0\0\0\2\0\0\0\1", 8, n + 1, 1))
 MESSAGE(key, pgmsg_put_backend_key_data(1, letters, n + 4, out, out_len), add_text(to, 'K', "\0\0\0\1", 4, n + 4, 0))
 MESSAGE(setting, pgmsg_put_parameter_status(letters, n, letters, 0, out, out_len), add_text(to, 'S', "", 0, n, 2))
 MESSAGE(setting_value, pgmsg_put_parameter_status(letters, 0, letters, n, out, out_len), add_text(to, 'S', "", 1, n, 1))
-MESSAGE(column, pgmsg_put_columns(&column, 1, out, out_len), add_text(to, 'T', "\0\1", 2, n, 19))
+MESSAGE(column, pgmsg_put_columns(COLUMN, 1, out, out_len), add_text(to, 'T', "\0\1", 2, n, 19))
 MESSAGE(columns, pgmsg_put_columns(columns, n, out, out_len), add_counted(to, 'T', n, item_column))
 MESSAGE(values, pgmsg_put_row(values, n, out, out_len), add_counted(to, 'D', n, item_value))
 MESSAGE(types, pgmsg_put_parameter_types(types, n, out, out_len), add_counted(to, 't', n, item_type))
 MESSAGE(command, pgmsg_put_command_complete(letters, n, out, out_len), add_text(to, 'C', "", 0, n, 1))
 MESSAGE(raw, pgmsg_put_raw_frame('d', letters, n, out, out_len), add_text(to, 'd', "", 0, n, 0))
-MESSAGE(error, pgmsg_put_error(&field, 1, out, out_len), add_text(to, 'E', "M", 1, n, 2))
+MESSAGE(error, pgmsg_put_error(FIELD, 1, out, out_len), add_text(to, 'E', "M", 1, n, 2))
 MESSAGE(fields, pgmsg_put_error(fields, n, out, out_len), add_list(to, 'E', "", 0, n, item_field, true))
 MESSAGE(notice_fields, pgmsg_put_notice(fields, n, out, out_len), add_list(to, 'N', "", 0, n, item_field, true))
 MESSAGE(channel, pgmsg_put_notification(1, letters, n, letters, 0, out, out_len),
@@ -117,7 +106,7 @@ static uint8_t *spell_sized(uint8_t *to, char tag, const void *before, size_t be
     return add_text(to, tag, head, before_len + 4, n, 0);
 }
 
-MESSAGE(value, pgmsg_put_row(&value, 1, out, out_len), spell_sized(to, 'D', "\0\1", 2, n))
+MESSAGE(value, pgmsg_put_row(VALUE, 1, out, out_len), spell_sized(to, 'D', "\0\1", 2, n))
 MESSAGE(result, pgmsg_put_function_result(letters, n, false, out, out_len), spell_sized(to, 'V', "", 0, n))
 
 static ptrdiff_t put_options(size_t n, uint8_t *out, size_t out_len)

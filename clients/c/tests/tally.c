@@ -14,6 +14,14 @@ void check(struct tally *tally, bool holds, const char *words, const char *file,
     }
 }
 
+bool are_untouched(const void *bytes, size_t len)
+{
+    size_t i = 0;
+    while (i < len && ((const uint8_t *)bytes)[i] == UNTOUCHED)
+        i++;
+    return i == len;
+}
+
 bool are_bytes(const uint8_t *bytes, size_t len, const char *text, size_t text_len)
 {
     return len == text_len && memcmp(bytes, text, len) == 0;

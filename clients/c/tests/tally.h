@@ -20,6 +20,12 @@ void check(struct tally *tally, bool holds, const char *words, const char *file,
 /* The bytes of a literal, without its NUL, as two arguments. */
 #define BYTES(literal) (const uint8_t *)(literal), sizeof(literal) - 1
 
+/* What fills memory that a call may leave alone. */
+enum { UNTOUCHED = 0xaa };
+
+/* Whether so many bytes are as they were. */
+bool are_untouched(const void *bytes, size_t len);
+
 /* Whether some bytes are those of a text. */
 bool are_bytes(const uint8_t *bytes, size_t len, const char *text, size_t text_len);
 
