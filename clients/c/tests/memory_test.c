@@ -15,6 +15,15 @@ size_t list_sizes(size_t sizes[MOST_SIZES])
     return count;
 }
 
+void test_each_size(struct tally *tally, size_t most, void (*test)(struct tally *tally, size_t size))
+{
+    size_t sizes[MOST_SIZES];
+    size_t count = list_sizes(sizes);
+    for (size_t i = 0; i < count; i++)
+        if (sizes[i] <= most)
+            test(tally, sizes[i]);
+}
+
 int main(void)
 {
     struct tally tally = {0};

@@ -13,6 +13,9 @@ enum { MOST_ITEMS = 65535, LONG = 1048577, MOST_SIZES = 64 };
 /* The powers of two up to 65536, the numbers beside each, and one number above 1 MiB: how many they are. */
 size_t list_sizes(size_t sizes[MOST_SIZES]);
 
+/* Runs a test of each of these sizes, up to one. */
+void test_each_size(struct tally *tally, size_t most, void (*test)(struct tally *tally, size_t size));
+
 /* Bytes of texts, LONG of them, no two in a row alike. */
 extern uint8_t letters[LONG];
 

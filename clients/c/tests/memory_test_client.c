@@ -195,15 +195,9 @@ static void test_settings(struct tally *tally, size_t n)
 
 void test_memory_client(struct tally *tally)
 {
-    size_t sizes[MOST_SIZES];
-    size_t sizes_count = list_sizes(sizes);
     test_small(tally);
-    for (size_t i = 0; i < sizes_count; i++) {
-        test_texts(tally, sizes[i]);
-        test_values(tally, sizes[i]);
-        if (sizes[i] <= MOST_ITEMS) {
-            test_counts(tally, sizes[i]);
-            test_settings(tally, sizes[i]);
-        }
-    }
+    test_each_size(tally, LONG, test_texts);
+    test_each_size(tally, LONG, test_values);
+    test_each_size(tally, MOST_ITEMS, test_counts);
+    test_each_size(tally, MOST_ITEMS, test_settings);
 }

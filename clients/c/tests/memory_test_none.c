@@ -134,13 +134,8 @@ static void test_counts(struct tally *tally, size_t n)
 
 void test_memory_none(struct tally *tally)
 {
-    size_t sizes[MOST_SIZES];
-    size_t sizes_count = list_sizes(sizes);
     test_small(tally);
-    for (size_t i = 0; i < sizes_count; i++) {
-        test_sasl(tally, sizes[i]);
-        test_lengths(tally, sizes[i]);
-        if (sizes[i] <= MOST_ITEMS)
-            test_counts(tally, sizes[i]);
-    }
+    test_each_size(tally, LONG, test_sasl);
+    test_each_size(tally, LONG, test_lengths);
+    test_each_size(tally, MOST_ITEMS, test_counts);
 }
