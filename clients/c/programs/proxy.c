@@ -1,6 +1,7 @@
 #define _DEFAULT_SOURCE
 
 #include "proxy.h"
+#include "clock.h"
 #include "wait.h"
 
 #include <stdlib.h>

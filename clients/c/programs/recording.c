@@ -2,6 +2,7 @@
 #define _DEFAULT_SOURCE
 
 #include "checksum.h"
+#include "clock.h"
 #include "numbers.h"
 #include "recording.h"
 
@@ -10,17 +11,7 @@
 #include <string.h>
 #include <sys/stat.h>
 #include <sys/uio.h>
-#include <time.h>
 #include <unistd.h>
-
-/* A clock in microseconds. */
-static uint64_t microseconds(clockid_t clock)
-{
-    struct timespec now;
-    if (clock_gettime(clock, &now) < 0)
-        return 0;
-    return (uint64_t)now.tv_sec * 1000000 + (uint64_t)now.tv_nsec / 1000;
-}
 
 static enum status complain_of_file(const struct recorder *recorder, const char *what)
 {
@@ -76,7 +67,7 @@ static bool write_head(int file)
     uint8_t head[RECORDING_HEAD] = "PGMSGREC";
     struct iovec part = {.iov_base = head, .iov_len = sizeof head};
     put_four(head + 8, RECORDING_VERSION);
-    put_eight(head + 12, microseconds(CLOCK_REALTIME));
+    put_eight(head + 12, microseconds_since_1970());
     put_four(head + 20, checksum_of(head, 20));
     return write_whole(file, &part, 1);
 }
@@ -90,7 +81,7 @@ static bool is_used(int file)
 
 enum status recorder_create(struct recorder *recorder, const char *path)
 {
-    *recorder = (struct recorder){.path = path, .begun = microseconds(CLOCK_MONOTONIC)};
+    *recorder = (struct recorder){.path = path, .begun = microseconds()};
     recorder->file = open(path, O_WRONLY | O_CREAT | O_APPEND | O_CLOEXEC, 0600);
     if (recorder->file < 0)
         return complain_of_file(recorder, "can't be opened");
@@ -116,7 +107,7 @@ enum status recorder_add(struct recorder *recorder, uint8_t kind, uint32_t conne
     put_four(head, (uint32_t)len);
     head[4] = kind;
     put_four(head + 5, connection);
-    put_eight(head + 9, microseconds(CLOCK_MONOTONIC) - recorder->begun);
+    put_eight(head + 9, microseconds() - recorder->begun);
     put_four(head + 17, checksum_of(head, 17));
     put_four(tail, checksum_of(content, len));
     if (!write_whole(recorder->file, parts, 3))

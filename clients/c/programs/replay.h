@@ -58,9 +58,6 @@ struct session {
     uint64_t due;         /* when something is to be done by itself; 0 for never */
 };
 
-/* A clock in microseconds. */
-uint64_t replay_now(void);
-
 /* Begins with a client. NULL where there is no memory. */
 struct session *session_new(int socket);
 void session_free(struct session *session);

@@ -1,4 +1,5 @@
 /* What the server said. */
+#include "clock.h"
 #include "recording.h"
 #include "replay.h"
 
@@ -55,7 +56,7 @@ static enum status add_bytes(const struct replay *replay, struct session *sessio
     while (session->out.end - session->out.start < OUT_MOST
            && cursor_find(&session->server, RECORD_FROM_SERVER, &piece) && session->server.record < limit) {
         uint64_t time = keeps_times ? time_to_send(session, piece.time) : 0;
-        if (time > replay_now()) {
+        if (time > microseconds()) {
             session->due = time;
             return STATUS_OK;
         }

@@ -1,4 +1,5 @@
 /* What the client says. */
+#include "clock.h"
 #include "recording.h"
 #include "replay.h"
 
@@ -29,7 +30,7 @@ enum status session_match(struct session *session)
     struct piece piece;
     session->client = session->next.end;
     session->recorded_at = session->next.time;
-    session->matched_at = replay_now();
+    session->matched_at = microseconds();
     session->is_terminated = session->matched > 0 && session->next.frame.tag == 'X';
     session->matched++;
     enum status status = session_find(session);
@@ -252,7 +253,7 @@ static enum status check_patience(struct replay *replay, struct session *session
     uint64_t patience = (uint64_t)replay->options.patience * 1000000;
     if (patience == 0 || session->state != SESSION_SERVING || !session->is_owing)
         return STATUS_OK;
-    if (replay_now() >= session->heard_at + patience) {
+    if (microseconds() >= session->heard_at + patience) {
         struct side recorded = recorded_side(session);
         return session_differ(replay, session, &recorded, &received, NULL);
     }

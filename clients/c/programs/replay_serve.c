@@ -1,5 +1,6 @@
 #define _DEFAULT_SOURCE
 
+#include "clock.h"
 #include "listener.h"
 #include "replay.h"
 #include "wait.h"
@@ -31,7 +32,7 @@ static bool is_full(const struct clients *clients)
 /* How long to wait, in milliseconds; below 0 for ever. */
 static int time_to_wait(const struct clients *clients)
 {
-    uint64_t due = is_full(clients) ? replay_now() + SILENCE * 1000 : 0, now;
+    uint64_t due = is_full(clients) ? microseconds() + SILENCE * 1000 : 0, now;
     for (size_t i = 0; i < clients->count; i++) {
         const struct session *session = clients->sessions[i];
         if (session->due > 0 && (due == 0 || session->due < due))
@@ -39,7 +40,7 @@ static int time_to_wait(const struct clients *clients)
     }
     if (due == 0)
         return -1;
-    now = replay_now();
+    now = microseconds();
     if (due <= now)
         return 0;
     due = (due - now + 999) / 1000;
@@ -94,7 +95,7 @@ static void make_place(struct clients *clients)
             && (found == clients->count || session->heard_at < clients->sessions[found]->heard_at))
             found = i;
     }
-    if (found < clients->count && replay_now() >= clients->sessions[found]->heard_at + SILENCE * 1000)
+    if (found < clients->count && microseconds() >= clients->sessions[found]->heard_at + SILENCE * 1000)
         take_away(clients, found);
 }
 
@@ -102,7 +103,7 @@ static void make_place(struct clients *clients)
 static enum status serve_clients(struct clients *clients)
 {
     enum status status = STATUS_OK;
-    uint64_t now = replay_now();
+    uint64_t now = microseconds();
     for (size_t i = clients->count; status == STATUS_OK && i-- > 0;) {
         struct session *session = clients->sessions[i];
         const struct pollfd *ready = &clients->ready[i];

@@ -1,12 +1,12 @@
 #define _DEFAULT_SOURCE
 
 #include "replay.h"
+#include "clock.h"
 #include "wait.h"
 
 #include <errno.h>
 #include <stdlib.h>
 #include <sys/socket.h>
-#include <time.h>
 #include <unistd.h>
 
 enum {
@@ -19,21 +19,13 @@ enum {
     PATIENCE_WITH_ERROR = 10000000
 };
 
-uint64_t replay_now(void)
-{
-    struct timespec now;
-    if (clock_gettime(CLOCK_MONOTONIC, &now) < 0)
-        return 0;
-    return (uint64_t)now.tv_sec * 1000000 + (uint64_t)now.tv_nsec / 1000;
-}
-
 struct session *session_new(int socket)
 {
     struct session *session = calloc(1, sizeof *session);
     if (session == NULL)
         return NULL;
     session->socket = socket;
-    session->heard_at = replay_now();
+    session->heard_at = microseconds();
     if (!buffer_make(&session->in, FIRST_ROOM) || !buffer_make(&session->out, FIRST_ROOM)
         || !buffer_make(&session->last_words, FIRST_ROOM) || !buffer_make(&session->room, FIRST_ROOM)
         || !buffer_make(&session->server_room, FIRST_ROOM)) {
@@ -74,7 +66,7 @@ enum status session_differ(struct replay *replay, struct session *session, const
     replay->is_different = true;
     session->has_failed = true;
     session->state = SESSION_ENDING;
-    session->ends_at = replay_now() + PATIENCE_WITH_ERROR;
+    session->ends_at = microseconds() + PATIENCE_WITH_ERROR;
     return STATUS_OK;
 }
 
@@ -89,7 +81,7 @@ static enum status read_bytes(struct session *session)
         session->has_hung_up = true;
     if (count > 0) {
         in->end += (size_t)count;
-        session->heard_at = replay_now();
+        session->heard_at = microseconds();
     }
     return STATUS_OK;
 }
@@ -135,11 +127,11 @@ static void end_slowly(struct session *session)
         && session->last_words.start == session->last_words.end) {
         (void)shutdown(session->socket, SHUT_WR);
         session->state = SESSION_LINGERING;
-        session->ends_at = replay_now() + PATIENCE;
+        session->ends_at = microseconds() + PATIENCE;
     }
     if (session->state == SESSION_LINGERING && session->has_hung_up)
         session->state = SESSION_OVER;
-    if (session->ends_at > 0 && replay_now() >= session->ends_at)
+    if (session->ends_at > 0 && microseconds() >= session->ends_at)
         session->state = SESSION_OVER;
     if (session->ends_at > 0 && (session->due == 0 || session->ends_at < session->due))
         session->due = session->ends_at;

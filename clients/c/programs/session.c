@@ -1,12 +1,12 @@
 #define _DEFAULT_SOURCE
 
 #include "session.h"
+#include "clock.h"
 #include "opening.h"
 #include "wait.h"
 
 #include <stdlib.h>
 #include <string.h>
-#include <time.h>
 #include <unistd.h>
 
 enum {
@@ -17,14 +17,6 @@ enum {
     /* How long a client may take to hang up after the server did. */
     CLOSING_PATIENCE = 2000
 };
-
-int64_t milliseconds(void)
-{
-    struct timespec now;
-    if (clock_gettime(CLOCK_MONOTONIC, &now) < 0)
-        return 0;
-    return (int64_t)now.tv_sec * 1000 + now.tv_nsec / 1000000;
-}
 
 static void flow_begin(struct flow *flow, int from, int to)
 {

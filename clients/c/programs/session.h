@@ -43,9 +43,6 @@ struct session {
     char peer[PEER_ROOM];
 };
 
-/* Milliseconds of a clock that never goes back. */
-int64_t milliseconds(void);
-
 /* Begins with a client that was accepted. NULL where there is no memory, and the client's connection is closed. */
 struct session *session_begin(int client, const char *peer);
 
