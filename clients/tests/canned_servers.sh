@@ -26,6 +26,22 @@ prepare_python_example() {
     python_example=(env PYTHONPATH=python PGMSG_LIBRARY="$work/installed/lib/libpg_message.so" python3 -S -B -W error)
 }
 
+# Runs a test of an example in each language: on what it is called there, and on the words that run it.
+in_each_language() {
+    local test=$1 what=$2 example=$3
+    "$test" "$what in C" "$programs/$example"
+    if build_rust_examples; then
+        "$test" "$what in Rust" "$rust_examples/$example"
+    else
+        echo "left out: $what in Rust, which need rustc and cargo from $oldest_rust on"
+    fi
+    if prepare_python_example; then
+        "$test" "$what in Python" "${python_example[@]}" "python/examples/$example.py"
+    else
+        echo "left out: $what in Python, which need Python 3.11"
+    fi
+}
+
 # Starts a server on a free port, and leaves its process in $canned, its port in $canned_port.
 start_canned() {
     : > "$work/port"
@@ -96,15 +112,5 @@ test_canned_servers() {
         echo 'left out: psql and pgbench on the example servers, which are not there'
         return
     fi
-    test_canned 'canned answers in C' "$programs/canned_server"
-    if build_rust_examples; then
-        test_canned 'canned answers in Rust' "$rust_examples/canned_server"
-    else
-        echo "left out: canned answers in Rust, which need rustc and cargo from $oldest_rust on"
-    fi
-    if prepare_python_example; then
-        test_canned 'canned answers in Python' "${python_example[@]}" python/examples/canned_server.py
-    else
-        echo 'left out: canned answers in Python, which need Python 3.11'
-    fi
+    in_each_language test_canned 'canned answers' canned_server
 }

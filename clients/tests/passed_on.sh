@@ -4,7 +4,7 @@
 # Tests that a program passes each recording on as it came.
 pass_on_by() {
     try tests/passed_on.py "$work/connections" "${@:2}"
-    expect "passed on $1: $output" 0
+    expect "$1: $output" 0
 }
 
 test_passed_on() {
@@ -12,15 +12,5 @@ test_passed_on() {
     if [ -f "$work/recorded" ]; then
         as_tags "$work/recorded" > "$work/connections/recorded.lines"
     fi
-    pass_on_by 'in C' "$programs/pass_on"
-    if build_rust_examples; then
-        pass_on_by 'in Rust' "$rust_examples/pass_on"
-    else
-        echo "left out: recordings passed on in Rust, which need rustc and cargo from $oldest_rust on"
-    fi
-    if prepare_python_example; then
-        pass_on_by 'in Python' "${python_example[@]}" python/examples/pass_on.py
-    else
-        echo 'left out: recordings passed on in Python, which need Python 3.11'
-    fi
+    in_each_language pass_on_by 'recordings passed on' pass_on
 }
