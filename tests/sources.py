@@ -122,6 +122,6 @@ def parameters_of(head):
 
 def joined(words, parameters):
     """A type or a trait as one word, as reports have it."""
-    signs = {"&": "Ref", "[": "Slice"}
-    parts = re.findall(r"&|\[|\w+(?!::)\b", LIFETIME.sub("", words))
+    signs = {"&": "Ref", "[": "Slice", "()": "Unit"}
+    parts = re.findall(r"&|\[|\(\)|\w+(?!::)\b", LIFETIME.sub("", words))
     return "".join(signs.get(it) or it[0].upper() + it[1:] for it in parts if it not in parameters)
