@@ -1,2 +1,3 @@
 pub mod Run
 pub mod TaggedMessage
+pub mod Visitor

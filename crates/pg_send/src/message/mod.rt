@@ -2,6 +2,7 @@
 
 mod run;
 mod tagged;
+mod visitor;
 
 pub use pg_request::message::{
     Bind, BindValues, CancelRequest, Close, CopyData, CopyDone, CopyFail, Describe, EncodeMessage,

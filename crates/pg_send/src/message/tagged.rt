@@ -7,10 +7,11 @@ ghost use Rattle.pg_request.specs.Message.{law_of, body, fault, hint, text, IsIn
 ghost use Rattle.pg_send.specs.Run.{IsReadIfItCan, AreReadByTag};
 ghost use Rattle.pg_send.specs.TaggedMessage.{message_of};
 
+use crate::message::visitor::{EncodeFrame, FrameRoom, PutFrame, PutIfFits, Visitor};
 use crate::message::{
     Bind, Close, CopyData, CopyDone, CopyFail, Describe, Execute, Flush, FrontendMessage,
     FunctionCall, Parse, Password, Query, RawBind, RawClose, RawDescribe, RawExecute, RawParse,
-    SaslInitial, SaslInitialResponse, SaslResponse, Sync, Terminate, encode_frame, put_if_fits,
+    SaslInitial, SaslInitialResponse, SaslResponse, Sync, Terminate, put_if_fits,
 };
 use pg_base::io::Sink;
 use pg_base::{Error, ProtocolFault};
@@ -40,39 +41,6 @@ pub enum TaggedMessage<'a> {
     SaslResponse(SaslResponse<'a>),
     Sync(Sync),
     Terminate(Terminate),
-}
-
-// What it holds, whichever type that is.
-macro_rules! held {
-    ($tagged:expr, $message:ident => $call:expr) => {
-        match $tagged {
-            TaggedMessage::Bind($message) => $call,
-            TaggedMessage::Close($message) => $call,
-            TaggedMessage::CopyData($message) => $call,
-            TaggedMessage::CopyDone($message) => $call,
-            TaggedMessage::CopyFail(message) => {
-                let $message: &CopyFail = message;
-                $call
-            }
-            TaggedMessage::Describe($message) => $call,
-            TaggedMessage::Execute($message) => $call,
-            TaggedMessage::Flush($message) => $call,
-            TaggedMessage::FunctionCall($message) => $call,
-            TaggedMessage::Parse($message) => $call,
-            TaggedMessage::Password($message) => $call,
-            TaggedMessage::Query($message) => $call,
-            TaggedMessage::RawBind($message) => $call,
-            TaggedMessage::RawClose($message) => $call,
-            TaggedMessage::RawDescribe($message) => $call,
-            TaggedMessage::RawExecute($message) => $call,
-            TaggedMessage::RawParse($message) => $call,
-            TaggedMessage::SaslInitial($message) => $call,
-            TaggedMessage::SaslInitialResponse($message) => $call,
-            TaggedMessage::SaslResponse($message) => $call,
-            TaggedMessage::Sync($message) => $call,
-            TaggedMessage::Terminate($message) => $call,
-        }
-    };
 }
 
 impl TaggedMessage<'_> {
@@ -112,7 +80,7 @@ impl TaggedMessage<'_> {
         // It is false only where a limit is broken or the spare room is short.
         ensures short { OnFalse result (fault (message_of self.now) ≡ None → vec_capacity buf.old < vec_len buf.old + (hint (message_of self.now) + 5)) }
     {
-        held!(self, message => put_if_fits(message, buf))
+        self.visit::<Vec<u8>, PutIfFits>(buf)
     }
 
     // The same of a message that a reader would get back. One match checks and adds it.
@@ -180,7 +148,7 @@ impl TaggedMessage<'_> {
         ensures encodes { EncodesMessage (law_of (message_of self.now)) buf.old buf.new result }
         ensures range { OnOk result (IsInRange (message_of self.now)) }
     {
-        held!(self, message => encode_frame(message, buf))
+        self.visit::<Vec<u8>, EncodeFrame>(buf)
     }
 
     /// The spare room in bytes with which the message is encoded without asking for memory, or the
@@ -190,7 +158,7 @@ impl TaggedMessage<'_> {
     pub fn frame_room(&self) -> Result<usize, Error>
         ensures { result ≡ room_or_fault (fault (message_of self.now)) (hint (message_of self.now)) }
     {
-        held!(self, message => message.frame_room())
+        self.visit::<(), FrameRoom>(&mut ())
     }
 
     /// Whether a reader would get the message back from its bytes: refused with `TextHoldsNul` where a
@@ -237,6 +205,41 @@ impl TaggedMessage<'_> {
         ensures loan { S.loan sink.new ≡ S.loan sink.old }
         ensures range { IsInRange (message_of self.now) }
     {
-        held!(self, message => message.put_frame(message.body_len(), sink))
+        self.visit::<S, PutFrame>(sink)
+    }
+
+    // What a visitor makes of what it holds, whichever type that is.
+    #[inline(always)]
+    fn visit<State, V: Visitor<State>>(&self, state: &mut State) -> V::Output
+        requires { V.asks (law_of (message_of self.now)) state.old }
+        ensures { V.gives (law_of (message_of self.now)) state.old state.new result }
+    {
+        match self {
+            TaggedMessage::Bind(message) => V::visit(message, state),
+            TaggedMessage::Close(message) => V::visit(message, state),
+            TaggedMessage::CopyData(message) => V::visit(message, state),
+            TaggedMessage::CopyDone(message) => V::visit(message, state),
+            TaggedMessage::CopyFail(message) => {
+                let message: &CopyFail = message;
+                V::visit(message, state)
+            }
+            TaggedMessage::Describe(message) => V::visit(message, state),
+            TaggedMessage::Execute(message) => V::visit(message, state),
+            TaggedMessage::Flush(message) => V::visit(message, state),
+            TaggedMessage::FunctionCall(message) => V::visit(message, state),
+            TaggedMessage::Parse(message) => V::visit(message, state),
+            TaggedMessage::Password(message) => V::visit(message, state),
+            TaggedMessage::Query(message) => V::visit(message, state),
+            TaggedMessage::RawBind(message) => V::visit(message, state),
+            TaggedMessage::RawClose(message) => V::visit(message, state),
+            TaggedMessage::RawDescribe(message) => V::visit(message, state),
+            TaggedMessage::RawExecute(message) => V::visit(message, state),
+            TaggedMessage::RawParse(message) => V::visit(message, state),
+            TaggedMessage::SaslInitial(message) => V::visit(message, state),
+            TaggedMessage::SaslInitialResponse(message) => V::visit(message, state),
+            TaggedMessage::SaslResponse(message) => V::visit(message, state),
+            TaggedMessage::Sync(message) => V::visit(message, state),
+            TaggedMessage::Terminate(message) => V::visit(message, state),
+        }
     }
 }
