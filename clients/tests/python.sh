@@ -24,6 +24,7 @@ test_python() {
         echo 'left out: the tests of the Python package, which needs Python 3.11'
         return
     fi
+    install_library
     try python/build
     expect 'python: the declarations of the header' 0
     PGMSG_LIBRARY=$library test_python_units 'the tree' python

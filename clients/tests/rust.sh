@@ -123,10 +123,8 @@ build_rust_examples() {
 
 # Loads a table, and fails to, by the example of the crate.
 test_rust_copy() {
+    build_rust_examples || return
     local rust_copy=$rust_examples/copy
-    if [ -z "$rust_examples" ]; then
-        return
-    fi
     sql 'CREATE TABLE by_rust (id int, name text)'
     printf '1\ta\n2\t\\N\n' > "$work/rust.tsv"
     try "$rust_copy" "127.0.0.1:$PGPORT" postgres postgres by_rust < "$work/rust.tsv"
