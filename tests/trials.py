@@ -61,7 +61,8 @@ class Known:
         if kept.exists():
             self.keep(kept)
         elif self.serves_build():
-            with crates.locked([self.crate.place_of_proof()]), PROCESSORS:
+            # What is built of it waits for no wrong body.
+            with crates.locked([self.crate.place_of_proof()]):
                 self.crate.check({}, [], self.folder.name, jobs=2)
                 shutil.copytree(self.folder.name, kept)
             self.is_there.set()
