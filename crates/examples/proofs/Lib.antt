@@ -1,1 +1,4 @@
 pub mod CopyLoadLemmas
+pub mod RecordingLemmas
+pub mod RecordingReaderLemmas
+pub mod RecordingWriterLemmas

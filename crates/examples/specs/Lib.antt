@@ -1,1 +1,2 @@
 pub mod CopyLoad
+pub mod Recording

@@ -1,0 +1,181 @@
+//! A recording that is read.
+
+ghost use Rattle.std.specs.Prelude.{◌≡◌, ℕ, ◌+◌, ◌<◌, ◌≤◌, ◌^◌, List, [], ◌++◌, length, drop, IsTrue, IsOk, IsSome, IfOk, IfSome, IfNone, OnOk, OnErr, IfErr, MatchOption, MatchResult};
+ghost use Rattle.std.specs.Int.{w32, to_be_bytes};
+ghost use Rattle.examples.specs.declared.recording.error.ReadError.TheVariants.{OutOfMemory};
+ghost use Rattle.examples.specs.declared.recording.record.Record.{Record};
+ghost use Rattle.examples.specs.Recording.Text.{recording_head};
+ghost use Rattle.examples.specs.Recording.Reader.{StandsAt, IsNext, IsRead, IsSame, rest_of};
+
+use super::checksum::checksum;
+use super::connections::Connections;
+use super::error::{ReadError, RecordFault};
+use super::head::Head;
+use super::numbers::{split_u32, split_u64};
+use super::record::Record;
+use std::alloc::Global;
+use std::marker::Model;
+
+/// What a recording begins with.
+pub(super) const SIGNATURE: [u8; 8] = *b"PGMSGREC";
+
+/// The version of the format.
+pub(super) const VERSION: u32 = 1;
+
+/// The bytes of a recording's head before its checksum.
+const CHECKED: usize = 20;
+
+/// A recording that is read. In a contract it is how far that is: its bytes, the offset of the next record, and
+/// which connections are open.
+#[derive(Drop)]
+pub struct Recording<'a> {
+    begun: u64,
+    bytes: &'a [u8],
+    at: usize,
+    connections: Connections,
+}
+
+impl<'a> Model for Recording<'a> {
+    ghost use Rattle.std.specs.Prelude.{◌≤◌, length};
+    ghost use Rattle.examples.specs.Recording.Reader.{Reading};
+
+    ghost Value = { Reading };
+
+    ghost view = { λ r. record { begun = r.begun; bytes = r.bytes.now; at = r.at; are_open = r.connections.are_open.items } };
+
+    ghost invariant = { λ r. r.at ≤ length r.bytes.now };
+}
+
+impl<'a> Recording<'a> {
+    /// Opens the recording that these bytes are, and reads its head.
+    pub fn open(alloc: Global, bytes: &'a [u8]) -> Result<Recording<'a>, ReadError>
+        ensures head { IfOk result (λ r. bytes.now ≡ recording_head r.begun ++ rest_of r) }
+        ensures bytes { IfOk result (λ r. r.bytes ≡ bytes.now) }
+        ensures none_open { IfOk result (λ r. r.are_open ≡ []) }
+        ensures due { (begun : ℕ) (rest : List ℕ) → begun < 2 ^ 64 → bytes.now ≡ recording_head begun ++ rest → IsOk result }
+    {
+        let (begun, rest) = split_head(bytes)?;
+        Ok(Recording {
+            begun,
+            bytes,
+            at: bytes.len() - rest.len(),
+            connections: Connections::new(alloc),
+        })
+    }
+
+    /// When it began, in microseconds since 1970-01-01 UTC.
+    pub fn begun(&self) -> u64
+        ensures { result ≡ self.now.begun }
+    {
+        self.begun
+    }
+
+    /// The offset of the next record, in bytes.
+    pub fn offset(&self) -> usize
+        ensures { result ≡ self.now.at }
+    {
+        self.at
+    }
+
+    /// Reads the next record; `None` where no whole one is left.
+    ///
+    /// A fault, or that there was no memory, leaves all as it was, so nothing after a fault is read.
+    pub fn next_record(&mut self) -> Result<Option<Record<'a>>, ReadError>
+        ensures read { IfOk result (λ some. IfSome some (λ r. IsRead self.old self.new r)) }
+        ensures end { IfOk result (λ some. IfNone some (self.new ≡ self.old)) }
+        ensures err { OnErr result (self.new ≡ self.old) }
+        // A record that may be next is read wherever there is memory.
+        ensures due { (r : Record) → IsNext self.old r → MatchResult result (λ some. MatchOption some ⊥ (λ read. IsSame r read)) (λ error. error ≡ OutOfMemory) }
+    {
+        let at = self.at;
+        let next = match self.find_next() {
+            Ok(next) => next,
+            Err(fault) => return Err(ReadError::Fault { at, fault }),
+        };
+        let Some(record) = next else {
+            return Ok(None);
+        };
+        self.connections.follow(record.kind, record.connection)?;
+        self.at += record.text_len();
+        Ok(Some(record))
+    }
+
+    /// Whether a part of a record alone is left: the recording was cut within it. That is no fault.
+    pub fn is_cut(&self) -> bool
+        ensures { IsTrue result → (self.now.at < length self.now.bytes) × ((r : Record) → IsNext self.now r → ⊥) }
+    {
+        self.at < self.bytes.len() && matches!(self.find_next(), Ok(None))
+    }
+
+    // The record at the offset that was reached.
+    fn find_next(&self) -> Result<Option<Record<'a>>, RecordFault>
+        ensures next { IfOk result (λ some. IfSome some (λ r. IsNext self.now r)) }
+        ensures due { (r : Record) → IsNext self.now r → MatchResult result (λ some. MatchOption some ⊥ (λ read. IsSame r read)) (λ _. ⊥) }
+    {
+        let Some(record) = read_record(&self.bytes[self.at..])? else {
+            return Ok(None);
+        };
+        self.connections.check(record.kind, record.connection)?;
+        Ok(Some(record))
+    }
+}
+
+// The time in the head of a recording, and what follows it.
+fn split_head(bytes: &[u8]) -> Result<(u64, &[u8]), ReadError>
+    ensures found { IfOk result (λ it. bytes.now ≡ recording_head it.0 ++ it.1.now) }
+    ensures due { (begun : ℕ) (rest : List ℕ) → begun < 2 ^ 64 → bytes.now ≡ recording_head begun ++ rest → IsOk result }
+{
+    let no_head = ReadError::NoHead(bytes.len());
+    let (signature, rest) = bytes.split_first_chunk::<8>().ok_or(no_head)?;
+    let (version, rest) = split_u32(rest).ok_or(no_head)?;
+    let (begun, rest) = split_u64(rest).ok_or(no_head)?;
+    let (sum, rest) = split_u32(rest).ok_or(no_head)?;
+    if *signature != SIGNATURE {
+        return Err(ReadError::NoSignature);
+    }
+    if sum != checksum(&bytes[..CHECKED]) {
+        return Err(ReadError::HeadChecksum);
+    }
+    if version != VERSION {
+        return Err(ReadError::UnknownVersion(version));
+    }
+    Ok((begun, rest))
+}
+
+// The record at the front of bytes, whatever came before; `None` where no whole one is there.
+fn read_record(bytes: &[u8]) -> Result<Option<Record<'_>>, RecordFault>
+    ensures read { IfOk result (λ some. IfSome some (λ r. StandsAt bytes.now r)) }
+    ensures due { (r : Record) → StandsAt bytes.now r → MatchResult result (λ some. MatchOption some ⊥ (λ read. IsSame r read)) (λ _. ⊥) }
+{
+    let Some((head, rest)) = Head::split(bytes) else {
+        return Ok(None);
+    };
+    let kind = head.check(bytes)?;
+    let Some((content, sum)) = split_content(rest, head.len as usize) else {
+        return Ok(None);
+    };
+    if sum != checksum(content) {
+        return Err(RecordFault::ContentChecksum);
+    }
+    kind.check_side(content)?;
+    Ok(Some(Record {
+        kind,
+        connection: head.connection,
+        time: head.time,
+        content,
+    }))
+}
+
+// A content of this length, and the checksum after it; none where they aren't whole.
+fn split_content(bytes: &[u8], len: usize) -> Option<(&[u8], u32)>
+    requires { len < 2 ^ 32 }
+    ensures found { IfSome result (λ it. (rest : List ℕ) × (bytes.now ≡ it.0.now ++ (to_be_bytes w32 it.1 ++ rest)) × (length it.0.now ≡ len) × (it.1 < 2 ^ 32)) }
+    ensures short { IfNone result (length bytes.now < len + 4) }
+{
+    if bytes.len() < len {
+        return None;
+    }
+    let (content, rest) = bytes.split_at(len);
+    let (sum, _rest) = split_u32(rest)?;
+    Some((content, sum))
+}
