@@ -2,3 +2,4 @@ pub mod CopyLoadLemmas
 pub mod RecordingLemmas
 pub mod RecordingReaderLemmas
 pub mod RecordingWriterLemmas
+pub mod RecordingStartLemmas

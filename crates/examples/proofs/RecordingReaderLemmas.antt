@@ -1,14 +1,15 @@
 -- A record that is read is the one that stands at the front of the bytes, and one that stands there is read.
 use Rattle.std.proofs.Common.{◌≡◌, ℕ, ◌+◌, ◌^◌, ◌<◌, ◌≤◌, List, [], ◌∷◌, ◌++◌, length, get_or, take, drop, refl, sym, ap, subst, ◌∙◌, append_assoc, arith}
+use Rattle.std.specs.Prelude.{◌==◌, if◌then◌else◌}
 use Rattle.std.specs.Int.{w32, w64, to_be_bytes}
-use Rattle.std.proofs.lemmas.List.{take_at, length-append}
+use Rattle.std.proofs.lemmas.List.{take_at, length-append, length-drop}
 use Rattle.examples.specs.declared.recording.head.Head.{Head}
 use Rattle.examples.specs.declared.recording.record.Record.{Record}
 use Rattle.examples.specs.declared.recording.record.RecordKind.{RecordKind}
 use Rattle.examples.specs.declared.recording.record.RecordKind.TheVariants.{Opened, FromClient, FromServer, LeftOutOfClient, LeftOutOfServer, Encrypted, Closed}
 use Rattle.examples.specs.Recording.Checksum.{crc32}
 use Rattle.examples.specs.Recording.Head.{BeginsWithHead}
-use Rattle.examples.specs.Recording.Reader.{IsFormed, StandsAt}
+use Rattle.examples.specs.Recording.Reader.{Reading, IsFormed, StandsAt, IsNext}
 use Rattle.examples.specs.Recording.Record.{kind_letter, HasLength, NamesSide}
 use Rattle.examples.specs.Recording.Text.{sealed, record_head, record_text}
 use Rattle.examples.proofs.RecordingLemmas.{one_front, one_4, one_8}
@@ -55,6 +56,31 @@ pub checked_bytes : (bytes : List ℕ) (h : Head) (rest : List ℕ) → BeginsWi
 checked_bytes bytes h rest b =
     ap (λ (xs : List ℕ). take 17 xs) b.text ∙ take_at (record_head h.len h.letter h.connection h.time) (to_be_bytes w32 h.checksum ++ rest) 17 refl
 
+-- its checksum is that of these bytes, and the content follows
+pub checksum_is : (bytes : List ℕ) (h : Head) (rest : List ℕ) (r : Record) → BeginsWithHead bytes h rest → (s : StandsAt bytes r) → crc32 (take 17 bytes) < 2 ^ 32 → (h.checksum ≡ crc32 (take 17 bytes)) × (rest ≡ sealed r.content.now ++ s.after)
+checksum_is bytes h rest r b s fits =
+    let is = head_is bytes h rest r b s in
+    let sum : take 17 bytes ≡ head_of r = ap (λ (xs : List ℕ). take 17 xs) s.text ∙ take_at (head_of r) (to_be_bytes w32 (crc32 (head_of r)) ++ (sealed r.content.now ++ s.after)) 17 refl in
+    let one = one_4 h.checksum (crc32 (head_of r)) rest (sealed r.content.now ++ s.after) b.checksum (subst (λ (xs : List ℕ). crc32 xs < 2 ^ 32) sum fits) is.checksum in
+    (one.0 ∙ ap crc32 (sym sum), one.1)
+
+-- a letter is of one kind
+kind_at : ℕ → RecordKind
+kind_at letter = if letter == 79 then Opened else if letter == 70 then FromClient else if letter == 66 then FromServer else if letter == 102 then LeftOutOfClient else if letter == 98 then LeftOutOfServer else if letter == 69 then Encrypted else Closed
+
+kind_at-letter : (kind : RecordKind) → kind_at (kind_letter kind) ≡ kind
+unfolding kind_at
+kind_at-letter Opened = refl
+kind_at-letter FromClient = refl
+kind_at-letter FromServer = refl
+kind_at-letter LeftOutOfClient = refl
+kind_at-letter LeftOutOfServer = refl
+kind_at-letter Encrypted = refl
+kind_at-letter Closed = refl
+
+pub one_kind : (k j : RecordKind) → kind_letter k ≡ kind_letter j → k ≡ j
+one_kind k j e = sym (kind_at-letter k) ∙ (ap kind_at e ∙ kind_at-letter j)
+
 -- a content is spelled one way
 pub one_content : (rest content spelled after more : List ℕ) (sum : ℕ) → rest ≡ spelled ++ (to_be_bytes w32 sum ++ more) → rest ≡ sealed content ++ after → length spelled ≡ length content → sum < 2 ^ 32 → crc32 spelled < 2 ^ 32 → (spelled ≡ content) × (sum ≡ crc32 content)
 one_content rest content spelled after more sum e f l hs hc =
@@ -73,3 +99,8 @@ stands bytes h rest more r sum b long side len letter connection time checksum p
       after = more;
       text = b.text ∙ (ap (λ (xs : List ℕ). xs ++ (to_be_bytes w32 h.checksum ++ rest)) head ∙ (ap (λ (n : ℕ). head_of r ++ (to_be_bytes w32 n ++ rest)) sums ∙ ap (λ (xs : List ℕ). head_of r ++ (to_be_bytes w32 (crc32 (head_of r)) ++ xs)) content));
     }
+
+-- a record that is next is within the bytes
+pub fits_rest : (reading : Reading) (r : Record) → reading.at ≤ length reading.bytes → IsNext reading r → reading.at + length (record_text r) ≤ length reading.bytes
+fits_rest reading r within n =
+    omega (arith, ap length n.stands.text, length-append (record_text r) n.stands.after, length-drop reading.at reading.bytes)

@@ -4,5 +4,6 @@ pub mod Connections
 pub mod Head
 pub mod Reader
 pub mod Record
+pub mod Start
 pub mod Text
 pub mod Writer

@@ -11,6 +11,7 @@ mod head;
 mod numbers;
 mod reader;
 mod record;
+mod start;
 mod writer;
 
 pub use error::{ReadError, RecordFault, WriteError};

@@ -14,6 +14,6 @@ with_bits (suc count) rest = with_bit (with_bits count rest)
 unfoldable pub with_byte : ℕ → ℕ → ℕ
 with_byte rest byte = with_bits 8 (bit_xor rest byte)
 
--- the checksum of bytes
+-- the checksum of bytes: all bits of the last remainder turned round, where the first has them all
 unfoldable pub crc32 : List ℕ → ℕ
-crc32 bytes = bit_xor (2 ^ 32 - 1) (fold with_byte (2 ^ 32 - 1) bytes)
+crc32 bytes = 2 ^ 32 - 1 - fold with_byte (2 ^ 32 - 1) bytes

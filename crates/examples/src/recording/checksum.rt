@@ -15,7 +15,7 @@ pub fn checksum(bytes: &[u8]) -> u32
     for byte in bytes {
         rest = take_byte(rest, *byte);
     }
-    u32::MAX ^ rest
+    !rest
 }
 
 // The remainder after a byte more.

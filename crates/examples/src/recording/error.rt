@@ -120,7 +120,10 @@ impl fmt::Display for WriteError {
     fn fmt<W: fmt::Write>(&self, f: &mut fmt::Formatter<W>) -> fmt::Result {
         match *self {
             WriteError::Fault(fault) => write!(f, "{fault}"),
-            WriteError::TimeFalls { last, time } => write!(f, "its time falls from {last} to {time}"),
+            WriteError::TimeFalls { last, time } => write!(
+                f,
+                "its time falls from {last} to {time}"
+            ),
             WriteError::OutOfMemory => write!(f, "out of memory"),
         }
     }

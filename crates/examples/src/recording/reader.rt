@@ -11,19 +11,11 @@ use super::checksum::checksum;
 use super::connections::Connections;
 use super::error::{ReadError, RecordFault};
 use super::head::Head;
-use super::numbers::{split_u32, split_u64};
+use super::numbers::split_u32;
 use super::record::Record;
+use super::start::Start;
 use std::alloc::Global;
 use std::marker::Model;
-
-/// What a recording begins with.
-pub(super) const SIGNATURE: [u8; 8] = *b"PGMSGREC";
-
-/// The version of the format.
-pub(super) const VERSION: u32 = 1;
-
-/// The bytes of a recording's head before its checksum.
-const CHECKED: usize = 20;
 
 /// A recording that is read. In a contract it is how far that is: its bytes, the offset of the next record, and
 /// which connections are open.
@@ -54,9 +46,12 @@ impl<'a> Recording<'a> {
         ensures none_open { IfOk result (λ r. r.are_open ≡ []) }
         ensures due { (begun : ℕ) (rest : List ℕ) → begun < 2 ^ 64 → bytes.now ≡ recording_head begun ++ rest → IsOk result }
     {
-        let (begun, rest) = split_head(bytes)?;
+        let Some((start, rest)) = Start::split(bytes) else {
+            return Err(ReadError::NoHead(bytes.len()));
+        };
+        start.check(bytes)?;
         Ok(Recording {
-            begun,
+            begun: start.begun,
             bytes,
             at: bytes.len() - rest.len(),
             connections: Connections::new(alloc),
@@ -112,34 +107,13 @@ impl<'a> Recording<'a> {
         ensures next { IfOk result (λ some. IfSome some (λ r. IsNext self.now r)) }
         ensures due { (r : Record) → IsNext self.now r → MatchResult result (λ some. MatchOption some ⊥ (λ read. IsSame r read)) (λ _. ⊥) }
     {
-        let Some(record) = read_record(&self.bytes[self.at..])? else {
+        let (_read, rest) = self.bytes.split_at(self.at);
+        let Some(record) = read_record(rest)? else {
             return Ok(None);
         };
         self.connections.check(record.kind, record.connection)?;
         Ok(Some(record))
     }
-}
-
-// The time in the head of a recording, and what follows it.
-fn split_head(bytes: &[u8]) -> Result<(u64, &[u8]), ReadError>
-    ensures found { IfOk result (λ it. bytes.now ≡ recording_head it.0 ++ it.1.now) }
-    ensures due { (begun : ℕ) (rest : List ℕ) → begun < 2 ^ 64 → bytes.now ≡ recording_head begun ++ rest → IsOk result }
-{
-    let no_head = ReadError::NoHead(bytes.len());
-    let (signature, rest) = bytes.split_first_chunk::<8>().ok_or(no_head)?;
-    let (version, rest) = split_u32(rest).ok_or(no_head)?;
-    let (begun, rest) = split_u64(rest).ok_or(no_head)?;
-    let (sum, rest) = split_u32(rest).ok_or(no_head)?;
-    if *signature != SIGNATURE {
-        return Err(ReadError::NoSignature);
-    }
-    if sum != checksum(&bytes[..CHECKED]) {
-        return Err(ReadError::HeadChecksum);
-    }
-    if version != VERSION {
-        return Err(ReadError::UnknownVersion(version));
-    }
-    Ok((begun, rest))
 }
 
 // The record at the front of bytes, whatever came before; `None` where no whole one is there.

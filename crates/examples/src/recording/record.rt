@@ -2,7 +2,6 @@
 
 ghost use Rattle.std.specs.Prelude.{◌≡◌, ◌+◌, ◌<◌, ◌≤◌, ◌^◌, ◌↔◌, IsTrue, length, IfSome, IfNone, OnOk, OnErr};
 ghost use Rattle.examples.specs.Recording.Record.{kind_letter, IsKindLetter, HasLength, NamesSide};
-ghost use Rattle.examples.specs.Recording.Reader.{IsFormed};
 ghost use Rattle.examples.specs.Recording.Text.{record_text};
 
 use super::error::RecordFault;
@@ -127,12 +126,11 @@ pub struct Record<'a> {
 impl Record<'_> {
     /// Refuses a content that the kind doesn't have.
     pub(super) fn check(&self) -> Result<(), RecordFault>
-        ensures ok { OnOk result (IsFormed self.now) }
-        ensures err { OnErr result (¬ IsFormed self.now) }
+        ensures ok { OnOk result (HasLength self.now.kind (length self.now.content.now) × NamesSide self.now.kind self.now.content.now) }
+        ensures err { OnErr result (¬ (HasLength self.now.kind (length self.now.content.now) × NamesSide self.now.kind self.now.content.now)) }
     {
-        let Record { kind, content, .. } = *self;
-        kind.check_len(content.len())?;
-        kind.check_side(content)
+        self.kind.check_len(self.content.len())?;
+        self.kind.check_side(self.content)
     }
 
     /// The length of the whole record, in bytes.

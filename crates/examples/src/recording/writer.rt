@@ -11,7 +11,7 @@ use super::checksum::checksum;
 use super::connections::Connections;
 use super::error::WriteError;
 use super::record::Record;
-use super::reader::{SIGNATURE, VERSION};
+use super::start::{SIGNATURE, VERSION};
 use pg_message::io::Sink;
 use std::alloc::{AllocError, Global};
 use std::marker::Model;
