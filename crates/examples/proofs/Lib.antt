@@ -1,5 +1,5 @@
 pub mod CopyLoadLemmas
 pub mod RecordingLemmas
 pub mod RecordingReaderLemmas
-pub mod RecordingWriterLemmas
 pub mod RecordingStartLemmas
+pub mod RecordingWriterLemmas

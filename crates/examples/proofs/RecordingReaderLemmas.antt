@@ -2,14 +2,14 @@
 use Rattle.std.proofs.Common.{◌≡◌, ℕ, ◌+◌, ◌^◌, ◌<◌, ◌≤◌, List, [], ◌∷◌, ◌++◌, length, get_or, take, drop, refl, sym, ap, subst, ◌∙◌, append_assoc, arith}
 use Rattle.std.specs.Prelude.{◌==◌, if◌then◌else◌}
 use Rattle.std.specs.Int.{w32, w64, to_be_bytes}
-use Rattle.std.proofs.lemmas.List.{take_at, length-append, length-drop}
+use Rattle.std.proofs.lemmas.List.{append-nil, take_at, take-append-le, length-append, length-drop}
 use Rattle.examples.specs.declared.recording.head.Head.{Head}
 use Rattle.examples.specs.declared.recording.record.Record.{Record}
 use Rattle.examples.specs.declared.recording.record.RecordKind.{RecordKind}
 use Rattle.examples.specs.declared.recording.record.RecordKind.TheVariants.{Opened, FromClient, FromServer, LeftOutOfClient, LeftOutOfServer, Encrypted, Closed}
 use Rattle.examples.specs.Recording.Checksum.{crc32}
 use Rattle.examples.specs.Recording.Head.{BeginsWithHead}
-use Rattle.examples.specs.Recording.Reader.{Reading, IsFormed, StandsAt, IsNext}
+use Rattle.examples.specs.Recording.Reader.{Reading, IsFormed, IsCutOff, StandsAt, IsNext}
 use Rattle.examples.specs.Recording.Record.{kind_letter, HasLength, NamesSide}
 use Rattle.examples.specs.Recording.Text.{sealed, record_head, record_text}
 use Rattle.examples.proofs.RecordingLemmas.{one_front, one_4, one_8}
@@ -56,6 +56,13 @@ pub checked_bytes : (bytes : List ℕ) (h : Head) (rest : List ℕ) → BeginsWi
 checked_bytes bytes h rest b =
     ap (λ (xs : List ℕ). take 17 xs) b.text ∙ take_at (record_head h.len h.letter h.connection h.time) (to_be_bytes w32 h.checksum ++ rest) 17 refl
 
+-- the same where the record is cut off after its head
+pub record CutHead (bytes : List ℕ) (h : Head) (rest : List ℕ) (r : Record) (more : List ℕ) : Type 0 where
+  pub len : h.len ≡ length r.content.now
+  pub letter : h.letter ≡ kind_letter r.kind
+  pub checksum : h.checksum ≡ crc32 (take 17 bytes)
+  pub content : rest ++ more ≡ sealed r.content.now ++ []
+
 -- its checksum is that of these bytes, and the content follows
 pub checksum_is : (bytes : List ℕ) (h : Head) (rest : List ℕ) (r : Record) → BeginsWithHead bytes h rest → (s : StandsAt bytes r) → crc32 (take 17 bytes) < 2 ^ 32 → (h.checksum ≡ crc32 (take 17 bytes)) × (rest ≡ sealed r.content.now ++ s.after)
 checksum_is bytes h rest r b s fits =
@@ -99,6 +106,21 @@ stands bytes h rest more r sum b long side len letter connection time checksum p
       after = more;
       text = b.text ∙ (ap (λ (xs : List ℕ). xs ++ (to_be_bytes w32 h.checksum ++ rest)) head ∙ (ap (λ (n : ℕ). head_of r ++ (to_be_bytes w32 n ++ rest)) sums ∙ ap (λ (xs : List ℕ). head_of r ++ (to_be_bytes w32 (crc32 (head_of r)) ++ xs)) content));
     }
+
+-- the head of a record that is cut off after it is that of the record
+pub cut_head : (bytes : List ℕ) (h : Head) (rest : List ℕ) (r : Record) → BeginsWithHead bytes h rest → (p : IsCutOff bytes r) → crc32 (take 17 bytes) < 2 ^ 32 → CutHead bytes h rest r p.more
+cut_head bytes h rest r b p fits =
+    let longer : BeginsWithHead (bytes ++ p.more) h (rest ++ p.more) = record { text = ap (λ (xs : List ℕ). xs ++ p.more) b.text; len = b.len; connection = b.connection; time = b.time; checksum = b.checksum } in
+    let whole : StandsAt (bytes ++ p.more) r = record { formed = p.formed; after = []; text = p.text ∙ sym (append-nil (record_text r)) } in
+    let same : take 17 (bytes ++ p.more) ≡ take 17 bytes = take-append-le 17 bytes p.more (omega (arith, ap length b.text)) in
+    let is = head_is (bytes ++ p.more) h (rest ++ p.more) r longer whole in
+    let sum = checksum_is (bytes ++ p.more) h (rest ++ p.more) r longer whole (subst (λ (xs : List ℕ). crc32 xs < 2 ^ 32) (sym same) fits) in
+    record { len = is.len; letter = is.letter; checksum = sum.0 ∙ ap crc32 same; content = sum.1 }
+
+-- its content is not whole
+pub cut_content : (rest more content spelled back : List ℕ) (sum : ℕ) → rest ≡ spelled ++ (to_be_bytes w32 sum ++ back) → rest ++ more ≡ sealed content ++ [] → length spelled ≡ length content → 0 < length more → ⊥
+cut_content rest more content spelled back sum e f l some =
+    omega (arith, ap length e, ap length f, length-append rest more, length-append spelled (to_be_bytes w32 sum ++ back), length-append (sealed content) [], length-append content (to_be_bytes w32 (crc32 content)))
 
 -- a record that is next is within the bytes
 pub fits_rest : (reading : Reading) (r : Record) → reading.at ≤ length reading.bytes → IsNext reading r → reading.at + length (record_text r) ≤ length reading.bytes

@@ -28,6 +28,13 @@ pub record StandsAt (bytes : List ℕ) (r : Record) : Type 0 where
   pub after : List ℕ
   pub text : bytes ≡ record_text r ++ after
 
+-- the bytes are a front of such a record, and not all of it
+pub record IsCutOff (bytes : List ℕ) (r : Record) : Type 0 where
+  pub formed : IsFormed r
+  pub more : List ℕ
+  pub text : bytes ++ more ≡ record_text r
+  pub some : 0 < length more
+
 -- it stands there in what is left, and may follow
 pub record IsNext (reading : Reading) (r : Record) : Type 0 where
   pub stands : StandsAt (rest_of reading) r

@@ -1,11 +1,12 @@
 //! A recording that is read.
 
-ghost use Rattle.std.specs.Prelude.{◌≡◌, ℕ, ◌+◌, ◌<◌, ◌≤◌, ◌^◌, List, [], ◌++◌, length, drop, IsTrue, IsOk, IsSome, IfOk, IfSome, IfNone, OnOk, OnErr, IfErr, MatchOption, MatchResult};
+ghost use Rattle.std.specs.Prelude.{◌≡◌, ◌⊎◌, ℕ, ◌+◌, ◌<◌, ◌^◌, List, [], ◌++◌, length, Ok, None, IsTrue, IsOk, IfOk, IfSome, IfNone, OnErr, IfErr, MatchOption, MatchResult};
 ghost use Rattle.std.specs.Int.{w32, to_be_bytes};
-ghost use Rattle.examples.specs.declared.recording.error.ReadError.TheVariants.{OutOfMemory};
+ghost use Rattle.examples.specs.declared.recording.error.ReadError.TheVariants.{OutOfMemory, Fault};
+ghost use Rattle.examples.specs.declared.recording.error.RecordFault.{RecordFault};
 ghost use Rattle.examples.specs.declared.recording.record.Record.{Record};
 ghost use Rattle.examples.specs.Recording.Text.{recording_head};
-ghost use Rattle.examples.specs.Recording.Reader.{StandsAt, IsNext, IsRead, IsSame, rest_of};
+ghost use Rattle.examples.specs.Recording.Reader.{IsCutOff, StandsAt, IsNext, IsRead, IsSame, rest_of};
 
 use super::checksum::checksum;
 use super::connections::Connections;
@@ -79,6 +80,7 @@ impl<'a> Recording<'a> {
         ensures read { IfOk result (λ some. IfSome some (λ r. IsRead self.old self.new r)) }
         ensures end { IfOk result (λ some. IfNone some (self.new ≡ self.old)) }
         ensures err { OnErr result (self.new ≡ self.old) }
+        ensures place { IfErr result (λ error. (error ≡ OutOfMemory) ⊎ ((fault : RecordFault) × (error ≡ Fault self.old.at fault))) }
         // A record that may be next is read wherever there is memory.
         ensures due { (r : Record) → IsNext self.old r → MatchResult result (λ some. MatchOption some ⊥ (λ read. IsSame r read)) (λ error. error ≡ OutOfMemory) }
     {
@@ -97,14 +99,20 @@ impl<'a> Recording<'a> {
 
     /// Whether a part of a record alone is left: the recording was cut within it. That is no fault.
     pub fn is_cut(&self) -> bool
-        ensures { IsTrue result → (self.now.at < length self.now.bytes) × ((r : Record) → IsNext self.now r → ⊥) }
+        ensures cut { (r : Record) → IsCutOff (rest_of self.now) r → self.now.at < length self.now.bytes → IsTrue result }
+        ensures whole { IsTrue result → (self.now.at < length self.now.bytes) × ((r : Record) → IsNext self.now r → ⊥) }
     {
-        self.at < self.bytes.len() && matches!(self.find_next(), Ok(None))
+        match self.find_next() {
+            Ok(None) => self.at < self.bytes.len(),
+            Ok(Some(_record)) => false,
+            Err(_fault) => false,
+        }
     }
 
     // The record at the offset that was reached.
     fn find_next(&self) -> Result<Option<Record<'a>>, RecordFault>
         ensures next { IfOk result (λ some. IfSome some (λ r. IsNext self.now r)) }
+        ensures cut { (r : Record) → IsCutOff (rest_of self.now) r → result ≡ Ok None }
         ensures due { (r : Record) → IsNext self.now r → MatchResult result (λ some. MatchOption some ⊥ (λ read. IsSame r read)) (λ _. ⊥) }
     {
         let (_read, rest) = self.bytes.split_at(self.at);
@@ -119,6 +127,7 @@ impl<'a> Recording<'a> {
 // The record at the front of bytes, whatever came before; `None` where no whole one is there.
 fn read_record(bytes: &[u8]) -> Result<Option<Record<'_>>, RecordFault>
     ensures read { IfOk result (λ some. IfSome some (λ r. StandsAt bytes.now r)) }
+    ensures cut { (r : Record) → IsCutOff bytes.now r → result ≡ Ok None }
     ensures due { (r : Record) → StandsAt bytes.now r → MatchResult result (λ some. MatchOption some ⊥ (λ read. IsSame r read)) (λ _. ⊥) }
 {
     let Some((head, rest)) = Head::split(bytes) else {

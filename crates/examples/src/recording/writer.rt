@@ -45,7 +45,7 @@ impl RecordingWriter {
         output: &mut Vec<u8>,
     ) -> Result<RecordingWriter, AllocError>
         ensures ok { OnOk result (output.new.items ≡ output.old.items ++ recording_head begun) }
-        ensures none_open { IfOk result (λ w. w.are_open ≡ []) }
+        ensures begins { IfOk result (λ w. (w.are_open ≡ []) × (w.time ≡ 0)) }
         ensures err { OnErr result (output.new.items ≡ output.old.items) }
     {
         output.reserve(RECORDING_HEAD)?;

@@ -3,7 +3,7 @@ use Rattle.examples.specs.declared.recording.record.Record.{Record}
 use Rattle.examples.specs.declared.recording.record.RecordKind.{RecordKind}
 use Rattle.examples.specs.Recording.Checksum.{crc32}
 use Rattle.examples.specs.Recording.Record.{NamesSide}
-use Rattle.examples.proofs.RecordingReaderLemmas.{head_is, checksum_is, one_kind, one_content, stands}
+use Rattle.examples.proofs.RecordingReaderLemmas.{cut_head, cut_content, head_is, checksum_is, one_kind, one_content, stands}
 use Rattle.examples.proofs.recording.reader.read_record.Goals as goal
 
 pub returns-in_err-kind-clause-due : goal.returns-in_err-kind-clause-due
@@ -33,6 +33,29 @@ returns-in_err-check_side-clause-due c = λ r s.
     let one = one_content c.in-Some.rest.now r.content.now c.in-Some-split_content.content.now s.after content.0 c.in-Some-split_content.sum content.1 sum.1 (content.2 ∙ is.len) content.3 fits in
     let kinds = one_kind c.in_ok-kind.kind r.kind (c.in_ok-kind.ensures.ok.1 ∙ is.letter) in
     absurd (c.in_err-check_side.ensures.err (subst (λ (k : RecordKind). NamesSide k c.in-Some-split_content.content.now) (sym kinds) (subst (λ (xs : List ℕ). NamesSide r.kind xs) (sym one.0) s.formed.side)))
+
+pub returns-in_err-kind-clause-cut : goal.returns-in_err-kind-clause-cut
+returns-in_err-kind-clause-cut c = λ r p.
+    let cut = cut_head c.args.bytes.now c.in-Some.head c.in-Some.rest.now r c.in-Some.ensures.found p c.in_err-kind.ensures.range in
+    absurd (c.in_err-kind.ensures.err r.kind cut.checksum (sym cut.letter) (rw cut.len p.formed.len))
+
+pub returns-then-sum-checksum-clause-cut : goal.returns-then-sum-checksum-clause-cut
+returns-then-sum-checksum-clause-cut c = λ r p.
+    let cut = cut_head c.args.bytes.now c.in-Some.head c.in-Some.rest.now r c.in-Some.ensures.found p c.in_ok-kind.ensures.range in
+    let content = c.in-Some-split_content.ensures.found in
+    absurd (cut_content c.in-Some.rest.now p.more r.content.now c.in-Some-split_content.content.now content.0 c.in-Some-split_content.sum content.1 cut.content (content.2 ∙ cut.len) p.some)
+
+pub returns-in_err-check_side-clause-cut : goal.returns-in_err-check_side-clause-cut
+returns-in_err-check_side-clause-cut c = λ r p.
+    let cut = cut_head c.args.bytes.now c.in-Some.head c.in-Some.rest.now r c.in-Some.ensures.found p c.in_ok-kind.ensures.range in
+    let content = c.in-Some-split_content.ensures.found in
+    absurd (cut_content c.in-Some.rest.now p.more r.content.now c.in-Some-split_content.content.now content.0 c.in-Some-split_content.sum content.1 cut.content (content.2 ∙ cut.len) p.some)
+
+pub returns-clause-cut : goal.returns-clause-cut
+returns-clause-cut c = λ r p.
+    let cut = cut_head c.args.bytes.now c.in-Some.head c.in-Some.rest.now r c.in-Some.ensures.found p c.in_ok-kind.ensures.range in
+    let content = c.in-Some-split_content.ensures.found in
+    absurd (cut_content c.in-Some.rest.now p.more r.content.now c.in-Some-split_content.content.now content.0 c.in-Some-split_content.sum content.1 cut.content (content.2 ∙ cut.len) p.some)
 
 pub returns-clause-read : goal.returns-clause-read
 returns-clause-read c =
