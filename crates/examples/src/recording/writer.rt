@@ -58,24 +58,24 @@ impl RecordingWriter {
 
     /// Adds a record. One that the format can't hold is refused, and leaves the output as it is; then, and where
     /// there is no memory for it, another may be added.
-    pub fn add(&mut self, told: &Record<'_>, output: &mut Vec<u8>) -> Result<(), WriteError>
-        ensures ok { OnOk result (output.new.items ≡ output.old.items ++ record_text told.now) }
-        ensures added { OnOk result (IsAdded self.old self.new told.now) }
+    pub fn add(&mut self, entry: &Record<'_>, output: &mut Vec<u8>) -> Result<(), WriteError>
+        ensures ok { OnOk result (output.new.items ≡ output.old.items ++ record_text entry.now) }
+        ensures added { OnOk result (IsAdded self.old self.new entry.now) }
         ensures err { OnErr result ((output.new.items ≡ output.old.items) × (self.new ≡ self.old)) }
-        ensures due { CanAdd self.old told.now → MatchResult result (λ _. ⊤) (λ error. error ≡ OutOfMemory) }
+        ensures due { CanAdd self.old entry.now → MatchResult result (λ _. ⊤) (λ error. error ≡ OutOfMemory) }
     {
-        told.check()?;
-        self.connections.check(told.kind, told.connection)?;
-        if told.time < self.time {
+        entry.check()?;
+        self.connections.check(entry.kind, entry.connection)?;
+        if entry.time < self.time {
             return Err(WriteError::TimeFalls {
                 last: self.time,
-                time: told.time,
+                time: entry.time,
             });
         }
-        output.reserve(told.text_len())?;
-        self.connections.follow(told.kind, told.connection)?;
-        put_record(told, output);
-        self.time = told.time;
+        output.reserve(entry.text_len())?;
+        self.connections.follow(entry.kind, entry.connection)?;
+        put_record(entry, output);
+        self.time = entry.time;
         Ok(())
     }
 }
@@ -91,19 +91,19 @@ fn put_head(begun: u64, output: &mut Vec<u8>)
     put_checksum(start, output);
 }
 
-fn put_record(told: &Record<'_>, output: &mut Vec<u8>)
-    requires len { length told.now.content.now < 2 ^ 32 }
-    requires room { vec_len output.old + (length told.now.content.now + 25) ≤ vec_capacity output.old }
-    ensures { output.new.items ≡ output.old.items ++ record_text told.now }
+fn put_record(entry: &Record<'_>, output: &mut Vec<u8>)
+    requires len { length entry.now.content.now < 2 ^ 32 }
+    requires room { vec_len output.old + (length entry.now.content.now + 25) ≤ vec_capacity output.old }
+    ensures { output.new.items ≡ output.old.items ++ record_text entry.now }
 {
     let start = output.len();
-    output.put_u32(told.content.len() as u32);
-    output.put_u8(told.kind.letter());
-    output.put_u32(told.connection);
-    output.put_slice(&told.time.to_be_bytes());
+    output.put_u32(entry.content.len() as u32);
+    output.put_u8(entry.kind.letter());
+    output.put_u32(entry.connection);
+    output.put_slice(&entry.time.to_be_bytes());
     put_checksum(start, output);
     let start = output.len();
-    output.put_slice(told.content);
+    output.put_slice(entry.content);
     put_checksum(start, output);
 }
 

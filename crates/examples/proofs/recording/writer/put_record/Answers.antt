@@ -8,13 +8,13 @@ use Rattle.examples.proofs.recording.writer.put_record.Goals as goal
 pub returns : goal.returns
 returns c =
     let old = c.args.output.now.items in
-    let told = c.args.told.now in
-    let content = told.content.now in
+    let entry = c.args.entry.now in
+    let content = entry.content.now in
     let len = to_be_bytes w32 (length content) in
-    let letter = kind_letter told.kind in
-    let connection = to_be_bytes w32 told.connection in
-    let time = to_be_bytes w64 told.time in
-    let head = record_head (length content) letter told.connection told.time in
+    let letter = kind_letter entry.kind in
+    let connection = to_be_bytes w32 entry.connection in
+    let time = to_be_bytes w64 entry.time in
+    let head = record_head (length content) letter entry.connection entry.time in
     let written : c.put_slice.new.self.items ≡ (((old ++ len) ++ letter ∷ []) ++ connection) ++ time =
     c.put_slice.ensures.written ∙ (ap (λ (xs : List ℕ). c.put_u32-2.new.self.items ++ xs) c.to_be_bytes.ensures ∙ ap (λ (xs : List ℕ). xs ++ time) (c.put_u32-2.ensures.written ∙ ap (λ (xs : List ℕ). xs ++ connection) (c.put_u8.ensures.written ∙ (ap (λ (byte : ℕ). c.put_u32.new.self.items ++ byte ∷ []) c.letter.ensures ∙ ap (λ (xs : List ℕ). xs ++ letter ∷ []) c.put_u32.ensures.written)))) in
     let front = sealed_after old c.put_slice.new.self.items c.put_checksum.new.output.items head c.len-start.result (omega arith) (written ∙ four_parts old len (letter ∷ []) connection time) c.put_checksum.ensures.added in
