@@ -9,7 +9,7 @@ use Rattle.examples.specs.declared.recording.record.RecordKind.{RecordKind}
 use Rattle.examples.specs.declared.recording.record.RecordKind.TheVariants.{Opened, FromClient, FromServer, LeftOutOfClient, LeftOutOfServer, Encrypted, Closed}
 use Rattle.examples.specs.Recording.Checksum.{crc32}
 use Rattle.examples.specs.Recording.Head.{BeginsWithHead}
-use Rattle.examples.specs.Recording.Reader.{Reading, IsFormed, IsCutOff, StandsAt, IsNext}
+use Rattle.examples.specs.Recording.Reader.{Reading, IsCutOff, StandsAt, IsNext}
 use Rattle.examples.specs.Recording.Record.{kind_letter, HasLength, NamesSide}
 use Rattle.examples.specs.Recording.Text.{sealed, record_head, record_text}
 use Rattle.examples.proofs.RecordingLemmas.{one_front, one_4, one_8}

@@ -1,5 +1,5 @@
 -- How far a recording is read.
-use Rattle.std.specs.Prelude.{◌≡◌, ℕ, ◌+◌, ◌≤◌, ◌<◌, ◌^◌, List, ◌++◌, length, drop, Bool}
+use Rattle.std.specs.Prelude.{◌≡◌, ℕ, ◌+◌, ◌<◌, ◌^◌, List, ◌++◌, length, drop, Bool}
 use Rattle.examples.specs.declared.recording.record.Record.{Record}
 use Rattle.examples.specs.Recording.Connections.{MayFollow, followed}
 use Rattle.examples.specs.Recording.Record.{HasLength, NamesSide}

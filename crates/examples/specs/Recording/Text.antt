@@ -1,5 +1,5 @@
 -- The bytes of a recording: a head, and records one after the other. Numbers have the greatest byte first.
-use Rattle.std.specs.Prelude.{ℕ, List, [], ◌∷◌, ◌++◌, length, codes}
+use Rattle.std.specs.Prelude.{ℕ, List, ◌∷◌, ◌++◌, length, codes}
 use Rattle.std.specs.Int.{w32, w64, to_be_bytes}
 use Rattle.examples.specs.Recording.Checksum.{crc32}
 use Rattle.examples.specs.Recording.Record.{kind_letter}

@@ -1,6 +1,6 @@
 //! The head of a recording.
 
-ghost use Rattle.std.specs.Prelude.{◌≡◌, ◌<◌, ◌≤◌, ◌^◌, length, take, codes, OnOk, OnErr, IfSome, IfNone};
+ghost use Rattle.std.specs.Prelude.{◌<◌, ◌≤◌, ◌^◌, length, take, OnOk, OnErr, IfSome, IfNone};
 ghost use Rattle.examples.specs.Recording.Checksum.{crc32};
 ghost use Rattle.examples.specs.Recording.Start.{BeginsWithStart, IsRight};
 

@@ -1,4 +1,4 @@
-use Rattle.std.proofs.Common.{◌≡◌, ◌<◌, ◌^◌, ℕ, List, length, refl, sym, subst, ap, ◌∙◌}
+use Rattle.std.proofs.Common.{◌<◌, ◌^◌, ℕ, List, refl, sym, subst, ap, ◌∙◌}
 use Rattle.examples.specs.declared.recording.record.Record.{Record}
 use Rattle.examples.specs.declared.recording.record.RecordKind.{RecordKind}
 use Rattle.examples.specs.Recording.Checksum.{crc32}
