@@ -5,4 +5,5 @@ pub mod copy_load;
 pub mod listen;
 pub mod record;
 pub mod recording;
+pub mod replay;
 pub mod trace;
