@@ -51,10 +51,7 @@ impl Answers {
 }
 
 // Adds answers to the Startup, and gives what is left of the bytes, and whether the last answer has passed.
-fn pass_opening<'a>(
-    bytes: &'a [u8],
-    output: &mut Vec<u8>,
-) -> Result<(&'a [u8], bool), AllocError> {
+fn pass_opening<'a>(bytes: &'a [u8], output: &mut Vec<u8>) -> Result<(&'a [u8], bool), AllocError> {
     let mut rest = bytes;
     'answers: loop {
         let frame = match next_raw_frame(rest) {

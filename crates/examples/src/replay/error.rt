@@ -15,7 +15,10 @@ pub enum ReplayError {
         received_line: Vec<u8>,
     },
     /// The recorded client sent no more than the messages before this one.
-    Unrecorded { number: usize, line: Vec<u8> },
+    Unrecorded {
+        number: usize,
+        line: Vec<u8>,
+    },
     /// The client's bytes are no message.
     Fault(FrontendFault),
     /// An earlier call was refused.

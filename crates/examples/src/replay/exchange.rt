@@ -30,10 +30,12 @@ pub enum Step<'a> {
 #[derive(Drop)]
 pub struct Exchange<'a> {
     alloc: Global,
-    // What hasn't passed: first the client's next message.
     steps: &'a [Step<'a>],
+    // How many of them have passed: the next one is the client's.
+    at: usize,
     comparison: Comparison<'a>,
     answers: Answers,
+    // How many messages of the client have passed.
     passed: usize,
 }
 
@@ -43,6 +45,7 @@ impl<'a> Exchange<'a> {
         Exchange {
             alloc,
             steps,
+            at: 0,
             comparison: Comparison::new(alloc, options),
             answers: Answers::new(alloc),
             passed: 0,
@@ -51,15 +54,11 @@ impl<'a> Exchange<'a> {
 
     /// Whether all has passed.
     pub fn is_done(&self) -> bool {
-        self.steps.is_empty()
+        self.at >= self.steps.len()
     }
 
     /// Takes a message, and adds the answers to it.
-    pub fn take(
-        &mut self,
-        received: Message<'_>,
-        output: &mut Vec<u8>,
-    ) -> Result<(), ReplayError> {
+    pub fn take(&mut self, received: Message<'_>, output: &mut Vec<u8>) -> Result<(), ReplayError> {
         if received.kind != ClientMessageKind::First {
             return self.take_next(received, output);
         }
@@ -79,7 +78,7 @@ impl<'a> Exchange<'a> {
         output: &mut Vec<u8>,
     ) -> Result<(), ReplayError> {
         let number = self.passed.saturating_add(1);
-        let Some((recorded, rest)) = self.next_recorded() else {
+        let Some(recorded) = self.next_recorded() else {
             if received.kind == TERMINATE {
                 return Ok(());
             }
@@ -90,21 +89,34 @@ impl<'a> Exchange<'a> {
             return Err(self.different(number, parting, recorded, received)?);
         }
         self.passed = number;
-        self.steps = pass_answers(&mut self.answers, rest, output)?;
-        Ok(())
+        Ok(self.pass_answers(output)?)
     }
 
-    // The client's next message, and what follows it.
-    fn next_recorded(&self) -> Option<(Message<'a>, &'a [Step<'a>])> {
+    // The client's next message.
+    fn next_recorded(&self) -> Option<Message<'a>> {
         let expects = match self.passed {
             0 => Expects::First,
             _ => Expects::Tagged,
         };
-        let (step, rest) = self.steps.split_first()?;
-        match *step {
-            Step::Client(bytes) => Some((Message::whole(expects, bytes)?, rest)),
+        match *self.steps.get(self.at)? {
+            Step::Client(bytes) => Message::whole(expects, bytes),
             Step::Server(_) => None,
         }
+    }
+
+    // After a message of the client, adds what the server sent before the next one that isn't a password.
+    fn pass_answers(&mut self, output: &mut Vec<u8>) -> Result<(), AllocError> {
+        self.at = self.at.saturating_add(1);
+        let steps = self.steps;
+        for step in steps.iter().skip(self.at) {
+            match *step {
+                Step::Server(bytes) => self.answers.pass(bytes, output)?,
+                Step::Client([PASSWORD, ..]) => {}
+                Step::Client(_) => return Ok(()),
+            }
+            self.at = self.at.saturating_add(1);
+        }
+        Ok(())
     }
 
     fn different(
@@ -125,21 +137,4 @@ impl<'a> Exchange<'a> {
             received_line: received.line(self.alloc)?,
         })
     }
-}
-
-// Adds what the server sent before the client's next message that isn't a password, and gives the steps from
-// there on.
-fn pass_answers<'a>(
-    answers: &mut Answers,
-    steps: &'a [Step<'a>],
-    output: &mut Vec<u8>,
-) -> Result<&'a [Step<'a>], AllocError> {
-    for (index, step) in steps.iter().enumerate() {
-        match *step {
-            Step::Server(bytes) => answers.pass(bytes, output)?,
-            Step::Client([PASSWORD, ..]) => {}
-            Step::Client(_) => return Ok(&steps[index..]),
-        }
-    }
-    Ok(&[])
 }

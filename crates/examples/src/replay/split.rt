@@ -6,7 +6,7 @@ use super::message::Message;
 use super::options::Options;
 use pg_message::frontend::{
     BindRef, ClientMessageKind, ExecuteRef, FirstMessageRef, FrontendMessageRef, ParseRef,
-    Settings, Target, TargetRef,
+    Settings, Target, TargetRef, Values,
 };
 use std::alloc::{AllocError, Global};
 
@@ -105,7 +105,6 @@ impl<'a> Split<'a> {
     fn push_parse(&mut self, parse: &ParseRef<'_>) -> Result<(), AllocError> {
         self.skip_text(parse.statement);
         self.push_text(Part::Query, parse.query)?;
-        self.skip(COUNT);
         self.push_list(Part::ParameterTypes, parse.types.len(), TYPE)?;
         self.at = 0;
         self.push_text(Part::StatementName, parse.statement)
@@ -114,18 +113,24 @@ impl<'a> Split<'a> {
     fn push_bind(&mut self, bind: BindRef<'_>) -> Result<(), AllocError> {
         self.skip_text(bind.portal);
         self.push_text(Part::StatementName, bind.statement)?;
-        self.skip(COUNT);
         self.push_list(Part::ValueFormats, bind.formats.len(), CODE)?;
-        self.push_count()?;
-        for (index, value) in bind.values.enumerate() {
-            let len = value.map_or(0, |bytes| bytes.len());
-            let position = index.saturating_add(1);
-            self.push(Part::Value(position), len.saturating_add(LENGTH))?;
-        }
-        self.skip(COUNT);
+        self.push_values(bind.values)?;
         self.push_list(Part::ResultFormats, bind.result_formats.len(), CODE)?;
         self.at = 0;
         self.push_text(Part::PortalName, bind.portal)
+    }
+
+    // The count is reported by where the values begin.
+    fn push_values(&mut self, values: Values<'_>) -> Result<(), AllocError> {
+        let count = self.take(COUNT);
+        self.add(Part::ValueCount, self.at, count)?;
+        let mut position = 0_usize;
+        for value in values {
+            position = position.saturating_add(1);
+            let len = value.map_or(LENGTH, |bytes| bytes.len().saturating_add(LENGTH));
+            self.push(Part::Value(position), len)?;
+        }
+        Ok(())
     }
 
     fn push_target(&mut self, target: &TargetRef<'_>) -> Result<(), AllocError> {
@@ -142,14 +147,10 @@ impl<'a> Split<'a> {
         self.push(Part::MostRows, ROWS)
     }
 
-    // A count, which is reported by where its items begin.
-    fn push_count(&mut self) -> Result<(), AllocError> {
-        let bytes = self.take(COUNT);
-        self.add(Part::ValueCount, self.at, bytes)
-    }
-
-    fn push_list(&mut self, part: Part, count: usize, bytes: usize) -> Result<(), AllocError> {
-        self.push(part, count.saturating_mul(bytes))
+    // So many items of so many bytes each, after their count.
+    fn push_list(&mut self, part: Part, items: usize, bytes: usize) -> Result<(), AllocError> {
+        self.skip(COUNT);
+        self.push(part, items.saturating_mul(bytes))
     }
 
     fn push_text(&mut self, part: Part, text: &[u8]) -> Result<(), AllocError> {
