@@ -1,5 +1,7 @@
 //! A session with a client: its bytes, and the answers to it.
 
+ghost use Rattle.std.specs.Prelude.{◌≡◌, IsTrue, IsErr, OnErr};
+
 use super::error::ReplayError;
 use super::exchange::{Exchange, Step};
 use super::message::Message;
@@ -35,7 +37,10 @@ impl<'a> Replay<'a> {
     /// password.
     ///
     /// An error leaves in the output what was added before it, and each further call is `Over`.
-    pub fn receive(&mut self, bytes: &[u8], output: &mut Vec<u8>) -> Result<(), ReplayError> {
+    pub fn receive(&mut self, bytes: &[u8], output: &mut Vec<u8>) -> Result<(), ReplayError>
+        ensures refused { OnErr result (IsTrue self.new.is_over) }
+        ensures over { IsTrue self.old.is_over → IsErr result × (output.new.items ≡ output.old.items) }
+    {
         if self.is_over {
             return Err(ReplayError::Over);
         }
