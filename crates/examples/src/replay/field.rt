@@ -1,6 +1,6 @@
 //! A part of a client's message, and its comparison with the recorded one.
 
-ghost use Rattle.std.specs.Prelude.{◌≡◌, IfNone};
+ghost use Rattle.std.specs.Prelude.{◌≡◌, ◌≢◌, ◌<◌, ◌≤◌, ℕ, length, slice_index, IfNone};
 
 use super::difference::{Part, Parting};
 
@@ -35,12 +35,17 @@ impl Field<'_> {
     }
 }
 
-// How many bytes both begin with.
-fn shared_front(recorded: &[u8], received: &[u8]) -> usize {
-    for (index, (one, other)) in recorded.iter().zip(received).enumerate() {
-        if one != other {
+// How many bytes both begin with: the first that differ stand there, unless one ends.
+fn shared_front(recorded: &[u8], received: &[u8]) -> usize
+    ensures same { (k : ℕ) → k < result → slice_index recorded.now k ≡ slice_index received.now k }
+    ensures part { result < length recorded.now → result < length received.now → slice_index recorded.now result ≢ slice_index received.now result }
+    ensures within { (result ≤ length recorded.now) × (result ≤ length received.now) }
+{
+    let most = recorded.len().min(received.len());
+    for index in 0..most {
+        if recorded[index] != received[index] {
             return index;
         }
     }
-    recorded.len().min(received.len())
+    most
 }
