@@ -22,7 +22,7 @@ pub enum Part {
     MostRows,
     CopyData,
     CopyFailReason,
-    /// All of a message whose parts aren't told apart.
+    /// All of a message that has one part or can't be read, or the letter of a Describe or a Close.
     Body,
 }
 
