@@ -13,7 +13,7 @@ const ERROR: u8 = b'E';
 /// The method of an authentication that has succeeded.
 const ACCEPTED: u32 = 0;
 
-/// The way of what the recorded server sent to a client that isn't asked for a password.
+/// Passes on what the recorded server sent, to a client that isn't asked for a password.
 #[derive(Drop)]
 pub struct Answers {
     alloc: Global,
@@ -24,7 +24,7 @@ pub struct Answers {
 }
 
 impl Answers {
-    /// Nothing was sent.
+    /// Nothing has passed.
     pub fn new(alloc: Global) -> Answers {
         Answers {
             alloc,

@@ -91,7 +91,7 @@ impl<'a> Comparison<'a> {
         }
     }
 
-    // Whether names may stand where they do in messages of a kind.
+    // Whether names are of the same thing, which messages of this kind make, close or use.
     fn take_names(
         &mut self,
         kind: ClientMessageKind,

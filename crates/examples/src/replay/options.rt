@@ -1,4 +1,4 @@
-//! What a client may do otherwise than the recorded one.
+//! What may differ.
 
 /// What a client may do otherwise than the recorded one.
 #[derive(Clone, Copy)]

@@ -101,7 +101,7 @@ impl<'a> Split<'a> {
         self.push(Part::UnrecordedSetting, NUL)
     }
 
-    // The name of what is made comes last, so that nothing is made by messages that differ.
+    // The name of what a message makes comes last: nothing is made where another part differs.
     fn push_parse(&mut self, parse: &ParseRef<'_>) -> Result<(), AllocError> {
         self.skip_text(parse.statement);
         self.push_text(Part::Query, parse.query)?;
