@@ -13,7 +13,7 @@ const USAGE: &str = "usage: pg_server_tool decode|encode|stream";
 const WRONG_USAGE: u8 = 2;
 
 /// What the program does with its input.
-#[derive(Clone, Copy, Debug, PartialEq, Eq)]
+#[derive(Clone, Copy)]
 pub enum Command {
     /// Reads bodies by their tags, and first messages without one.
     Decode,

@@ -46,8 +46,22 @@ pub fn decode(alloc: Global, input: &[u8]) -> Result<String, Fault> {
 // The body that a line spells, where it fits a form.
 fn body_of(alloc: Global, line: &[u8]) -> Result<Option<ClientBody>, Fault> {
     match first_word(line) {
-        Some(word) => Ok(hex_bytes(alloc, word)?.map(|body| ClientBody::First(body))),
-        None => Ok(tagged_body(alloc, line)?.map(|body| ClientBody::Tagged(body))),
+        Some(word) => first_body_of(alloc, word),
+        None => tagged_body_of(alloc, line),
+    }
+}
+
+fn first_body_of(alloc: Global, word: &str) -> Result<Option<ClientBody>, Fault> {
+    match hex_bytes(alloc, word)? {
+        Some(body) => Ok(Some(ClientBody::First(body))),
+        None => Ok(None),
+    }
+}
+
+fn tagged_body_of(alloc: Global, line: &[u8]) -> Result<Option<ClientBody>, Fault> {
+    match tagged_body(alloc, line)? {
+        Some(body) => Ok(Some(ClientBody::Tagged(body))),
+        None => Ok(None),
     }
 }
 

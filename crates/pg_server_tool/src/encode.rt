@@ -1,10 +1,10 @@
 //! Lines that name messages to a client, and the frames that they become.
 
 use crate::frame::push_frame;
-use crate::reply::Reply;
 use crate::reply_line::reply_of;
 use pg_lines::{Fault, Lines, push_frames};
-use std::alloc::Global;
+use pg_write_backend::BackendError;
+use std::alloc::{AllocError, Global};
 
 /// The answers to the messages that the lines name, a line each, and then their frames.
 pub fn encode(alloc: Global, input: &[u8]) -> Result<String, Fault> {
@@ -12,24 +12,43 @@ pub fn encode(alloc: Global, input: &[u8]) -> Result<String, Fault> {
     let mut output = String::new(alloc);
     for (index, line) in Lines::new(input).enumerate() {
         let number = index.saturating_add(1);
-        let reply = reply_of(alloc, line, Fault::BadLine(number))?;
-        push_answer(alloc, number, &reply, &mut frames, &mut output)?;
+        push_message(alloc, number, line, &mut frames, &mut output)?;
     }
     push_frames(frames.as_slice(), &mut output)?;
     Ok(output)
 }
 
 // The answer to the message of a line, by the line's number, and the message's frame.
-fn push_answer(
+fn push_message(
     alloc: Global,
     number: usize,
-    reply: &Reply,
+    line: &[u8],
     frames: &mut Vec<u8>,
     output: &mut String,
 ) -> Result<(), Fault> {
-    match push_frame(alloc, reply, frames) {
-        Ok(()) => writeln!(output, "{number} ok")?,
-        Err(error) => writeln!(output, "{number} refused: {error}")?,
-    }
+    let answer = push_frame_of(alloc, line, Fault::BadLine(number), frames)?;
+    push_answer(number, answer, output)?;
     Ok(())
+}
+
+// The frame of the message of a line, and whether it was refused.
+fn push_frame_of(
+    alloc: Global,
+    line: &[u8],
+    bad: Fault,
+    frames: &mut Vec<u8>,
+) -> Result<Result<(), BackendError>, Fault> {
+    let reply = reply_of(alloc, line, bad)?;
+    Ok(push_frame(alloc, &reply, frames))
+}
+
+fn push_answer(
+    number: usize,
+    answer: Result<(), BackendError>,
+    output: &mut String,
+) -> Result<(), AllocError> {
+    match answer {
+        Ok(()) => writeln!(output, "{number} ok"),
+        Err(error) => writeln!(output, "{number} refused: {error}"),
+    }
 }

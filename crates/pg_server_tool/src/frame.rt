@@ -110,5 +110,9 @@ fn borrowed_value(value: &Option<Vec<u8>>) -> Option<&[u8]> {
 }
 
 fn borrowed(alloc: Global, texts: &[Vec<u8>]) -> Result<Vec<&[u8]>, AllocError> {
-    texts.iter().map(|text| text.as_slice()).collect(alloc)
+    let mut borrowed = Vec::new(alloc);
+    for text in texts {
+        borrowed.push(text.as_slice())?;
+    }
+    Ok(borrowed)
 }

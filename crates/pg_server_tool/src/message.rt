@@ -5,8 +5,8 @@ use pg_frontend_frames::ClientMessageRef;
 use pg_lines::Hex;
 use pg_read_frontend::FrontendFault;
 use pg_read_frontend::message::{
-    BindRef, FirstMessageRef, FormatCodes, FrontendMessageRef, FunctionCallRef, ParseRef, Target,
-    TargetRef, Values,
+    BindRef, CancelRequestRef, FirstMessageRef, FormatCodes, FrontendMessageRef, FunctionCallRef,
+    ParseRef, Settings, Target, TargetRef, Values,
 };
 use std::alloc::AllocError;
 
@@ -18,33 +18,42 @@ pub fn push_line(
     message: Result<ClientMessageRef<'_>, FrontendFault>,
     output: &mut String,
 ) -> Result<(), AllocError> {
-    match message {
-        Ok(ClientMessageRef::First(message)) => push_first(message, output)?,
-        Ok(ClientMessageRef::Tagged(message)) => push_tagged(message, output)?,
-        Err(fault) => write!(output, "{fault}")?,
-    }
+    push_words(message, output)?;
     output.push('\n')
+}
+
+fn push_words(
+    message: Result<ClientMessageRef<'_>, FrontendFault>,
+    output: &mut String,
+) -> Result<(), AllocError> {
+    match message {
+        Ok(ClientMessageRef::First(message)) => push_first(message, output),
+        Ok(ClientMessageRef::Tagged(message)) => push_tagged(message, output),
+        Err(fault) => write!(output, "{fault}"),
+    }
 }
 
 // The words of a first message.
 fn push_first(message: FirstMessageRef<'_>, output: &mut String) -> Result<(), AllocError> {
     match message {
-        FirstMessageRef::Startup { minor, settings } => {
-            write!(output, "startup {MAJOR_VERSION}.{minor} ")?;
-            push_list(
-                settings.map(|(name, value)| Setting { name, value }),
-                output,
-            )
-        }
-        FirstMessageRef::CancelRequest(request) => write!(
-            output,
-            "cancelrequest {} {}",
-            request.process_id,
-            Hex(request.secret_key)
-        ),
+        FirstMessageRef::Startup { minor, settings } => push_startup(minor, settings, output),
+        FirstMessageRef::CancelRequest(request) => push_cancel(request, output),
         FirstMessageRef::SslRequest => output.push_str("sslrequest"),
         FirstMessageRef::GssEncRequest => output.push_str("gssencrequest"),
     }
+}
+
+fn push_startup(minor: u16, settings: Settings<'_>, output: &mut String) -> Result<(), AllocError> {
+    write!(output, "startup {MAJOR_VERSION}.{minor} ")?;
+    push_list(
+        settings.map(|(name, value)| Setting { name, value }),
+        output,
+    )
+}
+
+fn push_cancel(request: CancelRequestRef<'_>, output: &mut String) -> Result<(), AllocError> {
+    let key = Hex(request.secret_key);
+    write!(output, "cancelrequest {} {key}", request.process_id)
 }
 
 // The words of a message that has a tag.

@@ -11,15 +11,22 @@ use std::alloc::Global;
 
 /// The message that a line spells. A line that fits no form has the fault `bad`.
 pub fn reply_of(alloc: Global, line: &[u8], bad: Fault) -> Result<Reply, Fault> {
-    let text = std::str::from_utf8(line).map_err(|_| bad)?;
-    let mut words = Word { text, alloc, bad }.parts(' ');
-    let name = words.part()?;
-    let reply = match without_fields(name.text) {
-        Some(message) => Reply::NoBody(message),
-        None => with_fields(name, &mut words)?,
+    let Ok(text) = std::str::from_utf8(line) else {
+        return Err(bad);
     };
+    let mut words = Word { text, alloc, bad }.parts(' ');
+    let reply = message_of(&mut words)?;
     words.end()?;
     Ok(reply)
+}
+
+// The message that the name and the fields at the front of a line spell.
+fn message_of(words: &mut Parts<'_>) -> Result<Reply, Fault> {
+    let name = words.part()?;
+    match without_fields(name.text) {
+        Some(message) => Ok(Reply::NoBody(message)),
+        None => with_fields(name, words),
+    }
 }
 
 // A message without fields, by its name.
@@ -39,23 +46,30 @@ fn without_fields(name: &str) -> Option<NoBodyText> {
 // A message with fields, by its name and its other words.
 fn with_fields(name: Word<'_>, words: &mut Parts<'_>) -> Result<Reply, Fault> {
     match name.text {
-        "authentication" => Ok(Reply::Authentication(request_of(words)?)),
-        "backendkeydata" => Ok(Reply::BackendKeyData(key_data_of(words)?)),
         "commandcomplete" => Ok(Reply::CommandComplete(words.read()?)),
+        "datarow" => Ok(Reply::DataRow(words.list()?)),
+        "functioncallresponse" => Ok(Reply::FunctionCallResponse(words.read()?)),
+        "notification" => notification_of(words),
+        "parameterdescription" => Ok(Reply::ParameterDescription(words.list()?)),
+        "parameterstatus" => setting_of(words),
+        "rowdescription" => Ok(Reply::RowDescription(words.list()?)),
+        _ => step_of(name, words),
+    }
+}
+
+// A step of the session or of a COPY, or what went wrong.
+fn step_of(name: Word<'_>, words: &mut Parts<'_>) -> Result<Reply, Fault> {
+    match name.text {
+        "authentication" => Ok(Reply::Authentication(request_of(words)?)),
+        "backendkeydata" => key_data_of(words),
         "copydata" => Ok(Reply::CopyData(words.read()?)),
         "copyin" => copy_of(CopyDirection::In, words),
         "copyout" => copy_of(CopyDirection::Out, words),
         "copyboth" => copy_of(CopyDirection::Both, words),
-        "datarow" => Ok(Reply::DataRow(words.list()?)),
         "errorresponse" => notice_of(NoticeKind::Error, words),
-        "functioncallresponse" => Ok(Reply::FunctionCallResponse(words.read()?)),
-        "negotiate" => Ok(Reply::NegotiateProtocolVersion(negotiation_of(words)?)),
+        "negotiate" => negotiation_of(words),
         "noticeresponse" => notice_of(NoticeKind::Notice, words),
-        "notification" => Ok(Reply::Notification(notification_of(words)?)),
-        "parameterdescription" => Ok(Reply::ParameterDescription(words.list()?)),
-        "parameterstatus" => Ok(Reply::ParameterStatus(setting_of(words)?)),
-        "ready" => Ok(Reply::ReadyForQuery(ready_of(words.part()?)?)),
-        "rowdescription" => Ok(Reply::RowDescription(words.list()?)),
+        "ready" => ready_of(words),
         _ => Err(name.bad),
     }
 }
@@ -74,36 +88,36 @@ fn request_of(words: &mut Parts<'_>) -> Result<Request, Fault> {
 }
 
 // `PROCESS HEX`
-fn key_data_of(words: &mut Parts<'_>) -> Result<KeyData, Fault> {
-    Ok(KeyData {
+fn key_data_of(words: &mut Parts<'_>) -> Result<Reply, Fault> {
+    Ok(Reply::BackendKeyData(KeyData {
         process_id: words.read()?,
         secret_key: words.read()?,
-    })
+    }))
 }
 
 // `MINOR NAMES`
-fn negotiation_of(words: &mut Parts<'_>) -> Result<Negotiation, Fault> {
-    Ok(Negotiation {
+fn negotiation_of(words: &mut Parts<'_>) -> Result<Reply, Fault> {
+    Ok(Reply::NegotiateProtocolVersion(Negotiation {
         minor: words.read()?,
         options: words.list()?,
-    })
+    }))
 }
 
 // `PROCESS HEX HEX`
-fn notification_of(words: &mut Parts<'_>) -> Result<Notification, Fault> {
-    Ok(Notification {
+fn notification_of(words: &mut Parts<'_>) -> Result<Reply, Fault> {
+    Ok(Reply::Notification(Notification {
         process_id: words.read()?,
         channel: words.read()?,
         payload: words.read()?,
-    })
+    }))
 }
 
 // `HEX HEX`
-fn setting_of(words: &mut Parts<'_>) -> Result<Setting, Fault> {
-    Ok(Setting {
+fn setting_of(words: &mut Parts<'_>) -> Result<Reply, Fault> {
+    Ok(Reply::ParameterStatus(Setting {
         name: words.read()?,
         value: words.read()?,
-    })
+    }))
 }
 
 // `FORMAT CODES`
@@ -121,12 +135,14 @@ fn notice_of(kind: NoticeKind, words: &mut Parts<'_>) -> Result<Reply, Fault> {
     Ok(Reply::Notice(Notice { kind, fields }))
 }
 
-fn ready_of(word: Word<'_>) -> Result<ReadyForQueryText, Fault> {
-    match word.text {
-        "I" => Ok(ReadyForQueryText::Idle),
-        "T" => Ok(ReadyForQueryText::Transaction),
-        "E" => Ok(ReadyForQueryText::Error),
-        _ => Err(word.bad),
+// `STATUS`
+fn ready_of(words: &mut Parts<'_>) -> Result<Reply, Fault> {
+    let status = words.part()?;
+    match status.text {
+        "I" => Ok(Reply::ReadyForQuery(ReadyForQueryText::Idle)),
+        "T" => Ok(Reply::ReadyForQuery(ReadyForQueryText::Transaction)),
+        "E" => Ok(Reply::ReadyForQuery(ReadyForQueryText::Error)),
+        _ => Err(status.bad),
     }
 }
 

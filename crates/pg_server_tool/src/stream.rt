@@ -11,7 +11,7 @@ use std::io::{self, Read, Write};
 const PIECE: usize = 8192;
 
 /// Whether a stream gives more messages.
-#[derive(Clone, Copy, PartialEq, Eq)]
+#[derive(Clone, Copy)]
 enum Progress {
     /// It does as soon as more bytes come.
     WantsMore,
@@ -38,8 +38,9 @@ pub fn stream<R: Read, W: Write>(
             Err(error) if error.kind() == io::ErrorKind::Interrupted => continue,
             Err(error) => return Err(Fault::of_read(error)),
         };
-        if pass_on(alloc, &piece[..count], &mut reader, output)? == Progress::Stopped {
-            return Ok(());
+        match pass_on(alloc, &piece[..count], &mut reader, output)? {
+            Progress::WantsMore => {}
+            Progress::Stopped => return Ok(()),
         }
     }
     write_rest(alloc, &reader, output)
@@ -84,22 +85,27 @@ fn push_lines(
 ) -> Result<Progress, Fault> {
     loop {
         match reader.next_message() {
-            Ok(Some(message)) => lines.push_str(line_of(alloc, message.read())?.as_str())?,
+            Ok(Some(message)) => push_whole_line(alloc, message.read(), lines)?,
             Ok(None) => return Ok(Progress::WantsMore),
-            Err(FrontendError::Protocol(fault)) => {
-                lines.push_str(line_of(alloc, Err(fault))?.as_str())?;
-                return Ok(Progress::Stopped);
-            }
-            Err(FrontendError::OutOfMemory) => return Err(Fault::OutOfMemory),
+            Err(error) => return push_fault(alloc, error, lines),
         }
     }
 }
 
-fn line_of(
+fn push_fault(alloc: Global, error: FrontendError, lines: &mut String) -> Result<Progress, Fault> {
+    let FrontendError::Protocol(fault) = error else {
+        return Err(Fault::OutOfMemory);
+    };
+    push_whole_line(alloc, Err(fault), lines)?;
+    Ok(Progress::Stopped)
+}
+
+fn push_whole_line(
     alloc: Global,
     message: Result<ClientMessageRef<'_>, FrontendFault>,
-) -> Result<String, AllocError> {
+    lines: &mut String,
+) -> Result<(), AllocError> {
     let mut line = String::new(alloc);
     push_line(message, &mut line)?;
-    Ok(line)
+    lines.push_str(line.as_str())
 }
