@@ -24,8 +24,10 @@ pub fn tagged_body(alloc: Global, line: &[u8]) -> Result<Option<TaggedBody>, Fau
     let Some(tag) = hex_array::<1>(tag) else {
         return Ok(None);
     };
-    let body = hex_bytes(alloc, body)?;
-    Ok(body.map(|body| TaggedBody { tag: tag[0], body }))
+    match hex_bytes(alloc, body)? {
+        Some(body) => Ok(Some(TaggedBody { tag: tag[0], body })),
+        None => Ok(None),
+    }
 }
 
 /// The tags and bodies that the lines of some input spell. A line that spells none is a `BadLine`.
