@@ -38,7 +38,11 @@ fn push_message(alloc: Global, message: ReceivedMessage, output: &mut String) ->
 }
 
 fn push_decoded(message: ServerMessage, output: &mut String) -> Result<(), AllocError> {
-    match &message {
+    push_by_kind(&message, output)
+}
+
+fn push_by_kind(message: &ServerMessage, output: &mut String) -> Result<(), AllocError> {
+    match message {
         ServerMessage::Authentication(request) => push_ok(request, output),
         ServerMessage::BackendKeyData(key) => push_ok(key, output),
         ServerMessage::CommandComplete(complete) => push_ok(complete, output),

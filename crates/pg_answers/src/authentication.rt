@@ -1,9 +1,9 @@
 //! The answers of Authentication.
 
 use crate::answer::Answer;
-use crate::write::{push_list, text};
+use crate::write::{push_list, push_part, text};
 use pg_lines::Hex;
-use pg_receive::message::{Authentication, AuthenticationSaslContinue};
+use pg_receive::message::{Authentication, AuthenticationSasl, AuthenticationSaslContinue};
 use std::alloc::AllocError;
 
 impl Answer for Authentication {
@@ -12,32 +12,40 @@ impl Answer for Authentication {
             Authentication::Ok => output.push_str(" kind=ok"),
             Authentication::CleartextPassword => output.push_str(" kind=cleartext"),
             Authentication::Md5Password(md5) => {
-                write!(output, " kind=md5 salt={}", Hex(md5.salt.as_slice()))
+                push_bytes(" kind=md5 salt=", md5.salt.as_slice(), output)
             }
-            Authentication::Sasl(sasl) => {
-                output.push_str(" kind=sasl mechanisms=")?;
-                push_list(sasl.mechanisms().map(text), output)
-            }
+            Authentication::Sasl(sasl) => push_mechanisms(sasl, output),
             Authentication::SaslContinue(challenge) => push_challenge(challenge, output),
-            Authentication::SaslFinal(last) => write!(
-                output,
-                " kind=saslfinal verifier={}",
-                Hex(last.verifier.as_slice())
-            ),
+            Authentication::SaslFinal(last) => {
+                push_bytes(
+                    " kind=saslfinal verifier=",
+                    last.verifier.as_slice(),
+                    output,
+                )
+            }
         }
     }
+}
+
+fn push_bytes(words: &str, bytes: &[u8], output: &mut String) -> Result<(), AllocError> {
+    write!(output, "{words}{}", Hex(bytes))
+}
+
+fn push_mechanisms(sasl: &AuthenticationSasl, output: &mut String) -> Result<(), AllocError> {
+    output.push_str(" kind=sasl mechanisms=")?;
+    push_list(sasl.mechanisms().map(text), output)
 }
 
 fn push_challenge(
     challenge: &AuthenticationSaslContinue,
     output: &mut String,
 ) -> Result<(), AllocError> {
-    write!(
+    push_bytes(
+        " kind=saslcontinue salt=",
+        challenge.salt.as_slice(),
         output,
-        " kind=saslcontinue salt={} iterations={} nonce={} message={}",
-        Hex(challenge.salt.as_slice()),
-        challenge.iterations,
-        text(challenge.nonce.as_str()),
-        text(challenge.message.as_str()),
-    )
+    )?;
+    push_part("iterations", challenge.iterations, output)?;
+    push_part("nonce", text(challenge.nonce.as_str()), output)?;
+    push_part("message", text(challenge.message.as_str()), output)
 }

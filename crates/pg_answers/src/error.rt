@@ -1,7 +1,7 @@
 //! The answers of ErrorResponse.
 
 use crate::answer::Answer;
-use crate::write::{OrNone, text, text_or_none};
+use crate::write::{OrNone, push_part, push_texts, text, text_or_none};
 use pg_receive::error::{PgDatabaseError, PgErrorPosition};
 use std::alloc::AllocError;
 use std::fmt;
@@ -17,17 +17,20 @@ impl Answer for PgDatabaseError {
 
 // What went wrong, and where in the query.
 fn push_problem(error: &PgDatabaseError, output: &mut String) -> Result<(), AllocError> {
-    write!(
-        output,
-        " severity={} code={} message={} detail={} hint={}",
-        error.severity() as u8,
-        text(error.code()),
-        text(error.message()),
-        text_or_none(error.detail()),
-        text_or_none(error.hint()),
-    )?;
+    push_part("severity", error.severity() as u8, output)?;
+    push_words(error, output)?;
     push_position(error, output)?;
-    write!(output, " where={}", text_or_none(error.where_()))
+    push_part("where", text_or_none(error.where_()), output)
+}
+
+fn push_words(error: &PgDatabaseError, output: &mut String) -> Result<(), AllocError> {
+    let parts = [
+        ("code", Some(error.code())),
+        ("message", Some(error.message())),
+        ("detail", error.detail()),
+        ("hint", error.hint()),
+    ];
+    push_texts(&parts, output)
 }
 
 fn push_position(error: &PgDatabaseError, output: &mut String) -> Result<(), AllocError> {
@@ -44,36 +47,32 @@ fn push_position(error: &PgDatabaseError, output: &mut String) -> Result<(), All
 
 // The objects that it names.
 fn push_object(error: &PgDatabaseError, output: &mut String) -> Result<(), AllocError> {
-    write!(
-        output,
-        " schema={} table={} column={} data_type={} constraint={}",
-        text_or_none(error.schema()),
-        text_or_none(error.table()),
-        text_or_none(error.column()),
-        text_or_none(error.data_type()),
-        text_or_none(error.constraint()),
-    )
+    let parts = [
+        ("schema", error.schema()),
+        ("table", error.table()),
+        ("column", error.column()),
+        ("data_type", error.data_type()),
+        ("constraint", error.constraint()),
+    ];
+    push_texts(&parts, output)
 }
 
 // Where in the server's source it was reported.
 fn push_source(error: &PgDatabaseError, output: &mut String) -> Result<(), AllocError> {
-    write!(
-        output,
-        " file={} line={} routine={}",
-        text_or_none(error.file()),
-        OrNone(error.line()),
-        text_or_none(error.routine()),
-    )
+    push_part("file", text_or_none(error.file()), output)?;
+    push_part("line", OrNone(error.line()), output)?;
+    push_part("routine", text_or_none(error.routine()), output)
 }
 
 // What the code implies, and the text of Display.
 fn push_meaning(error: &PgDatabaseError, output: &mut String) -> Result<(), AllocError> {
+    write!(output, " kind={:?}", error.kind())?;
+    let transient = error.is_transient_in_connect_phase();
+    push_part("transient", u8::from(transient), output)?;
+    push_display(error, output)
+}
+
+fn push_display(error: &PgDatabaseError, output: &mut String) -> Result<(), AllocError> {
     let words = error.to_string(*output.allocator())?;
-    write!(
-        output,
-        " kind={:?} transient={} display={}",
-        error.kind(),
-        u8::from(error.is_transient_in_connect_phase()),
-        text(words.as_str()),
-    )
+    push_part("display", text(words.as_str()), output)
 }

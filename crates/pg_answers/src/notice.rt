@@ -1,7 +1,7 @@
 //! The answers of NoticeResponse.
 
 use crate::answer::Answer;
-use crate::write::{push_list, text};
+use crate::write::{push_list, push_part, text};
 use pg_lines::Hex;
 use pg_receive::message::Notice;
 use std::alloc::AllocError;
@@ -10,24 +10,26 @@ use std::fmt;
 impl Answer for Notice {
     fn push_parts(&self, output: &mut String) -> Result<(), AllocError> {
         let severity = self.severity();
-        write!(
-            output,
-            " severity={} is_error={} code={} message={} raw=",
-            severity as u8,
-            u8::from(severity.is_error()),
-            text(self.code()),
-            text(self.message()),
-        )?;
-        push_list(
-            (0..=u8::MAX).filter_map(|letter| raw_field(self, letter)),
-            output,
-        )?;
-        output.push_str(" text=")?;
-        push_list(
-            (0..=u8::MAX).filter_map(|letter| text_field(self, letter)),
-            output,
-        )
+        push_part("severity", severity as u8, output)?;
+        push_part("is_error", u8::from(severity.is_error()), output)?;
+        push_part("code", text(self.code()), output)?;
+        push_part("message", text(self.message()), output)?;
+        push_fields(self, output)
     }
+}
+
+// Its fields by their letters, as bytes and as texts.
+fn push_fields(notice: &Notice, output: &mut String) -> Result<(), AllocError> {
+    output.push_str(" raw=")?;
+    push_list(
+        (0..=u8::MAX).filter_map(|letter| raw_field(notice, letter)),
+        output,
+    )?;
+    output.push_str(" text=")?;
+    push_list(
+        (0..=u8::MAX).filter_map(|letter| text_field(notice, letter)),
+        output,
+    )
 }
 
 // A letter and the bytes of its first field.

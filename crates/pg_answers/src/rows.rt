@@ -1,7 +1,7 @@
 //! The answers of the messages on parameters, columns and rows.
 
 use crate::answer::Answer;
-use crate::write::{OrNone, push_list, text};
+use crate::write::{OrNone, push_item, push_list, text};
 use pg_lines::Hex;
 use pg_receive::message::{DataRow, Field, ParameterDescription, RowDescription};
 use std::alloc::AllocError;
@@ -25,10 +25,8 @@ impl Answer for DataRow {
     fn push_parts(&self, output: &mut String) -> Result<(), AllocError> {
         write!(output, " len={} cells=[", self.len())?;
         for index in 0..self.len() {
-            if index > 0 {
-                output.push(',')?;
-            }
-            write!(output, "{}", OrNone(self.get(index).map(|cell| Hex(cell))))?;
+            let cell = OrNone(self.get(index).map(|cell| Hex(cell)));
+            push_item(&cell, index == 0, output)?;
         }
         output.push(']')
     }
@@ -40,17 +38,19 @@ struct Column<'a>(&'a Field);
 
 impl<'a> fmt::Display for Column<'a> {
     fn fmt<W: fmt::Write>(&self, f: &mut fmt::Formatter<W>) -> fmt::Result {
-        let field = self.0;
-        write!(
-            f,
-            "{}:{}:{}:{}:{}:{}:{}",
-            text(field.name.as_str()),
-            OrNone(field.relation_id.map(|oid| oid.0)),
-            OrNone(field.relation_attribute_no),
-            field.data_type_id.0,
-            field.data_type_size,
-            field.type_modifier,
-            field.format,
-        )
+        write_origin(self.0, f)?;
+        write_type(self.0, f)
     }
+}
+
+// The name, and the column of a table that it is.
+fn write_origin<W: fmt::Write>(field: &Field, f: &mut fmt::Formatter<W>) -> fmt::Result {
+    let table = OrNone(field.relation_id.map(|oid| oid.0));
+    let attribute = OrNone(field.relation_attribute_no);
+    write!(f, "{}:{table}:{attribute}:", text(field.name.as_str()))
+}
+
+fn write_type<W: fmt::Write>(field: &Field, f: &mut fmt::Formatter<W>) -> fmt::Result {
+    write!(f, "{}:{}:", field.data_type_id.0, field.data_type_size)?;
+    write!(f, "{}:{}", field.type_modifier, field.format)
 }

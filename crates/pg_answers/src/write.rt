@@ -29,6 +29,23 @@ pub fn text_or_none(value: Option<&str>) -> OrNone<Hex<'_>> {
     OrNone(value.map(text))
 }
 
+/// Appends a space, a key, `=` and a value.
+pub fn push_part<T: fmt::Display + Drop>(
+    key: &str,
+    value: T,
+    output: &mut String,
+) -> Result<(), AllocError> {
+    write!(output, " {key}={value}")
+}
+
+/// Appends the keys and the strings of some parts.
+pub fn push_texts(parts: &[(&str, Option<&str>)], output: &mut String) -> Result<(), AllocError> {
+    for (key, value) in parts {
+        push_part(key, text_or_none(*value), output)?;
+    }
+    Ok(())
+}
+
 /// Appends items in brackets, separated by commas.
 pub fn push_list<T: fmt::Display + Drop, I: Iterator<Item = T> + Drop>(
     items: I,
@@ -40,11 +57,20 @@ pub fn push_list<T: fmt::Display + Drop, I: Iterator<Item = T> + Drop>(
     output.push('[')?;
     let mut is_first = true;
     for item in items {
-        if !is_first {
-            output.push(',')?;
-        }
+        push_item(&item, is_first, output)?;
         is_first = false;
-        write!(output, "{item}")?;
     }
     output.push(']')
+}
+
+/// Appends an item, and a comma before it where it isn't the first.
+pub fn push_item<T: fmt::Display>(
+    item: &T,
+    is_first: bool,
+    output: &mut String,
+) -> Result<(), AllocError> {
+    if !is_first {
+        output.push(',')?;
+    }
+    write!(output, "{item}")
 }
