@@ -5,18 +5,25 @@ use pg_base::{BackendMessageFormat, Error};
 use pg_lines::{Fault, TaggedBodies, TaggedBody};
 use pg_receive::message::ReceivedMessage;
 use pg_server_message::message::ServerMessage;
-use std::alloc::Global;
+use std::alloc::{AllocError, Global};
 
 /// A line for each line of input: the name of the message and `ok` or `untyped`, or the error.
 pub fn decode(alloc: Global, input: &[u8]) -> Result<String, Fault> {
     let mut output = String::new(alloc);
     for body in TaggedBodies::new(alloc, input) {
-        match name_and_word(alloc, body?) {
-            Ok((name, word)) => writeln!(output, "{name} {word}")?,
-            Err(error) => writeln!(output, "{error}")?,
-        }
+        push_line(name_and_word(alloc, body?), &mut output)?;
     }
     Ok(output)
+}
+
+fn push_line(
+    decoded: Result<(&'static str, &'static str), Error>,
+    output: &mut String,
+) -> Result<(), AllocError> {
+    match decoded {
+        Ok((name, word)) => writeln!(output, "{name} {word}"),
+        Err(error) => writeln!(output, "{error}"),
+    }
 }
 
 // The name of a message that decodes, and what its line says of it.

@@ -13,7 +13,7 @@ const USAGE: &str = "usage: pg_tool encode|decode|stream";
 const WRONG_USAGE: u8 = 2;
 
 /// What the program does with its input.
-#[derive(Clone, Copy, Debug, PartialEq, Eq)]
+#[derive(Clone, Copy)]
 pub enum Mode {
     /// Writes messages as their bytes.
     Encode,

@@ -14,7 +14,7 @@ const LENGTH_FIELD: usize = 4;
 const PIECE: usize = 8192;
 
 /// Whether a stream gives more messages.
-#[derive(Clone, Copy, PartialEq, Eq)]
+#[derive(Clone, Copy)]
 enum Progress {
     /// It does as soon as more bytes come.
     WantsMore,
@@ -40,8 +40,9 @@ pub fn stream<R: Read, W: Write>(
             Err(error) if error.kind() == io::ErrorKind::Interrupted => continue,
             Err(error) => return Err(Fault::of_read(error)),
         };
-        if pass_on(alloc, &piece[..count], &mut reader, output)? == Progress::Stopped {
-            return Ok(());
+        match pass_on(alloc, &piece[..count], &mut reader, output)? {
+            Progress::WantsMore => {}
+            Progress::Stopped => return Ok(()),
         }
     }
     write_rest(alloc, &reader, output)
@@ -54,7 +55,9 @@ fn pass_on<W: Write>(
     reader: &mut FrameReader,
     output: &mut W,
 ) -> Result<Progress, Fault> {
-    reader.feed(bytes).map_err(|_| Fault::OutOfMemory)?;
+    if reader.feed(bytes).is_err() {
+        return Err(Fault::OutOfMemory);
+    }
     let mut lines = String::new(alloc);
     let progress = push_lines(alloc, reader, &mut lines);
     write_text(output, lines.as_str())?;
