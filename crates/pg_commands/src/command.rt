@@ -15,10 +15,7 @@ pub enum Command<'a> {
     Bind {
         portal: u32,
         statement: u32,
-        formats: Vec<PgValueFormat>,
-        num_params: u16,
-        params: Vec<u8>,
-        result_formats: Vec<PgValueFormat>,
+        values: Values,
     },
     Cleartext(&'a str),
     Close(Target),
@@ -45,6 +42,15 @@ pub enum Command<'a> {
     },
     Sync,
     Terminate,
+}
+
+/// The values of a Bind, and the formats of them and of the result.
+#[derive(Drop)]
+pub struct Values {
+    pub formats: Vec<PgValueFormat>,
+    pub num_params: u16,
+    pub params: Vec<u8>,
+    pub result_formats: Vec<PgValueFormat>,
 }
 
 /// A statement or a portal, by its number.
@@ -89,34 +95,14 @@ pub fn message_of<'a>(command: &'a Command<'a>) -> TaggedMessage<'a> {
         Command::Bind {
             portal,
             statement,
-            formats,
-            num_params,
-            params,
-            result_formats,
-        } => TaggedMessage::Bind(Bind {
-            portal: PortalId::from_number(*portal),
-            statement: StatementId::from_number(*statement),
-            formats: formats.as_slice(),
-            num_params: *num_params,
-            params: params.as_slice(),
-            result_formats: result_formats.as_slice(),
-        }),
+            values,
+        } => bind(*portal, *statement, values),
         Command::Cleartext(text) => TaggedMessage::Password(Password::Cleartext(text)),
-        Command::Close(Target::Statement(number)) => {
-            TaggedMessage::Close(Close::Statement(StatementId::from_number(*number)))
-        }
-        Command::Close(Target::Portal(number)) => {
-            TaggedMessage::Close(Close::Portal(PortalId::from_number(*number)))
-        }
+        Command::Close(target) => close(*target),
         Command::CopyData(bytes) => TaggedMessage::CopyData(CopyData(bytes.as_slice())),
         Command::CopyDone => TaggedMessage::CopyDone(CopyDone),
         Command::CopyFail(fail) => TaggedMessage::CopyFail(fail),
-        Command::Describe(Target::Statement(number)) => {
-            TaggedMessage::Describe(Describe::Statement(StatementId::from_number(*number)))
-        }
-        Command::Describe(Target::Portal(number)) => {
-            TaggedMessage::Describe(Describe::Portal(PortalId::from_number(*number)))
-        }
+        Command::Describe(target) => describe(*target),
         Command::Execute { portal, limit } => TaggedMessage::Execute(Execute {
             portal: PortalId::from_number(*portal),
             limit: *limit,
@@ -145,6 +131,31 @@ pub fn message_of<'a>(command: &'a Command<'a>) -> TaggedMessage<'a> {
     }
 }
 
+fn bind(portal: u32, statement: u32, values: &Values) -> TaggedMessage<'_> {
+    TaggedMessage::Bind(Bind {
+        portal: PortalId::from_number(portal),
+        statement: StatementId::from_number(statement),
+        formats: values.formats.as_slice(),
+        num_params: values.num_params,
+        params: values.params.as_slice(),
+        result_formats: values.result_formats.as_slice(),
+    })
+}
+
+fn close<'a>(target: Target) -> TaggedMessage<'a> {
+    TaggedMessage::Close(match target {
+        Target::Statement(number) => Close::Statement(StatementId::from_number(number)),
+        Target::Portal(number) => Close::Portal(PortalId::from_number(number)),
+    })
+}
+
+fn describe<'a>(target: Target) -> TaggedMessage<'a> {
+    TaggedMessage::Describe(match target {
+        Target::Statement(number) => Describe::Statement(StatementId::from_number(number)),
+        Target::Portal(number) => Describe::Portal(PortalId::from_number(number)),
+    })
+}
+
 // A command without fields.
 fn plain_command(line: &str) -> Option<Command<'_>> {
     match line {
@@ -158,10 +169,28 @@ fn plain_command(line: &str) -> Option<Command<'_>> {
 
 // `PORTAL STATEMENT FORMATS COUNT HEX FORMATS`
 fn bind_of(alloc: Global, line: &str) -> Result<Option<Command<'_>>, Fault> {
-    let Some((portal, statement, formats, count, params, result_formats)) = six_words(line) else {
+    let Some((portal, statement, rest)) = three_words(line) else {
         return Ok(None);
     };
     let (Some(portal), Some(statement)) = (u32_of(portal), u32_of(statement)) else {
+        return Ok(None);
+    };
+    let Some(values) = values_of(alloc, rest)? else {
+        return Ok(None);
+    };
+    Ok(Some(Command::Bind {
+        portal,
+        statement,
+        values,
+    }))
+}
+
+// `FORMATS COUNT HEX FORMATS`
+fn values_of(alloc: Global, line: &str) -> Result<Option<Values>, Fault> {
+    let Some((formats, count, rest)) = three_words(line) else {
+        return Ok(None);
+    };
+    let Some((params, result_formats)) = rest.split_once(' ') else {
         return Ok(None);
     };
     let (Some(formats), Some(num_params)) = (formats_of(alloc, formats)?, u16_of(count)) else {
@@ -173,21 +202,12 @@ fn bind_of(alloc: Global, line: &str) -> Result<Option<Command<'_>>, Fault> {
     ) else {
         return Ok(None);
     };
-    Ok(Some(Command::Bind {
-        portal,
-        statement,
+    Ok(Some(Values {
         formats,
         num_params,
         params,
         result_formats,
     }))
-}
-
-fn six_words(line: &str) -> Option<(&str, &str, &str, &str, &str, &str)> {
-    let (first, second, rest) = three_words(line)?;
-    let (third, fourth, rest) = three_words(rest)?;
-    let (fifth, sixth) = rest.split_once(' ')?;
-    Some((first, second, third, fourth, fifth, sixth))
 }
 
 // The last is the rest of the line.

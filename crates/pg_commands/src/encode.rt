@@ -20,16 +20,30 @@ pub fn encode(alloc: Global, input: &[u8]) -> Result<String, Fault> {
 // The answers to a run of messages, and their frames.
 fn output_of(alloc: Global, strict: bool, messages: &[TaggedMessage<'_>]) -> Result<String, Fault> {
     let mut frames = Vec::new(alloc);
-    let run = if strict {
-        encode_strict(alloc, messages, &mut frames)
-    } else {
-        encode_all(alloc, messages, &mut frames)
-    };
-    let answers = run.map_err(|_| Fault::OutOfMemory)?;
     let mut output = String::new(alloc);
-    push_answers(answers.as_slice(), &mut output)?;
+    push_run(alloc, strict, messages, &mut frames, &mut output)?;
     push_frames(frames.as_slice(), &mut output)?;
     Ok(output)
+}
+
+// The answers to a run of messages, whose frames are written beside them.
+fn push_run(
+    alloc: Global,
+    strict: bool,
+    messages: &[TaggedMessage<'_>],
+    frames: &mut Vec<u8>,
+    output: &mut String,
+) -> Result<(), Fault> {
+    let run = if strict {
+        encode_strict(alloc, messages, frames)
+    } else {
+        encode_all(alloc, messages, frames)
+    };
+    let Ok(answers) = run else {
+        return Err(Fault::OutOfMemory);
+    };
+    push_answers(answers.as_slice(), output)?;
+    Ok(())
 }
 
 // Whether the first line makes the run strict, and the lines of messages.
@@ -60,17 +74,26 @@ fn commands(alloc: Global, lines: &[u8], first: usize) -> Result<Vec<Command<'_>
 // The command of the line of this number.
 fn command_at(alloc: Global, line: &[u8], number: usize) -> Result<Command<'_>, Fault> {
     let bad = Fault::BadLine(number);
-    let line = std::str::from_utf8(line).map_err(|_| bad)?;
+    let Ok(line) = std::str::from_utf8(line) else {
+        return Err(bad);
+    };
     command_of(alloc, line)?.ok_or(bad)
 }
 
 fn push_answers(answers: &[Result<(), Error>], output: &mut String) -> Result<(), AllocError> {
     for (index, answer) in answers.iter().enumerate() {
-        let number = index + 1;
-        match answer {
-            Ok(()) => writeln!(output, "{number} ok")?,
-            Err(error) => writeln!(output, "{number} refused: {error}")?,
-        }
+        push_answer(index + 1, answer, output)?;
     }
     Ok(())
+}
+
+fn push_answer(
+    number: usize,
+    answer: &Result<(), Error>,
+    output: &mut String,
+) -> Result<(), AllocError> {
+    match answer {
+        Ok(()) => writeln!(output, "{number} ok"),
+        Err(error) => writeln!(output, "{number} refused: {error}"),
+    }
 }
