@@ -1,5 +1,5 @@
 -- A message that is written is read back.
-use Rattle.std.proofs.Common.{◌≡◌, ℕ, List, [], Result, Ok, Err, None, refl, inl, inr, rules}
+use Rattle.std.proofs.Common.{◌≡◌, ℕ, List, [], ◌∷◌, Result, Ok, Err, None, refl, inl, inr, rules}
 use Rattle.std.specs.Prelude.{MatchResult}
 use Rattle.pg_base.specs.declared.format.FrontendMessageFormat.{FrontendMessageFormat}
 use Rattle.pg_base.specs.Format.{frontend_tag}
@@ -14,7 +14,9 @@ use Rattle.pg_read_frontend.specs.declared.error.FrontendFault.{FrontendFault}
 use Rattle.pg_read_frontend.specs.declared.message.frontend_message_ref.FrontendMessageRef.{FrontendMessageRef}
 use Rattle.pg_read_frontend.specs.FrontendMessageRef.{Answer, Reads, ReadsKind, ReadsTagged}
 use Rattle.pg_read_frontend.specs.Message.{ReadsBody}
-use Rattle.pg_frontend_laws.specs.Laws.{IsRead, IsReadBack, IsReadByTag}
+use Rattle.pg_send.specs.Run as sent
+use Rattle.pg_send.specs.Run.{IsMeantByTag, IsMeantIfItCan, AreFrames, AreReadByTag}
+use Rattle.pg_frontend_laws.specs.Laws.{IsRead, IsReadBack, IsReadByTag, IsReadIfItCan}
 
 -- kinds with one tag are one kind
 one_tag : (a b : FrontendMessageFormat) → frontend_tag a ≡ frontend_tag b → a ≡ b
@@ -69,3 +71,26 @@ read_by_tag m reads h result p = by_tag m result (means m (body m) h reads) p
 
 pub read_back : (m : Message) → fault m ≡ None → IsInRange m → CanRoundTrip m → AreBytes (body m) → IsReadByTag m (tag m, body m)
 read_back m accepted in_range can h = read_by_tag m (reads_itself m accepted in_range can) h
+
+-- by which frame the page means a message, by that it is read
+pub meant_is_read : (m : Message) (frame : ℕ × List ℕ) → IsMeantByTag m frame → IsReadByTag m frame
+meant_is_read m frame meant result p =
+    let means : Means (line m).format (body m) meant.value = rw meant.is_body at meant.means in
+    by_tag m result (meant.value, meant.meant, means) (rw (meant.is_tag, meant.is_body) at p)
+
+-- frames of which each is as one relation has it are as a weaker one has it
+frames_weaker : (P Q : Message → ℕ × List ℕ → Type 0) → ((m : Message) (frame : ℕ × List ℕ) → P m frame → Q m frame) → (ms : List Message) (answers : List sent.Answer) (frames : List (ℕ × List ℕ)) → AreFrames P ms answers frames → AreFrames Q ms answers frames
+frames_weaker P Q weaker [] answers frames h = h
+frames_weaker P Q weaker (m ∷ ms) [] frames h = h
+frames_weaker P Q weaker (m ∷ ms) (Ok u ∷ answers) [] h = absurd h
+frames_weaker P Q weaker (m ∷ ms) (Ok u ∷ answers) (frame ∷ frames) h = (weaker m frame h.0, frames_weaker P Q weaker ms answers frames h.1)
+frames_weaker P Q weaker (m ∷ ms) (Err _ ∷ answers) frames h = frames_weaker P Q weaker ms answers frames h
+
+pub run_weaker : (P Q : Message → ℕ × List ℕ → Type 0) → ((m : Message) (frame : ℕ × List ℕ) → P m frame → Q m frame) → (ms : List Message) (answers : List sent.Answer) (bytes : List ℕ) → AreReadByTag P ms answers bytes → AreReadByTag Q ms answers bytes
+run_weaker P Q weaker ms answers bytes run = record { frames = run.frames; cut = run.cut; read = frames_weaker P Q weaker ms answers run.frames run.read }
+
+pub run_is_read : (ms : List Message) (answers : List sent.Answer) (bytes : List ℕ) → AreReadByTag IsMeantByTag ms answers bytes → AreReadByTag IsReadByTag ms answers bytes
+run_is_read ms answers bytes run = run_weaker IsMeantByTag IsReadByTag meant_is_read ms answers bytes run
+
+pub run_is_read_if_it_can : (ms : List Message) (answers : List sent.Answer) (bytes : List ℕ) → AreReadByTag IsMeantIfItCan ms answers bytes → AreReadByTag IsReadIfItCan ms answers bytes
+run_is_read_if_it_can ms answers bytes run = run_weaker IsMeantIfItCan IsReadIfItCan (λ m frame meant can. meant_is_read m frame (meant can)) ms answers bytes run

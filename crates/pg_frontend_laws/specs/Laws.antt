@@ -1,7 +1,7 @@
 -- What is read of a message that was written.
 use Rattle.std.specs.Prelude.{◌≡◌, ℕ, List, Ok}
 use Rattle.pg_request.specs.Message as message
-use Rattle.pg_request.specs.Message.{Message, body}
+use Rattle.pg_request.specs.Message.{Message, body, CanRoundTrip}
 use Rattle.pg_request.specs.Page.{MeantByBind, Meant}
 use Rattle.pg_read_frontend.specs.declared.message.frontend_message_ref.FrontendMessageRef.{FrontendMessageRef}
 use Rattle.pg_read_frontend.specs.declared.message.frontend_message_ref.FrontendMessageRef.TheVariants as messages
@@ -47,3 +47,7 @@ IsReadBack message.Terminate result = result ≡ Ok messages.Terminate
 -- what a reader answers to a frame's tag and body alone is the message
 abbrev pub IsReadByTag : Message → ℕ × List ℕ → Type 0
 IsReadByTag m frame = (result : Answer) → ReadsTagged frame.0 frame.1 result → IsReadBack m result
+
+-- the same of a message that can make the round trip
+abbrev pub IsReadIfItCan : Message → ℕ × List ℕ → Type 0
+IsReadIfItCan m frame = CanRoundTrip m → IsReadByTag m frame

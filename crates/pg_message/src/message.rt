@@ -5,6 +5,7 @@ pub use pg_base::{BackendMessageFormat, FrontendMessageFormat};
 pub use pg_frames::{
     Frame, FrameReader, RawFrame, StreamEnd, next_frame, next_raw_frame, read_pieces,
 };
+pub use pg_frontend_laws::run::{encode_all, encode_strict};
 pub use pg_receive::message::{
     Authentication, AuthenticationMd5Password, AuthenticationSasl, AuthenticationSaslContinue,
     AuthenticationSaslFinal, BackendKeyData, BackendMessage, Cells, ColumnReader, Columns,
@@ -22,7 +23,7 @@ pub use pg_send::message::{
     Bind, BindValues, CancelRequest, Close, CopyFail, Describe, EncodeMessage, Execute, Flush,
     FrontendMessage, FunctionCall, GssEncRequest, Parse, Password, Query, RawBind, RawClose,
     RawDescribe, RawExecute, RawParse, SaslInitial, SaslInitialResponse, SaslResponse, SslRequest,
-    Startup, Sync, TaggedMessage, Terminate, encode_all, encode_frame, encode_strict, write_frame,
+    Startup, Sync, TaggedMessage, Terminate, encode_frame, write_frame,
 };
 pub use pg_server_message::message::{ServerMessage, ServerMessageRef, Visitor};
 

@@ -8,13 +8,13 @@ use Rattle.pg_base.specs.Cutting.{Cut, IsCutInto}
 use Rattle.pg_base.specs.Numbers.{be32}
 use Rattle.pg_base.proofs.CuttingLemmas.{cut_frame, is_cut_into}
 use Rattle.pg_base.specs.Encode.{IsAnswer}
-use Rattle.pg_format.specs.Format.{AreBytes}
+use Rattle.pg_format.specs.Format.{AreBytes, Means}
 use Rattle.pg_format.proofs.FormatLaws.Parts.{are_bytes_before, are_bytes_after}
 use Rattle.pg_request.specs.Frame.{EncodesMessage}
 use Rattle.pg_request.specs.Message.{Message, law_of, tag, body, hint, fault, text, IsInRange, CanRoundTrip, RoundTrips}
-use Rattle.pg_frontend_laws.specs.Laws.{IsReadByTag}
-use Rattle.pg_frontend_laws.proofs.LawsLemmas.{read_by_tag}
-use Rattle.pg_send.specs.Run.{IsAnswerOf, IsStrictAnswer, EachRoundTrips, Answer, added, added_by, accepted, run_room, EncodesOne, EncodesRun, AreAnswers, AllRoundTrip, NoneRanOut, RanOutWhereShort, IsReadIfItCan, AreFrames, AreReadByTag}
+use Rattle.pg_request.specs.Page.{line, Meant}
+use Rattle.pg_request.proofs.PageLemmas.{means}
+use Rattle.pg_send.specs.Run.{IsAnswerOf, IsStrictAnswer, EachRoundTrips, Answer, added, added_by, accepted, run_room, EncodesOne, EncodesRun, AreAnswers, AllRoundTrip, NoneRanOut, RanOutWhereShort, IsMeantByTag, IsMeantIfItCan, AreFrames, AreReadByTag}
 use Rattle.pg_send.specs.declared.message.tagged.TaggedMessage.{TaggedMessage}
 use Rattle.pg_send.specs.TaggedMessage.{message_of, messages_of}
 use Rattle.pg_request.proofs.FrameLemmas.{len_fits, accepted_fits}
@@ -130,10 +130,12 @@ are_bytes : (bytes : List ℕ) → ((i : ℕ) → i < length bytes → get_or by
 are_bytes [] h = tt
 are_bytes (b ∷ bytes) h = (h 0 (omega arith), are_bytes bytes (λ i within. h (suc i) (omega (arith, within))))
 
-one_by_tag : (m : Message) → AreBytes (text m) → (CanRoundTrip m → RoundTrips m) → IsReadIfItCan m (tag m, body m)
-one_by_tag m h round_trip can = read_by_tag m (round_trip can).reads.1 (are_bytes_after (text m) (tag m ∷ be32 (length (body m) + 4)) (body m) refl h)
+one_by_tag : (m : Message) → AreBytes (text m) → (CanRoundTrip m → RoundTrips m) → IsMeantIfItCan m (tag m, body m)
+one_by_tag m h round_trip can =
+    let found : (v : (line m).Value) × Meant m v × Means (line m).format (body m) v = means m (body m) (are_bytes_after (text m) (tag m ∷ be32 (length (body m) + 4)) (body m) refl h) (round_trip can).reads.1 in
+    record { is_tag = refl; is_body = refl; value = found.0; meant = found.1; means = found.2 }
 
-frames_by_tag : (ms : List Message) (answers : List Answer) → AreBytes (added ms answers) → AllRoundTrip ms answers → AreFrames IsReadIfItCan ms answers (accepted ms answers)
+frames_by_tag : (ms : List Message) (answers : List Answer) → AreBytes (added ms answers) → AllRoundTrip ms answers → AreFrames IsMeantIfItCan ms answers (accepted ms answers)
 frames_by_tag [] answers h read = refl
 frames_by_tag (n ∷ ms) [] h read = refl
 frames_by_tag (n ∷ ms) (Ok u ∷ answers) h read = (
@@ -143,7 +145,7 @@ frames_by_tag (n ∷ ms) (Ok u ∷ answers) h read = (
 frames_by_tag (n ∷ ms) (Err _ ∷ answers) h read = frames_by_tag ms answers h read
 
 pub run_by_tag : (ms : List Message) (answers : List Answer) (old new : List ℕ) → new ≡ old ++ added ms answers → ((i : ℕ) → i < length new → get_or new i 0 < 256) → IsCutInto (added ms answers) (accepted ms answers) → AllRoundTrip ms answers
-    → AreReadByTag IsReadIfItCan ms answers (drop (length old) new)
+    → AreReadByTag IsMeantIfItCan ms answers (drop (length old) new)
 run_by_tag ms answers old new adds h cut read =
     let more : drop (length old) new ≡ added ms answers = rw adds (drop-append_seam old (added ms answers)) in
     record {
@@ -153,14 +155,14 @@ run_by_tag ms answers old new adds h cut read =
     }
 
 -- a strict run accepts those alone that can make the round trip
-strict_frames : (ms : List Message) (answers : List Answer) (frames : List (ℕ × List ℕ)) → AreAnswers IsStrictAnswer ms answers → AreFrames IsReadIfItCan ms answers frames → AreFrames IsReadByTag ms answers frames
+strict_frames : (ms : List Message) (answers : List Answer) (frames : List (ℕ × List ℕ)) → AreAnswers IsStrictAnswer ms answers → AreFrames IsMeantIfItCan ms answers frames → AreFrames IsMeantByTag ms answers frames
 strict_frames [] answers frames h read = read
 strict_frames (n ∷ ms) [] frames h read = read
 strict_frames (n ∷ ms) (Ok u ∷ answers) [] h read = absurd read
 strict_frames (n ∷ ms) (Ok u ∷ answers) (frame ∷ frames) h read = (read.0 (strict_can n u h.0), strict_frames ms answers frames h.1 read.1)
 strict_frames (n ∷ ms) (Err _ ∷ answers) frames h read = strict_frames ms answers frames h.1 read
 
-pub strict_by_tag : (ms : List Message) (answers : List Answer) (bytes : List ℕ) → AreAnswers IsStrictAnswer ms answers → AreReadByTag IsReadIfItCan ms answers bytes → AreReadByTag IsReadByTag ms answers bytes
+pub strict_by_tag : (ms : List Message) (answers : List Answer) (bytes : List ℕ) → AreAnswers IsStrictAnswer ms answers → AreReadByTag IsMeantIfItCan ms answers bytes → AreReadByTag IsMeantByTag ms answers bytes
 strict_by_tag ms answers bytes h run = record { frames = run.frames; cut = run.cut; read = strict_frames ms answers run.frames h run.read }
 
 -- the same of one message
@@ -173,7 +175,7 @@ one_cut m (Ok u) cut = rw (append-nil (text m)) cut
 one_cut m (Err e) cut = is_cut_into [] [] refl
 
 pub message_by_tag : (m : Message) (a : Answer) (old new : Vec ℕ Global) → EncodesMessage (law_of m) old new a → ((i : ℕ) → i < length new.items → get_or new.items i 0 < 256) → OnOk a (CanRoundTrip m → RoundTrips m)
-    → AreReadByTag IsReadIfItCan (m ∷ []) (a ∷ []) (drop (length old.items) new.items)
+    → AreReadByTag IsMeantIfItCan (m ∷ []) (a ∷ []) (drop (length old.items) new.items)
 message_by_tag m a old new is h read =
     run_by_tag (m ∷ []) (a ∷ []) old.items new.items (one_added m a old.items new.items is.encodes.ok is.encodes.err) h (one_cut m a is.cut) (read_one m a read)
 

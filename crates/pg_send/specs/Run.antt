@@ -7,7 +7,8 @@ use Rattle.pg_base.specs.Cutting.{IsCutInto}
 use Rattle.pg_base.specs.Encode.{IsAnswer}
 use Rattle.pg_request.specs.Frame as law
 use Rattle.pg_request.specs.Message.{Message, law_of, tag, body, hint, fault, text, CanRoundTrip, RoundTrips}
-use Rattle.pg_frontend_laws.specs.Laws.{IsReadByTag}
+use Rattle.pg_format.specs.Format.{Means}
+use Rattle.pg_request.specs.Page.{line, Meant}
 
 abbrev pub Answer : Type 0
 Answer = Result (Unit {0}) Error
@@ -123,9 +124,17 @@ pub record EncodesRun (IsAnswerTo : Message → Answer → Type 0) (ms : List Me
 
 -- ---- what a reader of tags makes of a run
 
--- a frame that is read by its tag as the message, where that can make the round trip
-abbrev pub IsReadIfItCan : Message → ℕ × List ℕ → Type 0
-IsReadIfItCan m frame = CanRoundTrip m → IsReadByTag m frame
+-- the page means the message by the tag and the body of its frame
+pub record IsMeantByTag (m : Message) (frame : ℕ × List ℕ) : Type 0 where
+  pub is_tag : frame.0 ≡ tag m
+  pub is_body : frame.1 ≡ body m
+  pub value : (line m).Value
+  pub meant : Meant m value
+  pub means : Means (line m).format frame.1 value
+
+-- the same of a message that can make the round trip
+abbrev pub IsMeantIfItCan : Message → ℕ × List ℕ → Type 0
+IsMeantIfItCan m frame = CanRoundTrip m → IsMeantByTag m frame
 
 -- one frame an accepted message, each as it must be of its message
 abbrev pub AreFrames : (Message → ℕ × List ℕ → Type 0) → List Message → List Answer → List (ℕ × List ℕ) → Type 0
@@ -135,7 +144,7 @@ AreFrames IsFrameOf (m ∷ ms) (Ok _ ∷ answers) [] = ⊥
 AreFrames IsFrameOf (m ∷ ms) (Ok _ ∷ answers) (frame ∷ frames) = IsFrameOf m frame × AreFrames IsFrameOf ms answers frames
 AreFrames IsFrameOf (m ∷ ms) (Err _ ∷ answers) frames = AreFrames IsFrameOf ms answers frames
 
--- tags and lengths cut the bytes into frames, and into no others; each is read by its tag as its message
+-- tags and lengths cut the bytes into frames, and into no others; each is its message, as a relation has it
 pub record AreReadByTag (IsFrameOf : Message → ℕ × List ℕ → Type 0) (ms : List Message) (answers : List Answer) (bytes : List ℕ) : Type 0 where
   pub frames : List (ℕ × List ℕ)
   pub cut : IsCutInto bytes frames

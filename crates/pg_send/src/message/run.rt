@@ -4,8 +4,7 @@ ghost use Rattle.std.specs.Prelude.{◌≡◌, ◌+◌, ◌<◌, ◌≤◌, [], 
 ghost use Rattle.std.specs.Bool.{OnTrue, OnFalse};
 ghost use Rattle.pg_base.specs.declared.error.Error.TheVariants.{OutOfMemory};
 ghost use Rattle.pg_request.specs.Message.{hint, text, CanRoundTrip, RoundTrips};
-ghost use Rattle.pg_send.specs.Run.{IsLimitAnswer, IsStrictAnswer, IsAnswerOf, EachRoundTrips, NoneRanOut, EncodesOne, AnswersOne, EncodesRun, IsReadIfItCan, AreReadByTag};
-ghost use Rattle.pg_frontend_laws.specs.Laws.{IsReadByTag};
+ghost use Rattle.pg_send.specs.Run.{IsLimitAnswer, IsStrictAnswer, IsAnswerOf, EachRoundTrips, NoneRanOut, EncodesOne, AnswersOne, EncodesRun, IsMeantByTag, IsMeantIfItCan, AreReadByTag};
 ghost use Rattle.pg_send.specs.TaggedMessage.{message_of, messages_of};
 
 use crate::message::TaggedMessage;
@@ -13,9 +12,9 @@ use pg_base::Error;
 use std::alloc::Global;
 
 /// Adds each message to the buffer in order, and gives one answer a message: that of
-/// [`TaggedMessage::encode`]. A refused message adds nothing and doesn't stop the rest. From its tag and
-/// body alone, `FrontendMessageRef::read` gets back each accepted message that can make the round trip:
-/// numbered names as their texts.
+/// [`TaggedMessage::encode`]. A refused message adds nothing and doesn't stop the rest. By its tag and
+/// body alone, each accepted message that can make the round trip is meant: numbered names as their
+/// texts.
 ///
 /// Memory is asked for once for the answers, and once, at the first message that the spare room
 /// doesn't hold, for all that is left to add; where the second is refused, each message asks for its
@@ -27,8 +26,8 @@ pub fn encode_all(
     buf: &mut Vec<u8>,
 ) -> Result<Vec<Result<(), Error>>, Error>
     ensures run { IfOk result (λ answers. EncodesRun IsLimitAnswer (messages_of messages.now) answers.items buf.old buf.new) }
-    // From the tag and the body of its frame alone, each accepted message that can make the round trip is read.
-    ensures by_tag { IfOk result (λ answers. AreReadByTag IsReadIfItCan (messages_of messages.now) answers.items (drop (length buf.old.items) buf.new.items)) }
+    // By the tag and the body of its frame alone, the page means each accepted message that can make the round trip.
+    ensures by_tag { IfOk result (λ answers. AreReadByTag IsMeantIfItCan (messages_of messages.now) answers.items (drop (length buf.old.items) buf.new.items)) }
     ensures memory { IsOkUnless result OutOfMemory }
     ensures some { OnErr result (0 < length messages.now) }
     ensures err { OnErr result (buf.new ≡ buf.old) }
@@ -46,8 +45,8 @@ pub fn encode_strict(
     ensures run { IfOk result (λ answers. EncodesRun IsStrictAnswer (messages_of messages.now) answers.items buf.old buf.new) }
     // A reader that is given the kinds gets back each accepted message.
     ensures round_trip { IfOk result (λ answers. EachRoundTrips (messages_of messages.now) answers.items) }
-    // And so does one that is given the tag and the body of each frame alone.
-    ensures by_tag { IfOk result (λ answers. AreReadByTag IsReadByTag (messages_of messages.now) answers.items (drop (length buf.old.items) buf.new.items)) }
+    // And the page means each by the tag and the body of its frame alone.
+    ensures by_tag { IfOk result (λ answers. AreReadByTag IsMeantByTag (messages_of messages.now) answers.items (drop (length buf.old.items) buf.new.items)) }
     ensures memory { IsOkUnless result OutOfMemory }
     ensures some { OnErr result (0 < length messages.now) }
     ensures err { OnErr result (buf.new ≡ buf.old) }

@@ -4,7 +4,7 @@ ghost use Rattle.std.specs.Prelude.{◌≡◌, ◌+◌, ◌<◌, ◌≤◌, [], 
 ghost use Rattle.std.specs.Bool.{OnTrue, OnFalse};
 ghost use Rattle.pg_request.specs.Frame.{EncodesMessage, room_or_fault};
 ghost use Rattle.pg_request.specs.Message.{law_of, body, fault, hint, text, IsInRange, CanRoundTrip, round_trip_fault, RoundTrips};
-ghost use Rattle.pg_send.specs.Run.{IsReadIfItCan, AreReadByTag};
+ghost use Rattle.pg_send.specs.Run.{IsMeantIfItCan, AreReadByTag};
 ghost use Rattle.pg_send.specs.TaggedMessage.{message_of};
 
 use crate::message::visitor::{EncodeFrame, FrameRoom, PutFrame, PutIfFits, Visitor};
@@ -52,8 +52,8 @@ impl TaggedMessage<'_> {
         ensures range { OnOk result (IsInRange (message_of self.now)) }
         // A reader that is given the kind gets the message back from its body, and no other.
         ensures round_trip { OnOk result (CanRoundTrip (message_of self.now) → RoundTrips (message_of self.now)) }
-        // So does one that is given the tag and the body of its frame alone.
-        ensures by_tag { AreReadByTag IsReadIfItCan (message_of self.now ∷ []) (result ∷ []) (drop (length buf.old.items) buf.new.items) }
+        // By the tag and the body of its frame alone, the page means it.
+        ensures by_tag { AreReadByTag IsMeantIfItCan (message_of self.now ∷ []) (result ∷ []) (drop (length buf.old.items) buf.new.items) }
     {
         self.put_or_encode(buf)
     }
