@@ -152,14 +152,18 @@ def locked(folders):
 def startable(left, running):
     """The crates that wait for none, the longest chain first, and the jobs of each, as far as processors are idle.
 
-    Jobs beside each other in one crate cost more than they save where other crates can use the processors: only what
-    is alone gets all of them.
+    Each gets the idle processors but one for those after it.
     """
     waiting = {*left, *(crate for crate, _ in running)}
     ready = sorted((crate for crate in left if waiting.isdisjoint(crate.libraries())), key=lambda it: -chain(it))
     idle = processors() - sum(jobs for _, jobs in running)
-    jobs = min(4, idle) if len(ready) == 1 and idle == processors() else 1
-    return [(crate, jobs) for crate in ready[:idle]]
+    started = []
+    for crate in ready:
+        if idle:
+            others = len(ready) > len(started) + 1 and idle > 2
+            started.append((crate, min(4, idle - others)))
+            idle -= started[-1][1]
+    return started
 
 
 def build_one(crate, jobs):
