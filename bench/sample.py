@@ -1,5 +1,5 @@
 #!/usr/bin/env python3
-"""Writes the stored sample: crates/pg_answers/stdin and stdout.
+"""Writes the stored sample: pg_answers/stdin and stdout.
 
     sample.py ORIGINAL OURS
 
@@ -30,7 +30,7 @@ GOOD = 8
 DAMAGED = 400_000
 TIMES = 4
 
-FOLDER = pathlib.Path(__file__).parent.parent / "crates" / "pg_answers"
+FOLDER = pathlib.Path(__file__).parent / "pg_answers"
 
 
 def good_bodies(rng):

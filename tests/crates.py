@@ -21,10 +21,10 @@ PARTS = ("src", "specs", "proofs")
 class Crate:
     """A line of crates.txt: a crate, its kind, and the libraries that it names."""
 
-    def __init__(self, name, is_static, names):
+    def __init__(self, name, is_static, names, folder=None):
         self.name, self.is_static, self.names = name, is_static, names
-        self.folder = TOP / "crates" / name
-        self.root = "src/main.rt" if (self.folder / "src/main.rt").exists() else "src/lib.rt"
+        self.folder = folder or TOP / "crates" / name
+        self.root = "src/main.rt" if any(self.folder.glob("src/main.rt*")) else "src/lib.rt"
 
     def libraries(self):
         """The crates of the repository that it stands on, the lowest first."""
@@ -102,11 +102,22 @@ class Crate:
 @functools.lru_cache(maxsize=None)
 def known():
     """The crates of crates.txt by their names."""
+    return listed(TOP / "crates.txt", TOP / "crates")
+
+
+@functools.lru_cache(maxsize=None)
+def benched():
+    """What the benchmarks lay out, by name, where its sources stand."""
+    return listed(TOP / "bench/programs.txt", TOP / "bench")
+
+
+def listed(file, folder):
+    """The crates of a list by their names, whose own folders are in this one."""
     found = {}
-    for line in (TOP / "crates.txt").read_text().splitlines():
+    for line in file.read_text().splitlines():
         if line and not line.startswith("#"):
             name, *kind = line.partition(":")[0].split()
-            found[name] = Crate(name, "staticlib" in kind, line.partition(":")[2].split())
+            found[name] = Crate(name, "staticlib" in kind, line.partition(":")[2].split(), folder / name)
     return found
 
 
@@ -188,6 +199,21 @@ def archive(crate):
             run = crate.run("build", *flags, "--toolchain", kit() / "toolchain", "-o", made)
             if run.returncode:
                 raise SystemExit(f"{run.stdout[-3000:]}{crate.name}: is not proved")
+    return made
+
+
+def program(crate, report=lambda crate, done, total: None):
+    """A program, proved and built after the crates that it stands on."""
+    build([crate], report)
+    made = crate.folder / "out" / crate.name
+    made.parent.mkdir(exist_ok=True)
+    toolchain = ["--toolchain", kit() / "toolchain"]
+    run = crate.run("build", *toolchain, "--backend", "llvm", "--jobs", str(processors()), "-o", f"{made}.o")
+    if run.returncode:
+        raise SystemExit(f"{run.stdout[-3000:]}{crate.name}: is not proved")
+    linked = [f"{made}.o", kit() / "c/libos_c.a", kit() / "c/liblibc_c.a"]
+    words = ["--target", "x86_64-unknown-linux-gnu", *toolchain, "-o", made, *linked]
+    subprocess.run([kit() / "bin/rattle-link", *words], check=True)
     return made
 
 

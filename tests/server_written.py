@@ -127,7 +127,7 @@ def kinds_of(lines, frames):
 
 def kept(compare):
     """Compares the bodies that pg_answers keeps and that decode with what is written of what they decode to."""
-    folder = crates.TOP / "crates/pg_answers"
+    folder = crates.benched()["pg_answers"].folder
     stored = zip((folder / "stdin").read_text().splitlines(), (folder / "stdout").read_text().splitlines(), strict=True)
     asked = []
     for body, answer in stored:

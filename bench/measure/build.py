@@ -4,13 +4,11 @@ import os
 import re
 import shutil
 import subprocess
-import sys
 from pathlib import Path
 
-BENCH = Path(__file__).resolve().parent.parent
-sys.path.insert(0, str(BENCH.parent / "tests"))
+import ours
 
-import crates
+BENCH = Path(__file__).resolve().parent.parent
 
 # Debian's sources of crates, where its packages are installed.
 DEBIAN_CRATES = Path("/usr/share/cargo/registry")
@@ -75,10 +73,6 @@ def postgres_protocol(out):
     return [out / "peer/target/release/libpeer.a"]
 
 
-def ours():
-    return [crates.archive(crates.known()["pg_bench"]), crates.kit() / "c/liblibc_c.a"]
-
-
 def link(out, side, archives, *flags):
     """The timer with a side's functions, once in each order."""
     timer = out / f"{side}.o"
@@ -107,7 +101,7 @@ def build(source, out):
     for name in ("shared", "original", "peer"):
         shutil.copytree(BENCH / name, out / name, dirs_exist_ok=True)
     return {
-        "ours": link(out, "ours", ours(), "-DOURS"),
+        "ours": link(out, "ours", ours.timed(out), "-DOURS"),
         "original": link(out, "original", original(source, out)),
         "postgres-protocol": link(out, "peer", postgres_protocol(out)),
         "pgproto3": go(out),
