@@ -9,8 +9,8 @@ import crates
 # The commit as of which all were tried, and by which toolchain.
 TRIED = crates.TOP / "tests" / "tried"
 
-# The wrong bodies are in so many sets of about as many; all of one set are tried, of another one at each commit.
-SHARES = 7
+# How many of all wrong bodies are tried at each commit: those after the ones of the commit before.
+TURN = 288
 
 
 class Due:
@@ -21,8 +21,7 @@ class Due:
         # A clone without its history tries all.
         self.is_all = not is_ancestor(since) or toolchain != printed("rt", "version")
         if not self.is_all:
-            turn = int(changes.git("rev-list", "--count", "HEAD")) % SHARES
-            self.share = set(shares(edits.values())[turn])
+            self.share = set(turn_of(edits.values(), int(changes.git("rev-list", "--count", "HEAD"))))
             lines = changes.changed(since)
             self.changed = {crate: changes.Change(crate, since, lines) for crate in crates.known().values()}
 
@@ -37,18 +36,15 @@ class Due:
         return [edit for edit in edits if edit in self.share or self.changed[crate].concerns(edit)]
 
 
-def shares(crates):
-    """Sets of about as many wrong bodies, those of a crate together where they are no more than a set has."""
-    crates = list(crates)
-    most = math.ceil(sum(map(len, crates)) / SHARES)
-    parts = []
+def turn_of(crates, commits):
+    """The wrong bodies that are tried after so many commits, those of one crate after those of another."""
+    spread = []
     for edits in crates:
-        count = math.ceil(len(edits) / most)
-        parts += [edits[part::count] for part in range(count)]
-    sets = [[] for _ in range(SHARES)]
-    for part in sorted(parts, key=len, reverse=True):
-        min(sets, key=len).extend(part)
-    return sets
+        # Neighbours mostly change one function, which takes them a check each: they come into different turns.
+        count = math.ceil(len(edits) / TURN)
+        spread += [edit for part in range(count) for edit in edits[part::count]]
+    begun = commits * TURN % len(spread)
+    return [*spread, *spread][begun:begun + TURN]
 
 
 def is_ancestor(commit):
