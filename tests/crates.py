@@ -47,10 +47,6 @@ class Crate:
         """Where its checks keep what they proved."""
         return self.folder / "out/incremental"
 
-    def place_of_proof(self):
-        """What is locked while a static library is proved for its build, beside a run of `rt ci`, which locks its folder."""
-        return self.folder / "src"
-
     def is_program(self):
         """Whether it is a program."""
         return self.root == "src/main.rt"
@@ -190,7 +186,7 @@ def archive(crate):
     """The static library of a crate, proved and built where that is not done; what was proved stays beside it."""
     build([crate])
     made = crate.folder / "out" / f"lib{crate.name}.a"
-    with locked([crate.folder, crate.place_of_proof()]):
+    with locked([crate.folder]):
         if crate.is_older(made):
             # What fails must leave no library of older sources.
             made.unlink(missing_ok=True)

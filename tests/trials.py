@@ -28,20 +28,15 @@ NICE = ("nice", "-n", "19")
 
 
 class Known:
-    """What is proved of a crate before its edits: once for all that try some of them."""
+    """What is proved of a crate before its edits, by earlier checks or by the first that tries some of them."""
 
     def __init__(self, crate, proofs):
         self.crate, self.proofs = crate, proofs
         self.lock, self.folder, self.is_there = threading.Lock(), None, threading.Event()
 
     def can_begin(self):
-        """Waits until what is needed is proved, where that is done meanwhile; whether it is."""
-        needed = self.crate.libraries() if self.serves_build() else [self.crate]
-        return self.proofs is None or all(map(self.proofs.have, needed))
-
-    def serves_build(self):
-        """Whether the build of a static library will take it, since a run of `rt ci` leaves nothing of one."""
-        return self.proofs is not None and self.crate.is_static
+        """Waits until the crate is proved, where that is done meanwhile; whether it is."""
+        return self.proofs is None or self.proofs.have(self.crate)
 
     def copy(self, to):
         """Copies it to a folder. Where there is nothing yet, the first that asks goes on without it and keeps what its
@@ -50,22 +45,11 @@ class Known:
             is_first = self.folder is None
             if is_first:
                 self.folder = tempfile.TemporaryDirectory(prefix="proved-")
-                self.fill()
+                if self.crate.kept().exists():
+                    self.keep(self.crate.kept())
         if not is_first:
             self.is_there.wait()
         shutil.copytree(self.folder.name, to, dirs_exist_ok=True)
-
-    def fill(self):
-        """Takes what earlier checks proved, else proves a crate that serves its build."""
-        kept = self.crate.kept()
-        if kept.exists():
-            self.keep(kept)
-        elif self.serves_build():
-            # What is built of it waits for no wrong body.
-            with crates.locked([self.crate.place_of_proof()]):
-                self.crate.check({}, [], self.folder.name, jobs=2)
-                shutil.copytree(self.folder.name, kept)
-            self.is_there.set()
 
     def keep(self, proved):
         """Keeps what checks proved in a folder, where there is nothing yet."""
@@ -103,7 +87,7 @@ class Trial:
         # Laws that stand on most come first, since they can stand beside the fewest.
         left.sort(key=lambda edit: -len(edit.stands_on))
         with tempfile.TemporaryDirectory(prefix="edits-") as self.kept:
-            if left or can_begin and self.known.serves_build():
+            if left:
                 self.known.copy(self.kept)
             try:
                 while left:
@@ -214,7 +198,7 @@ def due(edit):
 def run(trials, proofs=None):
     """Runs trials beside each other, each once it has its proofs; returns whether each edit had the verdict that is due."""
     begun = time.monotonic()
-    trials = [trial for trial in trials if trial.edits or trial.known.serves_build()]
+    trials = [trial for trial in trials if trial.edits]
     if not proofs:
         crates.build([trial.crate for trial in trials])
     with ThreadPoolExecutor(max(1, len(trials))) as pool:

@@ -2,7 +2,7 @@
 //!
 //! Nothing is kept after a call and no memory changes hands: a message is written into the caller's
 //! bytes, and what is read is given as places in the bytes that were passed. `clients/header` makes
-//! the C header of the exports here.
+//! the C header of the functions that are marked as exported, and `clients/exports.py` exports them.
 #![tactic(auto)]
 
 pub mod client;

@@ -5,15 +5,15 @@
 //! number below 0, and then alone fills `fault`; an array of places holds at most the values before the one
 //! that is broken.
 
-mod bind;
-mod execute;
-mod first;
-mod frames;
-mod function_call;
-mod lists;
-mod parse;
-mod sasl_initial;
-mod startup;
-mod target;
-mod text;
+pub mod bind;
+pub mod execute;
+pub mod first;
+pub mod frames;
+pub mod function_call;
+pub mod lists;
+pub mod parse;
+pub mod sasl_initial;
+pub mod startup;
+pub mod target;
+pub mod text;
 mod values;

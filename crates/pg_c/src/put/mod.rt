@@ -6,15 +6,15 @@
 //! What is to be sent is read where the caller has it, and no memory is asked for.
 
 mod bind;
-mod copy;
+pub mod copy;
 mod function_call;
 mod lists;
 mod parse;
-pub(crate) mod prepared;
-mod query;
-mod raw;
+pub mod prepared;
+pub mod query;
+pub mod raw;
 pub(crate) mod room;
-mod session;
+pub mod session;
 mod startup;
 mod then;
 

@@ -4,17 +4,17 @@
 //! refuses by a number below 0, and then alone fills `fault`; an array of places holds at most the
 //! items before the one that is broken.
 
-mod authentication;
-mod columns;
-mod copy;
-mod end;
-mod fields;
-pub(crate) mod frame;
-mod raw;
-mod raw_columns;
-mod raw_frame;
-pub(crate) mod row;
-pub(crate) mod status;
+pub mod authentication;
+pub mod columns;
+pub mod copy;
+pub mod end;
+pub mod fields;
+pub mod frame;
+pub mod raw;
+pub mod raw_columns;
+pub mod raw_frame;
+pub mod row;
+pub mod status;
 
 ghost use Rattle.std.specs.Prelude.{◌≤◌, length, OnOk, IfErr};
 ghost use Rattle.pg_response.specs.Received.{max_body};

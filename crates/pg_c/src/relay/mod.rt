@@ -3,7 +3,7 @@
 //!
 //! The caller keeps the bytes until they go out. Only a refusal fills `fault`.
 
-mod passage;
+pub mod passage;
 mod refusal;
-mod run;
+pub mod run;
 mod state;

@@ -2,11 +2,11 @@
 //!
 //! Lists are read where the caller has them, and no memory is asked for.
 
-mod authentication;
-mod notices;
-mod results;
-mod rows;
-mod session;
+pub mod authentication;
+pub mod notices;
+pub mod results;
+pub mod rows;
+pub mod session;
 
 ghost use Rattle.std.specs.Prelude.{◌≡◌, ◌+◌, ◌≤◌, ◌++◌, None, IfOk, length};
 ghost use Rattle.pg_base.specs.Cutting.{max_length};
