@@ -9,7 +9,7 @@ foreign_symbols() {
 make_other() {
     local parts=$work/other
     mkdir -p "$parts"
-    (cd "$parts" && ar x "$repository/crates/pg_c/out/libpg_c.a" && ar x "$kit/c/liblibc_c.a" && ld -r -o all.o.joined ./*.o)
+    (cd "$parts" && ar x "$repository/crates/pg_c/out/exports/out/libpg_exports.a" && ar x "$kit/c/liblibc_c.a" && ld -r -o all.o.joined ./*.o)
     nm --defined-only -g "$parts/all.o.joined" | awk '$3 ~ /^pgmsg_/ { print $3, "other_" substr($3, 7) }' > "$parts/names"
     objcopy --redefine-syms="$parts/names" "$parts/all.o.joined" "$parts/other.o"
 }
