@@ -35,8 +35,8 @@ class Known:
         self.lock, self.folder, self.is_there = threading.Lock(), None, threading.Event()
 
     def can_begin(self):
-        """Waits until the crate is proved, where that is done meanwhile; whether it is."""
-        return self.proofs is None or self.proofs.have(self.crate)
+        """Waits until what the crate stands on is proved, where that is done meanwhile; whether it is."""
+        return self.proofs is None or all(map(self.proofs.have, self.crate.libraries()))
 
     def copy(self, to):
         """Copies it to a folder. Where there is nothing yet, the first that asks goes on without it and keeps what its
@@ -76,12 +76,12 @@ class Trial:
             print(f"FAILED {label}: {verdict}: {why}", flush=True)
 
     def run(self):
-        """Shows a verdict for each edit, once its crate is proved."""
+        """Shows a verdict for each edit, once the crates are proved that its own stands on."""
         can_begin = self.known.can_begin()
         left = []
         for edit in self.edits:
             if edit.why_not or not can_begin:
-                self.show(edit, NOT_APPLIED, edit.why_not or "its crate is not proved")
+                self.show(edit, NOT_APPLIED, edit.why_not or "what its crate stands on is not proved")
             else:
                 left.append(edit)
         # Laws that stand on most come first, since they can stand beside the fewest.
