@@ -188,18 +188,11 @@ test_replay_python() {
 }
 
 test_replay_tokio_postgres() {
-    local cargo_folder version target=$PWD/out/drop-in
-    read -r cargo_folder version < <(rust_folders)
-    if [ -z "$cargo_folder" ] || ! has_crates "${drop_in_crates[@]}" "${driver_crates[@]}"; then
+    if [ -z "$on_original" ]; then
         echo 'left out: replays of tokio-postgres, which need what its tests need'
         return
     fi
-    if [ ! "$target/debug/spoken" -nt rust/tokio-postgres/end-to-end/src/bin/spoken.rs ]; then
-        rust/tokio-postgres/prepare out/original
-        try by_debian out/original build --quiet --package end-to-end
-        expect 'replay: a program on tokio-postgres' 0
-    fi
-    both_ways tokio-postgres '' "$target/debug/spoken"
+    both_ways tokio-postgres '' "$on_original/spoken"
 }
 
 # A notification from another session comes after the same message as it did.

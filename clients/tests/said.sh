@@ -32,7 +32,8 @@ say_by_psql() {
     PGPASSWORD="pass word '1" "${psql[@]}" -U by_scram -d postgres -c 'SELECT 1' > /dev/null
     "${psql[@]}" -c 'SELECT pg_sleep(60)' 2> /dev/null &
     interrupt $! 'SELECT pg_sleep'
-    sleep 30 | "${psql[@]}" -c '\copy said from stdin' 2> /dev/null &
+    mkfifo "$work/silent"
+    "${psql[@]}" -c '\copy said from stdin' <> "$work/silent" 2> /dev/null &
     interrupt $! 'COPY%said'
 }
 
@@ -59,17 +60,13 @@ say_by_python() {
 
 # Each case of the program that times tokio-postgres.
 say_by_tokio_postgres() {
-    local cargo_folder version case target=$PWD/out/drop-in
-    read -r cargo_folder version < <(rust_folders)
-    if [ -z "$cargo_folder" ] || ! has_crates "${drop_in_crates[@]}" "${driver_crates[@]}"; then
+    local case
+    if [ -z "$on_original" ]; then
         echo 'left out: what tokio-postgres says, which needs what its tests need'
         return
     fi
-    rust/tokio-postgres/prepare out/original
-    try by_debian out/original build --quiet --package end-to-end
-    expect 'a program on tokio-postgres' 0
     for case in select-1 select-1000 insert insert-pipelined copy-in copy-out listen; do
-        try "$target/debug/end-to-end" "$case" 2 "host=127.0.0.1 port=$said_port user=postgres"
+        try "$on_original/end-to-end" "$case" 2 "host=127.0.0.1 port=$said_port user=postgres"
         expect "tokio-postgres speaks: $case" 0
     done
 }

@@ -9,6 +9,9 @@ driver_crates=(tokio-postgres geo-types futures-executor bit-vec chrono env_logg
 # The port that the driver's tests name.
 driver_port=5433
 
+# The folder of the programs on the driver as it is, where they are built.
+on_original=
+
 # Answers whether the registry has some crates, else names the first that it lacks in $lacking.
 has_crates() {
     for lacking in "$@"; do
@@ -25,6 +28,21 @@ by_debian() {
         cd "$1" || exit 1
         "$cargo_folder/cargo" "$2" --offline "${@:3}"
     )
+}
+
+# Builds the programs on the driver as it is, where there is what they need.
+build_on_original() {
+    local cargo_folder version target=$PWD/out/drop-in
+    read -r cargo_folder version < <(rust_folders)
+    if [ -n "$cargo_folder" ] && has_crates "${drop_in_crates[@]}" "${driver_crates[@]}"; then
+        rust/tokio-postgres/prepare out/original
+        try by_debian out/original build --quiet --package end-to-end
+        expect 'programs on tokio-postgres' 0
+        # The driver's tests may build others of their names.
+        mkdir -p out/on-original
+        cp "$target"/debug/{end-to-end,spoken} out/on-original
+        on_original=out/on-original
+    fi
 }
 
 test_drop_in() {
@@ -56,19 +74,18 @@ run_driver() {
 
 test_tokio_postgres() {
     local cargo_folder version target=$PWD/out/drop-in ours
-    read -r cargo_folder version < <(rust_folders)
-    if [ -z "$cargo_folder" ] || ! has_crates "${drop_in_crates[@]}" "${driver_crates[@]}"; then
+    if [ -z "$on_original" ]; then
         echo 'left out: the tests of tokio-postgres, which need cargo, librust-tokio-postgres-dev and' \
             'librust-futures-executor-dev, with the packages that they recommend'
         return
     fi
+    read -r cargo_folder version < <(rust_folders)
     if (exec 3<> "/dev/tcp/127.0.0.1/$driver_port") 2> /dev/null; then
         echo "left out: the tests of tokio-postgres, which need port $driver_port of this machine"
         return
     fi
     start_driver_server
     rust/tokio-postgres/prepare
-    rust/tokio-postgres/prepare out/original
     run_driver pgmsg rust/tokio-postgres
     ours=$count
     run_driver postgres-protocol out/original
