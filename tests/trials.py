@@ -17,6 +17,9 @@ UNREADABLE, NOT_APPLIED, UNDECIDED = "does not read", "does not apply", "no verd
 # How often an edit that waits for another's function is put beside others.
 TURNS = 2
 
+# How many edits are in a crate's first check, for which its other trials wait.
+FIRST = 20
+
 # The wrong bodies of a crate, and those by which the trials are tested, in a folder a verdict.
 FOLDERS = ("edits", "must-fail")
 SELF_TEST = crates.TOP / "tests" / "self_test"
@@ -91,7 +94,7 @@ class Trial:
                 self.known.copy(self.kept)
             try:
                 while left:
-                    batch = batch_of(left)
+                    batch = batch_of(left)[:None if self.known.is_there.is_set() else FIRST]
                     again = self.together(batch) if len(batch) > 1 else self.alone(batch[0])
                     left = [edit for edit in left if edit not in batch] + again
             finally:
@@ -104,8 +107,10 @@ class Trial:
         functions = sorted({owner.partition("::")[2] for edit in edits for owner in edit.owners - edit.laws})
         # A law is checked with all that is.
         only = [] if any(edit.laws for edit in edits) else [word for function in functions for word in ("--only", function)]
+        # What others wait for goes on as fast as other steps.
+        before = NICE if self.known.is_there.is_set() else ()
         with PROCESSORS:
-            said = self.crate.check(wrong_bodies.texts(self.crate, edits), only, self.kept, before=NICE)
+            said = self.crate.check(wrong_bodies.texts(self.crate, edits), only, self.kept, before=before)
         self.known.keep(self.kept)
         return report.Report(said)
 
