@@ -1,5 +1,6 @@
 """Tries wrong bodies, many in a check, and judges each by the function that it changes."""
 
+import os
 import re
 import shutil
 import tempfile
@@ -17,8 +18,9 @@ UNREADABLE, NOT_APPLIED, UNDECIDED = "does not read", "does not apply", "no verd
 # How often an edit that waits for another's function is put beside others.
 TURNS = 2
 
-# How many edits are in a crate's first check, for which its other trials wait.
-FIRST = 20
+# How many edits are in a check at most: each takes some time to start, and a few long ones leave processors idle. The
+# first of a crate has fewer, since the others wait for it.
+MOST, FIRST = 80, 20
 
 # The wrong bodies of a crate, and those by which the trials are tested, in a folder a verdict.
 FOLDERS = ("edits", "must-fail")
@@ -31,7 +33,7 @@ NICE = ("nice", "-n", "19")
 
 
 class Known:
-    """What is proved of a crate before its edits, by earlier checks or by the first that tries some of them."""
+    """What is proved of a crate, by checks before its edits and by those that try some of them."""
 
     def __init__(self, crate, proofs):
         self.crate, self.proofs = crate, proofs
@@ -41,31 +43,42 @@ class Known:
         """Waits until what the crate stands on is proved, where that is done meanwhile; whether it is."""
         return self.proofs is None or all(map(self.proofs.have, self.crate.libraries()))
 
-    def copy(self, to):
-        """Copies it to a folder. Where there is nothing yet, the first that asks goes on without it and keeps what its
-        first check proves for the others, which wait for that."""
+    def is_empty(self):
+        """Whether there is nothing yet: so it is for the first that asks, whose first check others wait for."""
         with self.lock:
             is_first = self.folder is None
             if is_first:
                 self.folder = tempfile.TemporaryDirectory(prefix="proved-")
-                if self.crate.kept().exists():
-                    self.keep(self.crate.kept())
-        if not is_first:
-            self.is_there.wait()
-        shutil.copytree(self.folder.name, to, dirs_exist_ok=True)
+        if is_first and self.crate.kept().exists():
+            self.keep(self.crate.kept())
+        elif is_first:
+            return True
+        self.is_there.wait()
+        return False
+
+    def copy(self, to):
+        """Copies what is known to a folder."""
+        with self.lock:
+            shutil.copytree(self.folder.name, to, dirs_exist_ok=True)
 
     def keep(self, proved):
-        """Keeps what checks proved in a folder, where there is nothing yet."""
-        if not self.is_there.is_set():
-            shutil.copytree(proved, self.folder.name, dirs_exist_ok=True)
-            self.is_there.set()
+        """Keeps what a check proved in a folder and nothing had before."""
+        with self.lock:
+            shutil.copytree(proved, self.folder.name, copy_function=copy_missing, dirs_exist_ok=True)
+        self.is_there.set()
+
+
+def copy_missing(source, to):
+    """Copies a file to where none is."""
+    if not os.path.exists(to):
+        shutil.copy2(source, to)
 
 
 class Trial:
-    """Some edits of a crate, tried in turn over what is known of it and what its earlier checks proved."""
+    """Some edits of a crate, tried over what is known of it: many in a check, and the checks beside each other."""
 
     def __init__(self, known, edits):
-        self.known, self.crate, self.edits, self.checks, self.kept = known, known.crate, edits, 0, None
+        self.known, self.crate, self.edits, self.checks = known, known.crate, edits, 0
         self.passed, self.failed = 0, 0
 
     def show(self, edit, verdict, why):
@@ -89,17 +102,21 @@ class Trial:
                 left.append(edit)
         # Laws that stand on most come first, since they can stand beside the fewest.
         left.sort(key=lambda edit: -len(edit.stands_on))
-        with tempfile.TemporaryDirectory(prefix="edits-") as self.kept:
-            if left:
-                self.known.copy(self.kept)
-            try:
-                while left:
-                    batch = batch_of(left)[:None if self.known.is_there.is_set() else FIRST]
-                    again = self.together(batch) if len(batch) > 1 else self.alone(batch[0])
-                    left = [edit for edit in left if edit not in batch] + again
-            finally:
-                # Where a check broke off, others wait no longer.
-                self.known.is_there.set()
+        if left:
+            self.run_all(left, self.known.is_empty())
+
+    def run_all(self, left, is_first):
+        """Shows a verdict for each of these edits; where nothing is known of the crate yet, after a check of some."""
+        try:
+            while left:
+                batches = [batch_of(left, FIRST)] if is_first else batches_of(left)
+                left = without(left, batches)
+                with ThreadPoolExecutor(len(batches)) as pool:
+                    left += [edit for again in pool.map(self.together, batches) for edit in again]
+                is_first = False
+        finally:
+            # Where a check broke off, others wait no longer.
+            self.known.is_there.set()
 
     def check(self, edits):
         """The report of a check of the functions that these edits change."""
@@ -107,15 +124,18 @@ class Trial:
         functions = sorted({owner.partition("::")[2] for edit in edits for owner in edit.owners - edit.laws})
         # A law is checked with all that is.
         only = [] if any(edit.laws for edit in edits) else [word for function in functions for word in ("--only", function)]
-        # What others wait for goes on as fast as other steps.
-        before = NICE if self.known.is_there.is_set() else ()
-        with PROCESSORS:
-            said = self.crate.check(wrong_bodies.texts(self.crate, edits), only, self.kept, before=before)
-        self.known.keep(self.kept)
+        with tempfile.TemporaryDirectory(prefix="edits-") as kept, PROCESSORS:
+            # What others wait for goes on as fast as other steps.
+            before = NICE if self.known.is_there.is_set() else ()
+            self.known.copy(kept)
+            said = self.crate.check(wrong_bodies.texts(self.crate, edits), only, kept, before=before)
+            self.known.keep(kept)
         return report.Report(said)
 
     def together(self, batch):
         """Judges a batch by one check; returns what is to be tried again."""
+        if len(batch) == 1:
+            return self.alone(batch[0])
         said = self.check(batch)
         if not said.is_judged:
             return self.divided(batch, said)
@@ -176,13 +196,27 @@ def verdict_of(edit, said):
     return min((said.verdict(owner) for owner in sorted(edit.owners)), key=lambda it: order.index(it[0]))
 
 
-def batch_of(edits):
+def batch_of(edits, most):
     """As many as can stand in one check, from the front; one alone where none can stand beside another."""
     batch = []
     for edit in edits:
-        if edit.turns < TURNS and not edit.is_apart and not any(map(edit.touches, batch)):
+        if len(batch) < most and edit.turns < TURNS and not edit.is_apart and not any(map(edit.touches, batch)):
             batch.append(edit)
     return batch or edits[:1]
+
+
+def batches_of(edits):
+    """All of them, for a check each."""
+    batches = []
+    while edits:
+        batches.append(batch_of(edits, MOST))
+        edits = without(edits, batches[-1:])
+    return batches
+
+
+def without(edits, batches):
+    """Those that are in none of the batches."""
+    return [edit for edit in edits if not any(edit in batch for batch in batches)]
 
 
 def of(crate):
