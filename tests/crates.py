@@ -74,6 +74,7 @@ class Crate:
                 if (self.folder / part).exists():
                     shutil.copytree(self.folder / part, f"{copy}/{part}")
             for path, text in texts.items():
+                pathlib.Path(copy, path).parent.mkdir(parents=True, exist_ok=True)
                 pathlib.Path(copy, path).write_text(text)
             run = self.run("check", "--incremental", kept, "--jobs", str(jobs), *flags, folder=copy, before=before)
         return run.stdout.splitlines()

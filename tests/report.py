@@ -8,6 +8,9 @@ DECLARATION = re.compile(r"(?:fn|impl|struct|enum|trait|const|static|closure) (\
 OPEN = re.compile(r"note: (?:\./)?src/\S+:\d+:\d+: (?:it is not proved that|`search` found no proof)")
 ANSWER = re.compile(r"(?:\./)?(proofs/\S+?)/\w+\.antt:\d+:\d+: error")
 
+# An answer that stands there by design.
+STRAY = re.compile(r"error: `stray`: ")
+
 # An answer that names what the text no longer has says nothing of the contract.
 SHAPE = re.compile(r"has no field|is not in scope|has no `|was not admitted")
 
@@ -40,7 +43,7 @@ class Report:
                 above = []
             else:
                 above.append(line)
-        self.answers = [(answer[1], line) for line in lines if (answer := ANSWER.match(line))]
+        self.answers = [(answer[1], line) for line in lines if (answer := ANSWER.match(line)) and not STRAY.search(line)]
         laws = [(law, line) for line in lines if (law := LAW.match(line))]
         self.laws = {name: line for law, line in laws for name in (law[2], f"{law[1].split('/')[-2]}/{law[2]}")}
         self.unchecked = [line for line in lines if UNCHECKED.match(line)]

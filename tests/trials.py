@@ -118,9 +118,12 @@ class Trial:
             # Where a check broke off, others wait no longer.
             self.known.is_there.set()
 
-    def check(self, edits):
-        """The report of a check of the functions that these edits change."""
+    def check(self, edits, strays=True):
+        """The report of a check of the functions that these edits change, with stray answers or as they are."""
         self.checks += 1
+        texts = wrong_bodies.texts(self.crate, edits)
+        if strays:
+            texts = {**wrong_bodies.stray_answers(self.crate, edits), **texts}
         functions = sorted({owner.partition("::")[2] for edit in edits for owner in edit.owners - edit.laws})
         # A law is checked with all that is.
         only = [] if any(edit.laws for edit in edits) else [word for function in functions for word in ("--only", function)]
@@ -128,7 +131,7 @@ class Trial:
             # What others wait for goes on as fast as other steps.
             before = NICE if self.known.is_there.is_set() else ()
             self.known.copy(kept)
-            said = self.crate.check(wrong_bodies.texts(self.crate, edits), only, kept, before=before)
+            said = self.crate.check(texts, only, kept, before=before)
             self.known.keep(kept)
         return report.Report(said)
 
@@ -159,8 +162,10 @@ class Trial:
         return batch
 
     def alone(self, edit):
-        """Judges an edit by a check of its own."""
+        """Judges an edit by a check of its own, and by one with its answers as they are where no goal of it stays open."""
         said = self.check([edit])
+        if said.is_judged and not edit.laws and verdict_of(edit, said)[0] != report.OPEN_GOAL:
+            said = self.check([edit], strays=False)
         if not said.is_judged:
             lines = [f"{path}:{number}: {words}" for path, number, words in said.unread()] or said.lines[-1:]
             self.show(edit, UNREADABLE, "; ".join(lines[:1]))

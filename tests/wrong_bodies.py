@@ -95,6 +95,20 @@ class Edit:
                     or bool(self.laws) != bool(other.laws))
 
 
+# A line of a proof that no goal asks for and that is refused. With it to report, the compiler doesn't write down the goals
+# of the functions that are left open for somebody to prove, which takes it many seconds.
+STRAY = "stray : no-such-goal"
+
+
+def stray_answers(crate, edits):
+    """The files of answers of the functions that the edits change, with a stray one, by path."""
+    found = {}
+    for function in {owner for edit in edits for owner in edit.owners - edit.laws}:
+        path = "/".join(["proofs", *function.split("::")[1:], "Answers.antt"])
+        found[path] = "\n".join([*(crate.lines(path) if (crate.folder / path).exists() else []), STRAY, ""])
+    return found
+
+
 def texts(crate, edits):
     """The texts of the files with these edits, by path."""
     found = {}
