@@ -10,12 +10,13 @@
 #include <stdio.h>
 #include <string.h>
 #include <sys/socket.h>
+#include <sys/stat.h>
 #include <unistd.h>
 
 /* Connections that wait to be accepted. */
 enum { WAITING = 128 };
 
-enum status listener_open(unsigned long port, int *listening)
+static enum status open_port(struct listener *listener, unsigned long port)
 {
     struct sockaddr_in here = {
         .sin_family = AF_INET,
@@ -24,24 +25,78 @@ enum status listener_open(unsigned long port, int *listening)
     };
     socklen_t len = sizeof here;
     int on = 1;
-    *listening = socket(AF_INET, SOCK_STREAM, 0);
-    if (*listening < 0)
-        return complain(STATUS_UNREACHABLE, "no socket: %s", strerror(errno));
-    (void)setsockopt(*listening, SOL_SOCKET, SO_REUSEADDR, &on, sizeof on);
-    if (bind(*listening, (struct sockaddr *)&here, len) < 0 || listen(*listening, WAITING) < 0
-        || getsockname(*listening, (struct sockaddr *)&here, &len) < 0 || !set_nonblocking(*listening)) {
-        enum status status = complain(STATUS_UNREACHABLE, "port %lu of 127.0.0.1 can't be used: %s", port,
-                                      strerror(errno));
-        close(*listening);
-        return status;
-    }
+    (void)setsockopt(listener->socket, SOL_SOCKET, SO_REUSEADDR, &on, sizeof on);
+    if (bind(listener->socket, (struct sockaddr *)&here, len) < 0 || listen(listener->socket, WAITING) < 0
+        || getsockname(listener->socket, (struct sockaddr *)&here, &len) < 0)
+        return complain(STATUS_UNREACHABLE, "port %lu of 127.0.0.1 can't be used: %s", port, strerror(errno));
     fprintf(stderr, "listening on 127.0.0.1 port %d\n", ntohs(here.sin_port));
     return STATUS_OK;
 }
 
-static void write_peer(const struct sockaddr_in *from, char peer[PEER_ROOM])
+/* Whether it is a Unix socket on which nothing listens any more. */
+static bool is_abandoned(const struct sockaddr_un *path)
 {
+    struct stat state;
+    if (lstat(path->sun_path, &state) < 0 || !S_ISSOCK(state.st_mode))
+        return false;
+    int trying = socket(AF_UNIX, SOCK_STREAM, 0);
+    if (trying < 0)
+        return false;
+    bool is_refused = connect(trying, (const struct sockaddr *)path, sizeof *path) < 0 && errno == ECONNREFUSED;
+    close(trying);
+    return is_refused;
+}
+
+static enum status open_path(struct listener *listener, const char *folder, unsigned long port)
+{
+    struct sockaddr_un path = {.sun_family = AF_UNIX};
+    const struct sockaddr *here = (const struct sockaddr *)&path;
+    int len = snprintf(path.sun_path, sizeof path.sun_path, "%s/.s.PGSQL.%lu", folder, port);
+    if (len < 0 || (size_t)len >= sizeof path.sun_path)
+        return complain(STATUS_UNREACHABLE, "the path of a socket in %s is too long", folder);
+    if (is_abandoned(&path))
+        (void)unlink(path.sun_path);
+    if (bind(listener->socket, here, sizeof path) < 0)
+        return complain(STATUS_UNREACHABLE, "%s can't be used: %s", path.sun_path, strerror(errno));
+    listener->path = path;
+    if (listen(listener->socket, WAITING) < 0)
+        return complain(STATUS_UNREACHABLE, "%s can't be used: %s", path.sun_path, strerror(errno));
+    fprintf(stderr, "listening on %s port %lu\n", folder, port);
+    return STATUS_OK;
+}
+
+enum status listener_open(struct listener *listener, const char *folder, unsigned long port)
+{
+    *listener = (struct listener){.socket = socket(folder == NULL ? AF_INET : AF_UNIX, SOCK_STREAM, 0)};
+    if (listener->socket < 0 || !set_nonblocking(listener->socket)) {
+        enum status status = complain(STATUS_UNREACHABLE, "no socket: %s", strerror(errno));
+        listener_close(listener);
+        return status;
+    }
+    enum status status = folder == NULL ? open_port(listener, port) : open_path(listener, folder, port);
+    if (status != STATUS_OK)
+        listener_close(listener);
+    return status;
+}
+
+void listener_close(struct listener *listener)
+{
+    if (*listener->path.sun_path != '\0')
+        unlink(listener->path.sun_path);
+    if (listener->socket >= 0)
+        close(listener->socket);
+    *listener = (struct listener){.socket = -1};
+}
+
+/* Writes where a client is, as PostgreSQL's log does. */
+static void write_peer(const struct sockaddr_storage *address, char peer[PEER_ROOM])
+{
+    const struct sockaddr_in *from = (const struct sockaddr_in *)address;
     char host[INET_ADDRSTRLEN] = "";
+    if (address->ss_family == AF_UNIX) {
+        strcpy(peer, "[local]");
+        return;
+    }
     if (inet_ntop(AF_INET, &from->sin_addr, host, sizeof host) == NULL)
         *host = '\0';
     snprintf(peer, PEER_ROOM, "%s:%d", host, ntohs(from->sin_port));
@@ -56,7 +111,7 @@ static bool may_pass(int failure, bool *is_short)
 
 enum status listener_accept(int listening, int *client, char peer[PEER_ROOM], bool *is_short)
 {
-    struct sockaddr_in from = {0};
+    struct sockaddr_storage from = {0};
     socklen_t len = sizeof from;
     *is_short = false;
     *client = accept(listening, (struct sockaddr *)&from, &len);

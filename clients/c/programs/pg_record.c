@@ -15,6 +15,7 @@ static const char usage[] =
     "       pg_record --print FILE [--trace[=whole] | --stream] [--numbers | --only NUMBER]\n"
     "Accepts connections on 127.0.0.1 and passes them on to the server at HOST and PORT. LISTEN_PORT 0 is a free\n"
     "one. Ends after the first session with -1.\n"
+    "  --folder FOLDER accept them on the Unix socket .s.PGSQL.LISTEN_PORT of FOLDER, and on no port\n"
     "  -o FILE         record both sides to a new file\n"
     "  --trace         print messages of both sides as libpq's PQtrace does\n"
     "  --trace=whole   the same, with first messages and the data of a COPY, of which it shows little\n"
@@ -31,6 +32,7 @@ static const char usage[] =
 /* What the arguments ask for. */
 struct wishes {
     struct options options;
+    const char *folder; /* of the Unix socket to listen on; NULL for a port */
     unsigned long port;
     const char *file;
     const char *printed;
@@ -40,9 +42,10 @@ struct wishes {
     struct passing passing;
 };
 
-enum letter { TRACE = 256, STREAM, NUMBERS, ONLY, PASSWORDS, ENCRYPTION, KEEP_PASSING, PRINT };
+enum letter { FOLDER = 256, TRACE, STREAM, NUMBERS, ONLY, PASSWORDS, ENCRYPTION, KEEP_PASSING, PRINT };
 
 static const struct option names[] = {
+    {"folder", required_argument, NULL, FOLDER},
     {"trace", optional_argument, NULL, TRACE},
     {"stream", no_argument, NULL, STREAM},
     {"numbers", no_argument, NULL, NUMBERS},
@@ -84,6 +87,7 @@ static bool take_option(struct wishes *wishes, int letter, const char *value)
     switch (letter) {
     case '1': wishes->is_single = true; return true;
     case 'o': wishes->file = value; return true;
+    case FOLDER: wishes->folder = value; return true;
     case TRACE: return ask_for_trace(wishes, value);
     case STREAM: ask_for_lines(wishes, PRINT_LINES); return true;
     case NUMBERS: wishes->printer.shows_numbers = true; return true;
@@ -107,7 +111,8 @@ static bool take_arguments(struct wishes *wishes, int argc, char **argv)
             return false;
     if (wishes->printed != NULL)
         return argc == optind && wishes->file == NULL;
-    return argc - optind == 1 && read_number(argv[optind], 65535, &wishes->port);
+    return argc - optind == 1 && read_number(argv[optind], 65535, &wishes->port)
+        && (wishes->folder == NULL || wishes->port > 0);
 }
 
 static enum status print_recording(struct wishes *wishes)
@@ -130,15 +135,15 @@ static enum status print_recording(struct wishes *wishes)
 static enum status serve(struct wishes *wishes)
 {
     struct address address;
-    int listening;
+    struct listener listener;
     enum status status = address_find(&address, wishes->options.host, wishes->options.port);
     if (status == STATUS_OK)
-        status = listener_open(wishes->port, &listening);
+        status = listener_open(&listener, wishes->folder, wishes->port);
     if (status == STATUS_OK) {
         wishes->passing.server = &address;
         catch_signals();
-        status = proxy(listening, &wishes->passing, wishes->is_single);
-        close(listening);
+        status = proxy(listener.socket, &wishes->passing, wishes->is_single);
+        listener_close(&listener);
     }
     address_free(&address);
     return status;

@@ -6,7 +6,6 @@
 
 #include <getopt.h>
 #include <string.h>
-#include <unistd.h>
 
 static const char usage[] =
     "usage: pg_replay [OPTION..] FILE LISTEN_PORT\n"
@@ -15,6 +14,7 @@ static const char usage[] =
     "their order. No password is asked for, encryption is refused, and a request to cancel does nothing. Ends when\n"
     "all connections are replayed, or at a difference, with status 11, after both messages are printed.\n"
     "\n"
+    "  --folder FOLDER      serves on the Unix socket .s.PGSQL.LISTEN_PORT of FOLDER, and on no port\n"
     "  --any-setting NAME   a setting of the Startup may differ, or be missing\n"
     "  --any-name           names of statements and portals may differ, one for another; not those in SQL\n"
     "  --any-parameter N    the value of parameter N of each Bind may differ; the first is 1\n"
@@ -29,13 +29,13 @@ static const char usage[] =
 
 static enum status serve(struct replay *replay, const char *path, unsigned long port)
 {
-    int listening;
+    struct listener listener;
     enum status status = replay_index_open(&replay->index, path);
     if (status == STATUS_OK)
-        status = listener_open(port, &listening);
+        status = listener_open(&listener, replay->options.folder, port);
     if (status == STATUS_OK) {
-        status = replay_serve(replay, listening);
-        close(listening);
+        status = replay_serve(replay, listener.socket);
+        listener_close(&listener);
     }
     replay_index_close(&replay->index);
     return status;
@@ -49,7 +49,7 @@ int main(int argc, char **argv)
     if (options_show_help(argc, argv, usage))
         return STATUS_OK;
     if (!replay_options_take(&replay.options, argc, argv) || argc - optind != 2
-        || !read_number(argv[optind + 1], 65535, &port))
+        || !read_number(argv[optind + 1], 65535, &port) || (replay.options.folder != NULL && port == 0))
         return options_refuse(usage);
     catch_signals();
     return serve(&replay, argv[optind], port);

@@ -7,6 +7,7 @@
 #include <string.h>
 
 enum letter {
+    FOLDER = 'f',
     ANY_SETTING = 'u',
     ANY_NAME = 'n',
     ANY_PARAMETER = 'p',
@@ -18,6 +19,7 @@ enum letter {
 };
 
 static const struct option words[] = {
+    {"folder", required_argument, NULL, FOLDER},
     {"any-setting", required_argument, NULL, ANY_SETTING},
     {"any-name", no_argument, NULL, ANY_NAME},
     {"any-parameter", required_argument, NULL, ANY_PARAMETER},
@@ -57,6 +59,7 @@ static bool add_parameter(struct replay_options *options, const char *text)
 static bool take(struct replay_options *options, int letter)
 {
     switch (letter) {
+    case FOLDER: options->folder = optarg; break;
     case ANY_SETTING: return add_setting(options, optarg);
     case ANY_PARAMETER: return add_parameter(options, optarg);
     case PATIENCE: return read_number(optarg, 86400, &options->patience);

@@ -14,6 +14,7 @@ enum {
 };
 
 struct replay_options {
+    const char *folder;                  /* of the Unix socket to serve on; NULL for a port */
     const char *settings[SETTINGS_MOST]; /* those of a Startup that may differ, or be missing */
     size_t settings_count;
     uint8_t parameters[POSITIONS / 8]; /* a bit for each position whose value may differ */

@@ -1,0 +1,19 @@
+# Speeds that are promised, as record_speed and replay_speed measure them. Sourced by `test`, which runs this part where
+# it is named alone: it takes minutes, on a machine with nothing else at work.
+
+# Tests that there are lines of a table that fit a pattern, and that each has at least a quotient in a column.
+at_least() {
+    local name=$1 table=$2 pattern=$3 column=$4 least=$5
+    verdict "$name: at least $least" "$(awk -F '|' -v pattern="$pattern" -v column="$column" -v least="$least" '
+        $0 ~ pattern { lines++; if ($column + 0 < least) print "less in:" $0 }
+        END { if (!lines) print "no line" }' "$table")"
+}
+
+test_speeds() {
+    ./record_speed | tee "$work/record_speed"
+    at_least 'speeds: a COPY is recorded, over socat' "$work/record_speed" '^[|] COPY' 5 0.9
+    at_least 'speeds: pgbench of 8 clients is recorded, over socat' "$work/record_speed" '^[|] pgbench' 5 0.9
+    ./replay_speed | tee "$work/replay_speed"
+    at_least 'speeds: pgbench of 8 clients is replayed, over the server' "$work/replay_speed" \
+        '^[|] a Unix socket [|] (simple|extended) [|] 8 ' 8 5
+}
