@@ -78,11 +78,27 @@ static int wait_once(struct pollfd *descriptors, nfds_t count, const struct time
     return ready;
 }
 
+/* Looks so often, or until a descriptor is ready. It takes two calls less than to wait. */
+static int look(struct pollfd *descriptors, nfds_t count, unsigned looks)
+{
+    int ready = 0;
+    while (ready == 0 && looks-- > 0)
+        ready = poll(descriptors, count, 0);
+    return ready;
+}
+
 enum status wait_for(struct pollfd *descriptors, nfds_t count, int milliseconds)
+{
+    return wait_eagerly(descriptors, count, milliseconds, 0);
+}
+
+enum status wait_eagerly(struct pollfd *descriptors, nfds_t count, int milliseconds, unsigned looks)
 {
     struct timespec limit = {.tv_sec = milliseconds / 1000, .tv_nsec = milliseconds % 1000 * 1000000L};
     for (;;) {
-        int ready = wait_once(descriptors, count, milliseconds < 0 ? NULL : &limit);
+        int ready = look(descriptors, count, looks);
+        if (ready == 0)
+            ready = wait_once(descriptors, count, milliseconds < 0 ? NULL : &limit);
         enum status status = take_signal();
         if (status != STATUS_OK || ready >= 0)
             return status;

@@ -20,6 +20,10 @@ void prepare_process(void);
  * ever. Answers STATUS_OK, or the status for a signal. */
 enum status wait_for(struct pollfd *descriptors, nfds_t count, int milliseconds);
 
+/* The same, but looks so often before it waits, for descriptors that are ready again within microseconds: to fall asleep
+ * and be woken takes longer. */
+enum status wait_eagerly(struct pollfd *descriptors, nfds_t count, int milliseconds, unsigned looks);
+
 /* Whether a call with this errno is to be made again, when the descriptor is ready. */
 bool is_temporary(int failure);
 

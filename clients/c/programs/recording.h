@@ -21,7 +21,8 @@
  *
  * The kinds:
  *
- *      O  A connection is opened: its first message is there. The content is the client's address as text, or empty.
+ *      O  A connection is opened: its first message is there. The content is the client's address as text,
+ *         `[local]` over a Unix socket, or empty.
  *      F  The next bytes from the client, cut anywhere.
  *      B  The next bytes from the server, cut anywhere.
  *      f  A message from the client whose body is left out: a password, or one of SASL or GSSAPI. The content is its

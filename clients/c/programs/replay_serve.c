@@ -11,7 +11,9 @@
 enum {
     SESSIONS_MOST = 1000,
     /* How long a client may be silent before its Startup while others wait for a place, in milliseconds. */
-    SILENCE = 1000
+    SILENCE = 1000,
+    /* How often it looks for the next message before it waits: for some 50 microseconds. */
+    LOOKS = 100
 };
 
 /* All clients, and what is waited for: the sockets of these, and then the one where clients connect. */
@@ -19,6 +21,7 @@ struct clients {
     struct replay *replay;
     int listening;
     bool is_short; /* of what it takes to accept one */
+    unsigned looks; /* for messages, before it waits */
     size_t count;
     struct session *sessions[SESSIONS_MOST];
     struct pollfd ready[SESSIONS_MOST + 1];
@@ -57,7 +60,8 @@ static enum status wait_for_clients(struct clients *clients)
         clients->ready[i] = (struct pollfd){.fd = events == 0 ? -1 : session->socket, .events = events};
     }
     clients->ready[clients->count] = (struct pollfd){.fd = is_full(clients) ? -1 : clients->listening, .events = POLLIN};
-    return wait_for(clients->ready, clients->count + 1, time_to_wait(clients));
+    unsigned looks = clients->count == 0 ? 0 : clients->looks;
+    return wait_eagerly(clients->ready, clients->count + 1, time_to_wait(clients), looks);
 }
 
 /* Ends a session: that of a recorded connection is replayed then. */
@@ -170,6 +174,8 @@ enum status replay_serve(struct replay *replay, int listening)
         return complain_of_memory();
     clients->replay = replay;
     clients->listening = listening;
+    /* A client can't answer meanwhile where there is but one processor. */
+    clients->looks = sysconf(_SC_NPROCESSORS_ONLN) > 1 ? LOOKS : 0;
     enum status status = serve_until_over(clients);
     while (clients->count > 0)
         session_free(clients->sessions[--clients->count]);
