@@ -14,6 +14,6 @@ test_speeds() {
     at_least 'speeds: a COPY is recorded, over socat' "$work/record_speed" '^[|] COPY' 5 0.9
     at_least 'speeds: pgbench of 8 clients is recorded, over socat' "$work/record_speed" '^[|] pgbench' 5 0.9
     ./replay_speed | tee "$work/replay_speed"
-    at_least 'speeds: pgbench of 8 clients is replayed, over the server' "$work/replay_speed" \
+    at_least 'speeds: pgbench of 8 clients, simple and extended, is replayed, over the server' "$work/replay_speed" \
         '^[|] a Unix socket [|] (simple|extended) [|] 8 ' 8 5
 }

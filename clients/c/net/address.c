@@ -12,21 +12,27 @@
 #include <sys/socket.h>
 #include <unistd.h>
 
+enum status address_local(struct sockaddr_un *path, const char *folder, const char *port)
+{
+    *path = (struct sockaddr_un){.sun_family = AF_UNIX};
+    int len = snprintf(path->sun_path, sizeof path->sun_path, "%s/.s.PGSQL.%s", folder, port);
+    if (len < 0 || (size_t)len >= sizeof path->sun_path)
+        return complain(STATUS_UNREACHABLE, "the path of a socket in %s is too long", folder);
+    return STATUS_OK;
+}
+
 static enum status find_local(struct address *address)
 {
-    struct sockaddr_un *path = &address->path;
-    path->sun_family = AF_UNIX;
-    int len = snprintf(path->sun_path, sizeof path->sun_path, "%s/.s.PGSQL.%s", address->host, address->port);
-    if (len < 0 || (size_t)len >= sizeof path->sun_path)
-        return complain(STATUS_UNREACHABLE, "the path of a socket in %s is too long", address->host);
     address->local = (struct addrinfo){
         .ai_family = AF_UNIX,
         .ai_socktype = SOCK_STREAM,
-        .ai_addr = (struct sockaddr *)path,
-        .ai_addrlen = sizeof *path,
+        .ai_addr = (struct sockaddr *)&address->path,
+        .ai_addrlen = sizeof address->path,
     };
-    address->all = &address->local;
-    return STATUS_OK;
+    enum status status = address_local(&address->path, address->host, address->port);
+    if (status == STATUS_OK)
+        address->all = &address->local;
+    return status;
 }
 
 enum status address_find(struct address *address, const char *host, const char *port)

@@ -16,6 +16,9 @@ struct address {
     struct sockaddr_un path;
 };
 
+/* The Unix socket of a port in a folder, where libpq looks for a server. STATUS_UNREACHABLE where its path is too long. */
+enum status address_local(struct sockaddr_un *path, const char *folder, const char *port);
+
 /* Looks up a host, or where it begins with '/', the socket in that folder. */
 enum status address_find(struct address *address, const char *host, const char *port);
 void address_free(struct address *address);

@@ -13,8 +13,10 @@
 #include <sys/stat.h>
 #include <unistd.h>
 
-/* Connections that wait to be accepted. */
-enum { WAITING = 128 };
+enum {
+    WAITING = 128, /* connections to be accepted */
+    PORT_ROOM = 24 /* any number's digits */
+};
 
 static enum status open_port(struct listener *listener, unsigned long port)
 {
@@ -49,17 +51,18 @@ static bool is_abandoned(const struct sockaddr_un *path)
 
 static enum status open_path(struct listener *listener, const char *folder, unsigned long port)
 {
-    struct sockaddr_un path = {.sun_family = AF_UNIX};
-    const struct sockaddr *here = (const struct sockaddr *)&path;
-    int len = snprintf(path.sun_path, sizeof path.sun_path, "%s/.s.PGSQL.%lu", folder, port);
-    if (len < 0 || (size_t)len >= sizeof path.sun_path)
-        return complain(STATUS_UNREACHABLE, "the path of a socket in %s is too long", folder);
+    struct sockaddr_un path;
+    char number[PORT_ROOM];
+    snprintf(number, sizeof number, "%lu", port);
+    enum status status = address_local(&path, folder, number);
+    if (status != STATUS_OK)
+        return status;
     if (is_abandoned(&path))
         (void)unlink(path.sun_path);
-    if (bind(listener->socket, here, sizeof path) < 0)
-        return complain(STATUS_UNREACHABLE, "%s can't be used: %s", path.sun_path, strerror(errno));
-    listener->path = path;
-    if (listen(listener->socket, WAITING) < 0)
+    bool is_bound = bind(listener->socket, (const struct sockaddr *)&path, sizeof path) == 0;
+    if (is_bound)
+        listener->path = path;
+    if (!is_bound || listen(listener->socket, WAITING) < 0)
         return complain(STATUS_UNREACHABLE, "%s can't be used: %s", path.sun_path, strerror(errno));
     fprintf(stderr, "listening on %s port %lu\n", folder, port);
     return STATUS_OK;
