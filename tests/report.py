@@ -11,8 +11,8 @@ ANSWER = re.compile(r"(?:\./)?(proofs/\S+?)/\w+\.antt:\d+:\d+: error")
 # An answer that stands there by design.
 STRAY = re.compile(r"error: `stray`: ")
 
-# An answer that names what the text no longer has says nothing of the contract.
-SHAPE = re.compile(r"has no field|is not in scope|has no `|was not admitted")
+# An answer that names what the text no longer has says nothing of the contract, nor does one that rests on another.
+SHAPE = re.compile(r"has no field|is not in scope|has no `|error: \d+ declarations? that depends? on")
 
 # A proof that doesn't hold, and those of which that one leaves nothing known.
 LAW = re.compile(r"(?:\./)?(proofs/\S+?):\d+:\d+: error: `(\w\S*)`")
@@ -27,11 +27,22 @@ UNREAD = re.compile(r"(?:\./)?((?:src|specs)/\S+?):(\d+):\d+: error(?:\[[\w-]+\]
 PROVED, OPEN_GOAL, OF_SHAPE, WAITS, UNKNOWN = "proved", "open goal", "of shape", "waits", "unknown"
 
 
+def joined(lines):
+    """The lines, with an answer's error on one: the compiler breaks long words, and goes on after two blanks."""
+    found = []
+    for line in lines:
+        if line.startswith("  ") and found and ANSWER.match(found[-1]):
+            found[-1] += " " + line.strip()
+        else:
+            found.append(line)
+    return found
+
+
 class Report:
     """The lines of a check, by function."""
 
-    def __init__(self, lines):
-        self.lines = lines
+    def __init__(self, printed):
+        self.lines = lines = joined(printed)
         self.is_proved = any(line.startswith("logic=proved") for line in lines)
         self.is_judged = any(DECLARATION.match(line) and line.startswith("fn ") for line in lines)
         self.said, self.open, above = {}, {}, []
