@@ -20,7 +20,7 @@ TURNS = 2
 
 # How many edits are in a check at most: each takes some time to start, and a few long ones leave processors idle. The
 # first of a crate has fewer, since the others wait for it.
-MOST, FIRST = 80, 20
+MOST, FIRST = 40, 20
 
 # The wrong bodies of a crate, and those by which the trials are tested, in a folder a verdict.
 FOLDERS = ("edits", "must-fail")
