@@ -9,14 +9,12 @@ use Rattle.pg_receive.proofs.message.row_description.columns.column_at.Goals as 
 pub field_of-requires : goal.field_of-requires
 field_of-requires c =
     let found = c.in_ok-numbers.ensures.found in
-    length-numbers c.args.body.now c.in_ok-numbers.numbers.now c.in_ok-name.after found.0 found.1
+    length-numbers c.args.body.now c.in_ok-numbers.numbers.now _ found.0 found.1
 
 pub returns-clause-column : goal.returns-clause-column
 returns-clause-column c =
     let found = c.in_ok-numbers.ensures.found in
-    let name = c.in_ok-name.name.now in
-    let text = c.in_ok-name.ensures in
-    column_is_at utf8 c.args.body.now c.args.at c.in_ok-name.after name c.in_ok-numbers.numbers.now (column_of_ref c.in_ok-field_of.field-0) text.found found.0 found.1
+    column_is_at utf8 c.args.body.now c.args.at _ _ c.in_ok-numbers.numbers.now (column_of_ref c.in_ok-field_of.field-0) (search rules) found.0 found.1
     c.in_ok-field_of.ensures.name c.in_ok-field_of.ensures.numbers
 
 pub returns-in_err-name-clause-broken : goal.returns-in_err-name-clause-broken
