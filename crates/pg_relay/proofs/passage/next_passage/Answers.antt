@@ -1,4 +1,4 @@
-use Rattle.std.proofs.Common.{arith}
+use Rattle.std.proofs.Common.{arith, rules}
 use Rattle.pg_relay.proofs.PassageLemmas.{passes_part, passes_whole}
 use Rattle.pg_relay.proofs.passage.next_passage.Goals as goal
 
@@ -10,4 +10,4 @@ returns-in-Parts-clause-passage g c =
 pub returns-else-stream-count-clause-passage : goal.returns-else-stream-count-clause-passage
 returns-else-stream-count-clause-passage g c =
     let whole = rw c.in-Whole.is at c.in_ok-fate_of.ensures.fate in
-    passes_whole (g.W.Wants.wanted c.args.wants.now) c.args.limit c.args.expects c.args.left c.args.stream.now c.in-Whole.tag c.in-Whole.count c.next_after.result (omega arith) (omega arith) whole c.next_after.ensures
+    passes_whole (g.W.Wants.wanted c.args.wants.now) c.args.limit c.args.expects c.args.left c.args.stream.now c.in-Whole.tag c.in-Whole.count _ (omega arith) (omega arith) whole (search rules)

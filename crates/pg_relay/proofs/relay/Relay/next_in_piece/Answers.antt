@@ -1,4 +1,4 @@
-use Rattle.std.proofs.Common.{◌≡◌, ◌+◌, ◌-◌, ◌++◌, min, length, arith, sym, ap, ◌∙◌}
+use Rattle.std.proofs.Common.{◌≡◌, ◌+◌, ◌-◌, ◌++◌, min, length, arith, sym, ap, ◌∙◌, rules}
 use Rattle.std.proofs.lemmas.List.{take-append-drop, length-take-le}
 use Rattle.pg_relay.proofs.RelayLemmas.{takes_parts, takes_frame, taken_alone, hold_takes}
 use Rattle.pg_relay.proofs.relay.Relay.next_in_piece.Goals as goal
@@ -28,7 +28,7 @@ returns-in-Some-clause-takes g c =
     let whole = rw c.in-Whole.is at c.in_ok-count.ensures.fate in
     let e : piece ≡ bytes ++ rest = rw (cases.1, cases.2) (sym (take-append-drop count piece)) in
     let counts : length bytes ≡ count = ap length cases.1 ∙ length-take-le count piece cases.0 in
-    rw (← c.self.view_is) (takes_frame wants inside.limit inside.expects inside.held.items inside.left piece _ rest c.in-Whole.tag count c.next_after-self-inside.result (rw (← c.self.view_is) at c.requires.nothing) (rw (← c.self.view_is) at c.requires.between) whole e counts c.next_after-self-inside.ensures)
+    rw (← c.self.view_is) (takes_frame wants inside.limit inside.expects inside.held.items inside.left piece _ rest c.in-Whole.tag count _ (rw (← c.self.view_is) at c.requires.nothing) (rw (← c.self.view_is) at c.requires.between) whole e counts (search rules))
 
 pub returns-in_default-clause-takes : goal.returns-in_default-clause-takes
 returns-in_default-clause-takes g c =

@@ -1,4 +1,4 @@
-use Rattle.std.proofs.Common.{◌≡◌, ◌+◌, ◌-◌, ◌<◌, [], ◌++◌, min, length, inl, inr, arith, ap}
+use Rattle.std.proofs.Common.{◌≡◌, ◌<◌, [], ◌++◌, min, length, inl, inr, arith, ap}
 use Rattle.std.proofs.lemmas.Result.{err_from_is_err_and}
 use Rattle.pg_relay.specs.Frame.{head_length}
 use Rattle.pg_relay.specs.Relay.{IsForParts, IsForWhole}
@@ -29,9 +29,7 @@ returns-in-Parts-clause-takes g c =
     let fate : IsForParts wants inside.expects new count = rw c.in-Parts.is at c.in_ok-count.ensures.fate in
     let here : IsForParts wants inside.expects (held ++ bytes) count = rw joined at fate in
     let within = joined_within inside.expects held bytes here.tag count missing (length piece) (rw c.as_slice.ensures.value at c.missing_of-missing.ensures.within) counts here.head in
-    let long : c.len.result ≡ length (held ++ bytes) = omega (arith, c.len.ensures, c.fate_with.new.held.ok, ap length joined) in
-    let lefts : length c.replace.result.items + (count - c.len.result) ≡ count = rw (whole, joined) (omega (arith, within, long)) in
-    rw (← c.self.view_is) (takes_parts_joined wants inside.limit inside.expects held inside.left piece bytes _ rest c.replace.new.dest.items count (count - c.len.result) missing (rw (← c.self.view_is) at c.requires.between) nothing (rw whole joined) c.split_at.ensures.by_index.0 c.missing_of-missing.ensures.some counts (rw whole fate) lefts)
+    rw (← c.self.view_is) (takes_parts_joined wants inside.limit inside.expects held inside.left piece bytes _ rest c.replace.new.dest.items count _ missing (rw (← c.self.view_is) at c.requires.between) nothing (rw whole joined) c.split_at.ensures.by_index.0 c.missing_of-missing.ensures.some counts (rw whole fate) (rw (whole, joined) (omega (arith, within, c.fate_with.new.held.ok, ap length joined))))
 
 pub returns-then-len-count-clause-takes : goal.returns-then-len-count-clause-takes
 returns-then-len-count-clause-takes g c =
