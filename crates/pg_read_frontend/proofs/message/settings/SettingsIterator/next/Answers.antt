@@ -1,5 +1,4 @@
-use Rattle.std.proofs.Common.{◌≡◌, ◌∷◌, [], length, sym, ap, ◌∙◌, arith}
-use Rattle.pg_read_frontend.specs.Settings.{settings_in}
+use Rattle.std.proofs.Common.{◌≡◌, [], length, sym, ap, ◌∙◌, arith}
 use Rattle.pg_read_frontend.proofs.SettingsLemmas.{is_nothing, is_something, first_setting, no_name, empty_name, no_value}
 use Rattle.pg_read_frontend.proofs.message.settings.SettingsIterator.next.Goals as goal
 
@@ -19,14 +18,13 @@ returns-in_err-value-clause-steps c =
     let e = sym c.self.view_is ∙ no_value c.self.inside.rest.now c.in_ok-name.name.now c.in_ok-name.after.now c.in_ok-name.ensures.found c.in_err-value.ensures.none in
     rw c.from_residual-in_err-value.ensures (e, e)
 
--- the first of the settings that are left
-first_is : (c : goal.After-rest-2-1) → c.args.self.now ≡ (c.in_ok-name.name.now, c.in_ok-value.value.now) ∷ settings_in c.in_ok-value.rest.now
-first_is c =
-    sym c.self.view_is ∙ first_setting c.self.inside.rest.now c.in_ok-name.name.now c.in_ok-name.after.now c.in_ok-value.value.now c.in_ok-value.rest.now c.in_ok-name.ensures.found
+pub returns-clause-steps : goal.returns-clause-steps
+returns-clause-steps c =
+    sym c.self.view_is ∙ first_setting c.self.inside.rest.now _ _ _ _ c.in_ok-name.ensures.found
     (is_something c.in_ok-name.name.now c.is_empty.result c.is_empty.ensures c.if-is_empty.false) c.in_ok-value.ensures.found
 
-pub returns-clause-steps : goal.returns-clause-steps
-returns-clause-steps c = first_is c
-
 pub returns-clause-goes : goal.returns-clause-goes
-returns-clause-goes c = record { on = λ _. (tt, tt, omega (arith, ap length (first_is c))); keeps = tt; rests = λ _. tt }
+returns-clause-goes c =
+    let first = first_setting c.self.inside.rest.now _ _ _ _ c.in_ok-name.ensures.found
+    (is_something c.in_ok-name.name.now c.is_empty.result c.is_empty.ensures c.if-is_empty.false) c.in_ok-value.ensures.found in
+    record { on = λ _. (tt, tt, omega (arith, ap length (sym c.self.view_is ∙ first))); keeps = tt; rests = λ _. tt }
