@@ -28,7 +28,7 @@ pub returns-then-len-lt0-clause-none : goal.returns-then-len-lt0-clause-none
 returns-then-len-lt0-clause-none c =
     let bytes = c.args.bytes.now in
     let in_range : SFits w32 c.in-Ok.len = search rules in
-    let is = below_null c.in-Ok.len (rw (to_z-of_z w32 c.in-Ok.len in_range) at c.if-len-lt0.true) (λ e. omega (arith, ints, e, c.if-len.false)) in
+    let is = below_null c.in-Ok.len (rw (to_z-of_z w32 c.in-Ok.len in_range) at c.if-len-lt0.true) (λ e. omega (arith, ints, e)) in
     let encoded : Signed 4 bytes (negsuc (suc is.0)) (drop 4 bytes) = rw is.1 at c.in-Ok.ensures.found in
     λ rest v. negative_value bytes (drop 4 bytes) rest is.0 encoded v
 
@@ -36,5 +36,5 @@ pub returns-then-len-clause-found : goal.returns-then-len-clause-found
 returns-then-len-clause-found c =
     let bytes = c.args.bytes.now in
     let in_range : SFits w32 c.in-Ok.len = search rules in
-    let null : c.in-Ok.len ≡ negsuc 0 = omega (arith, ints, c.if-len.true, to_z-of_z w32 c.in-Ok.len in_range) in
+    let null : c.in-Ok.len ≡ negsuc 0 = omega (arith, ints, to_z-of_z w32 c.in-Ok.len in_range) in
     rw (all_after 4 bytes) (null_value bytes (drop 4 bytes) (rw null at c.in-Ok.ensures.found))
