@@ -1,4 +1,4 @@
-use Rattle.std.proofs.Common.{◌++◌, ℕ, List, sym, ap, ◌∙◌}
+use Rattle.std.proofs.Common.{◌++◌, ℕ, List, sym, ap, ◌∙◌, rules}
 use Rattle.examples.specs.Recording.Text.{recording_head}
 use Rattle.examples.proofs.RecordingLemmas.{rest_is}
 use Rattle.examples.proofs.RecordingStartLemmas.{start_read, start_is_right}
@@ -12,5 +12,5 @@ pub returns-clause-head : goal.returns-clause-head
 returns-clause-head c =
     let bytes = c.args.bytes.now in
     let begun = c.in-Some.start.begun in
-    let read = start_read bytes c.in-Some.start c.in-Some.rest.now c.in-Some.ensures.found c.in_ok-check.ensures.ok in
+    let read = start_read bytes c.in-Some.start c.in-Some.rest.now c.in-Some.ensures.found (search rules) in
     read ∙ ap (λ (xs : List ℕ). recording_head begun ++ xs) (sym (rest_is bytes (recording_head begun) c.in-Some.rest.now read))
