@@ -18,9 +18,8 @@ UNREADABLE, NOT_APPLIED, UNDECIDED = "does not read", "does not apply", "no verd
 # How often an edit that waits for another's function is put beside others.
 TURNS = 2
 
-# How many edits are in a check at most: each takes some time to start, and a few long ones leave processors idle. The
-# first of a crate has fewer, since the others wait for it.
-MOST, FIRST = 40, 20
+# How many edits are in a check at most: each takes some time to start, and a few long ones leave processors idle.
+MOST = 20
 
 # The wrong bodies of a crate, and those by which the trials are tested, in a folder a verdict.
 FOLDERS = ("edits", "must-fail")
@@ -59,19 +58,31 @@ class Known:
     def copy(self, to):
         """Copies what is known to a folder."""
         with self.lock:
-            shutil.copytree(self.folder.name, to, dirs_exist_ok=True)
+            shutil.copytree(self.folder.name, to, copy_function=link_or_copy, dirs_exist_ok=True)
 
     def keep(self, proved):
         """Keeps what a check proved in a folder and nothing had before."""
         with self.lock:
-            shutil.copytree(proved, self.folder.name, copy_function=copy_missing, dirs_exist_ok=True)
+            shutil.copytree(proved, self.folder.name, copy_function=add_missing, dirs_exist_ok=True)
         self.is_there.set()
 
 
-def copy_missing(source, to):
-    """Copies a file to where none is."""
+def link_or_copy(source, to):
+    """Gives a proved module another name, as rt does: a check replaces such a file, and never writes into it."""
+    try:
+        if source.endswith(".oantt"):
+            os.link(source, to)
+            return
+    except OSError:
+        # It is on another disk.
+        pass
+    shutil.copy2(source, to)
+
+
+def add_missing(source, to):
+    """Puts a file to where none is."""
     if not os.path.exists(to):
-        shutil.copy2(source, to)
+        link_or_copy(source, to)
 
 
 class Trial:
@@ -109,7 +120,7 @@ class Trial:
         """Shows a verdict for each of these edits; where nothing is known of the crate yet, after a check of some."""
         try:
             while left:
-                batches = [batch_of(left, FIRST)] if is_first else batches_of(left)
+                batches = [batch_of(left)] if is_first else batches_of(left)
                 left = without(left, batches)
                 with ThreadPoolExecutor(len(batches)) as pool:
                     left += [edit for again in pool.map(self.together, batches) for edit in again]
@@ -149,6 +160,8 @@ class Trial:
                 self.show(edit, REFUSED, why)
                 continue
             edit.turns = edit.turns + 1 if verdict == report.WAITS else TURNS
+            # Alone it would have no open goal either.
+            edit.has_stray = verdict == report.WAITS
             edit.avoids |= {name for owner in edit.owners for name in said.waits_for(owner)}
             again.append(edit)
         return again
@@ -163,8 +176,8 @@ class Trial:
 
     def alone(self, edit):
         """Judges an edit by a check of its own, and by one with its answers as they are where no goal of it stays open."""
-        said = self.check([edit])
-        if said.is_judged and not edit.laws and verdict_of(edit, said)[0] != report.OPEN_GOAL:
+        said = self.check([edit], edit.has_stray)
+        if edit.has_stray and said.is_judged and not edit.laws and verdict_of(edit, said)[0] != report.OPEN_GOAL:
             said = self.check([edit], strays=False)
         if not said.is_judged:
             lines = [f"{path}:{number}: {words}" for path, number, words in said.unread()] or said.lines[-1:]
@@ -201,11 +214,11 @@ def verdict_of(edit, said):
     return min((said.verdict(owner) for owner in sorted(edit.owners)), key=lambda it: order.index(it[0]))
 
 
-def batch_of(edits, most):
+def batch_of(edits):
     """As many as can stand in one check, from the front; one alone where none can stand beside another."""
     batch = []
     for edit in edits:
-        if len(batch) < most and edit.turns < TURNS and not edit.is_apart and not any(map(edit.touches, batch)):
+        if len(batch) < MOST and edit.turns < TURNS and not edit.is_apart and not any(map(edit.touches, batch)):
             batch.append(edit)
     return batch or edits[:1]
 
@@ -214,7 +227,7 @@ def batches_of(edits):
     """All of them, for a check each."""
     batches = []
     while edits:
-        batches.append(batch_of(edits, MOST))
+        batches.append(batch_of(edits))
         edits = without(edits, batches[-1:])
     return batches
 

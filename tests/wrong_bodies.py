@@ -21,6 +21,7 @@ class Edit:
     def __init__(self, crate, file):
         self.crate, self.file, self.name = crate, file, file.stem
         self.why_not, self.changes, self.owners, self.avoids, self.turns = None, {}, set(), set(), 0
+        self.has_stray = True
         self.lines, self.stands_on = set(), set()
         try:
             self.read(file.read_text())
