@@ -37,14 +37,19 @@ class Due:
 
 
 def turn_of(crates, commits):
-    """The wrong bodies that are tried after so many commits, those of one crate after those of another."""
-    spread = []
+    """The wrong bodies that are tried after so many commits: a run of one half of all, and one of the other.
+
+    Those of the crates that are proved last can't be tried before, so each turn has others, which can.
+    """
+    spread, half = [], TURN // 2
     for edits in crates:
         # Neighbours mostly change one function, which takes them a check each: they come into different turns.
-        count = math.ceil(len(edits) / TURN)
+        count = math.ceil(len(edits) / half)
         spread += [edit for part in range(count) for edit in edits[part::count]]
-    begun = commits * TURN % len(spread)
-    return [*spread, *spread][begun:begun + TURN]
+    begun = commits * half % len(spread)
+    # Both go on by as many at each commit, so that those commits that try one half try all.
+    places = [*range(begun, begun + half), *range(begun + len(spread) // 2, begun + len(spread) // 2 + half)]
+    return [spread[place % len(spread)] for place in places]
 
 
 def is_ancestor(commit):
