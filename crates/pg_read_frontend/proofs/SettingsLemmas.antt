@@ -54,3 +54,7 @@ is_nothing (byte ∷ bytes) b e t = let none : length (byte ∷ bytes) ≡ 0 = e
 pub is_something : (bytes : List ℕ) (b : Bool) → b ≡ (length bytes == 0) → b ≡ false → bytes ≢ []
 is_something [] b e f = λ _. let clash : true ≡ false = sym e ∙ f in absurd cc
 is_something (byte ∷ bytes) b e f = λ nothing. absurd (cc nothing)
+
+-- the first setting, whose name isn't empty
+pub first_named : (bytes name after value rest : List ℕ) (b : Bool) → Text bytes name after → b ≡ (length name == 0) → b ≡ false → Text after value rest → settings_in bytes ≡ (name, value) ∷ settings_in rest
+first_named bytes name after value rest b p e f q = first_setting bytes name after value rest p (is_something name b e f) q

@@ -1,5 +1,5 @@
 use Rattle.std.proofs.Common.{◌≡◌, [], length, sym, ap, ◌∙◌, arith}
-use Rattle.pg_read_frontend.proofs.SettingsLemmas.{is_nothing, is_something, first_setting, no_name, empty_name, no_value}
+use Rattle.pg_read_frontend.proofs.SettingsLemmas.{is_nothing, first_named, no_name, empty_name, no_value}
 use Rattle.pg_read_frontend.proofs.message.settings.SettingsIterator.next.Goals as goal
 
 pub returns-in_err-name-clause-steps : goal.returns-in_err-name-clause-steps
@@ -20,11 +20,9 @@ returns-in_err-value-clause-steps c =
 
 pub returns-clause-steps : goal.returns-clause-steps
 returns-clause-steps c =
-    sym c.self.view_is ∙ first_setting c.self.inside.rest.now _ _ _ _ c.in_ok-name.ensures.found
-    (is_something c.in_ok-name.name.now c.is_empty.result c.is_empty.ensures c.if-is_empty.false) c.in_ok-value.ensures.found
+    sym c.self.view_is ∙ first_named c.self.inside.rest.now _ _ _ _ _ c.in_ok-name.ensures.found c.is_empty.ensures c.if-is_empty.false c.in_ok-value.ensures.found
 
 pub returns-clause-goes : goal.returns-clause-goes
 returns-clause-goes c =
-    let first = first_setting c.self.inside.rest.now _ _ _ _ c.in_ok-name.ensures.found
-    (is_something c.in_ok-name.name.now c.is_empty.result c.is_empty.ensures c.if-is_empty.false) c.in_ok-value.ensures.found in
+    let first = first_named c.self.inside.rest.now _ _ _ _ _ c.in_ok-name.ensures.found c.is_empty.ensures c.if-is_empty.false c.in_ok-value.ensures.found in
     record { on = λ _. (tt, tt, omega (arith, ap length (sym c.self.view_is ∙ first))); keeps = tt; rests = λ _. tt }
