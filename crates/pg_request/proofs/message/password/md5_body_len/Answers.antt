@@ -6,4 +6,4 @@ use Rattle.pg_request.proofs.message.password.md5_body_len.Goals as goal
 pub returns : goal.returns
 returns c =
     let digest = c.args.digest.now in
-    omega (arith, length-append (encode_lower digest) (0 ∷ []), length-encode_with lower_digits digest, c.told-digest)
+    omega (arith, length-append (encode_lower digest) (0 ∷ []), length-encode_with lower_digits digest)
