@@ -9,7 +9,7 @@ import crates
 # The commit as of which all were tried, and by which toolchain.
 TRIED = crates.TOP / "tests" / "tried"
 
-# How many of all wrong bodies are tried at each commit: those after the ones of the commit before.
+# How many of all wrong bodies are tried at each commit: in each half, those after the ones of the commit before.
 TURN = 288
 
 
@@ -47,7 +47,6 @@ def turn_of(crates, commits):
         count = math.ceil(len(edits) / half)
         spread += [edit for part in range(count) for edit in edits[part::count]]
     begun = commits * half % len(spread)
-    # Both go on by as many at each commit, so that those commits that try one half try all.
     places = [*range(begun, begun + half), *range(begun + len(spread) // 2, begun + len(spread) // 2 + half)]
     return [spread[place % len(spread)] for place in places]
 

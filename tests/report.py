@@ -12,7 +12,7 @@ ANSWER = re.compile(r"(?:\./)?(proofs/\S+?)/\w+\.antt:\d+:\d+: error")
 STRAY = re.compile(r"error: `stray`: ")
 
 # An answer that names what the text no longer has says nothing of the contract, nor does one that rests on another.
-SHAPE = re.compile(r"has no field|is not in scope|has no `|error: \d+ declarations? that depends? on")
+SHAPE = re.compile(r"has no field|is not in scope|has no `|was not admitted|error: \d+ declarations? that depends? on")
 
 # A proof that doesn't hold, and those of which that one leaves nothing known.
 LAW = re.compile(r"(?:\./)?(proofs/\S+?):\d+:\d+: error: `(\w\S*)`")
