@@ -1,5 +1,7 @@
 """Tries wrong bodies, many in a check, and judges each by the function that it changes."""
 
+import contextlib
+import math
 import os
 import re
 import shutil
@@ -9,6 +11,7 @@ import time
 from concurrent.futures import ThreadPoolExecutor
 
 import crates
+import idle
 import report
 import wrong_bodies
 
@@ -18,16 +21,14 @@ UNREADABLE, NOT_APPLIED, UNDECIDED = "does not read", "does not apply", "no verd
 # How often an edit that waits for another's function is put beside others.
 TURNS = 2
 
-# How many edits are in a check at most: each takes some time to start, and a few long ones leave processors idle.
-MOST = 20
+# How many edits are in a check: each takes some time to start, and a few long ones leave processors idle.
+LEAST, MOST = 5, 20
 
 # The wrong bodies of a crate, and those by which the trials are tested, in a folder a verdict.
 FOLDERS = ("edits", "must-fail")
 SELF_TEST = crates.TOP / "tests" / "self_test"
 
-
-# No more checks at a time than there are processors for, which they leave to whatever else runs.
-PROCESSORS = threading.BoundedSemaphore(crates.processors())
+# What runs with the processors that others leave.
 NICE = ("nice", "-n", "19")
 
 
@@ -138,11 +139,11 @@ class Trial:
         functions = sorted({owner.partition("::")[2] for edit in edits for owner in edit.owners - edit.laws})
         # A law is checked with all that is.
         only = [] if any(edit.laws for edit in edits) else [word for function in functions for word in ("--only", function)]
-        with tempfile.TemporaryDirectory(prefix="edits-") as kept, PROCESSORS:
-            # What others wait for goes on as fast as other steps.
-            before = NICE if self.known.is_there.is_set() else ()
+        # Others wait for a first one.
+        begins = idle.PROCESSORS if self.known.is_there.is_set() else contextlib.nullcontext()
+        with tempfile.TemporaryDirectory(prefix="edits-") as kept, begins:
             self.known.copy(kept)
-            said = self.crate.check(texts, only, kept, before=before)
+            said = self.crate.check(texts, only, kept, before=NICE)
             self.known.keep(kept)
         return report.Report(said)
 
@@ -214,20 +215,20 @@ def verdict_of(edit, said):
     return min((said.verdict(owner) for owner in sorted(edit.owners)), key=lambda it: order.index(it[0]))
 
 
-def batch_of(edits):
+def batch_of(edits, most=MOST):
     """As many as can stand in one check, from the front; one alone where none can stand beside another."""
     batch = []
     for edit in edits:
-        if len(batch) < MOST and edit.turns < TURNS and not edit.is_apart and not any(map(edit.touches, batch)):
+        if len(batch) < most and edit.turns < TURNS and not edit.is_apart and not any(map(edit.touches, batch)):
             batch.append(edit)
     return batch or edits[:1]
 
 
 def batches_of(edits):
-    """All of them, for a check each."""
-    batches = []
+    """All of them, for a check each: no fewer checks than processors, unless they would be small."""
+    batches, most = [], min(MOST, max(LEAST, math.ceil(len(edits) / crates.processors())))
     while edits:
-        batches.append(batch_of(edits))
+        batches.append(batch_of(edits, most))
         edits = without(edits, batches[-1:])
     return batches
 
