@@ -1,6 +1,5 @@
 """Tries wrong bodies, many in a check, and judges each by the function that it changes."""
 
-import contextlib
 import math
 import os
 import re
@@ -11,7 +10,6 @@ import time
 from concurrent.futures import ThreadPoolExecutor
 
 import crates
-import idle
 import report
 import wrong_bodies
 
@@ -22,13 +20,14 @@ UNREADABLE, NOT_APPLIED, UNDECIDED = "does not read", "does not apply", "no verd
 TURNS = 2
 
 # How many edits are in a check: each takes some time to start, and a few long ones leave processors idle.
-LEAST, MOST = 5, 20
+LEAST, MOST = 10, 20
 
 # The wrong bodies of a crate, and those by which the trials are tested, in a folder a verdict.
 FOLDERS = ("edits", "must-fail")
 SELF_TEST = crates.TOP / "tests" / "self_test"
 
-# What runs with the processors that others leave.
+# No more checks at a time than there are processors for, which they leave to whatever else runs.
+PROCESSORS = threading.BoundedSemaphore(crates.processors())
 NICE = ("nice", "-n", "19")
 
 
@@ -112,8 +111,6 @@ class Trial:
                 self.show(edit, NOT_APPLIED, edit.why_not or "what its crate stands on is not proved")
             else:
                 left.append(edit)
-        # Laws that stand on most come first, since they can stand beside the fewest.
-        left.sort(key=lambda edit: -len(edit.stands_on))
         if left:
             self.run_all(left, self.known.is_empty())
 
@@ -121,7 +118,7 @@ class Trial:
         """Shows a verdict for each of these edits; where nothing is known of the crate yet, after a check of some."""
         try:
             while left:
-                batches = [batch_of(left)] if is_first else batches_of(left)
+                batches = batches_of(left)[: 1 if is_first else None]
                 left = without(left, batches)
                 with ThreadPoolExecutor(len(batches)) as pool:
                     left += [edit for again in pool.map(self.together, batches) for edit in again]
@@ -139,9 +136,7 @@ class Trial:
         functions = sorted({owner.partition("::")[2] for edit in edits for owner in edit.owners - edit.laws})
         # A law is checked with all that is.
         only = [] if any(edit.laws for edit in edits) else [word for function in functions for word in ("--only", function)]
-        # Others wait for a first one.
-        begins = idle.PROCESSORS if self.known.is_there.is_set() else contextlib.nullcontext()
-        with tempfile.TemporaryDirectory(prefix="edits-") as kept, begins:
+        with tempfile.TemporaryDirectory(prefix="edits-") as kept, PROCESSORS:
             self.known.copy(kept)
             said = self.crate.check(texts, only, kept, before=NICE)
             self.known.keep(kept)
@@ -215,22 +210,30 @@ def verdict_of(edit, said):
     return min((said.verdict(owner) for owner in sorted(edit.owners)), key=lambda it: order.index(it[0]))
 
 
-def batch_of(edits, most=MOST):
-    """As many as can stand in one check, from the front; one alone where none can stand beside another."""
-    batch = []
-    for edit in edits:
-        if len(batch) < most and edit.turns < TURNS and not edit.is_apart and not any(map(edit.touches, batch)):
-            batch.append(edit)
-    return batch or edits[:1]
-
-
 def batches_of(edits):
-    """All of them, for a check each: no fewer checks than processors, unless they would be small."""
-    batches, most = [], min(MOST, max(LEAST, math.ceil(len(edits) / crates.processors())))
-    while edits:
-        batches.append(batch_of(edits, most))
-        edits = without(edits, batches[-1:])
+    """All of them, for a check each: no two that touch in one, and as many checks for each processor."""
+    rounds = math.ceil(len(edits) / (MOST * crates.processors()))
+    most = max(LEAST, math.ceil(len(edits) / (rounds * crates.processors())))
+    others = {edit: sum(map(edit.touches, edits)) for edit in edits}
+    batches = []
+    # What touches most others comes first, and what touches none evens the checks out.
+    for edit in sorted(edits, key=lambda it: (is_alone(it), -others[it])):
+        fitting = [batch for batch in batches if len(batch) < most and can_join(edit, batch)]
+        if fitting:
+            min(fitting, key=len).append(edit)
+        else:
+            batches.append([edit])
     return batches
+
+
+def can_join(edit, batch):
+    """Whether an edit can stand beside those of a check."""
+    return not any(is_alone(it) for it in [edit, batch[0]]) and not any(map(edit.touches, batch))
+
+
+def is_alone(edit):
+    """Whether nothing can stand beside an edit."""
+    return edit.is_apart or edit.turns >= TURNS
 
 
 def without(edits, batches):
