@@ -12,10 +12,10 @@ CONSTANT = re.compile(r" *const (\w+)\s*:")
 class Edit:
     """A file of lines `file: PATH`, `old: TEXT` and `new: TEXT`; other lines say what is wrong.
 
-    Each TEXT stands once in its file, on one line. A line `refused by: FUNCTION` names, by the end of its path, the
-    function whose contract refuses an edit that stands in none, as that of a number of an enum. A line
-    `refused by law: NAME` names the proof that no longer holds of a definition, that of a clause as
-    `returns-clause-CLAUSE`. Of proofs of one name one is `FOLDER/NAME`.
+    Each TEXT stands once in its file, on one line, or once in the bodies that a line `in: FUNCTION` names by the end of
+    their path. A line `refused by: FUNCTION` names so the function whose contract refuses an edit that stands in none, as
+    that of a number of an enum. A line `refused by law: NAME` names the proof that no longer holds of a definition, that
+    of a clause as `returns-clause-CLAUSE`. Of proofs of one name one is `FOLDER/NAME`.
     """
 
     def __init__(self, crate, file):
@@ -36,16 +36,18 @@ class Edit:
 
     def read(self, text):
         """Reads the changed lines, by path and number."""
-        self.refusing, self.laws, path, old = set(), set(), None, None
+        self.refusing, self.laws, path, inside, old = set(), set(), None, None, None
         for line in text.splitlines():
             word, _, rest = line.partition(":")
             rest = rest.removeprefix(" ")
             if word == "file":
-                path = rest
+                path, inside = rest, None
+            elif word == "in":
+                inside = rest
             elif word == "old":
                 old = rest
             elif word == "new":
-                self.change(path, old, rest)
+                self.change(path, inside, old, rest)
             elif word == "refused by":
                 self.refusing.add("::".join([self.crate.name, rest]))
             elif word == "refused by law":
@@ -61,23 +63,34 @@ class Edit:
         if not self.lines <= self.stands_on:
             raise ValueError("the law that it names doesn't stand on the lines that it changes")
 
-    def change(self, path, old, new):
-        """Puts a text in the place of another that stands once in the file as it was edited so far."""
+    def change(self, path, inside, old, new):
+        """Puts a text in the place of another that stands once in the file, or in those functions, as edited so far."""
         if not path or not old:
             raise ValueError("a line new: comes before file: and old:")
         lines = self.crate.lines(path)
         changed = self.changes.setdefault(path, {})
-        found = [number for number, line in enumerate(lines) for _ in re.finditer(re.escape(old), changed.get(number, line))]
+        searched = self.lines_of(path, inside) if inside else range(len(lines))
+        found = [number for number in searched for _ in re.finditer(re.escape(old), changed.get(number, lines[number]))]
         if len(found) != 1:
-            raise ValueError(f"a text stands {len(found)} times in {path} and not once: {old}")
+            raise ValueError(f"a text stands {len(found)} times in {inside or path} and not once: {old}")
         changed[found[0]] = changed.get(found[0], lines[found[0]]).replace(old, new)
+
+    def functions(self, path):
+        """The functions of a source."""
+        return sources.functions(self.crate.name, path, "\n".join(self.crate.lines(path)))
+
+    def lines_of(self, path, function):
+        """The numbers of the lines of the bodies of those functions of a file whose path ends so."""
+        for it in self.functions(path):
+            if it.name.endswith("::" + function):
+                yield from range(it.body, it.last + 1)
 
     def changed_functions(self):
         """The functions whose bodies have the changed lines; of a private constant those that name it."""
         found = set()
         for path, changed in self.changes.items():
             lines = self.crate.lines(path)
-            functions = sources.functions(self.crate.name, path, "\n".join(lines))
+            functions = self.functions(path)
             for number, line in changed.items():
                 here = [it.name for it in functions if it.holds(number, lines[number], line)]
                 constant = CONSTANT.match(lines[number])
