@@ -166,8 +166,8 @@ test_taped_encryption() {
 # Gives the server a certificate of its own.
 encrypt_server() {
     as_owner openssl req -new -x509 -days 2 -nodes -newkey rsa:2048 -subj /CN=localhost \
-        -keyout "$folder/data/server.key" -out "$folder/data/server.crt" > /dev/null 2>&1 || return 1
-    as_owner chmod 600 "$folder/data/server.key"
+        -keyout "$server_folder/data/server.key" -out "$server_folder/data/server.crt" > /dev/null 2>&1 || return 1
+    as_owner chmod 600 "$server_folder/data/server.key"
     sql 'ALTER SYSTEM SET ssl = on' && sql 'SELECT pg_reload_conf()' > /dev/null
     await is_encrypted
 }

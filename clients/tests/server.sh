@@ -1,6 +1,6 @@
 # A PostgreSQL server for `test` and `speed`. To be sourced, not run.
 #
-# start_server makes $folder with everything in it, and stop_server takes it away. The variables of libpq then
+# start_server makes $server_folder with everything in it, and stop_server takes it away. The variables of libpq then
 # name the server, its superuser and its database. find_server says where its programs are.
 
 # Sets $bin to the folder of initdb, the newest one, or answers false.
@@ -44,10 +44,10 @@ free_port() {
 }
 
 write_settings() {
-    as_owner tee -a "$folder/data/postgresql.conf" > /dev/null << SETTINGS
+    as_owner tee -a "$server_folder/data/postgresql.conf" > /dev/null << SETTINGS
 listen_addresses = '127.0.0.1'
 port = $port
-unix_socket_directories = '$folder'
+unix_socket_directories = '$server_folder'
 fsync = off
 wal_level = minimal
 max_wal_senders = 0
@@ -57,7 +57,7 @@ autovacuum = off
 log_connections = on
 log_disconnections = on
 SETTINGS
-    as_owner tee "$folder/data/pg_hba.conf" > /dev/null << RULES
+    as_owner tee "$server_folder/data/pg_hba.conf" > /dev/null << RULES
 local all all trust
 host all by_trust 127.0.0.1/32 trust
 host all by_clear 127.0.0.1/32 password
@@ -69,16 +69,16 @@ RULES
 
 # Starts it, again after a stop.
 run_server() {
-    (cd "$folder" && as_owner "$bin/pg_ctl" -D "$folder/data" -l "$folder/log" -w -s start) > /dev/null
+    (cd "$server_folder" && as_owner "$bin/pg_ctl" -D "$server_folder/data" -l "$server_folder/log" -w -s start) > /dev/null
 }
 
 # Stops it in one of the modes of pg_ctl.
 halt_server() {
-    (cd "$folder" && as_owner "$bin/pg_ctl" -D "$folder/data" -w -s -m "$1" stop) > /dev/null
+    (cd "$server_folder" && as_owner "$bin/pg_ctl" -D "$server_folder/data" -w -s -m "$1" stop) > /dev/null
 }
 
 init_server() {
-    (cd "$folder" && as_owner "$bin/initdb" -D "$folder/data" -U postgres -A trust -E UTF8 --locale=C --no-sync)
+    (cd "$server_folder" && as_owner "$bin/initdb" -D "$server_folder/data" -U postgres -A trust -E UTF8 --locale=C --no-sync)
 }
 
 # Takes the variables of libpq out of the environment.
@@ -93,26 +93,26 @@ forget_variables() {
 
 start_server() {
     forget_variables
-    folder=$(mktemp -d)
+    server_folder=$(mktemp -d)
     find_owner
     if [ -n "$owner" ]; then
-        chown "$owner" "$folder"
+        chown "$owner" "$server_folder"
     fi
-    if ! init_server > "$folder/initdb.log" 2>&1; then
-        cat "$folder/initdb.log" >&2
+    if ! init_server > "$server_folder/initdb.log" 2>&1; then
+        cat "$server_folder/initdb.log" >&2
         return 1
     fi
     port=$(free_port)
     write_settings
-    run_server || { tail "$folder/log" >&2; return 1; }
-    export PGHOST=$folder PGPORT=$port PGUSER=postgres PGDATABASE=postgres
+    run_server || { tail "$server_folder/log" >&2; return 1; }
+    export PGHOST=$server_folder PGPORT=$port PGUSER=postgres PGDATABASE=postgres
 }
 
 stop_server() {
-    if [ -n "${folder:-}" ]; then
+    if [ -n "${server_folder:-}" ]; then
         halt_server immediate 2> /dev/null || true
-        rm -rf "$folder"
-        folder=
+        rm -rf "$server_folder"
+        server_folder=
     fi
 }
 

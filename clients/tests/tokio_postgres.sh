@@ -94,8 +94,8 @@ test_tokio_postgres() {
 
 # Starts the server again as the driver's tests ask for it.
 start_driver_server() {
-    as_owner tee -a "$folder/data/postgresql.conf" > /dev/null <<< "port = $driver_port"
-    as_owner tee -a "$folder/data/pg_hba.conf" > /dev/null << 'RULES'
+    as_owner tee -a "$server_folder/data/postgresql.conf" > /dev/null <<< "port = $driver_port"
+    as_owner tee -a "$server_folder/data/pg_hba.conf" > /dev/null << 'RULES'
 host all pass_user 127.0.0.1/32 password
 host all md5_user 127.0.0.1/32 md5
 host all scram_user 127.0.0.1/32 scram-sha-256
