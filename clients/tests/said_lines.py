@@ -7,10 +7,12 @@ The streams are those by hand, one for each body by hand, and made up ones: whol
 with bodies that are cut and changed. Then each message goes in once the line of the one before it is there.
 """
 
+import itertools
 import pathlib
 import random
 import subprocess
 import sys
+import tempfile
 
 sys.path.insert(0, str(pathlib.Path(__file__).resolve().parents[2] / "tests"))
 import client_model as model  # noqa: E402
@@ -59,14 +61,31 @@ def made_up(random):
     yield from ((stream, streams.read(stream)) for stream in alone)
 
 
-def judge(program, stream, due):
-    """Words where the program prints other lines, or fails."""
-    ran = subprocess.run([program], input=stream, capture_output=True)
-    printed = ran.stdout.decode().splitlines()
-    if (ran.returncode, printed, ran.stderr) == (0, due, b""):
-        return []
-    at = next((at for at, pair in enumerate(zip(printed, due)) if pair[0] != pair[1]), min(len(printed), len(due)))
-    return [f"status {ran.returncode}, line {at}: {printed[at:at + 1]} and not {due[at:at + 1]}, of {stream.hex():.200}"]
+def printed(program, cases):
+    """The run of the program over all streams, each of which is in a file of its own, and the lines of each."""
+    with tempfile.TemporaryDirectory() as folder:
+        files = [pathlib.Path(folder, str(number)) for number in range(len(cases))]
+        for file, (stream, _) in zip(files, cases):
+            file.write_bytes(stream)
+        ran = subprocess.run([program, *files], capture_output=True)
+    found = [[]]
+    for line in ran.stdout.decode().split("\n"):
+        if line:
+            found[-1].append(line)
+        else:
+            found.append([])
+    return ran, found
+
+
+def judge(program, cases):
+    """Words for each stream of which the program prints other lines, and where it fails."""
+    ran, found = printed(program, cases)
+    if (ran.returncode, ran.stderr) != (0, b""):
+        yield f"status {ran.returncode} after {len(found)} streams: {ran.stderr.decode(errors='replace'):.300}"
+    for (stream, due), lines in itertools.zip_longest(cases, found[: len(cases)], fillvalue=[]):
+        if lines != due:
+            at = next((at for at, pair in enumerate(zip(lines, due)) if pair[0] != pair[1]), min(len(lines), len(due)))
+            yield f"line {at}: {lines[at:at + 1]} and not {due[at:at + 1]}, of {stream.hex():.200}"
 
 
 def as_it_comes(program, lines):
@@ -84,8 +103,7 @@ def as_it_comes(program, lines):
 def main():
     program, chance = sys.argv[1], random.Random(SEED)
     cases = [*by_hand(), *made_up(chance)]
-    wrong = [words for stream, due in cases for words in judge(program, stream, due)]
-    wrong += as_it_comes(program, streams.made(chance))
+    wrong = [*judge(program, cases), *as_it_comes(program, streams.made(chance))]
     print(f"{len(cases) + 1} streams")
     print(*wrong[:10], sep="\n", end="", file=sys.stderr)
     sys.exit(bool(wrong))

@@ -1,6 +1,7 @@
 /* Prints a line for each message that a client says, from the start of its connection:
  *
  *     said_lines < STREAM
+ *     said_lines FILE..      those of the stream in each file, and then an empty line
  *
  * The lines are those of `pg_server_tool stream`: a message and its fields, or the words of its fault, as soon as it
  * is whole; at last how many bytes are no whole message, or what is wrong with the stream. It takes no more of its
@@ -15,8 +16,9 @@
  * time. */
 enum { LIMIT = 10000, PIECE = 65536 };
 
-/* The bytes that came after the last message, and whether the next message has no tag. */
+/* Where it comes from, the bytes that came after the last message, and whether the next message has no tag. */
 struct stream {
+    FILE *input;
     uint8_t *bytes;
     size_t len;
     bool expects_first;
@@ -39,7 +41,7 @@ static bool fill(struct stream *stream, size_t needed)
     while (stream->len < needed) {
         size_t wanted = needed - stream->len < PIECE ? needed - stream->len : PIECE;
         resize(stream, stream->len + wanted);
-        size_t got = fread(stream->bytes + stream->len, 1, wanted, stdin);
+        size_t got = fread(stream->bytes + stream->len, 1, wanted, stream->input);
         stream->len += got;
         resize(stream, stream->len);
         if (got < wanted)
@@ -80,9 +82,10 @@ static void pass(struct stream *stream, const pgmsg_frame *frame)
     fflush(stdout);
 }
 
-int main(void)
+/* Prints the lines of a stream; false where it can't be read, or they can't be printed. */
+static bool print_all(FILE *input)
 {
-    struct stream stream = {NULL, 0, true};
+    struct stream stream = {input, NULL, 0, true};
     pgmsg_frame frame;
     pgmsg_fault fault;
     int32_t found;
@@ -94,5 +97,20 @@ int main(void)
     else if (stream.len > 0)
         printf("rest %zu\n", stream.len);
     free(stream.bytes);
-    return ferror(stdin) || fflush(stdout) == EOF;
+    return !ferror(input) && fflush(stdout) != EOF;
+}
+
+int main(int count, char **words)
+{
+    if (count == 1)
+        return !print_all(stdin);
+    for (int at = 1; at < count; at++) {
+        FILE *input = fopen(words[at], "rb");
+        bool is_printed = input != NULL && print_all(input) && puts("") != EOF;
+        if (input == NULL || fclose(input) == EOF || !is_printed) {
+            perror(words[at]);
+            return 1;
+        }
+    }
+    return 0;
 }
