@@ -62,6 +62,10 @@ test_drop_in() {
         try by_debian rust/postgres-protocol-pgmsg clippy --quiet --all-targets "${source[@]}" -- -D warnings
         expect 'postgres-protocol-pgmsg: clippy without a warning' 0
     fi
+    try by_debian rust/postgres-protocol-pgmsg package --quiet --allow-dirty "${source[@]}" \
+        --config "patch.crates-io.pgmsg.path='$PWD/rust/pgmsg'" \
+        --config "patch.crates-io.pgmsg-sys.path='$PWD/rust/pgmsg-sys'"
+    expect 'postgres-protocol-pgmsg: packed, and built from that' 0
 }
 
 # Runs the driver's tests in a workspace, and leaves how many passed in $count.
