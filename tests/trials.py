@@ -20,7 +20,7 @@ UNREADABLE, NOT_APPLIED, UNDECIDED = "does not read", "does not apply", "no verd
 TURNS = 2
 
 # How many edits are in a check: each takes some time to start, and a few long ones leave processors idle.
-LEAST, MOST = 10, 20
+LEAST, MOST = 10, 40
 
 # The wrong bodies of a crate, and those by which the trials are tested, in a folder a verdict.
 FOLDERS = ("edits", "must-fail")
@@ -115,10 +115,10 @@ class Trial:
             self.run_all(left, self.known.is_empty())
 
     def run_all(self, left, is_first):
-        """Shows a verdict for each of these edits; where nothing is known of the crate yet, after a check of some."""
+        """Shows a verdict for each of these edits; where nothing is known of the crate yet, after a check of a few."""
         try:
             while left:
-                batches = batches_of(left)[: 1 if is_first else None]
+                batches = [batches_of(left)[0][:LEAST]] if is_first else batches_of(left)
                 left = without(left, batches)
                 with ThreadPoolExecutor(len(batches)) as pool:
                     left += [edit for again in pool.map(self.together, batches) for edit in again]
