@@ -15,7 +15,10 @@ test_speeds() {
     at_least 'speeds: pgbench of 8 clients is recorded, over socat' "$work/record_speed" '^[|] pgbench' 5 0.9
     ./replay_speed | tee "$work/replay_speed"
     at_least 'speeds: pgbench of 8 clients is replayed, over the server' "$work/replay_speed" '^[|] a Unix socket .* [|] 8 ' 8 5
-    start_server
-    RECORD_MEGABYTES=10240 test_taped_memory
-    stop_server
+    if find_server && start_server; then
+        RECORD_MEGABYTES=10240 test_taped_memory
+        stop_server
+    else
+        bad 'start of a server' 'see above'
+    fi
 }
