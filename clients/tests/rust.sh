@@ -56,7 +56,8 @@ find_bytes() {
 # Runs cargo of the folder on the crates, over the library that is tested.
 by_cargo() {
     try env PATH="$folder:$PATH" RUSTC="$folder/rustc" RUSTDOC="$folder/rustdoc" RUSTDOCFLAGS=-Dwarnings \
-        CARGO_INCREMENTAL=0 CARGO_PROFILE_DEV_DEBUG=0 PGMSG_LIB_DIR="$(dirname "$(realpath "$LIBRARY")")" CARGO_TARGET_DIR="out/rust/$version" \
+        CARGO_INCREMENTAL=0 CARGO_PROFILE_DEV_DEBUG=0 CARGO_TARGET_DIR="out/rust/$version" \
+        PGMSG_LIB_DIR="$(dirname "$(realpath "$LIBRARY")")" \
         "$folder/cargo" "$1" --offline --manifest-path rust/Cargo.toml --config "patch.crates-io.bytes.path='$bytes'" "${@:2}"
 }
 
