@@ -8,8 +8,8 @@
 //!
 //! Everything here stands in a crate below, where its contract is: `pg_base`, `pg_format`, `pg_request`,
 //! `pg_send`, `pg_response`, `pg_receive`, `pg_server_message`, `pg_frames`, `pg_read_frontend`,
-//! `pg_frontend_laws`, `pg_frontend_frames`, `pg_write_backend`, `pg_backend_laws` and `pg_relay`. The words of the contracts of `pg_base` are named from here as
-//! `Rattle.pg_message.specs.pg_base`, and so are those of the others.
+//! `pg_frontend_frames`, `pg_write_backend`, `pg_laws` and `pg_relay`. The words of the contracts of
+//! `pg_base` are named from here as `Rattle.pg_message.specs.pg_base`, and so are those of the others.
 #![tactic(auto)]
 
 pub mod backend;

@@ -5,7 +5,7 @@ pub use pg_base::{BackendMessageFormat, FrontendMessageFormat};
 pub use pg_frames::{
     Frame, FrameReader, RawFrame, StreamEnd, next_frame, next_raw_frame, read_pieces,
 };
-pub use pg_frontend_laws::run::{encode_all, encode_strict};
+pub use pg_laws::run::{encode_all, encode_strict};
 pub use pg_receive::message::{
     Authentication, AuthenticationMd5Password, AuthenticationSasl, AuthenticationSaslContinue,
     AuthenticationSaslFinal, BackendKeyData, BackendMessage, Cells, ColumnReader, Columns,

@@ -1,2 +1,0 @@
-pub mod LawsLemmas
-pub mod RawLemmas

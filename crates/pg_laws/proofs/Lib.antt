@@ -1,0 +1,3 @@
+pub mod BackendLemmas
+pub mod FrontendLemmas
+pub mod RawLemmas

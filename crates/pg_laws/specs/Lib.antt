@@ -1,0 +1,2 @@
+pub mod Backend
+pub mod Frontend
