@@ -1,5 +1,6 @@
 // Has each request for memory of a test refused in turn: at each, a child goes on without that memory to the end of
-// the test, before the test itself goes on with it. Each may end as README.md says.
+// the test, before the test itself goes on with it. Each may end as README.md says. Tests of some modules are run once,
+// since they have requests refused by themselves, or make too many.
 #include "grants.h"
 
 #include <stdio.h>
@@ -15,11 +16,29 @@
 void *___interceptor_malloc(size_t size);
 void *___interceptor_realloc(void *old, size_t size);
 
-// The test, once it has begun; none in a child.
+// The modules whose tests are run once.
+static const char *const once[] = {"memory::", "pg_answers::tests::stored::"};
+
+// The test, once it has begun; none in a child, and none that is run once.
 static const char *test;
 
 __attribute__((constructor)) static void begin(int count, char **arguments) {
-    if (count == 2 && strcmp(arguments[1], "--list")) test = arguments[1];
+    if (count != 2 || !strcmp(arguments[1], "--list")) return;
+    for (size_t at = 0; at < sizeof once / sizeof *once; at++)
+        if (!strncmp(arguments[1], once[at], strlen(once[at]))) return;
+    test = arguments[1];
+}
+
+// Counts requests from here on, and refuses those of these numbers and those between them.
+void refuse_requests(size_t first, size_t last) {
+    requests = 0;
+    refuse(first, last);
+}
+
+// How many requests there were since. From here on none is refused.
+size_t count_requests(void) {
+    first_refused = 0;
+    return requests;
 }
 
 static int may_end(int status) {

@@ -1,6 +1,7 @@
 // Which requests for memory are granted: a test has some refused by requests of sizes of its own, as README.md says.
 #include <errno.h>
 #include <stddef.h>
+#include <stdint.h>
 
 // sizes that no request has but by intent: from here on every request is refused, or again none
 #define REFUSE_ALL ((size_t)0x524546555345)
@@ -10,15 +11,22 @@
 // with n added, the nth request from here on and each after it is refused
 #define REFUSE_FROM ((size_t)0x5245465553460000)
 
-static size_t requests, refused_by_test, refused_from;
+// How many requests there were, and those that the test has refused: from one to another, or none where the first is 0.
+static size_t requests, first_refused, last_refused;
 static int refuses_all, has_refused;
 
 // Whether the request that is made now is refused by what the test is run by.
 static int is_refused_again(void);
 
+static void refuse(size_t first, size_t last) {
+    first_refused = first;
+    last_refused = last;
+    has_refused = 0;
+}
+
 static int is_refused(void) {
     requests += 1;
-    int by_test = refuses_all || requests == refused_by_test || (refused_from && requests >= refused_from);
+    int by_test = refuses_all || (first_refused && first_refused <= requests && requests <= last_refused);
     if (!by_test && !is_refused_again()) return 0;
     has_refused = 1;
     return 1;
@@ -31,17 +39,15 @@ static int grants(size_t size) {
         return 0;
     }
     if (size == REFUSE_NTH) {
-        refused_by_test = refused_from = 0;
+        first_refused = 0;
         return has_refused;
     }
     if (size > REFUSE_NTH && size - REFUSE_NTH <= MOST_NTH) {
-        refused_by_test = requests + (size - REFUSE_NTH);
-        has_refused = 0;
+        refuse(requests + (size - REFUSE_NTH), requests + (size - REFUSE_NTH));
         return 0;
     }
     if (size > REFUSE_FROM && size - REFUSE_FROM <= MOST_NTH) {
-        refused_from = requests + (size - REFUSE_FROM);
-        has_refused = 0;
+        refuse(requests + (size - REFUSE_FROM), SIZE_MAX);
         return 0;
     }
     return !is_refused();
