@@ -30,13 +30,14 @@ by_debian() {
     )
 }
 
-# Builds the programs on the driver as it is, where there is what they need.
+# Builds the programs on the driver as it is, where there is what they need, and with them its tests, which ask for more
+# of the same crates.
 build_on_original() {
     local cargo_folder version target=$PWD/out/drop-in
     read -r cargo_folder version < <(rust_folders)
     if [ -n "$cargo_folder" ] && has_crates "${drop_in_crates[@]}" "${driver_crates[@]}"; then
         rust/tokio-postgres/prepare out/original
-        try by_debian out/original build --quiet --package end-to-end
+        try by_debian out/original build --quiet --workspace --all-features --bins --tests
         expect 'programs on tokio-postgres' 0
         # The driver's tests may build others of their names.
         mkdir -p out/on-original
