@@ -1,26 +1,39 @@
 // Has each request for memory of a test refused in turn: at each, a child goes on without that memory to the end of
-// the test, before the test itself goes on with it. Each may end as README.md says. Tests of some modules are run once,
-// since they have requests refused by themselves, or make too many.
+// the test or of its round, before the test itself goes on with it. Each may end as README.md says. Some tests are run
+// once, since they have requests refused by themselves, or make too many.
 #include "grants.h"
 
+#include <signal.h>
 #include <stdio.h>
 #include <stdlib.h>
 #include <string.h>
+#include <sys/syscall.h>
 #include <sys/wait.h>
 #include <unistd.h>
 
 // How a test ends whose result is an error; a failed assertion ends by a signal.
 #define RESULT_IS_AN_ERROR 101
 
+// What is written where a test has ended, in which case the program first looks at the name of each other test.
+#define ENDED_WELL "\ntest result: ok\n"
+#define ENDED_BY_AN_ERROR "the test failed: its result gives status 1\n"
+
 // What the address sanitizer runs where nothing takes the place of its functions of two underscores.
 void *___interceptor_malloc(size_t size);
 void *___interceptor_realloc(void *old, size_t size);
+ssize_t ___interceptor_write(int file, const void *bytes, size_t count);
 
-// The modules whose tests are run once.
-static const char *const once[] = {"memory::", "pg_answers::tests::stored::"};
+// How the names of the tests begin that are run once.
+static const char *const once[] = {
+    "memory::",
+    "pg_answers::tests::out_of_memory_writes_nothing",
+    "pg_answers::tests::stored::",
+    "pg_send_tests::run::one_reservation::at_each_spare_room",
+};
 
 // The test, once it has begun; none in a child, and none that is run once.
 static const char *test;
+static int is_child;
 
 __attribute__((constructor)) static void begin(int count, char **arguments) {
     if (count != 2 || !strcmp(arguments[1], "--list")) return;
@@ -55,15 +68,33 @@ static void end_as(int status) {
 // Whether this request is refused, as it is in the child alone.
 static int is_refused_again(void) {
     if (!test) return 0;
-    pid_t child = fork();
+    // The test has one thread, so there is nothing to do for others, as the sanitizer does it at a fork.
+    pid_t child = (pid_t)syscall(SYS_clone, SIGCHLD, NULL, NULL, NULL, NULL);
     if (child == 0) {
         test = NULL;
+        is_child = 1;
         return 1;
     }
     int status;
     if (child < 0 || waitpid(child, &status, 0) < 0) _exit(2);
     if (!may_end(status)) end_as(status);
     return 0;
+}
+
+static void end_round(void) {
+    if (is_child) _exit(0);
+}
+
+static int is_text(const char *text, const void *bytes, size_t count) {
+    return count == strlen(text) && !memcmp(bytes, text, count);
+}
+
+// A child has ended as soon as its test has.
+ssize_t __interceptor_write(int file, const void *bytes, size_t count) {
+    ssize_t written = ___interceptor_write(file, bytes, count);
+    if (is_child && is_text(ENDED_WELL, bytes, count)) _exit(0);
+    if (is_child && is_text(ENDED_BY_AN_ERROR, bytes, count)) _exit(RESULT_IS_AN_ERROR);
+    return written;
 }
 
 void *__interceptor_malloc(size_t size) {

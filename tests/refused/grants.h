@@ -10,6 +10,8 @@
 #define MOST_NTH ((size_t)0xffff)
 // with n added, the nth request from here on and each after it is refused
 #define REFUSE_FROM ((size_t)0x5245465553460000)
+// a round of the test ends, and what comes next begins anew
+#define END_ROUND ((size_t)0x524546555346)
 
 // How many requests there were, and those that the test has refused: from one to another, or none where the first is 0.
 static size_t requests, first_refused, last_refused;
@@ -17,6 +19,9 @@ static int refuses_all, has_refused;
 
 // Whether the request that is made now is refused by what the test is run by.
 static int is_refused_again(void);
+
+// What that does where a round of the test ends.
+static void end_round(void);
 
 static void refuse(size_t first, size_t last) {
     first_refused = first;
@@ -36,6 +41,10 @@ static int is_refused(void) {
 static int grants(size_t size) {
     if (size == REFUSE_ALL) {
         refuses_all = !refuses_all;
+        return 0;
+    }
+    if (size == END_ROUND) {
+        end_round();
         return 0;
     }
     if (size == REFUSE_NTH) {
