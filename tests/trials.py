@@ -242,7 +242,12 @@ def without(edits, batches):
 
 
 def of(crate):
-    """The wrong bodies of a crate."""
+    """The wrong bodies of a crate that its contracts must refuse."""
+    return [edit for edit in all_of(crate) if not edit.caught_by]
+
+
+def all_of(crate):
+    """The wrong bodies of a crate, also those that a test must catch."""
     return [wrong_bodies.Edit(crate, file) for folder in FOLDERS for file in sorted((crate.folder / folder).glob("*.edit"))]
 
 

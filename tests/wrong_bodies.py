@@ -15,13 +15,14 @@ class Edit:
     Each TEXT stands once in its file, on one line, or once in the bodies that a line `in: FUNCTION` names by the end of
     their path. A line `refused by: FUNCTION` names so the function whose contract refuses an edit that stands in none, as
     that of a number of an enum. A line `refused by law: NAME` names the proof that no longer holds of a definition, that
-    of a clause as `returns-clause-CLAUSE`. Of proofs of one name one is `FOLDER/NAME`.
+    of a clause as `returns-clause-CLAUSE`. Of proofs of one name one is `FOLDER/NAME`. A line `caught by: TEST` names a test
+    that fails with an edit of what has no contract: each TEXT is then an expression, or a statement with its semicolon.
     """
 
     def __init__(self, crate, file):
         self.crate, self.file, self.name = crate, file, file.stem
         self.why_not, self.changes, self.owners, self.avoids, self.turns = None, {}, set(), set(), 0
-        self.has_stray = True
+        self.has_stray, self.caught_by, self.planted = True, None, []
         self.lines, self.stands_on = set(), set()
         try:
             self.read(file.read_text())
@@ -48,6 +49,8 @@ class Edit:
                 old = rest
             elif word == "new":
                 self.change(path, inside, old, rest)
+            elif word == "caught by":
+                self.caught_by = rest
             elif word == "refused by":
                 self.refusing.add("::".join([self.crate.name, rest]))
             elif word == "refused by law":
@@ -73,6 +76,7 @@ class Edit:
         found = [number for number in searched for _ in re.finditer(re.escape(old), changed.get(number, lines[number]))]
         if len(found) != 1:
             raise ValueError(f"a text stands {len(found)} times in {inside or path} and not once: {old}")
+        self.planted.append((path, found[0], lines[found[0]].find(old), old, new))
         changed[found[0]] = changed.get(found[0], lines[found[0]]).replace(old, new)
 
     def functions(self, path):

