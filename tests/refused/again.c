@@ -1,6 +1,6 @@
 // Has each request for memory of a test refused in turn: at each, a child goes on without that memory to the end of
 // the test or of its round, before the test itself goes on with it. Each may end as README.md says. Some tests are run
-// once, since they have requests refused by themselves, or make too many.
+// once: those that refuse requests at every size themselves, and that of a stored run, which makes too many.
 #include "grants.h"
 #include "planted.h"
 
@@ -27,9 +27,7 @@ ssize_t ___interceptor_write(int file, const void *bytes, size_t count);
 // How the names of the tests begin that are run once.
 static const char *const once[] = {
     "memory::",
-    "pg_answers::tests::out_of_memory_writes_nothing",
     "pg_answers::tests::stored::",
-    "pg_send_tests::run::one_reservation::at_each_spare_room",
 };
 
 // The test, once it has begun; none in a child, and none that is run once.
