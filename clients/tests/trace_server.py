@@ -1,5 +1,5 @@
 #!/usr/bin/env python3
-"""A server of one connection that answers each message of its client with ones that PostgreSQL sends rarely or never.
+"""A server of one connection that answers what its client asks with messages that PostgreSQL sends rarely or never.
 
 It listens on a free port of 127.0.0.1, which its first line says.
 """
@@ -34,7 +34,7 @@ HELLO = (message("R", int4(0)) + message("S", "a \"name\"", b"caf\xe9\0") + mess
 
 EVERY_BYTE = bytes(range(256))
 
-# What each further message of the client is answered by.
+# What each Query of the client is answered by.
 ANSWERS = (
     message("T", 2, column(b"\xe9\t\"'\\", 2**32 - 1, -1, 2**31, -2, -1, 1), column(b"", 0, 0, 0, 0, 2**31 - 1, 7))
     + message("D", 2, int4(256), EVERY_BYTE, int4(0)) + message("D", 2, int4(-1, -1)) + message("C", "\"\\'\x7f")
@@ -51,14 +51,27 @@ ANSWERS = (
 )
 
 
+def body(stream):
+    """The next message's length and body, without its tag."""
+    length = stream.read(4)
+    return length + stream.read(int.from_bytes(length, "big") - 4)
+
+
+def asked(stream):
+    """Yields the Startup and each Query. A CopyFail goes out right before one, in a piece of its own or not."""
+    yield body(stream)
+    while tag := stream.read(1):
+        asks = body(stream)
+        if tag == b"Q":
+            yield asks
+
+
 def serve(client):
-    """Answers each piece of what the client says, which waits for each answer."""
-    for answer in (HELLO, *ANSWERS):
-        if not client.recv(65536):
-            return
-        client.sendall(answer)
-    while client.recv(65536):
-        pass
+    """Answers what the client asks, and reads on until it ends."""
+    with client.makefile("rb") as stream:
+        for answer, _ in zip((HELLO, *ANSWERS), asked(stream)):
+            client.sendall(answer)
+        stream.read()
 
 
 def main():
