@@ -233,6 +233,7 @@ test_replay() {
     test_replay_tokio_postgres
     test_replay_notify
     test_replay_in_folder
+    test_replay_threads
     test_replay_differences
     test_replay_damage
     test_replay_hostile

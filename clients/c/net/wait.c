@@ -6,11 +6,13 @@
 #include <errno.h>
 #include <fcntl.h>
 #include <signal.h>
+#include <stdatomic.h>
 #include <string.h>
 #include <time.h>
 #include <unistd.h>
 
-static volatile sig_atomic_t caught_signal;
+/* Of several threads one takes it. */
+static atomic_int caught_signal;
 
 static void note_signal(int number)
 {
@@ -51,8 +53,7 @@ void prepare_process(void)
 
 static enum status take_signal(void)
 {
-    int number = caught_signal;
-    caught_signal = 0;
+    int number = atomic_exchange(&caught_signal, 0);
     if (number == 0)
         return STATUS_OK;
     return number == SIGTERM ? STATUS_TERMINATED : STATUS_INTERRUPTED;
@@ -67,12 +68,14 @@ static int wait_once(struct pollfd *descriptors, nfds_t count, const struct time
     sigemptyset(&signals);
     sigaddset(&signals, SIGINT);
     sigaddset(&signals, SIGTERM);
-    if (sigprocmask(SIG_BLOCK, &signals, &before) < 0)
+    errno = pthread_sigmask(SIG_BLOCK, &signals, &before);
+    if (errno != 0)
         return -1;
     if (caught_signal == 0)
         ready = ppoll(descriptors, count, limit, &before);
     int failure = errno;
-    if (sigprocmask(SIG_SETMASK, &before, NULL) < 0)
+    errno = pthread_sigmask(SIG_SETMASK, &before, NULL);
+    if (errno != 0)
         return -1;
     errno = failure;
     return ready;

@@ -24,6 +24,7 @@ static const char usage[] =
     "  --go-on              serves on after a difference\n"
     "  --again              serves the recording again when all of it is replayed; with --any-order, a connection\n"
     "                       as soon as its client is gone\n"
+    "  --threads N          serves with N threads, and not with half as many as there are processors\n"
     "\n"
     "These hold for messages up to a mebibyte; longer ones have to be as recorded.\n";
 
@@ -43,7 +44,7 @@ static enum status serve(struct replay *replay, const char *path, unsigned long 
 
 int main(int argc, char **argv)
 {
-    static struct replay replay;
+    static struct replay replay = {.lock = PTHREAD_MUTEX_INITIALIZER};
     unsigned long port;
     prepare_process();
     if (options_show_help(argc, argv, usage))

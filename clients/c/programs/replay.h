@@ -7,8 +7,13 @@
 #include "replay_options.h"
 #include "replay_report.h"
 
+#include <pthread.h>
+
+/* Several threads serve the sessions, each session by one. It holds the lock for all but reads and writes, since a
+ * session that takes over another's connection changes that one too. */
 struct replay {
     struct replay_options options;
+    pthread_mutex_t lock; /* for what follows, and for all sessions */
     struct replay_index index;
     size_t done;       /* sessions of the recording that are over */
     size_t replayed;   /* those without a difference */
@@ -57,6 +62,9 @@ struct session {
     uint64_t ends_at;     /* when it is over, whatever is left; 0 for never */
     uint64_t due;         /* when something is to be done by itself; 0 for never */
 };
+
+void replay_lock(struct replay *replay);
+void replay_unlock(struct replay *replay);
 
 /* Begins with a client. NULL where there is no memory. */
 struct session *session_new(int socket);

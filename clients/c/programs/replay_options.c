@@ -15,7 +15,8 @@ enum letter {
     SPEED = 's',
     GO_ON = 'g',
     AGAIN = 'a',
-    PATIENCE = 't'
+    PATIENCE = 't',
+    THREADS = 'j'
 };
 
 static const struct option words[] = {
@@ -28,6 +29,7 @@ static const struct option words[] = {
     {"go-on", no_argument, NULL, GO_ON},
     {"again", no_argument, NULL, AGAIN},
     {"patience", required_argument, NULL, PATIENCE},
+    {"threads", required_argument, NULL, THREADS},
     {NULL, 0, NULL, 0},
 };
 
@@ -63,6 +65,7 @@ static bool take(struct replay_options *options, int letter)
     case ANY_SETTING: return add_setting(options, optarg);
     case ANY_PARAMETER: return add_parameter(options, optarg);
     case PATIENCE: return read_number(optarg, 86400, &options->patience);
+    case THREADS: return read_number(optarg, THREADS_MOST, &options->threads) && options->threads > 0;
     case ANY_NAME: options->has_any_name = true; break;
     case ANY_ORDER: options->has_any_order = true; break;
     case SPEED: options->keeps_times = true; break;

@@ -10,7 +10,8 @@ enum {
     SETTINGS_MOST = 64,
     POSITIONS = 65536, /* a Bind counts no more values */
     /* A longer message is compared piece by piece, and has to be the very bytes that were recorded. */
-    MESSAGE_MOST = 1024 * 1024
+    MESSAGE_MOST = 1024 * 1024,
+    THREADS_MOST = 64
 };
 
 struct replay_options {
@@ -23,6 +24,7 @@ struct replay_options {
     bool keeps_times;
     bool goes_on; /* after a difference */
     bool begins_again;
+    unsigned long threads;  /* that serve; 0 for half of the processors */
     unsigned long patience; /* for the rest of what was sent at once, in seconds; 0 for ever */
 };
 

@@ -2,130 +2,69 @@
 
 #include "clock.h"
 #include "listener.h"
-#include "replay.h"
+#include "replay_worker.h"
 #include "wait.h"
 
-#include <stdlib.h>
+#include <errno.h>
+#include <signal.h>
+#include <string.h>
 #include <unistd.h>
 
 enum {
-    SESSIONS_MOST = 1000,
     /* How long a client may be silent before its Startup while others wait for a place, in milliseconds. */
     SILENCE = 1000,
     /* How often it looks for the next message before it waits: for some 50 microseconds. */
     LOOKS = 100
 };
 
-/* All clients, and what is waited for: the sockets of these, and then the one where clients connect. */
-struct clients {
-    struct replay *replay;
-    int listening;
-    bool is_short; /* of what it takes to accept one */
-    unsigned looks; /* for messages, before it waits */
-    size_t count;
-    struct session *sessions[SESSIONS_MOST];
-    struct pollfd ready[SESSIONS_MOST + 1];
-};
-
-static bool is_full(const struct clients *clients)
-{
-    return clients->is_short || clients->count == SESSIONS_MOST;
-}
-
-/* How long to wait, in milliseconds; below 0 for ever. */
-static int time_to_wait(const struct clients *clients)
-{
-    uint64_t due = is_full(clients) ? microseconds() + SILENCE * 1000 : 0, now;
-    for (size_t i = 0; i < clients->count; i++) {
-        const struct session *session = clients->sessions[i];
-        if (session->due > 0 && (due == 0 || session->due < due))
-            due = session->due;
-    }
-    if (due == 0)
-        return -1;
-    now = microseconds();
-    if (due <= now)
-        return 0;
-    due = (due - now + 999) / 1000;
-    return due > INT32_MAX ? INT32_MAX : (int)due;
-}
-
-/* Waits until there is something to do. A socket that nothing is wanted of isn't waited for: its end would be
- * reported again and again. */
-static enum status wait_for_clients(struct clients *clients)
-{
-    for (size_t i = 0; i < clients->count; i++) {
-        const struct session *session = clients->sessions[i];
-        short events = (short)((session->has_hung_up ? 0 : POLLIN) | (session_is_pending(session) ? POLLOUT : 0));
-        clients->ready[i] = (struct pollfd){.fd = events == 0 ? -1 : session->socket, .events = events};
-    }
-    clients->ready[clients->count] = (struct pollfd){.fd = is_full(clients) ? -1 : clients->listening, .events = POLLIN};
-    unsigned looks = clients->count == 0 ? 0 : clients->looks;
-    return wait_eagerly(clients->ready, clients->count + 1, time_to_wait(clients), looks);
-}
-
-/* Ends a session: that of a recorded connection is replayed then. */
-static void end_session(struct replay *replay, struct session *session)
-{
-    struct recorded *recorded = session->recorded;
-    if (recorded != NULL) {
-        recorded->is_replayed = true;
-        recorded->holder = NULL;
-        recorded->rounds++;
-        replay->done++;
-        replay->replayed += !session->has_failed;
-        if (replay->options.begins_again && replay->options.has_any_order)
-            replay_index_give(&replay->index, recorded, NULL);
-    }
-    session_free(session);
-}
-
-static void take_away(struct clients *clients, size_t at)
-{
-    end_session(clients->replay, clients->sessions[at]);
-    clients->count--;
-    clients->sessions[at] = clients->sessions[clients->count];
-    clients->ready[at] = clients->ready[clients->count];
-    clients->is_short = false;
-}
-
 /* Ends the connection that has been silent longest before its Startup, where others wait for a place. */
-static void make_place(struct clients *clients)
+static void make_place(struct worker *leader)
 {
-    size_t found = clients->count;
-    for (size_t i = 0; i < clients->count; i++) {
-        const struct session *session = clients->sessions[i];
+    size_t found = leader->count;
+    for (size_t i = 0; i < leader->count; i++) {
+        const struct session *session = leader->sessions[i];
         if (session->state == SESSION_OPENING
-            && (found == clients->count || session->heard_at < clients->sessions[found]->heard_at))
+            && (found == leader->count || session->heard_at < leader->sessions[found]->heard_at))
             found = i;
     }
-    if (found < clients->count && microseconds() >= clients->sessions[found]->heard_at + SILENCE * 1000)
-        take_away(clients, found);
+    if (found < leader->count && microseconds() >= leader->sessions[found]->heard_at + SILENCE * 1000)
+        worker_end_session(leader, found);
 }
 
-/* Serves those that are ready, or of which something is due. */
-static enum status serve_clients(struct clients *clients)
+/* The worker that has the fewest sessions; the leader where there is none. */
+static struct worker *least_busy(const struct pool *pool)
 {
-    enum status status = STATUS_OK;
-    uint64_t now = microseconds();
-    for (size_t i = clients->count; status == STATUS_OK && i-- > 0;) {
-        struct session *session = clients->sessions[i];
-        const struct pollfd *ready = &clients->ready[i];
-        bool is_readable = (ready->events & POLLIN) != 0 && (ready->revents & (POLLIN | POLLHUP | POLLERR)) != 0;
-        if (ready->revents == 0 && (session->due == 0 || session->due > now))
-            continue;
-        status = session_step(clients->replay, session, is_readable);
-        if (session->state == SESSION_OVER)
-            take_away(clients, i);
-    }
-    return status;
+    struct worker *found = pool->count == 0 ? pool->leader : pool->workers[0];
+    for (size_t i = 1; i < pool->count; i++)
+        if (pool->workers[i]->count < found->count)
+            found = pool->workers[i];
+    return found;
 }
 
-static enum status accept_client(struct clients *clients)
+/* Gives those sessions to workers whose Startup has come. */
+static void give_sessions(struct pool *pool)
+{
+    struct worker *leader = pool->leader;
+    for (size_t i = leader->count; pool->count > 0 && i-- > 0;) {
+        if (leader->sessions[i]->state != SESSION_SERVING)
+            continue;
+        struct worker *worker = least_busy(pool);
+        worker_add(worker, worker_take(leader, i));
+        worker_wake(worker);
+    }
+}
+
+static enum status accept_client(struct pool *pool, int listening)
 {
     char peer[PEER_ROOM];
     int client;
-    enum status status = listener_accept(clients->listening, &client, peer, &clients->is_short);
+    bool is_short;
+    enum status status = listener_accept(listening, &client, peer, &is_short);
+    if (status == STATUS_OK && is_short) {
+        replay_lock(pool->replay);
+        pool->is_short = true;
+        replay_unlock(pool->replay);
+    }
     if (status != STATUS_OK || client < 0)
         return status;
     struct session *session = session_new(client);
@@ -133,55 +72,97 @@ static enum status accept_client(struct clients *clients)
         close(client);
         return complain_of_memory();
     }
-    clients->sessions[clients->count++] = session;
+    replay_lock(pool->replay);
+    worker_add(pool->leader, session);
+    pool->sessions++;
+    replay_unlock(pool->replay);
     return STATUS_OK;
 }
 
-/* Whether nothing is left to do. */
-static bool is_over(const struct clients *clients)
+/* Serves until all is over. The leader's thread is this one. */
+static void lead(struct pool *pool, int listening)
 {
-    const struct replay *replay = clients->replay;
-    bool is_ending = false, has_failed = false;
-    for (size_t i = 0; i < clients->count; i++) {
-        is_ending |= clients->sessions[i]->state == SESSION_ENDING || clients->sessions[i]->state == SESSION_LINGERING;
-        has_failed |= clients->sessions[i]->has_failed;
+    bool is_over = false, is_full = false;
+    while (!is_over) {
+        enum status status = worker_wait(pool->leader, is_full ? -1 : listening, is_full ? SILENCE : -1);
+        bool is_called = status == STATUS_OK && worker_is_called(pool->leader);
+        if (status == STATUS_OK)
+            status = worker_serve(pool->leader);
+        if (status == STATUS_OK && is_called)
+            status = accept_client(pool, listening);
+        replay_lock(pool->replay);
+        give_sessions(pool);
+        if (status != STATUS_OK)
+            pool_end(pool, status);
+        is_full = pool_is_full(pool);
+        if (is_full)
+            make_place(pool->leader);
+        is_over = pool_is_over(pool);
+        replay_unlock(pool->replay);
     }
-    if (replay->is_different && !replay->options.goes_on)
-        return !has_failed;
-    return !replay->options.begins_again && replay->done >= replay->index.sessions && !is_ending;
 }
 
-static enum status serve_until_over(struct clients *clients)
+/* Begins a worker. Answers whether there is one more. */
+static bool add_worker(struct pool *pool)
 {
-    enum status status = STATUS_OK;
-    while (status == STATUS_OK && !is_over(clients)) {
-        status = wait_for_clients(clients);
-        bool is_waiting = (clients->ready[clients->count].revents & POLLIN) != 0;
-        if (status == STATUS_OK)
-            status = serve_clients(clients);
-        if (status == STATUS_OK && is_waiting)
-            status = accept_client(clients);
-        if (is_full(clients))
-            make_place(clients);
+    struct worker *worker = worker_new(pool);
+    if (worker == NULL)
+        return false;
+    if (pthread_create(&worker->thread, NULL, worker_run, worker) != 0) {
+        worker_free(worker);
+        return false;
     }
-    return status;
+    pool->workers[pool->count++] = worker;
+    return true;
+}
+
+/* Begins so many workers, or as many as can be had: the leader serves alone where there are none. The leader takes the
+ * signals to end. */
+static void begin_workers(struct pool *pool, size_t count)
+{
+    sigset_t signals, before;
+    sigemptyset(&signals);
+    sigaddset(&signals, SIGINT);
+    sigaddset(&signals, SIGTERM);
+    bool are_blocked = pthread_sigmask(SIG_BLOCK, &signals, &before) == 0;
+    replay_lock(pool->replay);
+    while (are_blocked && pool->count < count && add_worker(pool))
+        continue;
+    replay_unlock(pool->replay);
+    if (are_blocked)
+        (void)pthread_sigmask(SIG_SETMASK, &before, NULL);
+}
+
+static void end_workers(struct pool *pool)
+{
+    for (size_t i = 0; i < pool->count; i++) {
+        (void)pthread_join(pool->workers[i]->thread, NULL);
+        worker_free(pool->workers[i]);
+    }
+}
+
+/* How many workers there are. One would do no more than the leader alone. Clients need the other half of the processors. */
+static size_t workers_wanted(const struct replay_options *options, long processors)
+{
+    size_t half = processors < 2 ? 1 : (size_t)processors / 2;
+    size_t threads = options->threads > 0 ? options->threads : half < THREADS_MOST ? half : THREADS_MOST;
+    return threads == 1 ? 0 : threads;
 }
 
 enum status replay_serve(struct replay *replay, int listening)
 {
-    struct clients *clients = calloc(1, sizeof *clients);
-    if (clients == NULL)
-        return complain_of_memory();
-    clients->replay = replay;
-    clients->listening = listening;
+    long processors = sysconf(_SC_NPROCESSORS_ONLN);
     /* A client can't answer meanwhile where there is but one processor. */
-    clients->looks = sysconf(_SC_NPROCESSORS_ONLN) > 1 ? LOOKS : 0;
-    enum status status = serve_until_over(clients);
-    while (clients->count > 0)
-        session_free(clients->sessions[--clients->count]);
-    free(clients);
-    if (status == STATUS_OK && replay->is_different)
-        status = STATUS_DIFFERENT;
+    struct pool pool = {.replay = replay, .looks = processors > 1 ? LOOKS : 0};
+    pool.leader = worker_new(&pool);
+    if (pool.leader == NULL)
+        return errno == ENOMEM ? complain_of_memory() : complain(STATUS_LOCAL, "no pipe: %s", strerror(errno));
+    begin_workers(&pool, workers_wanted(&replay->options, processors));
+    lead(&pool, listening);
+    end_workers(&pool);
+    worker_free(pool.leader);
+    if (pool.status == STATUS_OK && replay->is_different)
+        pool.status = STATUS_DIFFERENT;
     complain(STATUS_OK, "%zu of %zu sessions are replayed", replay->replayed, replay->index.sessions);
-    return status;
+    return pool.status;
 }

@@ -137,20 +137,33 @@ static void end_slowly(struct session *session)
         session->due = session->ends_at;
 }
 
+/* Writes what is to be sent, until it waits for the client. */
+static enum status send_answers(struct replay *replay, struct session *session)
+{
+    enum status status = add_answers(replay, session);
+    for (int i = 0; i < ROUNDS && status == STATUS_OK && session_is_pending(session); i++) {
+        replay_unlock(replay);
+        bool has_taken = write_bytes(session);
+        replay_lock(replay);
+        if (!has_taken)
+            break;
+        status = add_answers(replay, session);
+    }
+    return status;
+}
+
 enum status session_step(struct replay *replay, struct session *session, bool is_readable)
 {
-    enum status status = STATUS_OK;
+    enum status status = is_readable ? read_bytes(session) : STATUS_OK;
     session->due = 0;
-    if (is_readable)
-        status = read_bytes(session);
+    replay_lock(replay);
     if (status == STATUS_OK)
         status = session_check(replay, session);
     if (status == STATUS_OK)
-        status = add_answers(replay, session);
-    for (int i = 0; i < ROUNDS && status == STATUS_OK && session_is_pending(session) && write_bytes(session); i++)
-        status = add_answers(replay, session);
+        status = send_answers(replay, session);
     if (status == STATUS_OK && session->is_broken)
         status = session_check(replay, session);
     end_slowly(session);
+    replay_unlock(replay);
     return status;
 }
