@@ -135,23 +135,44 @@ test_replay_pressure() {
     fi
 }
 
-# Runs pg_replay with one request for memory refused, by its number, and leaves its end in $status and $errors.
+# Runs pg_replay of so many threads with one request for memory refused, by its number, and leaves its end in $status and
+# $errors.
 replay_without_memory() {
     : > "$work/errors.replay"
-    REFUSED=$1 LD_PRELOAD=$work/no_memory.so out/pg_replay --any-name --any-order "$work/words.tape" 0 \
+    REFUSED=$1 LD_PRELOAD=$work/no_memory.so out/pg_replay --threads "$2" --any-name --any-order "$work/words.tape" 0 \
         2> "$work/errors.replay" &
     replaying=$!
     await has_begun "$work/errors.replay" "$replaying"
     replay_port=$(sed -n 's/^listening on 127.0.0.1 port //p' "$work/errors.replay")
     if [ -n "$replay_port" ]; then
-        at_port "$replay_port" "${client[@]}" "${@:2}" > "$work/output" 2>&1
+        at_port "$replay_port" "${client[@]}" "${@:3}" > "$work/output" 2>&1
     fi
     end_replay
 }
 
-# It ends, or serves with fewer threads.
+# Tests that a replay of so many threads ends, whatever request for memory is refused, or serves all the same. Leaves in
+# $ended how many requests end it, and in $without how many it does without.
+refuse_memory() {
+    local number wrong=0
+    ended=0 without=0
+    for ((number = 0; ; number++)); do
+        replay_without_memory "$number" "$1" "${session[@]}"
+        [[ $errors == *'a request for memory is refused'* ]] || break
+        case "$status $errors" in
+        '8 '*'out of memory'* | '7 '*'Cannot allocate memory'*) ended=$((ended + 1)) ;;
+        '0 '*'1 of 1 sessions are replayed'*) without=$((without + 1)) ;;
+        *)
+            wrong=$((wrong + 1))
+            echo "without request $number: $status $errors $(cat "$work/output")"
+            ;;
+        esac
+    done
+    same "replay: threads, $1, and a request for memory is refused, in each of $number places" "$wrong" 0
+}
+
+# The buffer of a file is what one thread does without; a second one may not begin.
 test_replay_memory() {
-    local number refused=0 wrong=0
+    local ended without ended_one
     if ! cc -shared -fPIC -o "$work/no_memory.so" c/tests/no_memory.c 2> "$work/errors"; then
         echo 'left out: replays without memory, which need glibc'
         return
@@ -159,17 +180,9 @@ test_replay_memory() {
     named s1 s2 p1 s1 s1
     record_words "${session[@]}"
     named a b c a a
-    for ((number = 0; ; number++)); do
-        replay_without_memory "$number" "${session[@]}"
-        [[ $errors == *'a request for memory is refused'* ]] || break
-        refused=$((refused + 1))
-        case "$status $errors" in
-        '8 '*'out of memory'* | '7 '*'Cannot allocate memory'* | '0 '*'1 of 1 sessions are replayed'*) ;;
-        *)
-            wrong=$((wrong + 1))
-            echo "without request $number: $status $errors $(cat "$work/output")"
-            ;;
-        esac
-    done
-    same "replay: a request for memory is refused, in each of $refused places" "$wrong" 0
+    refuse_memory 1
+    ended_one=$ended
+    same 'replay: what one thread does without' "$without" 1
+    refuse_memory 2
+    same 'replay: as many requests end two threads' "$ended" "$ended_one"
 }
