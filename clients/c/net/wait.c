@@ -59,16 +59,30 @@ static enum status take_signal(void)
     return number == SIGTERM ? STATUS_TERMINATED : STATUS_INTERRUPTED;
 }
 
+/* Blocks the signals that end a program, in this thread, and gives those that were blocked before. An errno, or 0. */
+static int block(sigset_t *before)
+{
+    sigset_t signals;
+    sigemptyset(&signals);
+    sigaddset(&signals, SIGINT);
+    sigaddset(&signals, SIGTERM);
+    return pthread_sigmask(SIG_BLOCK, &signals, before);
+}
+
+void leave_signals(void)
+{
+    int failure = block(NULL);
+    if (failure != 0)
+        complain(STATUS_LOCAL, "signals can't be blocked: %s", strerror(failure));
+}
+
 /* Waits once, with the signals blocked from before the test for one until ppoll waits, so that none comes
  * between the two. Where a descriptor is ready at once a signal comes after ppoll. */
 static int wait_once(struct pollfd *descriptors, nfds_t count, const struct timespec *limit)
 {
-    sigset_t signals, before;
+    sigset_t before;
     int ready = 0;
-    sigemptyset(&signals);
-    sigaddset(&signals, SIGINT);
-    sigaddset(&signals, SIGTERM);
-    errno = pthread_sigmask(SIG_BLOCK, &signals, &before);
+    errno = block(&before);
     if (errno != 0)
         return -1;
     if (caught_signal == 0)

@@ -11,6 +11,9 @@
  * ends the program at once. */
 void catch_signals(void);
 
+/* Leaves them to other threads from now on. One that came before is found by `wait_for`. */
+void leave_signals(void);
+
 /* What each program does first. A write to a connection or a pipe that is gone then fails and doesn't end
  * the program. Those of the descriptors 0 to 2 that are closed are opened so that each use of them
  * fails: else a socket may get such a number, and be written to by mistake. */

@@ -6,7 +6,6 @@
 #include "wait.h"
 
 #include <errno.h>
-#include <signal.h>
 #include <string.h>
 #include <unistd.h>
 
@@ -116,21 +115,13 @@ static bool add_worker(struct pool *pool)
     return true;
 }
 
-/* Begins so many workers, or as many as can be had: the leader serves alone where there are none. The leader takes the
- * signals to end. */
+/* Begins so many workers, or as many as can be had: the leader serves alone where there are none. */
 static void begin_workers(struct pool *pool, size_t count)
 {
-    sigset_t signals, before;
-    sigemptyset(&signals);
-    sigaddset(&signals, SIGINT);
-    sigaddset(&signals, SIGTERM);
-    bool are_blocked = pthread_sigmask(SIG_BLOCK, &signals, &before) == 0;
     replay_lock(pool->replay);
-    while (are_blocked && pool->count < count && add_worker(pool))
+    while (pool->count < count && add_worker(pool))
         continue;
     replay_unlock(pool->replay);
-    if (are_blocked)
-        (void)pthread_sigmask(SIG_SETMASK, &before, NULL);
 }
 
 static void end_workers(struct pool *pool)

@@ -231,6 +231,7 @@ void *worker_run(void *argument)
     struct pool *pool = worker->pool;
     enum status status = STATUS_OK;
     bool is_over = false;
+    leave_signals();
     while (!is_over) {
         status = worker_wait(worker, -1, -1);
         if (status == STATUS_OK)

@@ -40,7 +40,7 @@ struct worker *worker_new(struct pool *pool);
 /* Frees a worker whose thread isn't there, with its sessions. */
 void worker_free(struct worker *worker);
 
-/* Serves a worker's sessions until all is over. A thread begins with it. */
+/* Serves a worker's sessions until all is over. A thread begins with it, and leaves signals to the leader. */
 void *worker_run(void *worker);
 
 /* Makes a thread look at its sessions again. */
