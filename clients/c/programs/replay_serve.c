@@ -124,12 +124,13 @@ static void begin_workers(struct pool *pool, size_t count)
     replay_unlock(pool->replay);
 }
 
+/* Frees the workers once no thread is left: each looks at the sessions of all. */
 static void end_workers(struct pool *pool)
 {
-    for (size_t i = 0; i < pool->count; i++) {
+    for (size_t i = 0; i < pool->count; i++)
         (void)pthread_join(pool->workers[i]->thread, NULL);
+    for (size_t i = 0; i < pool->count; i++)
         worker_free(pool->workers[i]);
-    }
 }
 
 /* How many workers there are. One would do no more than the leader alone. Clients need the other half of the processors. */
