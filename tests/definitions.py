@@ -13,6 +13,10 @@ WORD = re.compile(r"[^\s(){}\[\],;.]+")
 # A line that brings names, or a module by another name.
 USE = re.compile(r" *(?:pub |ghost )?use [\w.]+?(?:\.\{(.*)\}|\.([\w-]+)| as (\w+));?$")
 
+# A line that brings something of a crate's file of proofs, and the files of the proof of one function.
+OF_PROOFS = re.compile(r"(?:pub )?use Rattle\.(\w+)\.proofs\.([\w.]+\w)")
+OF_FUNCTION = re.compile(r"proofs/(.*)/(?:Answers|Invariants|Proof)\.antt")
+
 
 class Part:
     """Lines of a file that belong together: a type, an equation, or a clause."""
@@ -28,6 +32,8 @@ class Definitions:
     def __init__(self, crate):
         # The names that a file can use, its own and those of its lines `use`, and the modules that it names anew.
         self.named, self.names_in, self.modules_in = {}, {}, {}
+        # The files of proofs that each file reads.
+        self.reads = {}
         files = [file for part in ("specs", "proofs", "src") for file in (crate.folder / part).rglob("*")]
         for file in sorted(it for it in files if it.is_file()):
             path = str(file.relative_to(crate.folder))
@@ -35,6 +41,8 @@ class Definitions:
             uses = [use for use in map(USE.match, lines) if use]
             self.names_in[path] = {word for use in uses for word in WORD.findall((use[1] or use[2] or "").replace("◌", " "))}
             self.modules_in[path] = {use[2] or use[3] for use in uses}
+            proofs = [use[2] for use in map(OF_PROOFS.match, lines) if use and use[1] == crate.name]
+            self.reads[path] = {f"proofs/{module.replace('.', '/')}.antt" for module in proofs}
             self.read_clauses(path, lines) if file.suffix == ".rt" else self.read(path, lines)
 
     def read(self, path, lines):
@@ -100,6 +108,17 @@ class Definitions:
                 found.add(part)
                 todo += self.named_by(part)
         return set().union(*(part.lines for part in found.difference(changed)))
+
+    def reader_of(self, law):
+        """A function whose proof reads the file of a law, one of those that do so most directly, or None."""
+        files, seen = {self.named[law][None][0].path}, set()
+        while files:
+            readers = [read[1].replace("/", "::") for read in map(OF_FUNCTION.fullmatch, files) if read]
+            if readers:
+                return min(readers)
+            seen |= files
+            files = {path for path, read in self.reads.items() if read & files} - seen
+        return None
 
 
 @functools.lru_cache(maxsize=None)

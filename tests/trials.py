@@ -133,9 +133,10 @@ class Trial:
         texts = wrong_bodies.texts(self.crate, edits)
         if strays:
             texts = {**wrong_bodies.stray_answers(self.crate, edits), **texts}
-        functions = sorted({owner.partition("::")[2] for edit in edits for owner in edit.owners - edit.laws})
-        # A law is checked with all that is.
-        only = [] if any(edit.laws for edit in edits) else [word for function in functions for word in ("--only", function)]
+        functions = {owner.partition("::")[2] for edit in edits for owner in edit.owners - edit.laws}
+        functions = functions.union(*(edit.readers for edit in edits))
+        # A law that no function's proof reads is checked with all that is.
+        only = [] if None in functions else [word for function in sorted(functions) for word in ("--only", function)]
         with tempfile.TemporaryDirectory(prefix="edits-") as kept, PROCESSORS:
             self.known.copy(kept)
             said = self.crate.check(texts, only, kept, before=NICE)

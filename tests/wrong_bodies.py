@@ -23,13 +23,13 @@ class Edit:
         self.crate, self.file, self.name = crate, file, file.stem
         self.why_not, self.changes, self.owners, self.avoids, self.turns = None, {}, set(), set(), 0
         self.has_stray, self.caught_by, self.planted = True, None, []
-        self.lines, self.stands_on = set(), set()
+        self.lines, self.stands_on, self.readers = set(), set(), set()
         try:
             self.read(file.read_text())
-            # What changes more than bodies could also refuse what stands beside it.
-            self.is_apart = bool(self.refusing)
-            self.owners = self.refusing | self.laws or self.changed_functions()
             self.lines = {(path, number) for path, changed in self.changes.items() for number in changed}
+            # What changes more than bodies could also refuse what stands beside it.
+            self.is_apart = bool(self.refusing) and not self.is_of_bodies()
+            self.owners = self.refusing | self.laws or self.changed_functions()
             if self.laws:
                 self.read_laws(definitions.of(self.crate))
         except (OSError, ValueError) as why:
@@ -59,10 +59,11 @@ class Edit:
             raise ValueError("it changes nothing")
 
     def read_laws(self, known):
-        """Finds the lines on which the laws stand."""
+        """Finds the lines on which the laws stand, and the functions whose proofs read them."""
         new = [definitions.Part(path, [line], 0, 0) for path, changed in self.changes.items() for line in changed.values()]
         for law in self.laws:
             self.stands_on |= known.lines_of(law, new)
+            self.readers.add(known.reader_of(law))
         if not self.lines <= self.stands_on:
             raise ValueError("the law that it names doesn't stand on the lines that it changes")
 
@@ -88,6 +89,11 @@ class Edit:
         for it in self.functions(path):
             if it.name.endswith("::" + function):
                 yield from range(it.body, it.last + 1)
+
+    def is_of_bodies(self):
+        """Whether each changed line is in the body of a function."""
+        return all(any(it.holds(number, self.crate.lines(path)[number], self.changes[path][number]) for it in self.functions(path))
+                   for path, number in self.lines)
 
     def changed_functions(self):
         """The functions whose bodies have the changed lines; of a private constant those that name it."""
