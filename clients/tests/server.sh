@@ -31,11 +31,11 @@ find_owner() {
     fi
 }
 
-# A port of this machine on which nothing waits.
+# A port of this machine on which nothing waits, below those that Linux gives to clients.
 free_port() {
     local port
     while :; do
-        port=$((20000 + RANDOM % 20000))
+        port=$((20000 + RANDOM % 12000))
         if ! (exec 3<> "/dev/tcp/127.0.0.1/$port") 2> /dev/null; then
             echo "$port"
             return
