@@ -9,8 +9,9 @@ import crates
 # The commit as of which all were tried, and by which toolchain.
 TRIED = crates.TOP / "tests" / "tried"
 
-# How many of all wrong bodies are tried at each commit: in each half, those after the ones of the commit before.
-TURN = 288
+# How many of all wrong bodies are tried at each commit, and how many of these are of crates that stand on no other: those can be
+# tried while all else waits for the proofs of such crates.
+TURN, FIRST = 288, 44
 
 
 class Due:
@@ -21,7 +22,7 @@ class Due:
         # A clone without its history tries all.
         self.is_all = not is_ancestor(since) or toolchain != printed("rt", "version")
         if not self.is_all:
-            self.share = set(turn_of(edits.values(), int(changes.git("rev-list", "--count", "HEAD"))))
+            self.share = set(turn_of(edits, int(changes.git("rev-list", "--count", "HEAD"))))
             lines = changes.changed(since)
             self.changed = {crate: changes.Change(crate, since, lines) for crate in crates.known().values()}
 
@@ -36,19 +37,32 @@ class Due:
         return [edit for edit in edits if edit in self.share or self.changed[crate].concerns(edit)]
 
 
-def turn_of(crates, commits):
-    """The wrong bodies that are tried after so many commits: a run of one half of all, and one of the other.
+def turn_of(edits, commits):
+    """The wrong bodies that are tried after so many commits, of those of each crate.
 
-    Those of the crates that are proved last can't be tried before, so each turn has others, which can.
+    Those of the crates that are proved last can't be tried before, so each turn has others, which can: some of the crates that
+    are proved first, and of all others a run of one half, and one of the other.
     """
-    spread, half = [], TURN // 2
+    half = (TURN - FIRST) // 2
+    first = spread([its for crate, its in edits.items() if not crate.libraries()], FIRST)
+    others = spread([its for crate, its in edits.items() if crate.libraries()], half)
+    places = commits * half, commits * half + len(others) // 2
+    return [*run_of(first, commits * FIRST, FIRST), *(edit for place in places for edit in run_of(others, place, half))]
+
+
+def spread(crates, count):
+    """The wrong bodies of some crates, crate by crate, so that neighbours come into different turns of so many: they mostly
+    change one function, which takes them a check each."""
+    found = []
     for edits in crates:
-        # Neighbours mostly change one function, which takes them a check each: they come into different turns.
-        count = math.ceil(len(edits) / half)
-        spread += [edit for part in range(count) for edit in edits[part::count]]
-    begun = commits * half % len(spread)
-    places = [*range(begun, begun + half), *range(begun + len(spread) // 2, begun + len(spread) // 2 + half)]
-    return [spread[place % len(spread)] for place in places]
+        turns = math.ceil(len(edits) / count)
+        found += [edit for turn in range(turns) for edit in edits[turn::turns]]
+    return found
+
+
+def run_of(edits, begun, count):
+    """So many of some, if there are any, from a place on; after the last of them the first comes again."""
+    return [edits[place % len(edits)] for place in range(begun, begun + count)] if edits else []
 
 
 def is_ancestor(commit):
