@@ -5,15 +5,13 @@ import re
 import subprocess
 
 import crates
+import definitions
 import sources
 
 HUNK = re.compile(r"@@ -\S+ \+(\d+)(?:,(\d+))? @@")
 
 # What says nothing by itself: an import, a module's name, a comment.
 IMPORT = re.compile(r"^ *(?:(?:pub(?:\([a-z]+\))? |ghost )?(?:use|mod) [^;{\n]*(?:\{[^}]*\})?.*|//.*|--.*)$", re.MULTILINE)
-
-# The files of a proof of one function; the others in proofs/ are for several.
-OF_FUNCTION = ("Answers.antt", "Invariants.antt", "Proof.antt")
 
 
 def git(*words):
@@ -52,7 +50,7 @@ class Change:
     def is_of_body(self, path):
         """Whether a file changed in bodies of functions alone, or has the proof of one."""
         if path.startswith("proofs/"):
-            return path.endswith(OF_FUNCTION)
+            return bool(definitions.OF_FUNCTION.fullmatch(path))
         bodies = {number for it in self.functions_in(path) for number in range(it.body + 1, it.last)}
         return self.parts[path] <= bodies
 

@@ -13,7 +13,8 @@ WORD = re.compile(r"[^\s(){}\[\],;.]+")
 # A line that brings names, or a module by another name.
 USE = re.compile(r" *(?:pub |ghost )?use [\w.]+?(?:\.\{(.*)\}|\.([\w-]+)| as (\w+));?$")
 
-# A line that brings something of a crate's file of proofs, and the files of the proof of one function.
+# A line that brings something of a crate's file of proofs, and the files of the proof of one function; the others in
+# proofs/ are for several.
 OF_PROOFS = re.compile(r"(?:pub )?use Rattle\.(\w+)\.proofs\.([\w.]+\w)")
 OF_FUNCTION = re.compile(r"proofs/(.*)/(?:Answers|Invariants|Proof)\.antt")
 

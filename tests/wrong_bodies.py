@@ -92,8 +92,12 @@ class Edit:
 
     def is_of_bodies(self):
         """Whether each changed line is in the body of a function."""
-        return all(any(it.holds(number, self.crate.lines(path)[number], self.changes[path][number]) for it in self.functions(path))
-                   for path, number in self.lines)
+        return all(self.bodies_at(path, number) for path, number in self.lines)
+
+    def bodies_at(self, path, number):
+        """The functions whose bodies have a changed line."""
+        old, new = self.crate.lines(path)[number], self.changes[path][number]
+        return [it.name for it in self.functions(path) if it.holds(number, old, new)]
 
     def changed_functions(self):
         """The functions whose bodies have the changed lines; of a private constant those that name it."""
@@ -101,8 +105,8 @@ class Edit:
         for path, changed in self.changes.items():
             lines = self.crate.lines(path)
             functions = self.functions(path)
-            for number, line in changed.items():
-                here = [it.name for it in functions if it.holds(number, lines[number], line)]
+            for number in changed:
+                here = self.bodies_at(path, number)
                 constant = CONSTANT.match(lines[number])
                 if not here and constant:
                     name = re.compile(rf"\b{constant[1]}\b")
