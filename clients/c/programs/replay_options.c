@@ -2,6 +2,7 @@
 
 #include "replay_options.h"
 #include "options.h"
+#include "threads.h"
 
 #include <getopt.h>
 #include <string.h>

@@ -10,8 +10,7 @@ enum {
     SETTINGS_MOST = 64,
     POSITIONS = 65536, /* a Bind counts no more values */
     /* A longer message is compared piece by piece, and has to be the very bytes that were recorded. */
-    MESSAGE_MOST = 1024 * 1024,
-    THREADS_MOST = 64
+    MESSAGE_MOST = 1024 * 1024
 };
 
 struct replay_options {

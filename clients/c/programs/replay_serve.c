@@ -133,14 +133,6 @@ static void end_workers(struct pool *pool)
         worker_free(pool->workers[i]);
 }
 
-/* How many workers there are. One would do no more than the leader alone. Clients need the other half of the processors. */
-static size_t workers_wanted(const struct replay_options *options, long processors)
-{
-    size_t half = processors < 2 ? 1 : (size_t)processors / 2;
-    size_t threads = options->threads > 0 ? options->threads : half < THREADS_MOST ? half : THREADS_MOST;
-    return threads == 1 ? 0 : threads;
-}
-
 enum status replay_serve(struct replay *replay, int listening)
 {
     long processors = sysconf(_SC_NPROCESSORS_ONLN);
@@ -149,7 +141,7 @@ enum status replay_serve(struct replay *replay, int listening)
     pool.leader = worker_new(&pool);
     if (pool.leader == NULL)
         return errno == ENOMEM ? complain_of_memory() : complain(STATUS_LOCAL, "no pipe: %s", strerror(errno));
-    begin_workers(&pool, workers_wanted(&replay->options, processors));
+    begin_workers(&pool, threads_beside(replay->options.threads));
     lead(&pool, listening);
     end_workers(&pool);
     worker_free(pool.leader);

@@ -8,20 +8,14 @@
 #include <stdlib.h>
 #include <unistd.h>
 
-/* How often it tries to get the lock before it waits: others hold it for less time than it takes to fall asleep. */
-enum { TRIES = 100 };
-
 void replay_lock(struct replay *replay)
 {
-    for (int i = 0; i < TRIES; i++)
-        if (pthread_mutex_trylock(&replay->lock) == 0)
-            return;
-    (void)pthread_mutex_lock(&replay->lock);
+    lock_take(&replay->lock);
 }
 
 void replay_unlock(struct replay *replay)
 {
-    (void)pthread_mutex_unlock(&replay->lock);
+    lock_leave(&replay->lock);
 }
 
 struct worker *worker_new(struct pool *pool)

@@ -4,9 +4,9 @@
 #define REPLAY_WORKER_H
 
 #include "replay.h"
+#include "threads.h"
 
 #include <poll.h>
-#include <pthread.h>
 
 enum { SESSIONS_MOST = 1000 }; /* of all threads */
 
