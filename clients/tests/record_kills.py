@@ -2,9 +2,12 @@
 """Kills a recorder while rows pass: record_kills.py PG_RECORD RECORDING TURNS
 
 Three clients ask PGPORT's server for rows through it each time. Both readers must read each file to its last whole
-record. Prints how many files were read, their records, and how many files end within one.
+record, and what a client got must be in it. Prints how many files were read, their records, and how many files end
+within one.
 """
 
+import collections
+import itertools
 import pathlib
 import random
 import re
@@ -24,24 +27,27 @@ ROWS = b"COPY (SELECT repeat('x', 1023) FROM generate_series(1, 1000000)) TO STD
 LOADED = 10_000
 
 
-def ask(port):
-    """Asks for rows, and takes them until the connection ends."""
+def ask(port, got):
+    """Asks for rows, takes them until the connection ends, and adds how many bytes came."""
+    count = 0
     try:
         with socket.create_connection(("127.0.0.1", port)) as client:
             client.sendall(STARTUP + b"Q" + struct.pack(">I", 4 + len(ROWS)) + ROWS)
-            while client.recv(1 << 16):
-                pass
+            while some := client.recv(1 << 16):
+                count += len(some)
     except ConnectionError:
         pass
+    got.append(count)
 
 
 def killed(program, path):
-    """Leaves a recording whose recorder was killed."""
+    """Leaves a recording whose recorder was killed. How many bytes each client got, from the most on."""
+    got = []
     path.unlink(missing_ok=True)
     recorder = subprocess.Popen([program, "-o", path, "0"], stderr=subprocess.PIPE, text=True)
     with recorder.stderr:
         port = int(recorder.stderr.readline().split()[-1])
-    clients = [threading.Thread(target=ask, args=(port,)) for _ in range(3)]
+    clients = [threading.Thread(target=ask, args=(port, got)) for _ in range(3)]
     for client in clients:
         client.start()
     while path.stat().st_size < LOADED:
@@ -51,32 +57,46 @@ def killed(program, path):
     recorder.wait()
     for client in clients:
         client.join()
+    return sorted(got, reverse=True)
+
+
+def sent_of(records):
+    """How many bytes the records have of the server for each connection, from the most on."""
+    sent = collections.Counter()
+    for _, kind, connection, _, content in records:
+        sent[connection] += len(content) if kind == "B" else 0
+    return sorted(sent.values(), reverse=True)
 
 
 def read_by_both(program, path):
-    """How many records a recording has, and whether it ends within one."""
+    """The whole records of a recording, and whether it ends within one."""
     with open(path, "rb") as file:
         read_recording.head_of(file)
         records = list(read_recording.records(file))
     is_cut = records[-1] is None
+    if is_cut:
+        records.pop()
     run = subprocess.run([program, "--print", path, "--trace"], stdout=subprocess.DEVNULL, stderr=subprocess.PIPE, text=True)
     named = re.search(r"ends within a record: .* to offset (\d+)", run.stderr)
     if run.returncode != 0 or bool(named) != is_cut:
         sys.exit(f"status {run.returncode}: {run.stderr}")
-    whole = records[-2] if is_cut else records[-1]
-    end = whole[0] + read_recording.RECORD_HEAD.size + len(whole[4]) + read_recording.CHECKSUM.size
+    at, *_, content = records[-1]
+    end = at + read_recording.RECORD_HEAD.size + len(content) + read_recording.CHECKSUM.size
     if end != (int(named[1]) if is_cut else path.stat().st_size):
         sys.exit(f"the last whole record ends at {end}: {run.stderr}")
-    return len(records) - is_cut, is_cut
+    return records, is_cut
 
 
 def main():
     program, path, turns = sys.argv[1], pathlib.Path(sys.argv[2]), int(sys.argv[3])
     count, cut = 0, 0
     for _ in range(turns):
-        killed(program, path)
+        got = killed(program, path)
         records, is_cut = read_by_both(program, path)
-        count, cut = count + records, cut + is_cut
+        sent = sent_of(records)
+        if any(count > most for count, most in itertools.zip_longest(got, sent, fillvalue=0)):
+            sys.exit(f"clients got {got} bytes, of which {sent} are recorded")
+        count, cut = count + len(records), cut + is_cut
     print(turns, "files,", count, "records,", cut, "end within one")
 
 

@@ -173,10 +173,7 @@ refuse_memory() {
 # The buffer of a file is what one thread does without; a second one may not begin.
 test_replay_memory() {
     local ended without ended_one
-    if ! cc -shared -fPIC -o "$work/no_memory.so" c/tests/no_memory.c 2> "$work/errors"; then
-        echo 'left out: replays without memory, which need glibc'
-        return
-    fi
+    build_no_memory || return
     named s1 s2 p1 s1 s1
     record_words "${session[@]}"
     named a b c a a

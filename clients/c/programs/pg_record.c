@@ -3,6 +3,7 @@
 
 #include "options.h"
 #include "proxy.h"
+#include "threads.h"
 #include "wait.h"
 
 #include <getopt.h>
@@ -26,6 +27,7 @@ static const char usage[] =
     "  --encryption    let the server answer requests for encryption, which are answered by a no else, and\n"
     "                  pass on unread what is encrypted\n"
     "  --keep-passing  go on when FILE can't be written any more, which ends all sessions else\n"
+    "  --threads N     pass on with so many threads, not with half as many as there are processors\n"
     "  --print FILE    print a recording, as by --stream where not as by --trace\n"
     "Prints a line for each message of the server where neither -o nor a kind of line is given.\n";
 
@@ -34,6 +36,7 @@ struct wishes {
     struct options options;
     const char *folder; /* of the Unix socket to listen on; NULL for a port */
     unsigned long port;
+    unsigned long threads;
     const char *file;
     const char *printed;
     bool is_single;
@@ -42,7 +45,7 @@ struct wishes {
     struct passing passing;
 };
 
-enum letter { FOLDER = 256, TRACE, STREAM, NUMBERS, ONLY, PASSWORDS, ENCRYPTION, KEEP_PASSING, PRINT };
+enum letter { FOLDER = 256, TRACE, STREAM, NUMBERS, ONLY, PASSWORDS, ENCRYPTION, KEEP_PASSING, THREADS, PRINT };
 
 static const struct option names[] = {
     {"folder", required_argument, NULL, FOLDER},
@@ -53,6 +56,7 @@ static const struct option names[] = {
     {"passwords", no_argument, NULL, PASSWORDS},
     {"encryption", no_argument, NULL, ENCRYPTION},
     {"keep-passing", no_argument, NULL, KEEP_PASSING},
+    {"threads", required_argument, NULL, THREADS},
     {"print", required_argument, NULL, PRINT},
     {NULL, 0, NULL, 0},
 };
@@ -95,6 +99,7 @@ static bool take_option(struct wishes *wishes, int letter, const char *value)
     case PASSWORDS: wishes->passing.tape.leaves_out = false; return true;
     case ENCRYPTION: wishes->passing.passes_encryption = true; return true;
     case KEEP_PASSING: wishes->passing.tape.goes_on = true; return true;
+    case THREADS: return read_number(value, THREADS_MOST, &wishes->threads) && wishes->threads > 0;
     case PRINT: wishes->printed = value; return true;
     default: return options_take(&wishes->options, letter, value);
     }
@@ -142,7 +147,8 @@ static enum status serve(struct wishes *wishes)
     if (status == STATUS_OK) {
         wishes->passing.server = &address;
         catch_signals();
-        status = proxy(listener.socket, &wishes->passing, wishes->is_single);
+        size_t workers = wishes->is_single ? 0 : threads_beside(wishes->threads);
+        status = proxy(listener.socket, &wishes->passing, wishes->is_single, workers);
         listener_close(&listener);
     }
     address_free(&address);
@@ -186,7 +192,7 @@ static enum status record(struct wishes *wishes)
 
 int main(int argc, char **argv)
 {
-    struct wishes wishes = {0};
+    struct wishes wishes = {.passing.tape.lock = PTHREAD_MUTEX_INITIALIZER};
     prepare_process();
     if (options_show_help(argc, argv, usage))
         return STATUS_OK;

@@ -1,37 +1,34 @@
 #define _DEFAULT_SOURCE
 
 #include "proxy.h"
-#include "clock.h"
+#include "proxy_worker.h"
 #include "wait.h"
 
-#include <stdlib.h>
+#include <errno.h>
+#include <string.h>
 #include <sys/resource.h>
 
 enum {
     MOST_SESSIONS = 1000,
-    OTHER_DESCRIPTORS = 16, /* the most that aren't of a session */
-    ACCEPTED_AT_ONCE = 16,
-    PAUSE = 50, /* in milliseconds, where something is short */
-    FIRST = 1   /* the place of the first session, after the listening socket */
+    OTHER_DESCRIPTORS = 16, /* the most that are of neither a session nor a thread */
+    ACCEPTED_AT_ONCE = 16
 };
 
 struct proxy {
     int listening;
     struct passing *passing;
-    struct session **sessions;
-    struct pollfd *ready; /* the listening socket, and two of each session */
-    size_t count;
-    size_t most;
-    bool is_short;       /* no client could be accepted, for want of something */
-    bool is_single_over; /* the first session has ended */
-    enum status ending;  /* how it did */
+    size_t most;   /* sessions of all threads */
+    bool is_short; /* no client could be accepted, for want of something */
+    struct worker *leader;
+    struct worker *workers[THREADS_MOST];
+    size_t count; /* of workers */
 };
 
 /* How many sessions the process has descriptors for, after raising their limit where it may. */
-static size_t most_sessions(void)
+static size_t most_sessions(size_t threads)
 {
     struct rlimit limit;
-    rlim_t wanted = 2 * MOST_SESSIONS + OTHER_DESCRIPTORS;
+    rlim_t others = OTHER_DESCRIPTORS + 2 * threads, wanted = 2 * MOST_SESSIONS + others;
     if (getrlimit(RLIMIT_NOFILE, &limit) < 0)
         return 1;
     if (limit.rlim_cur < wanted) {
@@ -42,91 +39,87 @@ static size_t most_sessions(void)
     }
     if (limit.rlim_cur >= wanted)
         return MOST_SESSIONS;
-    return limit.rlim_cur > OTHER_DESCRIPTORS + 2 ? (size_t)(limit.rlim_cur - OTHER_DESCRIPTORS) / 2 : 1;
+    return limit.rlim_cur > others + 2 ? (size_t)(limit.rlim_cur - others) / 2 : 1;
 }
 
-static bool proxy_begin(struct proxy *proxy, int listening, struct passing *passing)
+/* Begins a worker. Answers whether there is one more. */
+static bool add_worker(struct proxy *proxy)
 {
-    *proxy = (struct proxy){.listening = listening, .passing = passing, .most = most_sessions()};
-    proxy->sessions = calloc(proxy->most, sizeof *proxy->sessions);
-    proxy->ready = calloc(1 + 2 * proxy->most, sizeof *proxy->ready);
-    return proxy->sessions != NULL && proxy->ready != NULL;
+    struct worker *worker = worker_new(proxy->passing, proxy->leader, proxy->most);
+    if (worker == NULL)
+        return false;
+    if (pthread_create(&worker->thread, NULL, worker_run, worker) != 0) {
+        worker_free(worker);
+        return false;
+    }
+    proxy->workers[proxy->count++] = worker;
+    return true;
 }
 
-static void proxy_end(struct proxy *proxy)
+/* Begins so many workers, or as many as can be had: the leader passes all on alone where there are none. */
+static enum status proxy_begin(struct proxy *proxy, int listening, struct passing *passing, size_t workers)
+{
+    *proxy = (struct proxy){.listening = listening, .passing = passing, .most = most_sessions(1 + workers)};
+    proxy->leader = worker_new(passing, NULL, proxy->most);
+    if (proxy->leader == NULL)
+        return errno == ENOMEM ? complain_of_memory() : complain(STATUS_LOCAL, "no pipe: %s", strerror(errno));
+    while (proxy->count < workers && add_worker(proxy))
+        continue;
+    return STATUS_OK;
+}
+
+/* Ends all threads. Answers the status of one that failed, or the one that is there already. */
+static enum status proxy_end(struct proxy *proxy, enum status status)
 {
     for (size_t i = 0; i < proxy->count; i++)
-        session_end(proxy->sessions[i]);
-    free(proxy->sessions);
-    free(proxy->ready);
-}
-
-/* How long nothing need be done, in milliseconds, or -1 where only descriptors say. */
-static int patience(const struct proxy *proxy)
-{
-    int64_t first = proxy->is_short ? milliseconds() + PAUSE : INT64_MAX;
+        worker_end(proxy->workers[i]);
     for (size_t i = 0; i < proxy->count; i++) {
-        const struct session *session = proxy->sessions[i];
-        int64_t due = session->upstream.is_full ? milliseconds() + PAUSE : session->deadline;
-        if (due != 0 && due < first)
-            first = due;
+        struct worker *worker = proxy->workers[i];
+        (void)pthread_join(worker->thread, NULL);
+        if (status == STATUS_OK)
+            status = worker->status;
+        worker_free(worker);
     }
-    if (first == INT64_MAX)
-        return -1;
-    int64_t left = first - milliseconds();
-    return left < 0 ? 0 : (int)left;
+    worker_free(proxy->leader);
+    return status;
 }
 
-static enum status wait_for_all(struct proxy *proxy)
+/* Whether there is no place for another client. */
+static bool is_full(const struct proxy *proxy)
 {
-    bool accepts = proxy->count < proxy->most && !proxy->is_short;
-    proxy->ready[0] = (struct pollfd){.fd = accepts ? proxy->listening : -1, .events = POLLIN};
+    size_t load = proxy->leader->load;
     for (size_t i = 0; i < proxy->count; i++)
-        session_wants(proxy->sessions[i], &proxy->ready[FIRST + 2 * i]);
-    enum status status = wait_for(proxy->ready, 1 + 2 * proxy->count, patience(proxy));
-    proxy->is_short = false;
-    return status;
+        load += proxy->workers[i]->load;
+    return load >= proxy->most;
 }
 
-/* Takes away a session that is over. */
-static void remove_session(struct proxy *proxy, size_t place)
+/* The worker that has the fewest sessions. */
+static struct worker *least_busy(const struct proxy *proxy)
 {
-    struct session *session = proxy->sessions[place];
-    if (session->number == 1) {
-        proxy->is_single_over = true;
-        proxy->ending = session->ending;
-    }
-    session_end(session);
-    proxy->sessions[place] = proxy->sessions[--proxy->count];
+    struct worker *found = proxy->workers[0];
+    for (size_t i = 1; i < proxy->count; i++)
+        if (proxy->workers[i]->load < found->load)
+            found = proxy->workers[i];
+    return found;
 }
 
-static bool is_due(const struct session *session, const struct pollfd ready[2], int64_t now)
+/* Gives those sessions to workers that are open. */
+static void give_open(struct proxy *proxy)
 {
-    return ready[0].revents != 0 || ready[1].revents != 0 || session->upstream.is_full
-        || (session->deadline != 0 && session->deadline <= now);
-}
-
-/* Goes on with each session that can. The last first: one that is over gives its place to the last. */
-static enum status step_all(struct proxy *proxy)
-{
-    enum status status = STATUS_OK;
-    int64_t now = milliseconds();
-    for (size_t i = proxy->count; i > 0 && status == STATUS_OK; i--) {
-        struct session *session = proxy->sessions[i - 1];
-        const struct pollfd *ready = &proxy->ready[FIRST + 2 * (i - 1)];
-        if (!is_due(session, ready, now))
+    struct worker *leader = proxy->leader;
+    for (size_t i = leader->count; proxy->count > 0 && i-- > 0;) {
+        if (leader->sessions[i]->stage != STAGE_PASSING)
             continue;
-        status = session_step(session, proxy->passing, ready);
-        if (session->stage == STAGE_OVER)
-            remove_session(proxy, i - 1);
+        struct session *session = worker_take(leader, i);
+        if (!worker_give(least_busy(proxy), session))
+            worker_add(leader, session);
     }
-    return status;
 }
 
 /* Accepts those that wait. */
 static enum status accept_all(struct proxy *proxy)
 {
-    for (int turn = 0; turn < ACCEPTED_AT_ONCE && proxy->count < proxy->most; turn++) {
+    for (int turn = 0; turn < ACCEPTED_AT_ONCE && !is_full(proxy); turn++) {
         char peer[PEER_ROOM];
         int client;
         enum status status = listener_accept(proxy->listening, &client, peer, &proxy->is_short);
@@ -137,7 +130,7 @@ static enum status accept_all(struct proxy *proxy)
             complain_of_memory();
             continue;
         }
-        proxy->sessions[proxy->count++] = session;
+        worker_add(proxy->leader, session);
     }
     return STATUS_OK;
 }
@@ -145,31 +138,34 @@ static enum status accept_all(struct proxy *proxy)
 /* Where there is no place for another client, those that say nothing get less time. */
 static void hurry_all(const struct proxy *proxy)
 {
-    for (size_t i = 0; i < proxy->count && proxy->count == proxy->most; i++)
-        session_hurry(proxy->sessions[i]);
+    for (size_t i = 0; i < proxy->leader->count && is_full(proxy); i++)
+        session_hurry(proxy->leader->sessions[i]);
 }
 
 static enum status turn(struct proxy *proxy)
 {
-    enum status status = wait_for_all(proxy);
+    bool accepts = !is_full(proxy) && !proxy->is_short;
+    enum status status = worker_wait(proxy->leader, accepts ? proxy->listening : -1, accepts ? -1 : PAUSE);
+    proxy->is_short = false;
     if (status == STATUS_OK)
-        status = step_all(proxy);
-    if (status == STATUS_OK && proxy->ready[0].revents != 0)
+        status = worker_step(proxy->leader);
+    if (status == STATUS_OK && worker_is_called(proxy->leader))
         status = accept_all(proxy);
+    give_open(proxy);
     hurry_all(proxy);
     return status;
 }
 
-enum status proxy(int listening, struct passing *passing, bool is_single)
+enum status proxy(int listening, struct passing *passing, bool is_single, size_t workers)
 {
     struct proxy proxy;
-    enum status status = STATUS_OK;
-    if (!proxy_begin(&proxy, listening, passing))
-        status = complain_of_memory();
-    while (status == STATUS_OK && !(is_single && proxy.is_single_over))
+    enum status status = proxy_begin(&proxy, listening, passing, workers);
+    if (proxy.leader == NULL)
+        return status;
+    struct worker *leader = proxy.leader;
+    while (status == STATUS_OK && !leader->is_over && !(is_single && leader->is_first_over))
         status = turn(&proxy);
-    if (status == STATUS_OK)
-        status = proxy.ending;
-    proxy_end(&proxy);
-    return status;
+    if (status == STATUS_OK && is_single)
+        status = leader->first;
+    return proxy_end(&proxy, status);
 }

@@ -4,8 +4,9 @@
 
 #include "session.h"
 
-/* Serves clients of a listening socket, all at once, until a signal comes or nothing may pass any more; with
- * `is_single` until the first session has ended, whose status it answers. */
-enum status proxy(int listening, struct passing *passing, bool is_single);
+/* Serves clients of a listening socket, all at once and with so many threads beside this one, until a signal comes or
+ * nothing may pass any more; with `is_single` until the first session has ended, whose status it answers: then there are
+ * to be no other threads. */
+enum status proxy(int listening, struct passing *passing, bool is_single, size_t workers);
 
 #endif

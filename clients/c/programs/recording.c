@@ -81,7 +81,9 @@ static bool is_used(int file)
 
 enum status recorder_create(struct recorder *recorder, const char *path)
 {
-    *recorder = (struct recorder){.path = path, .begun = microseconds()};
+    recorder->path = path;
+    recorder->begun = microseconds();
+    recorder->len = 0;
     recorder->file = open(path, O_WRONLY | O_CREAT | O_APPEND | O_CLOEXEC, 0600);
     if (recorder->file < 0)
         return complain_of_file(recorder, "can't be opened");
@@ -95,11 +97,28 @@ enum status recorder_create(struct recorder *recorder, const char *path)
     return status;
 }
 
+/* Writes parts of which the first is what is held. */
+static enum status write_parts(struct recorder *recorder, struct iovec *parts, int count)
+{
+    recorder->len = 0;
+    if (!write_whole(recorder->file, parts, count))
+        return complain_of_file(recorder, "can't be written");
+    return STATUS_OK;
+}
+
+static void hold(struct recorder *recorder, const struct iovec *part)
+{
+    if (part->iov_len > 0)
+        memcpy(recorder->held + recorder->len, part->iov_base, part->iov_len);
+    recorder->len += part->iov_len;
+}
+
 enum status recorder_add(struct recorder *recorder, uint8_t kind, uint32_t connection, const uint8_t *content,
                          size_t len)
 {
     uint8_t head[RECORD_HEAD], tail[RECORD_TAIL];
     struct iovec parts[] = {
+        {.iov_base = recorder->held, .iov_len = recorder->len},
         {.iov_base = head, .iov_len = sizeof head},
         {.iov_base = (void *)content, .iov_len = len},
         {.iov_base = tail, .iov_len = sizeof tail},
@@ -110,9 +129,17 @@ enum status recorder_add(struct recorder *recorder, uint8_t kind, uint32_t conne
     put_eight(head + 9, microseconds() - recorder->begun);
     put_four(head + 17, checksum_of(head, 17));
     put_four(tail, checksum_of(content, len));
-    if (!write_whole(recorder->file, parts, 3))
-        return complain_of_file(recorder, "can't be written");
+    if (recorder->len + sizeof head + len + sizeof tail > sizeof recorder->held)
+        return write_parts(recorder, parts, 4);
+    for (int i = 1; i < 4; i++)
+        hold(recorder, &parts[i]);
     return STATUS_OK;
+}
+
+enum status recorder_flush(struct recorder *recorder)
+{
+    struct iovec part = {.iov_base = recorder->held, .iov_len = recorder->len};
+    return part.iov_len == 0 ? STATUS_OK : write_parts(recorder, &part, 1);
 }
 
 void recorder_forget(const struct recorder *recorder)
@@ -124,7 +151,8 @@ void recorder_forget(const struct recorder *recorder)
 
 enum status recorder_close(struct recorder *recorder)
 {
-    if (close(recorder->file) < 0)
+    enum status status = recorder_flush(recorder);
+    if (close(recorder->file) < 0 && status == STATUS_OK)
         return complain_of_file(recorder, "can't be written to its end");
-    return STATUS_OK;
+    return status;
 }

@@ -9,7 +9,7 @@
  *      8  when it began, in microseconds since 1970-01-01 UTC
  *      4  the checksum of the 20 bytes before
  *
- * Records follow one after the other, in the order of what they tell; each is added by one write:
+ * Records follow one after the other, in the order of what they tell; each is added by one write, alone or with others:
  *
  *      4  the length of the content in bytes, at most 1,048,576
  *      1  the kind, a letter
@@ -68,25 +68,33 @@ enum {
     RECORD_CLOSED = 'C'
 };
 
+/* How many bytes of records are held to be written at once. */
+enum { RECORDER_ROOM = 16384 };
+
 /* A recording that is written. */
 struct recorder {
     int file;
     const char *path;
     uint64_t begun; /* by the clock that never goes back, in microseconds */
+    size_t len;     /* of the records that are held: whole ones */
+    uint8_t held[RECORDER_ROOM];
 };
 
 /* Makes a file of a recording without records. One that isn't empty is refused. */
 enum status recorder_create(struct recorder *recorder, const char *path);
 
-/* Adds a record. Where that fails, it says so; then the file is cut to its last whole record where that can be,
- * and none may be added. */
+/* Adds a record: holds it, or writes it after those that are held where there is no room. Where that fails, it says so;
+ * then the file is cut to what was written before where that can be, and none may be added. */
 enum status recorder_add(struct recorder *recorder, uint8_t kind, uint32_t connection, const uint8_t *content,
                          size_t len);
+
+/* Writes the records that are held. It fails as recorder_add does. */
+enum status recorder_flush(struct recorder *recorder);
 
 /* Takes the file away where it has no record, so that its name can be used again. */
 void recorder_forget(const struct recorder *recorder);
 
-/* Closes the file, and says where that fails. */
+/* Writes the records that are held, closes the file, and says where that fails. */
 enum status recorder_close(struct recorder *recorder);
 
 /* A recording that is read. */

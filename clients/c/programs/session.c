@@ -37,7 +37,7 @@ struct session *session_begin(int client, const char *peer)
     session->number = 0;
     session->ending = STATUS_OK;
     session->client = client;
-    session->is_served = session->is_encrypted = session->is_recorded_closed = false;
+    session->is_due = session->is_served = session->is_encrypted = session->is_recorded_closed = false;
     session->first_end = 0;
     session->begun = milliseconds();
     session->deadline = session->begun + OPENING_PATIENCE;
@@ -151,18 +151,13 @@ static enum status close_session(struct session *session, struct passing *passin
     return record_end(session, passing);
 }
 
+/* Passes on what is recorded. */
 static enum status pass(struct session *session, struct passing *passing)
 {
-    struct flow *up = &session->up, *down = &session->down;
-    enum status status = take(session, passing, &session->of_client, up);
-    if (status == STATUS_OK)
-        status = take(session, passing, &session->of_server, down);
-    if (status != STATUS_OK)
-        return status;
-    flow_write(up);
-    flow_write(down);
+    flow_write(&session->up);
+    flow_write(&session->down);
     note_end(session);
-    return down->is_closed ? close_session(session, passing) : STATUS_OK;
+    return session->down.is_closed ? close_session(session, passing) : STATUS_OK;
 }
 
 /* Reads on what the client sends, which nobody gets. */
@@ -181,7 +176,13 @@ static void give_up(struct session *session)
     session->stage = STAGE_OVER;
 }
 
-enum status session_step(struct session *session, struct passing *passing, const struct pollfd ready[2])
+static enum status take_both(struct session *session, struct passing *passing)
+{
+    enum status status = take(session, passing, &session->of_client, &session->up);
+    return status == STATUS_OK ? take(session, passing, &session->of_server, &session->down) : status;
+}
+
+enum status session_take(struct session *session, struct passing *passing, const struct pollfd ready[2])
 {
     if (is_readable(&ready[0]))
         flow_read(&session->up);
@@ -192,6 +193,14 @@ enum status session_step(struct session *session, struct passing *passing, const
     if (session->stage < STAGE_PASSING)
         status = open_session(session, passing, &ready[1]);
     if (status == STATUS_OK && session->stage == STAGE_PASSING)
+        status = take_both(session, passing);
+    return status;
+}
+
+enum status session_pass(struct session *session, struct passing *passing)
+{
+    enum status status = STATUS_OK;
+    if (session->stage == STAGE_PASSING)
         status = pass(session, passing);
     if (session->stage == STAGE_LINGERING)
         linger(session);

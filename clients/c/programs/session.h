@@ -29,6 +29,7 @@ struct session {
     uint32_t number;    /* of the recording; 0 where it isn't in it */
     enum status ending; /* how it ended */
     int client;
+    bool is_due;       /* it can go on at this turn */
     bool is_served;    /* there is a connection to the server */
     bool is_encrypted; /* bytes pass unread */
     uint8_t first_end; /* the side that ended first, or 0 */
@@ -53,8 +54,11 @@ void session_hurry(struct session *session);
  * end of it would be reported at once, again and again. */
 void session_wants(const struct session *session, struct pollfd ready[2]);
 
-/* Does what can be done at once. A failure is one of the tape, which ends all sessions. */
-enum status session_step(struct session *session, struct passing *passing, const struct pollfd ready[2]);
+/* Takes what comes, and has it recorded. A failure is one of the tape, which ends all sessions. */
+enum status session_take(struct session *session, struct passing *passing, const struct pollfd ready[2]);
+
+/* Passes on what the tape has been flushed of. It fails as session_take does. */
+enum status session_pass(struct session *session, struct passing *passing);
 
 /* Closes both connections, and frees it. */
 void session_end(struct session *session);
