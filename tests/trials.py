@@ -19,8 +19,9 @@ UNREADABLE, NOT_APPLIED, UNDECIDED = "does not read", "does not apply", "no verd
 # How often an edit that waits for another's function is put beside others.
 TURNS = 2
 
-# How many edits are in a check: each takes some time to start, and a few long ones leave processors idle.
-LEAST, MOST = 10, 40
+# How many edits are in a check: each takes some time to start, and a few long ones leave processors idle, as they do at
+# the end, where some are tried again.
+LEAST, LEAST_AGAIN, MOST = 10, 3, 40
 
 # The wrong bodies of a crate, and those by which the trials are tested, in a folder a verdict.
 FOLDERS = ("edits", "must-fail")
@@ -214,7 +215,8 @@ def verdict_of(edit, said):
 def batches_of(edits):
     """All of them, for a check each: no two that touch in one, and as many checks for each processor."""
     rounds = math.ceil(len(edits) / (MOST * crates.processors()))
-    most = max(LEAST, math.ceil(len(edits) / (rounds * crates.processors())))
+    least = LEAST_AGAIN if all(edit.turns for edit in edits) else LEAST
+    most = max(least, math.ceil(len(edits) / (rounds * crates.processors())))
     others = {edit: sum(map(edit.touches, edits)) for edit in edits}
     batches = []
     # What touches most others comes first, and what touches none evens the checks out.
