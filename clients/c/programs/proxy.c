@@ -4,8 +4,6 @@
 #include "proxy_worker.h"
 #include "wait.h"
 
-#include <errno.h>
-#include <string.h>
 #include <sys/resource.h>
 
 enum {
@@ -62,7 +60,7 @@ static enum status proxy_begin(struct proxy *proxy, int listening, struct passin
     *proxy = (struct proxy){.listening = listening, .passing = passing, .most = most_sessions(1 + workers)};
     proxy->leader = worker_new(passing, NULL, proxy->most);
     if (proxy->leader == NULL)
-        return errno == ENOMEM ? complain_of_memory() : complain(STATUS_LOCAL, "no pipe: %s", strerror(errno));
+        return complain_of_thread();
     while (proxy->count < workers && add_worker(proxy))
         continue;
     return STATUS_OK;

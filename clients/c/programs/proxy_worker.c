@@ -1,7 +1,6 @@
 #define _DEFAULT_SOURCE
 
 #include "proxy_worker.h"
-#include "address.h"
 #include "clock.h"
 #include "wait.h"
 
@@ -14,7 +13,7 @@ enum { LISTENING, INBOX, FIRST };
 struct worker *worker_new(struct passing *passing, struct worker *leader, size_t most)
 {
     struct worker *worker = calloc(1, sizeof *worker);
-    if (worker == NULL || pipe(worker->inbox) < 0) {
+    if (worker == NULL || !wake_open(worker->inbox)) {
         free(worker);
         return NULL;
     }
@@ -22,8 +21,7 @@ struct worker *worker_new(struct passing *passing, struct worker *leader, size_t
     worker->leader = leader;
     worker->sessions = calloc(most, sizeof *worker->sessions);
     worker->ready = calloc(FIRST + 2 * most, sizeof *worker->ready);
-    if (worker->sessions != NULL && worker->ready != NULL && set_nonblocking(worker->inbox[0])
-        && set_nonblocking(worker->inbox[1]))
+    if (worker->sessions != NULL && worker->ready != NULL)
         return worker;
     worker_free(worker);
     return NULL;

@@ -5,8 +5,6 @@
 #include "replay_worker.h"
 #include "wait.h"
 
-#include <errno.h>
-#include <string.h>
 #include <unistd.h>
 
 enum {
@@ -30,10 +28,10 @@ static void make_place(struct worker *leader)
         worker_end_session(leader, found);
 }
 
-/* The worker that has the fewest sessions; the leader where there is none. */
+/* The worker that has the fewest sessions. */
 static struct worker *least_busy(const struct pool *pool)
 {
-    struct worker *found = pool->count == 0 ? pool->leader : pool->workers[0];
+    struct worker *found = pool->workers[0];
     for (size_t i = 1; i < pool->count; i++)
         if (pool->workers[i]->count < found->count)
             found = pool->workers[i];
@@ -140,7 +138,7 @@ enum status replay_serve(struct replay *replay, int listening)
     struct pool pool = {.replay = replay, .looks = processors > 1 ? LOOKS : 0};
     pool.leader = worker_new(&pool);
     if (pool.leader == NULL)
-        return errno == ENOMEM ? complain_of_memory() : complain(STATUS_LOCAL, "no pipe: %s", strerror(errno));
+        return complain_of_thread();
     begin_workers(&pool, threads_beside(replay->options.threads));
     lead(&pool, listening);
     end_workers(&pool);

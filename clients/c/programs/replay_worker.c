@@ -1,7 +1,6 @@
 #define _DEFAULT_SOURCE
 
 #include "replay_worker.h"
-#include "address.h"
 #include "clock.h"
 #include "wait.h"
 
@@ -21,15 +20,12 @@ void replay_unlock(struct replay *replay)
 struct worker *worker_new(struct pool *pool)
 {
     struct worker *worker = calloc(1, sizeof *worker);
-    if (worker == NULL || pipe(worker->wake) < 0) {
+    if (worker == NULL || !wake_open(worker->wake)) {
         free(worker);
         return NULL;
     }
     worker->pool = pool;
-    if (set_nonblocking(worker->wake[0]) && set_nonblocking(worker->wake[1]))
-        return worker;
-    worker_free(worker);
-    return NULL;
+    return worker;
 }
 
 void worker_free(struct worker *worker)
