@@ -19,9 +19,9 @@ UNREADABLE, NOT_APPLIED, UNDECIDED = "does not read", "does not apply", "no verd
 # How often an edit that waits for another's function is put beside others.
 TURNS = 2
 
-# How many edits are in a check: each takes some time to start, and a few long ones leave processors idle, as they do at
-# the end, where some are tried again.
-LEAST, LEAST_AGAIN, MOST = 10, 3, 40
+# How many edits are in a check: each takes some time to start, and a few long ones leave processors idle. They are few in
+# the first of a crate, for which its others wait, and at the end, where some are tried again.
+LEAST, FEW, MOST = 10, 3, 40
 
 # The wrong bodies of a crate, and those by which the trials are tested, in a folder a verdict.
 FOLDERS = ("edits", "must-fail")
@@ -119,7 +119,7 @@ class Trial:
         """Shows a verdict for each of these edits; where nothing is known of the crate yet, after a check of a few."""
         try:
             while left:
-                batches = [batches_of(left)[0][:LEAST]] if is_first else batches_of(left)
+                batches = [batches_of(left)[0][:FEW]] if is_first else batches_of(left)
                 left = without(left, batches)
                 with ThreadPoolExecutor(len(batches)) as pool:
                     left += [edit for again in pool.map(self.together, batches) for edit in again]
@@ -215,7 +215,7 @@ def verdict_of(edit, said):
 def batches_of(edits):
     """All of them, for a check each: no two that touch in one, and as many checks for each processor."""
     rounds = math.ceil(len(edits) / (MOST * crates.processors()))
-    least = LEAST_AGAIN if all(edit.turns for edit in edits) else LEAST
+    least = FEW if all(edit.turns for edit in edits) else LEAST
     most = max(least, math.ceil(len(edits) / (rounds * crates.processors())))
     others = {edit: sum(map(edit.touches, edits)) for edit in edits}
     batches = []
