@@ -3,8 +3,6 @@
 #include "recording.h"
 #include "replay.h"
 
-enum { OUT_MOST = 65536 };
-
 size_t session_limit(const struct session *session)
 {
     return session->found == FOUND_NONE ? session->client.connection->count : session->client.record;
@@ -56,7 +54,7 @@ static enum status add_bytes(const struct replay *replay, struct session *sessio
     while (session->out.end - session->out.start < OUT_MOST
            && cursor_find(&session->server, RECORD_FROM_SERVER, &piece) && session->server.record < limit) {
         uint64_t time = keeps_times ? time_to_send(session, piece.time) : 0;
-        if (time > microseconds()) {
+        if (time > 0 && time > microseconds()) {
             session->due = time;
             return STATUS_OK;
         }

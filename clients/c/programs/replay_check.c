@@ -30,7 +30,7 @@ enum status session_match(struct session *session)
     struct piece piece;
     session->client = session->next.end;
     session->recorded_at = session->next.time;
-    session->matched_at = microseconds();
+    session->matched_at = session->heard_at;
     session->is_terminated = session->matched > 0 && session->next.frame.tag == 'X';
     session->matched++;
     enum status status = session_find(session);

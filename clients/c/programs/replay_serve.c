@@ -80,8 +80,11 @@ static enum status accept_client(struct pool *pool, int listening)
 static void lead(struct pool *pool, int listening)
 {
     bool is_over = false, is_full = false;
+    replay_lock(pool->replay);
     while (!is_over) {
-        enum status status = worker_wait(pool->leader, is_full ? -1 : listening, is_full ? SILENCE : -1);
+        worker_list(pool->leader, is_full ? -1 : listening);
+        replay_unlock(pool->replay);
+        enum status status = worker_wait(pool->leader, is_full ? SILENCE : -1);
         bool is_called = status == STATUS_OK && worker_is_called(pool->leader);
         if (status == STATUS_OK)
             status = worker_serve(pool->leader);
@@ -95,8 +98,8 @@ static void lead(struct pool *pool, int listening)
         if (is_full)
             make_place(pool->leader);
         is_over = pool_is_over(pool);
-        replay_unlock(pool->replay);
     }
+    replay_unlock(pool->replay);
 }
 
 /* Begins a worker. Answers whether there is one more. */

@@ -137,10 +137,10 @@ static void end_slowly(struct session *session)
         session->due = session->ends_at;
 }
 
-/* Writes what is to be sent, until it waits for the client. */
+/* Writes what was added, and what is to be added then, until it waits for the client. */
 static enum status send_answers(struct replay *replay, struct session *session)
 {
-    enum status status = add_answers(replay, session);
+    enum status status = STATUS_OK;
     for (int i = 0; i < ROUNDS && status == STATUS_OK && session_is_pending(session); i++) {
         replay_unlock(replay);
         bool has_taken = write_bytes(session);
@@ -152,13 +152,40 @@ static enum status send_answers(struct replay *replay, struct session *session)
     return status;
 }
 
+/* Whether no more is to be added before the client says more, as it mostly is. */
+static bool is_all_added(const struct session *session)
+{
+    return session->state == SESSION_SERVING && session->out.end - session->out.start < OUT_MOST;
+}
+
+/* Writes what is all that is to be written now, without the lock. Answers whether the client may still be there. */
+static bool write_all(struct session *session)
+{
+    if (session_is_pending(session))
+        (void)write_bytes(session);
+    return !session->is_broken;
+}
+
+/* Takes what was read, and adds the answers. */
+static enum status take_bytes(struct replay *replay, struct session *session)
+{
+    enum status status = session_check(replay, session);
+    return status == STATUS_OK ? add_answers(replay, session) : status;
+}
+
 enum status session_step(struct replay *replay, struct session *session, bool is_readable)
 {
     enum status status = is_readable ? read_bytes(session) : STATUS_OK;
     session->due = 0;
     replay_lock(replay);
     if (status == STATUS_OK)
-        status = session_check(replay, session);
+        status = take_bytes(replay, session);
+    if (status == STATUS_OK && is_all_added(session)) {
+        replay_unlock(replay);
+        if (write_all(session))
+            return STATUS_OK;
+        replay_lock(replay);
+    }
     if (status == STATUS_OK)
         status = send_answers(replay, session);
     if (status == STATUS_OK && session->is_broken)

@@ -162,9 +162,8 @@ static int time_to_wait(const struct worker *worker, int milliseconds)
     return due > INT32_MAX ? INT32_MAX : (int)due;
 }
 
-/* Notes what to wait for. A socket that nothing is wanted of isn't waited for: its end would be reported again and
- * again. */
-static void list_sockets(struct worker *worker, int listening)
+/* A socket that nothing is wanted of isn't waited for: its end would be reported again and again. */
+void worker_list(struct worker *worker, int listening)
 {
     worker->waited = worker->count;
     for (size_t i = 0; i < worker->count; i++) {
@@ -176,11 +175,8 @@ static void list_sockets(struct worker *worker, int listening)
     worker->ready[worker->count + 1] = (struct pollfd){.fd = listening, .events = POLLIN};
 }
 
-enum status worker_wait(struct worker *worker, int listening, int milliseconds)
+enum status worker_wait(struct worker *worker, int milliseconds)
 {
-    replay_lock(worker->pool->replay);
-    list_sockets(worker, listening);
-    replay_unlock(worker->pool->replay);
     unsigned looks = worker->waited == 0 ? 0 : worker->pool->looks;
     enum status status =
         wait_eagerly(worker->ready, worker->waited + 2, time_to_wait(worker, milliseconds), looks);
@@ -219,18 +215,20 @@ void *worker_run(void *argument)
 {
     struct worker *worker = argument;
     struct pool *pool = worker->pool;
-    enum status status = STATUS_OK;
     bool is_over = false;
     leave_signals();
+    replay_lock(pool->replay);
     while (!is_over) {
-        status = worker_wait(worker, -1, -1);
+        worker_list(worker, -1);
+        replay_unlock(pool->replay);
+        enum status status = worker_wait(worker, -1);
         if (status == STATUS_OK)
             status = worker_serve(worker);
         replay_lock(pool->replay);
         if (status != STATUS_OK)
             pool_end(pool, status);
         is_over = pool_is_over(pool);
-        replay_unlock(pool->replay);
     }
+    replay_unlock(pool->replay);
     return NULL;
 }

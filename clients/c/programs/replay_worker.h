@@ -46,9 +46,9 @@ void *worker_run(void *worker);
 /* Makes a thread look at its sessions again. */
 void worker_wake(const struct worker *worker);
 
-/* Waits until there is something to do: clients connect to `listening` where it isn't below 0, and so many
- * milliseconds pass, with a number below 0 for ever. */
-enum status worker_wait(struct worker *worker, int listening, int milliseconds);
+/* Waits until there is something to do by what was listed, or so many milliseconds pass; with a number below 0 for
+ * ever. */
+enum status worker_wait(struct worker *worker, int milliseconds);
 
 /* Whether clients wait to be accepted. */
 bool worker_is_called(const struct worker *worker);
@@ -56,7 +56,11 @@ bool worker_is_called(const struct worker *worker);
 /* Serves those sessions that are ready, or of which something is due. */
 enum status worker_serve(struct worker *worker);
 
-/* These are called under the lock. Adds a session. */
+/* These are called under the lock. Lists what to wait for: also clients that connect to `listening`, where it isn't
+ * below 0. */
+void worker_list(struct worker *worker, int listening);
+
+/* Adds a session. */
 void worker_add(struct worker *worker, struct session *session);
 
 /* Takes away the session at a place, with another one then in its place. */
