@@ -19,9 +19,9 @@ UNREADABLE, NOT_APPLIED, UNDECIDED = "does not read", "does not apply", "no verd
 # How often an edit that waits for another's function is put beside others.
 TURNS = 2
 
-# How many edits are in a check: each takes some time to start, and a few long ones leave processors idle. They are few in
-# the first of a crate, for which its others wait, and at the end, where some are tried again.
-LEAST, FEW, MOST = 10, 3, 40
+# How many edits are in a check: each takes some time to start, and a few long ones leave processors idle. They are fewer at
+# the end, where some are tried again.
+LEAST, LEAST_AGAIN, MOST = 10, 3, 40
 
 # The wrong bodies of a crate, and those by which the trials are tested, in a folder a verdict.
 FOLDERS = ("edits", "must-fail")
@@ -37,24 +37,13 @@ class Known:
 
     def __init__(self, crate, proofs):
         self.crate, self.proofs = crate, proofs
-        self.lock, self.folder, self.is_there = threading.Lock(), None, threading.Event()
+        self.lock, self.folder = threading.Lock(), tempfile.TemporaryDirectory(prefix="proved-")
+        if crate.kept().exists():
+            self.keep(crate.kept())
 
     def can_begin(self):
         """Waits until what the crate stands on is proved, where that is done meanwhile; whether it is."""
         return self.proofs is None or all(map(self.proofs.have, self.crate.libraries()))
-
-    def is_empty(self):
-        """Whether there is nothing yet: so it is for the first that asks, whose first check others wait for."""
-        with self.lock:
-            is_first = self.folder is None
-            if is_first:
-                self.folder = tempfile.TemporaryDirectory(prefix="proved-")
-        if is_first and self.crate.kept().exists():
-            self.keep(self.crate.kept())
-        elif is_first:
-            return True
-        self.is_there.wait()
-        return False
 
     def copy(self, to):
         """Copies what is known to a folder."""
@@ -65,7 +54,6 @@ class Known:
         """Keeps what a check proved in a folder and nothing had before."""
         with self.lock:
             shutil.copytree(proved, self.folder.name, copy_function=add_missing, dirs_exist_ok=True)
-        self.is_there.set()
 
 
 def link_or_copy(source, to):
@@ -112,21 +100,10 @@ class Trial:
                 self.show(edit, NOT_APPLIED, edit.why_not or "what its crate stands on is not proved")
             else:
                 left.append(edit)
-        if left:
-            self.run_all(left, self.known.is_empty())
-
-    def run_all(self, left, is_first):
-        """Shows a verdict for each of these edits; where nothing is known of the crate yet, after a check of a few."""
-        try:
-            while left:
-                batches = [batches_of(left)[0][:FEW]] if is_first else batches_of(left)
-                left = without(left, batches)
-                with ThreadPoolExecutor(len(batches)) as pool:
-                    left += [edit for again in pool.map(self.together, batches) for edit in again]
-                is_first = False
-        finally:
-            # Where a check broke off, others wait no longer.
-            self.known.is_there.set()
+        while left:
+            batches = batches_of(left)
+            with ThreadPoolExecutor(len(batches)) as pool:
+                left = [edit for again in pool.map(self.together, batches) for edit in again]
 
     def check(self, edits, strays=True):
         """The report of a check of the functions that these edits change, with stray answers or as they are."""
@@ -215,15 +192,16 @@ def verdict_of(edit, said):
 def batches_of(edits):
     """All of them, for a check each: no two that touch in one, and as many checks for each processor."""
     rounds = math.ceil(len(edits) / (MOST * crates.processors()))
-    least = FEW if all(edit.turns for edit in edits) else LEAST
+    least = LEAST_AGAIN if all(edit.turns for edit in edits) else LEAST
     most = max(least, math.ceil(len(edits) / (rounds * crates.processors())))
     others = {edit: sum(map(edit.touches, edits)) for edit in edits}
     batches = []
-    # What touches most others comes first, and what touches none evens the checks out.
-    for edit in sorted(edits, key=lambda it: (is_alone(it), -others[it])):
-        fitting = [batch for batch in batches if len(batch) < most and can_join(edit, batch)]
+    # What touches most others comes first. Those of a file are together as far as can be, for a check proves also what
+    # their functions call.
+    for edit in sorted(edits, key=lambda it: (is_alone(it), -others[it], min(it.changes))):
+        fitting = next((batch for batch in batches if len(batch) < most and can_join(edit, batch)), None)
         if fitting:
-            min(fitting, key=len).append(edit)
+            fitting.append(edit)
         else:
             batches.append([edit])
     return batches
@@ -237,11 +215,6 @@ def can_join(edit, batch):
 def is_alone(edit):
     """Whether nothing can stand beside an edit."""
     return edit.is_apart or edit.turns >= TURNS
-
-
-def without(edits, batches):
-    """Those that are in none of the batches."""
-    return [edit for edit in edits if not any(edit in batch for batch in batches)]
 
 
 def of(crate):
