@@ -1,5 +1,6 @@
 """Tries wrong bodies, many in a check, and judges each by the function that it changes."""
 
+import functools
 import math
 import os
 import re
@@ -37,9 +38,15 @@ class Known:
 
     def __init__(self, crate, proofs):
         self.crate, self.proofs = crate, proofs
-        self.lock, self.folder = threading.Lock(), tempfile.TemporaryDirectory(prefix="proved-")
-        if crate.kept().exists():
-            self.keep(crate.kept())
+        self.lock = threading.Lock()
+
+    @functools.cached_property
+    def folder(self):
+        """The folder of what is known, at first of what checks before it kept. It is made for the first check, under the lock."""
+        folder = tempfile.TemporaryDirectory(prefix="proved-")
+        if self.crate.kept().exists():
+            shutil.copytree(self.crate.kept(), folder.name, copy_function=link_or_copy, dirs_exist_ok=True)
+        return folder
 
     def can_begin(self):
         """Waits until what the crate stands on is proved, where that is done meanwhile; whether it is."""

@@ -59,7 +59,7 @@ struct session {
     uint64_t sent;        /* bytes after that */
 
     uint64_t recorded_at; /* when the last message passed, by the recording's clock */
-    uint64_t matched_at;  /* when that which is the same came, by ours */
+    uint64_t matched_at;  /* when the client sent it here, by our clock */
     uint64_t heard_at;    /* when something came last */
     uint64_t ends_at;     /* when it is over, whatever is left; 0 for never */
     uint64_t due;         /* when something is to be done by itself; 0 for never */

@@ -158,8 +158,9 @@ static bool is_all_added(const struct session *session)
     return session->state == SESSION_SERVING && session->out.end - session->out.start < OUT_MOST;
 }
 
-/* Writes what is all that is to be written now, without the lock. Answers whether the client may still be there. */
-static bool write_all(struct session *session)
+/* Writes what was added, without the lock: what the client doesn't take waits until it does. Answers whether the client
+ * may still be there. */
+static bool write_added(struct session *session)
 {
     if (session_is_pending(session))
         (void)write_bytes(session);
@@ -182,7 +183,7 @@ enum status session_step(struct replay *replay, struct session *session, bool is
         status = take_bytes(replay, session);
     if (status == STATUS_OK && is_all_added(session)) {
         replay_unlock(replay);
-        if (write_all(session))
+        if (write_added(session))
             return STATUS_OK;
         replay_lock(replay);
     }
