@@ -101,10 +101,10 @@ STREAMS = [
     (b"\0\0\0\x09" + SSL + b"\0\0\0\0\x09" + VERSION + b"\0", ["expected the end of the message at offset 4", "startup 3.0 -"]),
     (b"\0\0\0\x08\0\2\0\0H\0\0\0\4c\0\0\0", ["unknown code: 131072", "flush", "rest 4"]),
     (b"\0\0\0\x09" + VERSION + b"\0d\x7f\xff\xff\xff\0", ["startup 3.0 -", "rest 6"]),
-    (b"\0\0\x27\x10" + VERSION + b"a\0" + b"b" * 9988 + b"\0\0p\0\0\0\4", ["startup 3.0 61=" + "62" * 9988, "password -"]),
+    (b"\0\0\x27\x14" + VERSION + b"a\0" + b"b" * 9992 + b"\0\0p\0\0\0\4", ["startup 3.0 61=" + "62" * 9992, "password -"]),
     # faults
-    (b"\0\0\x27\x11", ["expected a first message of at most 10000 bytes, got 10001"]),
-    (b"\0\0\0\x08" + SSL + b"S\0\0\0\4", ["sslrequest", "expected a first message of at most 10000 bytes, got 1392508928"]),
+    (b"\0\0\x27\x15", ["expected a first message of at most 10004 bytes, got 10005"]),
+    (b"\0\0\0\x08" + SSL + b"S\0\0\0\4", ["sslrequest", "expected a first message of at most 10004 bytes, got 1392508928"]),
     (b"\0\0\0\7" + SSL, ["bad message length: 7"]),
     (b"\x80\0\0\0", ["bad message length: -2147483648"]),
     (b"\0\0\0\x09" + VERSION + b"\0S\0\0\0\3", ["startup 3.0 -", "bad message length: 3"]),

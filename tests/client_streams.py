@@ -5,7 +5,7 @@
 import client_model as model
 
 # The most bytes that a first message may have.
-LIMIT = 10_000
+LIMIT = 10_004
 
 # The first messages that another one follows, by the code in their body.
 ENCRYPTION = {model.FIRST[kind][0] for kind in ("sslrequest", "gssencrequest")}

@@ -32,6 +32,22 @@ class Plain(Number):
         return None
 
 
+class Version(Plain):
+    """Int32: version 3 of the protocol and a minor version, which alone is in the line."""
+
+    def __init__(self):
+        super().__init__(2, False)
+
+    def read(self, body):
+        major = body.number(2)
+        if major != 3:
+            raise Fault(f"a version {major}")
+        return super().read(body)
+
+    def write(self, value):
+        return b"\0\3" + super().write(value)
+
+
 class Name(Text):
     """String: a text that has no NUL."""
 

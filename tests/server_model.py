@@ -4,7 +4,7 @@ A message is a line of `pg_server_tool encode`: its kind, and its fields in the 
 """
 
 from client_fields import Body, Fault
-from server_fields import Codes, Columns, Data, Method, Name, NoticeFields, Options, Plain, Row, SecretKey, Status, Types, Value
+from server_fields import Codes, Columns, Data, Method, Name, NoticeFields, Options, Plain, Row, SecretKey, Status, Types, Value, Version
 
 PROCESS, FORMAT = Plain(4, False), Plain(1, True)
 
@@ -24,7 +24,7 @@ KINDS = {
     "emptyqueryresponse": (b"I", "EmptyQueryResponse", []),
     "errorresponse": (b"E", "ErrorResponse", [NoticeFields()]),
     "functioncallresponse": (b"V", None, [Value()]),
-    "negotiate": (b"v", None, [Plain(4, False), Options()]),
+    "negotiate": (b"v", None, [Version(), Options()]),
     "nodata": (b"n", "NoData", []),
     "noticeresponse": (b"N", "NoticeResponse", [NoticeFields()]),
     "notification": (b"A", "NotificationResponse", [PROCESS, Name(), Name()]),

@@ -39,7 +39,7 @@ def one_of(*words):
     return lambda word: word in words
 
 
-U32, I32, I16, I8 = number(4, False), number(4, True), number(2, True), number(1, True)
+U32, U16, I32, I16, I8 = number(4, False), number(2, False), number(4, True), number(2, True), number(1, True)
 COLUMN = parts(":", hex_word, U32, I16, U32, I16, I32, I16)
 FIELDS = items(parts("=", letter, hex_word))
 
@@ -50,7 +50,7 @@ FORMS = {
     **dict.fromkeys(("errorresponse", "noticeresponse"), [FIELDS]),
     **dict.fromkeys(("commandcomplete", "copydata"), [hex_word]),
     "backendkeydata": [U32, hex_word], "datarow": [items(value)], "functioncallresponse": [value],
-    "negotiate": [U32, items(hex_word)], "notification": [U32, hex_word, hex_word], "parameterdescription": [items(U32)],
+    "negotiate": [U16, items(hex_word)], "notification": [U32, hex_word, hex_word], "parameterdescription": [items(U32)],
     "parameterstatus": [hex_word, hex_word], "ready": [one_of(*"ITE")], "rowdescription": [items(COLUMN)],
 }
 

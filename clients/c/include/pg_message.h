@@ -94,6 +94,8 @@ enum {
 
 /* The kinds of a first message. */
 enum {
+    /* The greatest length of a first message that PostgreSQL's servers take. */
+    PGMSG_MAX_FIRST_LENGTH = 10004,
     /* A session is opened: a StartupMessage. */
     PGMSG_FIRST_STARTUP = 0,
     /* The query of another session is to be cancelled: a CancelRequest. */
@@ -613,7 +615,7 @@ ptrdiff_t pgmsg_read_end(uint8_t tag, const uint8_t *body, size_t body_len, pgms
 /* The first message of a connection at the front of a stream, or the one after an SSLRequest or a
  * GSSENCRequest: 1 where it is whole, 0 where more bytes are needed. It has no tag: `tag` is 0, and
  * `length` that of its length and its body. Refused where its length is below 8, or above `limit`,
- * which is 10000 for PostgreSQL's own servers: then, whatever comes next. */
+ * which is PGMSG_MAX_FIRST_LENGTH for PostgreSQL's own servers: then, whatever comes next. */
 int32_t pgmsg_next_first_frame(const uint8_t *stream, size_t stream_len, size_t limit,
     pgmsg_frame *frame, pgmsg_fault *fault);
 
@@ -702,9 +704,10 @@ ptrdiff_t pgmsg_put_authentication_continue(const uint8_t *data, size_t data_len
 ptrdiff_t pgmsg_put_authentication_final(const uint8_t *data, size_t data_len, uint8_t *out,
     size_t out_len);
 
-/* The newest minor version of the protocol that the server speaks, and the names of the options
- * that it doesn't know. A NUL in one is refused. */
-ptrdiff_t pgmsg_put_negotiate_version(uint32_t minor, const pgmsg_bytes *options,
+/* The newest minor version of the protocol's version 3 that the server speaks, and the names of the
+ * options that it doesn't know. A NUL in one is refused. The message has the whole version, as
+ * PostgreSQL's servers send it. */
+ptrdiff_t pgmsg_put_negotiate_version(uint16_t minor, const pgmsg_bytes *options,
     size_t options_len, uint8_t *out, size_t out_len);
 
 /* The process that serves the client, and the secret key that a request to cancel its work has to

@@ -8,8 +8,8 @@ use std::process::{self, Command};
 
 const VARIABLE: &str = "PGMSG_LIB_DIR";
 
-/// The versions that this crate declares the calls of.
-const VERSIONS: [&str; 2] = ["pg_message >= 0.1.0", "pg_message < 0.2.0"];
+/// The version that this crate declares the calls of.
+const VERSION: &str = "pg_message = 0.1.0";
 
 const WAYS: &str = "\
 there is no libpg_message. One of these helps:
@@ -56,13 +56,10 @@ fn link(folder: &Path) -> Result<(), String> {
     Ok(())
 }
 
-/// The folder that `pkg-config` names, where the library of one of the versions is installed.
+/// The folder that `pkg-config` names, where the library of that version is installed.
 fn installed() -> Option<PathBuf> {
     let program = env::var_os("PKG_CONFIG").unwrap_or_else(|| "pkg-config".into());
-    let is_there = Command::new(&program)
-        .arg("--exists")
-        .args(VERSIONS)
-        .status();
+    let is_there = Command::new(&program).args(["--exists", VERSION]).status();
     if !is_there.ok()?.success() {
         return None;
     }

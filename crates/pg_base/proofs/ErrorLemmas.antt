@@ -40,4 +40,6 @@ same_faults (faults.BadLength n) (faults.BadLength m) e = search rules
 same_faults faults.TextHoldsNul faults.TextHoldsNul e = refl
 same_faults faults.BadParams faults.BadParams e = refl
 same_faults (faults.BadKeyLength n) (faults.BadKeyLength m) e = search rules
+same_faults (faults.UnknownCode n) (faults.UnknownCode m) e = search rules
+same_faults (faults.ValueLength k l) (faults.ValueLength m n) e = search rules
 same_faults a b e = absurd (never e)

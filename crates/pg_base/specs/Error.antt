@@ -28,6 +28,8 @@ fault_words (faults.BadLength length) = codes "bad message length: " ++ signed_d
 fault_words faults.TextHoldsNul = codes "text holds NUL"
 fault_words faults.BadParams = codes "params are not num_params values"
 fault_words (faults.BadKeyLength length) = codes "secret key length out of range for protocol: " ++ decimal length
+fault_words (faults.UnknownCode code) = codes "unknown code: " ++ decimal code
+fault_words (faults.ValueLength at length) = codes "bad value length at offset " ++ (decimal at ++ (codes ": " ++ signed_decimal length))
 
 abbrev pub error_words : Error → List ℕ
 error_words (Protocol None fault) = fault_words fault

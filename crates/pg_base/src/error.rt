@@ -67,6 +67,15 @@ pub enum ProtocolFault {
     BadParams,
     /// The secret key of a session has fewer than 4 bytes, or more than 256: its length.
     BadKeyLength(usize),
+    /// No first message of a client has this code, and it is no version 3 of the protocol.
+    UnknownCode(u32),
+    /// A value of a client's message has a length below -1, which says NULL.
+    ValueLength {
+        /// Where the length is.
+        at: usize,
+        /// The length.
+        length: i32,
+    },
 }
 
 impl fmt::Display for ProtocolFault {
@@ -121,6 +130,10 @@ impl fmt::Display for ProtocolFault {
             ProtocolFault::BadParams => write!(f, "params are not num_params values"),
             ProtocolFault::BadKeyLength(length) => {
                 write!(f, "secret key length out of range for protocol: {length}")
+            }
+            ProtocolFault::UnknownCode(code) => write!(f, "unknown code: {code}"),
+            ProtocolFault::ValueLength { at, length } => {
+                write!(f, "bad value length at offset {at}: {length}")
             }
         }
     }

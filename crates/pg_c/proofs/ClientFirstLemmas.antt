@@ -1,15 +1,15 @@
 -- The parts of a first message that was read.
-use Rattle.std.proofs.Common.{inl, inr, ◌≡◌, ℕ, ◌≤◌, List, [], ◌++◌, Result, Ok, Err, Some, MatchResult, length, take, drop, sym, ap, ◌∙◌, arith, append-nil, length-append, append_assoc}
-use Rattle.std.proofs.lemmas.List.{take-append-drop, length-take-le}
-use Rattle.pg_format.specs.Format.{Format, Means}
-use Rattle.pg_format.specs.Format.Ends.{exactly}
-use Rattle.pg_format.specs.Messages.{empty}
-use Rattle.pg_read_frontend.specs.CancelRequest.{cancel, shown_cancel}
-use Rattle.pg_read_frontend.specs.FirstMessageRef.{Answer, ReadsCase, ReadsCode, ReadsFirst}
-use Rattle.pg_read_frontend.specs.Message.{ReadsRest}
-use Rattle.pg_read_frontend.specs.Settings.{settings}
-use Rattle.pg_read_frontend.specs.declared.error.FrontendFault.{FrontendFault}
-use Rattle.pg_read_frontend.specs.declared.error.FrontendFault.TheVariants.{UnknownCode}
+use Rattle.std.proofs.Common.{◌≡◌, ℕ, ◌≤◌, ◌-◌, Bool, true, false, List, [], ◌++◌, Ok, Some, length, take, drop, sym, ap, ◌∙◌, arith, append-nil, length-append, append_assoc}
+use Rattle.std.specs.Prelude.{◌==◌}
+use Rattle.std.proofs.lemmas.List.{take-append-drop, length-take-le, drop_at}
+use Rattle.pg_base.specs.declared.error.ProtocolFault.TheVariants.{UnknownCode}
+use Rattle.pg_format.specs.Format.{Means}
+use Rattle.pg_format.specs.Format.Parts.{fail}
+use Rattle.pg_format.specs.Format.Sequences.{case_of, choose}
+use Rattle.pg_format.specs.Messages.{Cancel, First, opening, cancelling, tls, gssapi, settings_of, cancelled, asks_tls, asks_gssapi, cancel_request, ssl_request, gss_enc_request, startup, is_version_3}
+use Rattle.pg_base.proofs.ReadingLemmas.{number_fits}
+use Rattle.pg_read_frontend.specs.CancelRequest.{shown_cancel}
+use Rattle.pg_read_frontend.specs.FirstMessageRef.{ReadsFirst}
 use Rattle.pg_read_frontend.specs.declared.message.cancel_request.CancelRequestRef.{CancelRequestRef}
 use Rattle.pg_read_frontend.specs.declared.message.first_message_ref.FirstMessageRef.{FirstMessageRef}
 use Rattle.pg_read_frontend.specs.declared.message.first_message_ref.FirstMessageRef.TheVariants as messages
@@ -18,39 +18,25 @@ use Rattle.pg_c.proofs.PlaceLemmas.{bytes_are}
 
 -- a message has a code
 code_is_there : (body : List ℕ) (message : FirstMessageRef) → ReadsFirst body (Ok message) → 4 ≤ length body
-code_is_there body message (inl has) = has.stands.within
-code_is_there body message (inr lacks) = absurd (let is : ◌≡◌ {A = Answer} (Ok message) (Err lacks.fault) = lacks.is in cc)
+code_is_there body message p = omega (arith, number_fits 4 body p.0.0 p.1.mid p.1.first)
 
 -- ---- a CancelRequest
 
-case_is : {A V : Type 0} (case : A → FirstMessageRef) (format : Format V) (shown : A → V) (body : List ℕ) (message : FirstMessageRef) (answer : Result A FrontendFault) → ReadsRest format shown body 4 answer
-    → MatchResult answer (λ value. ◌≡◌ {A = Answer} (Ok message) (Ok (case value))) (λ fault. ◌≡◌ {A = Answer} (Ok message) (Err fault)) → (value : A) × (message ≡ case value) × Means format (drop 4 body) (shown value)
-case_is case format shown body message (Ok value) reads is = (value, (let same : message ≡ case value = cc is in same), reads)
-case_is case format shown body message (Err fault) reads is = absurd (let no : ◌≡◌ {A = Answer} (Ok message) (Err fault) = is in cc)
+-- of all that a code may be, this alone is one
+by_tests : (is_cancel is_tls is_gssapi is_version : Bool) (code : ℕ) (bytes : List ℕ) (c : Cancel)
+    → (choose is_cancel (case_of cancelling cancelled cancel_request) (choose is_tls (case_of {A = Unit {0}} (λ _. tls) asks_tls ssl_request) (choose is_gssapi (case_of {A = Unit {0}} (λ _. gssapi) asks_gssapi gss_enc_request) (choose is_version (case_of (opening (code - 196608)) settings_of startup) (fail (UnknownCode code)))))).Reads bytes (cancelling c) []
+    → Means cancel_request bytes c
+by_tests true is_tls is_gssapi is_version code bytes c p = let same : c ≡ p.0 = cc p.2 in rw same p.1
+by_tests false true is_gssapi is_version code bytes c p = absurd (let other : cancelling c ≡ tls = p.2 in cc)
+by_tests false false true is_version code bytes c p = absurd (let other : cancelling c ≡ gssapi = p.2 in cc)
+by_tests false false false true code bytes c p = absurd (let other : cancelling c ≡ opening (code - 196608) p.0 = p.2 in cc)
+by_tests false false false false code bytes c p = absurd p
 
-case_of : {A V : Type 0} (case : A → FirstMessageRef) (format : Format V) (shown : A → V) (body : List ℕ) (message : FirstMessageRef) → ReadsCase case format shown body (Ok message)
-    → (value : A) × (message ≡ case value) × Means format (drop 4 body) (shown value)
-case_of case format shown body message p = case_is case format shown body message p.answer p.reads p.is
-
-by_code : (code : ℕ) (body : List ℕ) (c : CancelRequestRef) → ReadsCode code body (Ok (messages.CancelRequest c)) → Means cancel (drop 4 body) (shown_cancel c)
-by_code code body c (inl p) =
-    let found = case_of messages.CancelRequest cancel shown_cancel body (messages.CancelRequest c) p.1 in
-    let same : c ≡ found.0 = cc found.1 in
-    rw same found.2
-by_code code body c (inr (inl p)) =
-    let found = case_of {A = Unit {0}} (λ _. messages.SslRequest) empty (λ _. tt) body (messages.CancelRequest c) p.1 in
-    absurd (let other : messages.CancelRequest c ≡ messages.SslRequest = found.1 in cc)
-by_code code body c (inr (inr (inl p))) =
-    let found = case_of {A = Unit {0}} (λ _. messages.GssEncRequest) empty (λ _. tt) body (messages.CancelRequest c) p.1 in
-    absurd (let other : messages.CancelRequest c ≡ messages.GssEncRequest = found.1 in cc)
-by_code code body c (inr (inr (inr (inl p)))) =
-    let found = case_of (λ (all : List (List ℕ × List ℕ)). messages.Startup p.minor all) (exactly settings) (λ (all : List (List ℕ × List ℕ)). all) body (messages.CancelRequest c) p.reads in
-    absurd (let other : messages.CancelRequest c ≡ messages.Startup p.minor found.0 = found.1 in cc)
-by_code code body c (inr (inr (inr (inr p)))) = absurd (let no : ◌≡◌ {A = Answer} (Ok (messages.CancelRequest c)) (Err (UnknownCode code)) = p.is in cc)
-
-cancel_is : (body : List ℕ) (c : CancelRequestRef) → ReadsFirst body (Ok (messages.CancelRequest c)) → Means cancel (drop 4 body) (shown_cancel c)
-cancel_is body c (inl has) = by_code has.code body c has.reads
-cancel_is body c (inr lacks) = absurd (let no : ◌≡◌ {A = Answer} (Ok (messages.CancelRequest c)) (Err lacks.fault) = lacks.is in cc)
+cancel_is : (body : List ℕ) (c : CancelRequestRef) → ReadsFirst body (Ok (messages.CancelRequest c)) → Means cancel_request (drop 4 body) (shown_cancel c)
+cancel_is body c p =
+    let code = p.1.first in
+    let after : drop 4 body ≡ p.1.mid = ap (drop 4) code.parts ∙ drop_at code.spelled p.1.mid 4 code.wide in
+    rw after (by_tests (p.0.0 == 80877102) (p.0.0 == 80877103) (p.0.0 == 80877104) (is_version_3 p.0.0) p.0.0 p.1.mid (shown_cancel c) (rw p.2 p.1.second))
 
 -- all that follows a code and a number
 after_number : (body spelled key mid : List ℕ) → 4 ≤ length body → drop 4 body ≡ spelled ++ mid → length spelled ≡ 4 → key ≡ mid → bytes_in body 8 (length key) ≡ Some key

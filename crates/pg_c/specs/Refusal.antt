@@ -38,6 +38,8 @@ fault_number (faults.BadLength length) = negsuc 17
 fault_number faults.TextHoldsNul = negsuc 18
 fault_number faults.BadParams = negsuc 19
 fault_number (faults.BadKeyLength length) = negsuc 20
+fault_number (faults.UnknownCode code) = negsuc 21
+fault_number (faults.ValueLength at length) = negsuc 23
 
 abbrev pub refusal_number : Error → ℤ
 refusal_number (Protocol reading fault) = fault_number fault
@@ -47,6 +49,7 @@ refusal_number OutOfMemory = negsuc 0
 abbrev pub place_in : ProtocolFault → ℕ
 place_in (faults.Short at needed got) = at
 place_in (faults.MissingNul at) = at
+place_in (faults.ValueLength at length) = at
 place_in fault = 0
 
 abbrev pub fault_place : Error → ℕ

@@ -142,6 +142,8 @@ fn number_of_fault(fault: ProtocolFault) -> i32
         ProtocolFault::TextHoldsNul => TEXT_HOLDS_NUL,
         ProtocolFault::BadParams => BAD_PARAMS,
         ProtocolFault::BadKeyLength(_) => BAD_KEY_LENGTH,
+        ProtocolFault::UnknownCode(_) => UNKNOWN_CODE,
+        ProtocolFault::ValueLength { .. } => BAD_VALUE_LENGTH,
     }
 }
 
@@ -151,7 +153,9 @@ fn place_of(error: Error) -> usize
 {
     match error {
         Error::Protocol {
-            fault: ProtocolFault::Short { at, .. } | ProtocolFault::MissingNul { at },
+            fault: ProtocolFault::Short { at, .. }
+            | ProtocolFault::MissingNul { at }
+            | ProtocolFault::ValueLength { at, .. },
             ..
         } => at,
         _ => 0,

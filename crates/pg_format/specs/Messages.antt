@@ -1,18 +1,18 @@
 -- Every message of both directions, in the order of the documentation's "Message Formats": (B) is sent by
 -- the server, (F) by the client. A format is of the body, which follows the tag and the length.
-use Rattle.std.specs.Prelude.{◌≡◌, ◌≢◌, ℕ, ◌*◌, ◌==◌, ◌&&◌, ℤ, pos, negsuc, List, [], ◌∷◌, length, Option, Some, None, IsUtf8, nat_le, if◌then◌else◌}
+use Rattle.std.specs.Prelude.{◌≡◌, ◌≢◌, ℕ, ◌+◌, ◌-◌, ◌*◌, ◌==◌, ◌&&◌, ℤ, pos, negsuc, Bool, List, [], ◌∷◌, length, Option, Some, None, IsUtf8, nat_le, nat_lt, if◌then◌else◌}
 use Rattle.pg_base.specs.declared.format.BackendMessageFormat.{BackendMessageFormat}
 use Rattle.pg_base.specs.declared.format.BackendMessageFormat.TheVariants as backend
 use Rattle.pg_base.specs.declared.format.FrontendMessageFormat.{FrontendMessageFormat}
 use Rattle.pg_base.specs.declared.format.FrontendMessageFormat.TheVariants as frontend
 use Rattle.pg_base.specs.declared.error.ProtocolFault.{ProtocolFault}
-use Rattle.pg_base.specs.declared.error.ProtocolFault.TheVariants.{UnknownStatus, UnknownMessageType, UnknownAuthentication, BadKeyLength}
+use Rattle.pg_base.specs.declared.error.ProtocolFault.TheVariants.{UnknownStatus, UnknownMessageType, UnknownAuthentication, BadKeyLength, UnknownCode}
 use Rattle.pg_format.specs.Format.{Format}
 use Rattle.pg_format.specs.Format.Parts.{until_nul, be_u8, be_u16, be_u32, be_i8, be_i16, be_i32, bytes_of, remaining, one_of, success, fail}
 use Rattle.pg_format.specs.Format.Sequences.{dep_pair, ◌⨾◌, record_of, mapped, case_of, choose}
 use Rattle.pg_format.specs.Format.Tests.{utf8, checked, only, with_room}
 use Rattle.pg_format.specs.Format.Ends.{exactly, loosely}
-use Rattle.pg_format.specs.Format.Lists.{times, counted, counted_least, counted_long, many}
+use Rattle.pg_format.specs.Format.Lists.{times, counted, counted_least, counted_long, until_zero, many}
 use Rattle.pg_format.specs.Format.Nullable.{cell, value}
 use Rattle.pg_format.specs.Notices.{Field, notice_fault}
 pub use Rattle.pg_format.specs.Tables.{Authentication, ok, cleartext_password, md5_password, sasl, sasl_continue, sasl_final, method_number, salt_of, mechanisms_of, continued, finished}
@@ -83,9 +83,9 @@ no_body = loosely (success tt)
 abbrev pub empty : Format (Unit {0})
 empty = exactly (success tt)
 
--- CancelRequest (F), which has no tag: the number that no version has, and the session with its key
-abbrev pub cancel_request : Format (ℕ × Cancel)
-cancel_request = only (λ n. n ≡ 80877102) be_u32 ⨾ record_of (λ c. (c.process_id, c.secret_key)) (be_u32 ⨾ checked (λ key. key_fault (length key)) remaining)
+-- CancelRequest (F), after its code: a session, and all that follows is its key
+abbrev pub cancel_request : Format Cancel
+cancel_request = backend_key
 
 -- Close (F) and Describe (F)
 pub record Targeted : Type 0 where
@@ -153,17 +153,24 @@ function_call = exactly (record_of (λ f. (f.object_id, (f.formats, (f.arguments
 abbrev pub function_call_response : Format (Option (List ℕ))
 function_call_response = loosely cell
 
--- GSSENCRequest (F), which has no tag: the number that no version has
-abbrev pub gss_enc_request : Format ℕ
-gss_enc_request = exactly (only (λ n. n ≡ 80877104) be_u32)
+-- GSSENCRequest (F), after its code
+abbrev pub gss_enc_request : Format (Unit {0})
+gss_enc_request = empty
 
--- NegotiateProtocolVersion (B): the newest minor version of the server, and the options that it doesn't know
+-- NegotiateProtocolVersion (B): the newest version of the server, and the options that it doesn't know. The
+-- documentation speaks of the minor version alone, in four bytes. Servers send both halves of the version there, as a
+-- Startup has it: one of version 3.0 sends 0, 3, 0, 0.
 pub record Negotiation : Type 0 where
+  pub major : ℕ
   pub minor : ℕ
   pub options : List (List ℕ)
 
+-- the two halves of a version
+abbrev pub version : Format (ℕ × ℕ)
+version = with_room 4 (be_u16 ⨾ be_u16)
+
 abbrev pub negotiate_protocol_version : Format Negotiation
-negotiate_protocol_version = loosely (record_of (λ n. (n.minor, n.options)) (be_u32 ⨾ counted_long until_nul))
+negotiate_protocol_version = loosely (record_of (λ n. ((n.major, n.minor), n.options)) (version ⨾ counted_long until_nul))
 
 -- NotificationResponse (B)
 pub record Notification : Type 0 where
@@ -241,13 +248,69 @@ sasl_initial_response = exactly (record_of (λ s. (s.mechanism, s.response)) (un
 abbrev pub sasl_response : Format (List ℕ)
 sasl_response = remaining
 
--- SSLRequest (F), which has no tag: the number that no version has
-abbrev pub ssl_request : Format ℕ
-ssl_request = exactly (only (λ n. n ≡ 80877103) be_u32)
+-- SSLRequest (F), after its code
+abbrev pub ssl_request : Format (Unit {0})
+ssl_request = empty
 
--- StartupMessage (F), which has no tag: version 3.0, and settings up to one without a name
-abbrev pub startup : Format (ℕ × List (List ℕ × List ℕ))
-startup = only (λ n. n ≡ 196608) be_u32 ⨾ many (0 ∷ []) (only (λ s. s.0 ≢ []) (until_nul ⨾ until_nul))
+-- StartupMessage (F), after its version: settings, each a name that isn't empty and a value, and the NUL that ends
+-- them, after which nothing follows
+abbrev pub setting : Format (List ℕ × List ℕ)
+setting = only (λ s. s.0 ≢ []) (until_nul ⨾ until_nul)
+
+abbrev pub startup : Format (List (List ℕ × List ℕ))
+startup = exactly (until_zero setting)
+
+-- ---- without a tag
+
+-- what a client asks for first: a session, by a minor version of the protocol's version 3 and settings; that the
+-- query of another session is cancelled; or encryption, by TLS or by GSSAPI
+pub data First : Type 0 where
+  opening : ℕ → List (List ℕ × List ℕ) → First
+  cancelling : Cancel → First
+  tls : First
+  gssapi : First
+
+-- a session's code is its version: 3 in the upper half, the minor one in the lower. The codes of other messages are
+-- versions that the protocol will never have.
+abbrev pub first_code : First → ℕ
+first_code (opening minor settings) = 196608 + minor
+first_code (cancelling cancel) = 80877102
+first_code tls = 80877103
+first_code gssapi = 80877104
+
+abbrev pub is_version_3 : ℕ → Bool
+is_version_3 code = nat_le 196608 code && nat_lt code 262144
+
+abbrev pub settings_of : First → Option (List (List ℕ × List ℕ))
+settings_of (opening minor settings) = Some settings
+settings_of other = None
+
+abbrev pub cancelled : First → Option Cancel
+cancelled (cancelling cancel) = Some cancel
+cancelled other = None
+
+abbrev pub asks_tls : First → Option (Unit {0})
+asks_tls tls = Some tt
+asks_tls other = None
+
+abbrev pub asks_gssapi : First → Option (Unit {0})
+asks_gssapi gssapi = Some tt
+asks_gssapi other = None
+
+abbrev pub by_code : ℕ → Format First
+by_code code =
+    choose (code == 80877102) (case_of cancelling cancelled cancel_request)
+    (choose (code == 80877103) (case_of (λ _. tls) asks_tls ssl_request)
+    (choose (code == 80877104) (case_of (λ _. gssapi) asks_gssapi gss_enc_request)
+    (choose (is_version_3 code) (case_of (opening (code - 196608)) settings_of startup)
+    (fail (UnknownCode code)))))
+
+abbrev pub with_code : First → ℕ × First
+with_code first = (first_code first, first)
+
+-- the body of a message without a tag: its code, and what that says
+abbrev pub first_message : Format First
+first_message = mapped (λ v. v.1) with_code (dep_pair be_u32 by_code)
 
 -- ---- by the kind of message
 

@@ -5,7 +5,7 @@ pub mod examples;
 ghost use Rattle.pg_base.specs.declared.format.BackendMessageFormat.{BackendMessageFormat};
 ghost use Rattle.pg_base.specs.declared.format.FrontendMessageFormat.{FrontendMessageFormat};
 ghost use Rattle.pg_format.specs.Format.{Lawful, Canonical, Total};
-ghost use Rattle.pg_format.specs.Messages.{from_server, from_client, backend_key, cancel_request, function_call_response, gss_enc_request, negotiate_protocol_version, ssl_request, startup};
+ghost use Rattle.pg_format.specs.Messages.{from_server, from_client, backend_key, first_message, function_call_response, negotiate_protocol_version, sasl_initial_response};
 
 /// A body from a server means one value or has one fault, never both and never neither; and what is
 /// written of a value is read as it.
@@ -31,10 +31,15 @@ pub fn messages_from_a_client()
     ensures total { (kind : FrontendMessageFormat) → Total (from_client kind).format }
 {}
 
-/// A message without a tag means one value, and what is written of it is read.
+/// The same of a SASLInitialResponse, whose kind is that of all passwords.
+pub fn sasl_initial_responses()
+    ensures lawful { Lawful sasl_initial_response }
+    ensures canonical { Canonical sasl_initial_response }
+    ensures total { Total sasl_initial_response }
+{}
+
+/// The same of a message without a tag.
 pub fn messages_without_a_tag()
-    ensures startup { Lawful startup }
-    ensures cancel_request { Lawful cancel_request }
-    ensures ssl_request { Lawful ssl_request }
-    ensures gss_enc_request { Lawful gss_enc_request }
+    ensures lawful { Lawful first_message }
+    ensures total { Total first_message }
 {}

@@ -1,7 +1,7 @@
 pub mod ErrorLemmas
+pub mod FirstMessageRefLemmas
 pub mod FormatCodesLemmas
 pub mod MessageLemmas
 pub mod ParameterTypesLemmas
-pub mod SettingsLawsLemmas
 pub mod SettingsLemmas
 pub mod ValuesLemmas

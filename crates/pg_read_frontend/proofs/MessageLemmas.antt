@@ -34,7 +34,7 @@ whole {g = g} {body = body} {end = end} {a = a} p is = (subst (λ (rest : List �
 
 -- bytes that follow the end, as the page has them
 pub trailing : (body : List ℕ) (at : ℕ) (fault : FrontendFault) → TrailsAt body at fault
-    → (on_page : ProtocolFault) × IsOnPage body fault on_page × Trails (length body) (drop at body) on_page
+    → (on_page : ProtocolFault) × IsOnPage fault on_page × Trails (length body) (drop at body) on_page
 trailing body at fault p =
     let place : at ≡ length body - length (drop at body) = omega (arith, p.some, length-drop at body) in
     (BodyTooLong at, rw p.is refl, record { some = omega (arith, p.some, length-drop at body); is = ap BodyTooLong place })

@@ -5,7 +5,8 @@ use Rattle.std.proofs.lemmas.Bool.{eqb-true}
 use Rattle.pg_base.specs.Reading.{HoldsNo, Text, BeginsWith}
 use Rattle.pg_format.specs.Format.Lists.{AreRead}
 use Rattle.pg_response.proofs.EndedTextsLemmas.{texts_in-none, texts_at}
-use Rattle.pg_read_frontend.specs.Settings.{setting, pairs_of, settings_in}
+use Rattle.pg_format.specs.Messages.{setting}
+use Rattle.pg_read_frontend.specs.Settings.{pairs_of, settings_in}
 
 -- ---- what bytes hold
 
@@ -35,11 +36,7 @@ pub read_one_more : (so_far : List (List ℕ × List ℕ)) (s : List ℕ × List
 read_one_more [] s x y z p q = (z, rw p at q, refl)
 read_one_more (first ∷ so_far) s x y z p q = (p.0, p.1, read_one_more so_far s p.0 y z p.2 q)
 
--- no empty name is at the front
-pub no_end : (bytes : List ℕ) → HoldsNo 0 bytes → ¬ (BeginsWith 0 bytes)
-no_end [] h e = e
-no_end (byte ∷ bytes) h e = h.0 e
-
+-- a name that isn't empty begins with no NUL
 pub named : (bytes name after : List ℕ) → Text bytes name after → name ≢ [] → ¬ (BeginsWith 0 bytes)
 named bytes [] after p other e = other refl
 named [] (c ∷ name) after p other e = e

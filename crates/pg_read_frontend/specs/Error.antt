@@ -3,8 +3,6 @@ use Rattle.std.specs.Prelude.{◌≡◌, ℕ, List, ◌++◌, codes, decimal}
 use Rattle.std.specs.Fmt.{signed_decimal}
 use Rattle.pg_base.specs.declared.error.ProtocolFault.{ProtocolFault}
 use Rattle.pg_base.specs.declared.error.ProtocolFault.TheVariants as page
-use Rattle.pg_format.specs.Format.Nullable.{value}
-use Rattle.pg_format.specs.Format.Places.{BreaksAt}
 use Rattle.pg_read_frontend.specs.declared.error.FrontendFault.{FrontendFault}
 use Rattle.pg_read_frontend.specs.declared.error.FrontendFault.TheVariants as faults
 
@@ -20,15 +18,15 @@ fault_words (faults.TrailingBytes at) = codes "expected the end of the message a
 fault_words (faults.BadLength length) = codes "bad message length: " ++ signed_decimal length
 fault_words (faults.FirstTooLong length limit) = codes "expected a first message of at most " ++ (decimal limit ++ (codes " bytes, got " ++ decimal length))
 
--- a fault of a body, as the page has it; a value of a bad length stands at the offset, and no body has an unknown tag or code, or the length of its message
-abbrev pub IsOnPage : List ℕ → FrontendFault → ProtocolFault → Type 0
-IsOnPage body (faults.UnknownTag tag) fault = ⊥
-IsOnPage body (faults.UnknownCode code) fault = ⊥
-IsOnPage body (faults.UnknownTarget letter) fault = fault ≡ page.UnknownMessageType letter
-IsOnPage body (faults.Short at needed got) fault = fault ≡ page.Short at needed got
-IsOnPage body (faults.MissingNul at) fault = fault ≡ page.MissingNul at
-IsOnPage body (faults.ValueLength at length) fault = (fault ≡ page.BadLength length) × BreaksAt value body at fault
-IsOnPage body (faults.KeyLength length) fault = fault ≡ page.BadKeyLength length
-IsOnPage body (faults.TrailingBytes at) fault = fault ≡ page.BodyTooLong at
-IsOnPage body (faults.BadLength length) fault = ⊥
-IsOnPage body (faults.FirstTooLong length limit) fault = ⊥
+-- a fault of a body, as the page has it; no body has an unknown tag, or the length of its message
+abbrev pub IsOnPage : FrontendFault → ProtocolFault → Type 0
+IsOnPage (faults.UnknownTag tag) fault = ⊥
+IsOnPage (faults.UnknownCode code) fault = fault ≡ page.UnknownCode code
+IsOnPage (faults.UnknownTarget letter) fault = fault ≡ page.UnknownMessageType letter
+IsOnPage (faults.Short at needed got) fault = fault ≡ page.Short at needed got
+IsOnPage (faults.MissingNul at) fault = fault ≡ page.MissingNul at
+IsOnPage (faults.ValueLength at length) fault = fault ≡ page.ValueLength at length
+IsOnPage (faults.KeyLength length) fault = fault ≡ page.BadKeyLength length
+IsOnPage (faults.TrailingBytes at) fault = fault ≡ page.BodyTooLong at
+IsOnPage (faults.BadLength length) fault = ⊥
+IsOnPage (faults.FirstTooLong length limit) fault = ⊥

@@ -8,7 +8,7 @@ use Rattle.pg_read_frontend.specs.Error.{IsOnPage}
 
 -- what stands at an offset of a body can't be read, for this fault
 abbrev pub HasFault : {A : Type 0} → Format A → List ℕ → ℕ → FrontendFault → Type 0
-HasFault g body at fault = (on_page : ProtocolFault) × IsOnPage body fault on_page × BreaksAt g body at on_page
+HasFault g body at fault = (on_page : ProtocolFault) × IsOnPage fault on_page × BreaksAt g body at on_page
 
 -- a value from an offset on, and the offset after it; or a fault
 abbrev pub GivesAt : {A V : Type 0} → Format V → (A → V) → List ℕ → ℕ → Result (A × ℕ) FrontendFault → Type 0

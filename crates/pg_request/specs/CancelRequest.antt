@@ -11,7 +11,7 @@ cancel_request_code = 80877102
 
 -- the code, the process and the key
 abbrev pub cancel_request_body : page.Cancel → List ℕ
-cancel_request_body cancel = page.cancel_request.Writes (cancel_request_code, cancel)
+cancel_request_body cancel = page.first_message.Writes (page.cancelling cancel)
 
 -- the whole, after its length: of itself, the code, the process and the key
 abbrev pub cancel_request_text : page.Cancel → List ℕ

@@ -4,10 +4,10 @@
 
 ghost use Rattle.std.specs.Prelude.{◌≡◌, ◌↔◌, ◌≤◌, ◌<◌, ◌+◌, ◌^◌, ℕ, List, length, None};
 ghost use Rattle.pg_format.specs.Format.{AreBytes, Means};
-ghost use Rattle.pg_format.specs.Messages.{Cancel, key_fault, cancel_request};
+ghost use Rattle.pg_format.specs.Messages.{Cancel, First, cancelling, first_message, key_fault};
 ghost use Rattle.pg_format.specs.Messages as page;
 ghost use Rattle.pg_request.specs.Bind.{BindFields};
-ghost use Rattle.pg_request.specs.CancelRequest.{cancel_request_code, cancel_request_body};
+ghost use Rattle.pg_request.specs.CancelRequest.{cancel_request_body};
 ghost use Rattle.pg_request.specs.Execute.{ExecuteFields, execute_value};
 ghost use Rattle.pg_request.specs.Message as message;
 ghost use Rattle.pg_request.specs.Message.{Message, kind_of, body, fault, text, IsInRange, CanRoundTrip, Reads};
@@ -43,7 +43,9 @@ pub fn numbers_are_names()
 /// key of a length that keys have as itself, and as no other.
 pub fn cancel_requests_are_read_back()
     ensures length { (cancel : Cancel) → length cancel.secret_key + 12 ≡ length (cancel_request_body cancel) + 4 }
-    ensures read { (cancel : Cancel) (read : ℕ × Cancel) → cancel.process_id < 2 ^ 32 → key_fault (length cancel.secret_key) ≡ None → Means cancel_request (cancel_request_body cancel) read ↔ (read ≡ (cancel_request_code, cancel)) }
+    ensures read { (cancel : Cancel) (read : First) → cancel.process_id < 2 ^ 32
+        → key_fault (length cancel.secret_key) ≡ None
+        → Means first_message (cancel_request_body cancel) read ↔ (read ≡ cancelling cancel) }
 {}
 
 /// The room that is reserved for a password in clear is the least power of two that holds it, so

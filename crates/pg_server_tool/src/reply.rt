@@ -74,7 +74,7 @@ impl CopyResponse {
 /// What of the protocol the server doesn't speak.
 #[derive(Drop)]
 pub struct Negotiation {
-    pub minor: u32,
+    pub minor: u16,
     pub options: Vec<Vec<u8>>,
 }
 

@@ -1,7 +1,7 @@
 //! What the words of a line spell.
 
 use pg_base::io::Oid;
-use pg_lines::{Fault, hex_array, hex_bytes, i8_of, i16_of, i32_of, u32_of};
+use pg_lines::{Fault, hex_array, hex_bytes, i8_of, i16_of, i32_of, u16_of, u32_of};
 use std::alloc::Global;
 
 /// What a word can spell.
@@ -86,6 +86,12 @@ impl<'a> Parts<'a> {
 impl Spelled for u32 {
     fn of(word: Word<'_>) -> Result<u32, Fault> {
         u32_of(word.text).ok_or(word.bad)
+    }
+}
+
+impl Spelled for u16 {
+    fn of(word: Word<'_>) -> Result<u16, Fault> {
+        u16_of(word.text).ok_or(word.bad)
     }
 }
 

@@ -33,7 +33,7 @@ small m e = len_fits (law_of m).part_fault (length (body (law_of m))) e
 pub few_options : (n : page.Negotiation) → fault (negotiation_law n) ≡ None → length n.options < 2 ^ 32
 few_options n e =
     let texts = flat_map until_nul.Writes n.options in
-    omega (arith, length-append (be32 n.minor) (be32 (length n.options) ++ texts), length-append (be32 (length n.options)) texts, no_more_texts n.options, small (message.NegotiateProtocolVersion n) e)
+    omega (arith, length-append (be16 n.major ++ be16 n.minor) (be32 (length n.options) ++ texts), length-append (be32 (length n.options)) texts, no_more_texts n.options, small (message.NegotiateProtocolVersion n) e)
 
 fits_request : (request : page.Authentication) → fault (law_of (message.Authentication request)) ≡ None → (law_of (message.Authentication request)).IsInRange → IsReadable (message.Authentication request) → page.authentication.Fits request []
 fits_request page.ok e r h = (((omega arith, refl), refl), refl)

@@ -1,4 +1,4 @@
--- NegotiateProtocolVersion: a minor version, and names of options. Documentation: "Message Formats",
+-- NegotiateProtocolVersion: a version, and names of options. Documentation: "Message Formats",
 -- NegotiateProtocolVersion (B).
 use Rattle.std.specs.Prelude.{◌^◌, ◌<◌}
 use Rattle.std.specs.List.{list_any}
@@ -14,5 +14,5 @@ negotiation_law negotiation = record {
   line = page.negotiate_protocol_version;
   value = negotiation;
   part_fault = nul_fault (list_any holds_nul negotiation.options);
-  IsInRange = negotiation.minor < 2 ^ 32;
+  IsInRange = (negotiation.major < 2 ^ 16) × (negotiation.minor < 2 ^ 16);
 }

@@ -93,6 +93,9 @@ pub const PGMSG_NOT_FRAMES: i32 = -28;
 /// A message that is wanted whole is longer than the caller takes.
 pub const PGMSG_FRAME_TOO_LONG: i32 = -29;
 
+/// The greatest length of a first message that PostgreSQL's servers take.
+pub const PGMSG_MAX_FIRST_LENGTH: i32 = 10004;
+
 /// A session is opened: a StartupMessage.
 pub const PGMSG_FIRST_STARTUP: i32 = 0;
 
@@ -891,7 +894,8 @@ extern "C" {
     /// The first message of a connection at the front of a stream, or the one after an SSLRequest
     /// or a GSSENCRequest: 1 where it is whole, 0 where more bytes are needed. It has no tag: `tag`
     /// is 0, and `length` that of its length and its body. Refused where its length is below 8, or
-    /// above `limit`, which is 10000 for PostgreSQL's own servers: then, whatever comes next.
+    /// above `limit`, which is PGMSG_MAX_FIRST_LENGTH for PostgreSQL's own servers: then, whatever
+    /// comes next.
     pub fn pgmsg_next_first_frame(
         stream: *const u8,
         stream_len: usize,
@@ -1057,10 +1061,11 @@ extern "C" {
         out_len: usize,
     ) -> isize;
 
-    /// The newest minor version of the protocol that the server speaks, and the names of the
-    /// options that it doesn't know. A NUL in one is refused.
+    /// The newest minor version of the protocol's version 3 that the server speaks, and the names
+    /// of the options that it doesn't know. A NUL in one is refused. The message has the whole
+    /// version, as PostgreSQL's servers send it.
     pub fn pgmsg_put_negotiate_version(
-        minor: u32,
+        minor: u16,
         options: *const pgmsg_bytes,
         options_len: usize,
         out: *mut u8,

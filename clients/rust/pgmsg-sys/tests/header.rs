@@ -10,6 +10,7 @@ use std::ptr::addr_of;
 const HEADER: &str = include_str!("../../../c/include/pg_message.h");
 const HEADER_FOLDER: &str = concat!(env!("CARGO_MANIFEST_DIR"), "/../../c/include");
 const DECLARATIONS: &str = include_str!("../src/declarations.rs");
+const BUILD: &str = include_str!("../build.rs");
 
 /// Assertions in C of the size of a struct and of the offsets of its fields.
 macro_rules! layout {
@@ -54,6 +55,7 @@ fn numbers_are_those_of_the_header() {
     assert_eq!(assertions.len(), declared);
     compile(&assertions.concat());
     assert!(HEADER.contains(&format!("PGMSG_VERSION {PGMSG_VERSION:?}")));
+    assert!(BUILD.contains(&format!("\"pg_message = {PGMSG_VERSION}\"")));
 }
 
 /// The assertion in C that a number has the value which a line declares.

@@ -15,10 +15,13 @@ use std::alloc::Global;
 // The bytes before the body of a first message: the length.
 const LENGTH: usize = 4;
 
+/// The greatest length of a first message that PostgreSQL's servers take.
+pub const MAX_FIRST_LENGTH: i32 = 10004;
+
 /// The first message of a connection at the front of a stream, or the one after an SSLRequest or a
 /// GSSENCRequest: 1 where it is whole, 0 where more bytes are needed. It has no tag: `tag` is 0, and
-/// `length` that of its length and its body. Refused where its length is below 8, or above `limit`, which
-/// is 10000 for PostgreSQL's own servers: then, whatever comes next.
+/// `length` that of its length and its body. Refused where its length is below 8, or above `limit`,
+/// which is PGMSG_MAX_FIRST_LENGTH for PostgreSQL's own servers: then, whatever comes next.
 #[unsafe(no_mangle)]
 pub extern "C" fn pgmsg_next_first_frame(
     alloc: Global,

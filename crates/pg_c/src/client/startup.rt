@@ -1,7 +1,8 @@
 //! The settings of a Startup.
 
 ghost use Rattle.std.specs.Prelude.{◌≡◌, [], length, drop, IfSome, IfNone};
-ghost use Rattle.pg_read_frontend.specs.Settings.{setting, settings_in};
+ghost use Rattle.pg_format.specs.Messages.{setting};
+ghost use Rattle.pg_read_frontend.specs.Settings.{settings_in};
 ghost use Rattle.pg_c.specs.Client.Startup.{setting_in};
 ghost use Rattle.pg_c.specs.Read.{AreGiven};
 

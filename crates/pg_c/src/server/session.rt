@@ -14,16 +14,20 @@ use pg_write_backend::message::{
     BackendKeyDataText, NegotiateProtocolVersionText, ParameterStatusText, ReadyForQueryText,
 };
 
-/// The newest minor version of the protocol that the server speaks, and the names of the options that
-/// it doesn't know. A NUL in one is refused.
+/// The newest minor version of the protocol's version 3 that the server speaks, and the names of the options that
+/// it doesn't know. A NUL in one is refused. The message has the whole version, as PostgreSQL's servers send it.
 #[unsafe(no_mangle)]
 pub extern "C" fn pgmsg_put_negotiate_version(
-    minor: u32,
+    minor: u16,
     options: &[PgmsgBytes<'_>],
     out: &mut [u8],
 ) -> isize
     ensures { PutsServerMessage
-        (messages.NegotiateProtocolVersion (record { minor = minor; options = map bytes_of options.now }))
+        (messages.NegotiateProtocolVersion (record {
+          major = 3;
+          minor = minor;
+          options = map bytes_of options.now;
+        }))
         out.old out.new result }
 {
     put(&NegotiateProtocolVersionText { minor, options }, out)

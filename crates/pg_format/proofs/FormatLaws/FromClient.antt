@@ -1,20 +1,20 @@
 -- The laws of the messages of a client: each has one spelling.
-use Rattle.std.specs.Prelude.{◌≡◌, ◌≢◌, ℕ, ◌==◌, Bool, true, false, List, [], ◌∷◌, length, Some, None, if◌then◌else◌}
-use Rattle.std.proofs.Common.{refl, sym}
+use Rattle.std.specs.Prelude.{◌≡◌, ◌≢◌, ℕ, ◌-◌, ◌==◌, Bool, true, false, List, [], ◌∷◌, ◌++◌, Some, None, ◌⊎◌, if◌then◌else◌}
+use Rattle.std.proofs.Common.{refl, sym, ◌∙◌, inl, inr, arith}
 use Rattle.std.proofs.lemmas.Bool.{eqb-true}
-use Rattle.pg_base.specs.declared.error.ProtocolFault.TheVariants.{UnknownMessageType}
-use Rattle.pg_format.specs.Format.{Lawful, Canonical, Total}
-use Rattle.pg_format.specs.Format.Parts.{until_nul}
-use Rattle.pg_format.specs.Format.Sequences.{◌⨾◌}
-use Rattle.pg_format.specs.Format.Tests.{only}
-use Rattle.pg_format.specs.Messages.{format_codes, bind, key_fault, cancel_request, empty, Target, statement, portal, target_of, target_letter, targeted, execute, function_call, gss_enc_request, parse, text, sasl_initial_response, sasl_response, ssl_request, startup}
-use Rattle.pg_format.proofs.FormatLaws.Parts.{lawful_until_nul, canonical_until_nul, total_until_nul, lawful_unsigned, canonical_unsigned, total_unsigned, lawful_remaining, canonical_remaining, lawful_one_of, canonical_one_of, total_one_of, lawful_success, canonical_success, total_success}
-use Rattle.pg_format.proofs.FormatLaws.Sequences.{◌l⨾◌, ◌c⨾◌, ◌t⨾◌, lawful_record_of, canonical_record_of, total_record_of}
-use Rattle.pg_format.proofs.FormatLaws.Tests.{lawful_checked, canonical_checked, lawful_only, canonical_only}
+use Rattle.pg_base.specs.Reading.{BeginsWith, Text}
+use Rattle.pg_base.specs.declared.error.ProtocolFault.TheVariants.{UnknownMessageType, UnknownCode}
+use Rattle.pg_format.specs.Format.{Lawful, Canonical, Total, IsRead, IsBroken}
+use Rattle.pg_format.specs.Format.Lists.{until_zero}
+use Rattle.pg_format.specs.Messages.{format_codes, bind, empty, Target, statement, portal, target_of, target_letter, targeted, execute, function_call, parse, text, sasl_initial_response, sasl_response, setting, opening, cancelling, tls, gssapi, is_version_3, settings_of, cancelled, asks_tls, asks_gssapi, by_code, with_code, first_message}
+use Rattle.pg_format.proofs.FormatLaws.Parts.{lawful_until_nul, canonical_until_nul, total_until_nul, lawful_unsigned, canonical_unsigned, total_unsigned, lawful_remaining, canonical_remaining, lawful_one_of, canonical_one_of, total_one_of, lawful_success, canonical_success, total_success, lawful_fail_before, total_fail_before}
+use Rattle.pg_format.proofs.FormatLaws.Sequences.{◌l⨾◌, ◌c⨾◌, ◌t⨾◌, lawful_dep_pair, total_dep_pair, lawful_record_of, canonical_record_of, total_record_of, lawful_mapped, total_mapped, lawful_case_of, total_case_of, lawful_choose, total_choose}
+use Rattle.pg_format.proofs.FormatLaws.Tests.{lawful_only, Takes}
 use Rattle.pg_format.proofs.FormatLaws.Ends.{lawful_exactly, canonical_exactly, total_exactly}
-use Rattle.pg_format.proofs.FormatLaws.Lists.{lawful_counted, canonical_counted, total_counted, lawful_counted_least, canonical_counted_least, total_counted_least, lawful_many}
+use Rattle.pg_format.proofs.FormatLaws.Lists.{lawful_counted, canonical_counted, total_counted, lawful_counted_least, canonical_counted_least, total_counted_least, lawful_until_zero, total_until_zero}
 use Rattle.pg_format.proofs.FormatLaws.Nullable.{lawful_value, canonical_value, total_value}
-use Rattle.pg_format.proofs.FormatLaws.Takes.{takes_unsigned}
+use Rattle.pg_format.proofs.FormatLaws.FromServer.{lawful_backend_key, total_backend_key}
+use Rattle.pg_format.proofs.FormatLaws.Takes.{takes_until_nul, takes_unsigned, takes_pair, takes_only}
 
 lawful_codes : Lawful format_codes
 lawful_codes = lawful_counted_least 2 (takes_unsigned 2) (lawful_unsigned 2 tt)
@@ -37,15 +37,6 @@ pub total_bind : Total bind
 total_bind =
     total_exactly (total_record_of _ (λ a. record { portal = a.0; statement = a.1.0; formats = a.1.1.0; values = a.1.1.1.0; result_formats = a.1.1.1.1 }) (λ a. refl)
     (total_until_nul t⨾ total_until_nul t⨾ total_codes t⨾ total_counted total_value t⨾ total_codes))
-
-pub lawful_cancel_request : Lawful cancel_request
-lawful_cancel_request =
-    lawful_only (λ n. n ≡ 80877102) (lawful_unsigned 4 tt) l⨾ lawful_record_of _ (λ a b e i. record { process_id = (e i).0; secret_key = (e i).1 })
-    (lawful_unsigned 4 tt l⨾ lawful_checked (λ key. key_fault (length key)) lawful_remaining)
-
-pub canonical_cancel_request : Canonical cancel_request
-canonical_cancel_request =
-    canonical_only (λ n. n ≡ 80877102) (canonical_unsigned 4 tt) c⨾ canonical_record_of _ (canonical_unsigned 4 tt c⨾ canonical_checked (λ key. key_fault (length key)) canonical_remaining)
 
 pub lawful_empty : Lawful empty
 lawful_empty = lawful_exactly (lawful_success tt)
@@ -101,9 +92,6 @@ total_function_call =
     total_exactly (total_record_of _ (λ a. record { object_id = a.0; formats = a.1.0; arguments = a.1.1.0; result_format = a.1.1.1 }) (λ a. refl)
     (total_unsigned 4 t⨾ total_codes t⨾ total_counted total_value t⨾ total_unsigned 2))
 
-pub lawful_gss_enc_request : Lawful gss_enc_request
-lawful_gss_enc_request = lawful_exactly (lawful_only (λ n. n ≡ 80877104) (lawful_unsigned 4 tt))
-
 pub lawful_parse : Lawful parse
 lawful_parse =
     lawful_exactly (lawful_record_of _ (λ a b e i. record { statement = (e i).0; query = (e i).1.0; types = (e i).1.1 })
@@ -141,13 +129,55 @@ lawful_sasl_response = lawful_remaining
 pub canonical_sasl_response : Canonical sasl_response
 canonical_sasl_response = canonical_remaining
 
-pub lawful_ssl_request : Lawful ssl_request
-lawful_ssl_request = lawful_exactly (lawful_only (λ n. n ≡ 80877103) (lawful_unsigned 4 tt))
+-- ---- without a tag
 
--- at the byte 0 no setting begins
-no_setting : (s : List ℕ × List ℕ) (rest : List ℕ) → ¬ ((only (λ s. s.0 ≢ []) (until_nul ⨾ until_nul)).Reads (0 ∷ []) s rest)
-no_setting ([], value) rest p = p.1 refl
-no_setting (b ∷ bs, value) rest p = absurd (p.0.first.clean.0 (let e : b ≡ 0 = cc (p.0.first.parts) in e))
+pub lawful_setting : Lawful setting
+lawful_setting = lawful_only (λ s. s.0 ≢ []) (lawful_until_nul l⨾ lawful_until_nul)
 
-pub lawful_startup : Lawful startup
-lawful_startup = lawful_only (λ n. n ≡ 196608) (lawful_unsigned 4 tt) l⨾ lawful_many (0 ∷ []) (lawful_only (λ s. s.0 ≢ []) (lawful_until_nul l⨾ lawful_until_nul)) no_setting
+-- where a setting is read no empty name is
+pub setting_goes_on : (bytes rest : List ℕ) (s : List ℕ × List ℕ) → setting.Reads bytes s rest → ¬ (BeginsWith 0 bytes)
+setting_goes_on bytes rest ([], value) p e = p.1 refl
+setting_goes_on [] rest (c ∷ name, value) p e = e
+setting_goes_on (b ∷ bytes) rest (c ∷ name, value) p e = p.0.first.clean.0 (let heads : b ≡ c = cc (p.0.first.parts) in sym heads ∙ e)
+
+setting_named : (bytes name after : List ℕ) → Text bytes name after → ¬ (BeginsWith 0 bytes) → name ≢ []
+setting_named [] name after p on e = let clash : [] ≡ name ++ 0 ∷ after = p.parts in absurd (let none : [] ≡ 0 ∷ after = rw e at clash in cc)
+setting_named (b ∷ bytes) name after p on e = on (let parts : b ∷ bytes ≡ 0 ∷ after = rw e at p.parts in let heads : b ≡ 0 = cc in heads)
+
+setting_or_fault : (len : ℕ) (bytes : List ℕ) → ¬ (BeginsWith 0 bytes) → IsRead setting bytes ⊎ IsBroken setting len bytes
+setting_or_fault len bytes on =
+    elim ((total_until_nul t⨾ total_until_nul).decides len bytes) [
+      | inl p ↦ inl (p.0, p.1, (p.2, setting_named bytes p.0.0 p.2.mid p.2.first on))
+      | inr p ↦ inr p
+    ]
+
+setting_takes : Takes 1 setting
+setting_takes = takes_only 1 (λ s. s.0 ≢ []) (record { takes = λ bytes rest s p. omega (arith, (takes_pair 1 1 takes_until_nul takes_until_nul).takes bytes rest s p) })
+
+pub lawful_settings : Lawful (until_zero setting)
+lawful_settings = lawful_until_zero lawful_setting setting_goes_on
+
+total_settings : Total (until_zero setting)
+total_settings = total_until_zero setting_takes setting_or_fault
+
+lawful_by_code : (code : ℕ) → Lawful (by_code code)
+lawful_by_code code =
+    lawful_choose _ (lawful_case_of cancelling cancelled lawful_backend_key)
+    (lawful_choose _ (lawful_case_of (λ _. tls) asks_tls lawful_empty)
+    (lawful_choose _ (lawful_case_of (λ _. gssapi) asks_gssapi lawful_empty)
+    (lawful_choose _ (lawful_case_of (opening (code - 196608)) settings_of (lawful_exactly lawful_settings))
+    (lawful_fail_before 0 (λ _. UnknownCode code)))))
+
+total_by_code : (code : ℕ) → Total (by_code code)
+total_by_code code =
+    total_choose _ (total_case_of cancelling cancelled total_backend_key)
+    (total_choose _ (total_case_of (λ _. tls) asks_tls total_empty)
+    (total_choose _ (total_case_of (λ _. gssapi) asks_gssapi total_empty)
+    (total_choose _ (total_case_of (opening (code - 196608)) settings_of (total_exactly total_settings))
+    (total_fail_before 0 (λ _. UnknownCode code)))))
+
+pub lawful_first_message : Lawful first_message
+lawful_first_message = lawful_mapped (λ v. v.1) with_code (lawful_dep_pair by_code (lawful_unsigned 4 tt) lawful_by_code)
+
+pub total_first_message : Total first_message
+total_first_message = total_mapped (λ v. v.1) with_code (total_dep_pair by_code (total_unsigned 4) total_by_code)

@@ -10,8 +10,8 @@ use Rattle.pg_format.specs.Format.Tests.{only}
 use Rattle.pg_format.specs.Format.Lists.{many}
 use Rattle.pg_format.specs.Notices.{Field, notice_fault}
 use Rattle.pg_format.specs.Sasl.{first_message_fault, final_message_fault}
-use Rattle.pg_format.specs.Messages.{ok, cleartext_password, md5_password, sasl, sasl_continue, sasl_final, salt_of, mechanisms_of, continued, finished, mechanism_names, asked_by, with_method, authentication, key_fault, backend_key_data, backend_key, no_body, columns_of, column_codes, copy_response, data_row, field, function_call_response, negotiate_protocol_version, notice, notification, parameter_description, parameter_status, Status, idle, transaction, error, status_of, status_letter, ready_for_query, table, table_number, attribute, attribute_number, numbers, column, row_description}
-use Rattle.pg_format.proofs.FormatLaws.Parts.{lawful_until_nul, total_until_nul, lawful_unsigned, total_unsigned, lawful_signed, total_signed, lawful_bytes_of, total_bytes_of, lawful_remaining, total_remaining, lawful_one_of, total_one_of, lawful_success, total_success, lawful_fail, total_fail}
+use Rattle.pg_format.specs.Messages.{ok, cleartext_password, md5_password, sasl, sasl_continue, sasl_final, salt_of, mechanisms_of, continued, finished, mechanism_names, asked_by, with_method, authentication, key_fault, backend_key_data, backend_key, no_body, columns_of, column_codes, copy_response, data_row, field, function_call_response, version, negotiate_protocol_version, notice, notification, parameter_description, parameter_status, Status, idle, transaction, error, status_of, status_letter, ready_for_query, table, table_number, attribute, attribute_number, numbers, column, row_description}
+use Rattle.pg_format.proofs.FormatLaws.Parts.{lawful_until_nul, total_until_nul, lawful_unsigned, total_unsigned, lawful_signed, total_signed, lawful_bytes_of, total_bytes_of, lawful_remaining, total_remaining, lawful_one_of, total_one_of, lawful_success, total_success, lawful_fail_before, total_fail_before}
 use Rattle.pg_format.proofs.FormatLaws.Sequences.{◌l⨾◌, ◌t⨾◌, lawful_dep_pair, total_dep_pair, lawful_record_of, total_record_of, lawful_mapped, total_mapped, lawful_case_of, total_case_of, lawful_choose, total_choose}
 use Rattle.pg_format.proofs.FormatLaws.Tests.{lawful_utf8, total_utf8, utf8_or_not, lawful_checked, total_checked, lawful_only, lawful_with_room, total_with_room, Takes}
 use Rattle.pg_format.proofs.FormatLaws.Ends.{lawful_loosely, total_loosely}
@@ -54,7 +54,7 @@ lawful_asked_by method =
     (lawful_choose (method == 10) (lawful_case_of sasl mechanisms_of lawful_names)
     (lawful_choose (method == 11) (lawful_case_of sasl_continue continued (lawful_checked first_message_fault lawful_remaining))
     (lawful_choose (method == 12) (lawful_case_of sasl_final finished (lawful_checked final_message_fault lawful_remaining))
-    (lawful_fail (UnknownAuthentication method)))))))
+    (lawful_fail_before 0 (λ _. UnknownAuthentication method)))))))
 
 total_asked_by : (method : ℕ) → Total (asked_by method)
 total_asked_by method =
@@ -64,7 +64,7 @@ total_asked_by method =
     (total_choose (method == 10) (total_case_of sasl mechanisms_of total_names)
     (total_choose (method == 11) (total_case_of sasl_continue continued (total_checked first_message_fault total_remaining))
     (total_choose (method == 12) (total_case_of sasl_final finished (total_checked final_message_fault total_remaining))
-    (total_fail (UnknownAuthentication method)))))))
+    (total_fail_before 0 (λ _. UnknownAuthentication method)))))))
 
 pub lawful_authentication : Lawful authentication
 lawful_authentication = lawful_loosely (lawful_mapped (λ v. v.1) with_method (lawful_dep_pair asked_by u32 lawful_asked_by))
@@ -113,11 +113,17 @@ lawful_function_call_response = lawful_loosely lawful_cell
 pub total_function_call_response : Total function_call_response
 total_function_call_response = total_loosely total_cell
 
+lawful_version : Lawful version
+lawful_version = lawful_with_room 4 (takes_pair 2 2 (takes_unsigned 2) (takes_unsigned 2)) (lawful_unsigned 2 tt l⨾ lawful_unsigned 2 tt)
+
 pub lawful_negotiation : Lawful negotiate_protocol_version
-lawful_negotiation = lawful_loosely (lawful_record_of _ (λ a b e i. record { minor = (e i).0; options = (e i).1 }) (u32 l⨾ lawful_counted_long lawful_until_nul))
+lawful_negotiation =
+    lawful_loosely (lawful_record_of _ (λ a b e i. record { major = (e i).0.0; minor = (e i).0.1; options = (e i).1 }) (lawful_version l⨾ lawful_counted_long lawful_until_nul))
 
 pub total_negotiation : Total negotiate_protocol_version
-total_negotiation = total_loosely (total_record_of _ (λ a. record { minor = a.0; options = a.1 }) (λ a. refl) (total_unsigned 4 t⨾ total_counted_long total_until_nul))
+total_negotiation =
+    total_loosely (total_record_of _ (λ a. record { major = a.0.0; minor = a.0.1; options = a.1 }) (λ a. refl)
+    (total_with_room 4 (total_unsigned 2 t⨾ total_unsigned 2) t⨾ total_counted_long total_until_nul))
 
 -- at the byte 0 no field begins
 no_field : (f : Field) (rest : List ℕ) → ¬ (field.Reads (0 ∷ []) f rest)

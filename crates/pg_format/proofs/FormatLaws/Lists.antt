@@ -2,13 +2,15 @@
 use Rattle.std.specs.Prelude.{◌≡◌, ℕ, zero, suc, ◌+◌, ◌*◌, ◌<◌, ◌≤◌, List, [], ◌∷◌, ◌++◌, length, ◌⊎◌}
 use Rattle.std.specs.List.{flat_map}
 use Rattle.std.proofs.Common.{refl, sym, ap, ◌∙◌, arith, inl, inr, append_assoc}
+use Rattle.std.proofs.lemmas.Bool.{cases_eq}
 use Rattle.std.proofs.lemmas.List.{append-nil}
+use Rattle.pg_base.specs.Reading.{BeginsWith}
 use Rattle.pg_base.specs.declared.error.ProtocolFault.{ProtocolFault}
 use Rattle.pg_format.specs.Format.{Format, Lawful, Canonical, Total, IsRead, IsBroken, AreBytes}
 use Rattle.pg_format.specs.Format.Parts.{be_u16}
 use Rattle.pg_format.specs.Format.Sequences.{dep_pair}
 use Rattle.pg_format.specs.Format.Tests.{with_room, only}
-use Rattle.pg_format.specs.Format.Lists.{AreRead, OneBreaks, AllFit, AreInOrder, times, with_count, counted, counted_least, counted_long, many}
+use Rattle.pg_format.specs.Format.Lists.{AreRead, OneBreaks, AllFit, AreInOrder, times, with_count, counted, counted_least, counted_long, until_zero, many}
 use Rattle.pg_format.proofs.FormatLaws.Parts.{are_bytes_after, lawful_unsigned, canonical_unsigned, total_unsigned}
 use Rattle.pg_format.proofs.FormatLaws.Sequences.{lawful_dep_pair, canonical_dep_pair, total_dep_pair, lawful_mapped, canonical_mapped, total_mapped}
 use Rattle.pg_format.proofs.FormatLaws.Tests.{Takes, lawful_with_room, canonical_with_room, total_with_room}
@@ -140,6 +142,72 @@ module _ {A : Type 0} {g : Format A} (least : ℕ) (takes : Takes least g) where
   pub lawful_counted_least : Lawful g → Lawful (counted_least least g)
   lawful_counted_least eg =
       lawful_mapped (λ v. v.1) with_count (lawful_dep_pair (λ n. with_room (least * n) (times n g)) (lawful_unsigned 2 tt) (λ n. lawful_with_room (least * n) (times_take n) (lawful_times eg n)))
+
+-- ---- as many as stand before a byte 0
+
+module _ {A : Type 0} {g : Format A} (eg : Lawful g) (goes_on : (bytes rest : List ℕ) (a : A) → g.Reads bytes a rest → ¬ (BeginsWith 0 bytes)) where
+  ended : (bytes mid rest : List ℕ) → mid ≡ bytes → mid ≡ 0 ∷ rest → BeginsWith 0 bytes
+  ended [] mid rest p e = let clash : [] ≡ 0 ∷ rest = sym p ∙ e in absurd cc
+  ended (byte ∷ bytes) mid rest p e = let same : byte ∷ bytes ≡ 0 ∷ rest = sym p ∙ e in let heads : byte ≡ 0 = cc in heads
+
+  one_ended : (v w : List A) (bytes x y r s : List ℕ) → AreRead g bytes v x → x ≡ 0 ∷ r → AreRead g bytes w y → y ≡ 0 ∷ s → (v ≡ w) × (r ≡ s)
+  one_ended [] [] bytes x y r s p e q f = let same : 0 ∷ r ≡ 0 ∷ s = sym e ∙ p ∙ sym q ∙ f in let tails : r ≡ s = cc in (refl, tails)
+  one_ended [] (b ∷ w) bytes x y r s p e q f = absurd (goes_on bytes q.0 b q.1 (ended bytes x r p e))
+  one_ended (a ∷ v) [] bytes x y r s p e q f = absurd (goes_on bytes p.0 a p.1 (ended bytes y s q f))
+  one_ended (a ∷ v) (b ∷ w) bytes x y r s p e q f =
+      let first = eg.one_value bytes p.0 q.0 a b p.1 q.1 in
+      let more = one_ended v w q.0 x y r s (rw first.1 at p.2) e q.2 f in
+      (λ i. first.0 i ∷ more.0 i, more.1)
+
+  one_unended : (v w : List A) (len : ℕ) (bytes x y : List ℕ) (e f : ProtocolFault) → AreRead g bytes v x → g.Breaks len x e → AreRead g bytes w y → g.Breaks len y f → e ≡ f
+  one_unended [] [] len bytes x y e f p b q d = eg.one_fault len bytes e f (rw p at b) (rw q at d)
+  one_unended [] (a ∷ w) len bytes x y e f p b q d = absurd (eg.never_both len bytes q.0 a e q.1 (rw p at b))
+  one_unended (a ∷ v) [] len bytes x y e f p b q d = absurd (eg.never_both len bytes p.0 a f p.1 (rw q at d))
+  one_unended (a ∷ v) (b ∷ w) len bytes x y e f p c q d =
+      let first = eg.one_value bytes p.0 q.0 a b p.1 q.1 in
+      one_unended v w len q.0 x y e f (rw first.1 at p.2) c q.2 d
+
+  never_unended : (v w : List A) (len : ℕ) (bytes x y r : List ℕ) (f : ProtocolFault) → AreRead g bytes v x → x ≡ 0 ∷ r → AreRead g bytes w y → ¬ (BeginsWith 0 y) → g.Breaks len y f → ⊥
+  never_unended [] [] len bytes x y r f p e q on d = on (rw (sym q) at (ended bytes x r p e))
+  never_unended [] (a ∷ w) len bytes x y r f p e q on d = goes_on bytes q.0 a q.1 (ended bytes x r p e)
+  never_unended (a ∷ v) [] len bytes x y r f p e q on d = eg.never_both len bytes p.0 a f p.1 (rw q at d)
+  never_unended (a ∷ v) (b ∷ w) len bytes x y r f p e q on d =
+      let first = eg.one_value bytes p.0 q.0 a b p.1 q.1 in
+      never_unended v w len q.0 x y r f (rw first.1 at p.2) e q.2 on d
+
+  pub lawful_until_zero : Lawful (until_zero g)
+  lawful_until_zero = record {
+    one_value = λ bytes x y a b p q. one_ended a b bytes p.mid q.mid x y p.are_read p.ends q.are_read q.ends;
+    one_fault = λ len bytes e f p q. one_unended p.some q.some len bytes p.mid q.mid e f p.are_read p.breaks q.are_read q.breaks;
+    never_both = λ len bytes rest a f p q. never_unended a q.some len bytes p.mid q.mid rest f p.are_read p.ends q.are_read q.goes_on q.breaks;
+    written = λ all rest fits. record {
+      mid = 0 ∷ rest;
+      are_read = rw append_assoc ((lawful_times eg (length all)).written all (0 ∷ rest) (refl, fits)).1;
+      ends = refl;
+    };
+  }
+
+module _ {A : Type 0} {g : Format A} (takes : Takes 1 g) (decides : (len : ℕ) (bytes : List ℕ) → ¬ (BeginsWith 0 bytes) → IsRead g bytes ⊎ IsBroken g len bytes) where
+  after_item : (len : ℕ) (bytes mid : List ℕ) (a : A) → g.Reads bytes a mid → IsRead (until_zero g) mid ⊎ IsBroken (until_zero g) len mid → IsRead (until_zero g) bytes ⊎ IsBroken (until_zero g) len bytes
+  after_item len bytes mid a p (inl q) = inl (a ∷ q.0, q.1, record { mid = q.2.mid; are_read = (mid, p, q.2.are_read); ends = q.2.ends })
+  after_item len bytes mid a p (inr q) = inr (q.0, record { some = a ∷ q.1.some; mid = q.1.mid; are_read = (mid, p, q.1.are_read); goes_on = q.1.goes_on; breaks = q.1.breaks })
+
+  by_item : (len : ℕ) (bytes : List ℕ) → ¬ (BeginsWith 0 bytes) → ((rest : List ℕ) → length rest < length bytes → IsRead (until_zero g) rest ⊎ IsBroken (until_zero g) len rest) → IsRead g bytes ⊎ IsBroken g len bytes
+      → IsRead (until_zero g) bytes ⊎ IsBroken (until_zero g) len bytes
+  by_item len bytes on more (inl p) = after_item len bytes p.1 p.0 p.2 (more p.1 (omega (arith, takes.takes bytes p.1 p.0 p.2)))
+  by_item len bytes on more (inr p) = inr (p.0, record { some = []; mid = bytes; are_read = refl; goes_on = on; breaks = p.1 })
+
+  by_byte : (most len : ℕ) (bytes : List ℕ) → length bytes < most → IsRead (until_zero g) bytes ⊎ IsBroken (until_zero g) len bytes
+  by_byte zero len bytes few = absurd (omega (arith, few))
+  by_byte (suc most) len [] few = by_item len [] (λ e. e) (λ rest shorter. by_byte most len rest (omega (arith, few, shorter))) (decides len [] (λ e. e))
+  by_byte (suc most) len (byte ∷ bytes) few =
+      elim (cases_eq byte 0) [
+        | inl e ↦ inl ([], bytes, record { mid = byte ∷ bytes; are_read = refl; ends = ap (λ (b : ℕ). b ∷ bytes) e })
+        | inr on ↦ by_item len (byte ∷ bytes) on (λ rest shorter. by_byte most len rest (omega (arith, few, shorter))) (decides len (byte ∷ bytes) on)
+      ]
+
+  pub total_until_zero : Total (until_zero g)
+  total_until_zero = record { decides = λ len bytes. by_byte (suc (length bytes)) len bytes (omega arith) }
 
 -- ---- as many as there are
 

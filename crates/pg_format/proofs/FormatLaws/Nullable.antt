@@ -1,12 +1,12 @@
 -- The laws of values that may be NULL.
 use Rattle.std.specs.Prelude.{◌≡◌, ℕ, zero, suc, ℤ, pos, negsuc, List, Option, Some, None}
 use Rattle.std.proofs.Common.{refl, ap, ◌∙◌}
-use Rattle.pg_base.specs.declared.error.ProtocolFault.TheVariants.{BadLength}
+use Rattle.pg_base.specs.declared.error.ProtocolFault.TheVariants.{ValueLength}
 use Rattle.pg_format.specs.Format.{Format, Lawful, Canonical, Total}
 use Rattle.pg_format.specs.Format.Parts.{bytes_of}
 use Rattle.pg_format.specs.Format.Sequences.{case_of}
 use Rattle.pg_format.specs.Format.Nullable.{itself, length_of, with_length, nullable_by, cell_after, cell, value_after, value}
-use Rattle.pg_format.proofs.FormatLaws.Parts.{lawful_signed, canonical_signed, total_signed, lawful_bytes_of, canonical_bytes_of, total_bytes_of, lawful_success, canonical_success, total_success, lawful_fail, canonical_fail, total_fail}
+use Rattle.pg_format.proofs.FormatLaws.Parts.{lawful_signed, canonical_signed, total_signed, lawful_bytes_of, canonical_bytes_of, total_bytes_of, lawful_success, canonical_success, total_success, lawful_fail_before, canonical_fail_before, total_fail_before}
 use Rattle.pg_format.proofs.FormatLaws.Sequences.{lawful_dep_pair, canonical_dep_pair, total_dep_pair, lawful_mapped, canonical_mapped, total_mapped, lawful_case_of, canonical_case_of, total_case_of}
 
 lawful_some : (n : ℕ) → Lawful (case_of Some itself (bytes_of n))
@@ -38,17 +38,17 @@ total_cell = total_nullable_by cell_after total_cell_after
 lawful_value_after : (z : ℤ) → Lawful (value_after z)
 lawful_value_after (pos n) = lawful_some n
 lawful_value_after (negsuc zero) = lawful_success None
-lawful_value_after (negsuc (suc n)) = lawful_fail (BadLength (negsuc (suc n)))
+lawful_value_after (negsuc (suc n)) = lawful_fail_before 4 (λ at. ValueLength at (negsuc (suc n)))
 
 canonical_value_after : (z : ℤ) → Canonical (value_after z)
 canonical_value_after (pos n) = canonical_case_of Some itself (λ a. refl) (canonical_bytes_of n)
 canonical_value_after (negsuc zero) = canonical_success None
-canonical_value_after (negsuc (suc n)) = canonical_fail (BadLength (negsuc (suc n)))
+canonical_value_after (negsuc (suc n)) = canonical_fail_before 4 (λ at. ValueLength at (negsuc (suc n)))
 
 total_value_after : (z : ℤ) → Total (value_after z)
 total_value_after (pos n) = total_some n
 total_value_after (negsuc zero) = total_success None
-total_value_after (negsuc (suc n)) = total_fail (BadLength (negsuc (suc n)))
+total_value_after (negsuc (suc n)) = total_fail_before 4 (λ at. ValueLength at (negsuc (suc n)))
 
 pub lawful_value : Lawful value
 lawful_value = lawful_nullable_by value_after lawful_value_after

@@ -1,5 +1,5 @@
 -- The laws of parts.
-use Rattle.std.specs.Prelude.{◌≡◌, ◌≢◌, ℕ, zero, suc, ◌<◌, List, [], ◌∷◌, ◌++◌, length, Option, Some, None, ◌⊎◌}
+use Rattle.std.specs.Prelude.{◌≡◌, ◌≢◌, ℕ, zero, suc, ◌-◌, ◌<◌, List, [], ◌∷◌, ◌++◌, length, Option, Some, None, ◌⊎◌}
 use Rattle.std.specs.Int.{bytes_high_first}
 use Rattle.std.proofs.Common.{refl, sym, ap, ◌∙◌, arith, inl, inr, append_assoc, length-append}
 use Rattle.std.proofs.lemmas.List.{append-nil}
@@ -10,7 +10,7 @@ use Rattle.pg_base.specs.Reading.{Text, HoldsNo}
 use Rattle.pg_base.proofs.CuttingLemmas.{parts_at}
 use Rattle.pg_base.proofs.ReadingLemmas.{one_number, one_signed, one_text, no_text, number_fits, signed_fits}
 use Rattle.pg_format.specs.Format.{Lawful, Canonical, Total, IsRead, IsBroken, AreBytes}
-use Rattle.pg_format.specs.Format.Parts.{offset, Lacks, UnknownLetter, complement, until_nul, unsigned, signed, bytes_of, remaining, one_of, success, fail}
+use Rattle.pg_format.specs.Format.Parts.{offset, Lacks, UnknownLetter, complement, until_nul, unsigned, signed, bytes_of, remaining, one_of, success, fail_before}
 use Rattle.pg_format.proofs.FormatLaws.Numbers.{IsWidth, bytes_wide, num_of_bytes, bytes_of_num, complement_wide, int_of_complement, spelled}
 
 after : (front rest : List ℕ) → AreBytes (front ++ rest) → AreBytes rest
@@ -250,16 +250,16 @@ canonical_success v = record { same = λ bytes rest a h p. sym p.1; fits = λ by
 pub total_success : {A : Type 0} (v : A) → Total (success v)
 total_success v = record { decides = λ len bytes. inl (v, bytes, (refl, refl)) }
 
-pub lawful_fail : {A : Type 0} (wrong : ProtocolFault) → Lawful (fail {A = A} wrong)
-lawful_fail wrong = record {
+pub lawful_fail_before : {A : Type 0} (width : ℕ) (wrong : ℕ → ProtocolFault) → Lawful (fail_before {A = A} width wrong)
+lawful_fail_before width wrong = record {
   one_value = λ bytes x y a b p q. absurd p;
   one_fault = λ len bytes e f p q. p ∙ sym q;
   never_both = λ len bytes rest a f p q. p;
   written = λ a rest fits. fits;
 }
 
-pub canonical_fail : {A : Type 0} (wrong : ProtocolFault) → Canonical (fail {A = A} wrong)
-canonical_fail wrong = record { same = λ bytes rest a h p. absurd p; fits = λ bytes rest a h p. p }
+pub canonical_fail_before : {A : Type 0} (width : ℕ) (wrong : ℕ → ProtocolFault) → Canonical (fail_before {A = A} width wrong)
+canonical_fail_before width wrong = record { same = λ bytes rest a h p. absurd p; fits = λ bytes rest a h p. p }
 
-pub total_fail : {A : Type 0} (wrong : ProtocolFault) → Total (fail {A = A} wrong)
-total_fail wrong = record { decides = λ len bytes. inr (wrong, refl) }
+pub total_fail_before : {A : Type 0} (width : ℕ) (wrong : ℕ → ProtocolFault) → Total (fail_before {A = A} width wrong)
+total_fail_before width wrong = record { decides = λ len bytes. inr (wrong (offset len bytes - width), refl) }

@@ -1,6 +1,7 @@
 -- Formats of lists.
 use Rattle.std.specs.Prelude.{◌≡◌, ℕ, zero, suc, ◌*◌, List, [], ◌∷◌, ◌++◌, length, ◌⊎◌}
 use Rattle.std.specs.List.{flat_map}
+use Rattle.pg_base.specs.Reading.{BeginsWith}
 use Rattle.pg_base.specs.declared.error.ProtocolFault.{ProtocolFault}
 use Rattle.pg_format.specs.Format.{Format}
 use Rattle.pg_format.specs.Format.Parts.{be_u16, be_u32}
@@ -44,6 +45,29 @@ counted_long g = mapped (λ v. v.1) with_count (dep_pair be_u32 (λ n. times n g
 -- as `counted`, where so many bytes for each must be there before one is looked at
 abbrev pub counted_least : {A : Type 0} → ℕ → Format A → Format (List A)
 counted_least least g = mapped (λ v. v.1) with_count (dep_pair be_u16 (λ n. with_room (least * n) (times n g)))
+
+-- items, and the byte 0 that ends them
+pub record AreEnded {A : Type 0} (g : Format A) (bytes : List ℕ) (all : List A) (rest : List ℕ) : Type 0 where
+  pub mid : List ℕ
+  pub are_read : AreRead g bytes all mid
+  pub ends : mid ≡ 0 ∷ rest
+
+-- some items, no byte 0 after them, and one that can't be read
+pub record BreaksBeforeEnd {A : Type 0} (g : Format A) (len : ℕ) (bytes : List ℕ) (fault : ProtocolFault) : Type 0 where
+  pub some : List A
+  pub mid : List ℕ
+  pub are_read : AreRead g bytes some mid
+  pub goes_on : ¬ (BeginsWith 0 mid)
+  pub breaks : g.Breaks len mid fault
+
+-- as many as stand before a byte 0, with which none begins
+abbrev pub until_zero : {A : Type 0} → Format A → Format (List A)
+until_zero g = record {
+  Reads = AreEnded g;
+  Breaks = BreaksBeforeEnd g;
+  Writes = λ all. flat_map g.Writes all ++ 0 ∷ [];
+  Fits = λ all rest. AllFit g all (0 ∷ rest);
+}
 
 -- one after the other, up to where none begins
 abbrev pub AreInOrder : {A : Type 0} → Format A → List ℕ → List A → Type 0

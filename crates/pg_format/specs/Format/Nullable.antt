@@ -1,8 +1,8 @@
 -- Formats of values that may be NULL: a length of four bytes, and as many bytes.
 use Rattle.std.specs.Prelude.{ℕ, zero, suc, ℤ, pos, negsuc, List, length, Option, Some, None}
-use Rattle.pg_base.specs.declared.error.ProtocolFault.TheVariants.{BadLength}
+use Rattle.pg_base.specs.declared.error.ProtocolFault.TheVariants.{ValueLength}
 use Rattle.pg_format.specs.Format.{Format}
-use Rattle.pg_format.specs.Format.Parts.{be_i32, bytes_of, success, fail}
+use Rattle.pg_format.specs.Format.Parts.{be_i32, bytes_of, success, fail_before}
 use Rattle.pg_format.specs.Format.Sequences.{dep_pair, mapped, case_of}
 
 abbrev pub itself : Option (List ℕ) → Option (List ℕ)
@@ -27,11 +27,11 @@ cell_after (negsuc n) = success None
 abbrev pub cell : Format (Option (List ℕ))
 cell = nullable_by cell_after
 
--- a parameter's value is NULL by -1, and another length below 0 is a fault
+-- a parameter's value is NULL by -1, and another length below 0 is a fault at its four bytes
 abbrev pub value_after : ℤ → Format (Option (List ℕ))
 value_after (pos n) = case_of Some itself (bytes_of n)
 value_after (negsuc zero) = success None
-value_after (negsuc (suc n)) = fail (BadLength (negsuc (suc n)))
+value_after (negsuc (suc n)) = fail_before 4 (λ at. ValueLength at (negsuc (suc n)))
 
 abbrev pub value : Format (Option (List ℕ))
 value = nullable_by value_after

@@ -111,11 +111,15 @@ success a = record {
   Fits = λ v rest. v ≡ a;
 }
 
--- never a value
-abbrev pub fail : {A : Type 0} → ProtocolFault → Format A
-fail wrong = record {
+-- never a value: the fault is of what stands so many bytes before, and may name that place
+abbrev pub fail_before : {A : Type 0} → ℕ → (ℕ → ProtocolFault) → Format A
+fail_before width wrong = record {
   Reads = λ bytes v rest. ⊥;
-  Breaks = λ len bytes fault. fault ≡ wrong;
+  Breaks = λ len bytes fault. fault ≡ wrong (offset len bytes - width);
   Writes = λ v. [];
   Fits = λ v rest. ⊥;
 }
+
+-- the same of a fault without a place
+abbrev pub fail : {A : Type 0} → ProtocolFault → Format A
+fail wrong = fail_before 0 (λ _. wrong)

@@ -2,12 +2,11 @@
 //! bytes of a body mean this value. Laws of formats hold of other numbers too; these don't.
 
 ghost use Rattle.std.specs.Prelude.{◌≡◌, [], ◌∷◌, ◌++◌, codes, replicate, pos, negsuc, Some, None};
-ghost use Rattle.pg_base.specs.declared.error.ProtocolFault.TheVariants.{BadKeyLength};
-ghost use Rattle.pg_base.specs.declared.error.ProtocolFault.TheVariants.{BodyTooLong, UnknownSeverity};
+ghost use Rattle.pg_base.specs.declared.error.ProtocolFault.TheVariants.{BadKeyLength, BodyTooLong, MissingNul, UnknownCode, UnknownSeverity, ValueLength};
 ghost use Rattle.pg_base.specs.declared.format.BackendMessageFormat.TheVariants as backend;
 ghost use Rattle.pg_base.specs.declared.format.FrontendMessageFormat.TheVariants as frontend;
 ghost use Rattle.pg_format.specs.Format.{Means, IsFaultOf};
-ghost use Rattle.pg_format.specs.Messages.{from_server, from_client, backend_key, function_call_response, negotiate_protocol_version, text, sasl_initial_response, sasl_response, startup, cancel_request, ssl_request, gss_enc_request};
+ghost use Rattle.pg_format.specs.Messages.{from_server, from_client, backend_key, function_call_response, negotiate_protocol_version, text, sasl_initial_response, sasl_response, first_message, opening, cancelling, tls, gssapi};
 ghost use Rattle.pg_format.specs.Tables.{ok, cleartext_password, md5_password, sasl, sasl_continue, sasl_final, method_number, statement, portal, idle, transaction, error};
 
 /// The six methods of authentication, by their numbers.
@@ -110,14 +109,14 @@ pub fn examples_from_a_server()
     ensures portal_suspended { Means (from_server backend.PortalSuspended).format [] tt }
 {}
 
-/// Messages from a server without a kind: the result of a call, NULL, and options that a server doesn't
-/// know; and a key of five bytes.
+/// Messages from a server without a kind: the result of a call, NULL, and the version of a server with options that it
+/// doesn't know; and a key of five bytes.
 pub fn examples_of_other_messages()
     ensures called { Means function_call_response (0 ∷ 0 ∷ 0 ∷ 2 ∷ 9 ∷ 0 ∷ []) (Some (9 ∷ 0 ∷ [])) }
     ensures called_null { Means function_call_response (255 ∷ 255 ∷ 255 ∷ 255 ∷ []) None }
     ensures negotiated { Means negotiate_protocol_version
-        (0 ∷ 0 ∷ 0 ∷ 2 ∷ 0 ∷ 0 ∷ 0 ∷ 2 ∷ codes "_pq_.a" ++ 0 ∷ codes "_pq_.b" ++ 0 ∷ [])
-        (record { minor = 2; options = codes "_pq_.a" ∷ codes "_pq_.b" ∷ [] }) }
+        (0 ∷ 3 ∷ 0 ∷ 2 ∷ 0 ∷ 0 ∷ 0 ∷ 2 ∷ codes "_pq_.a" ++ 0 ∷ codes "_pq_.b" ++ 0 ∷ [])
+        (record { major = 3; minor = 2; options = codes "_pq_.a" ∷ codes "_pq_.b" ∷ [] }) }
     ensures key_of_five_bytes { Means backend_key (0 ∷ 0 ∷ 4 ∷ 210 ∷ 7 ∷ 0 ∷ 8 ∷ 9 ∷ 255 ∷ [])
         (record { process_id = 1234; secret_key = 7 ∷ 0 ∷ 8 ∷ 9 ∷ 255 ∷ [] }) }
 {}
@@ -176,26 +175,38 @@ pub fn examples_from_a_client()
     ensures sasl_initial_none { Means sasl_initial_response
         (codes "PLAIN" ++ 0 ∷ 255 ∷ 255 ∷ 255 ∷ 255 ∷ [])
         (record { mechanism = codes "PLAIN"; response = None }) }
+    ensures sasl_initial_length { IsFaultOf sasl_initial_response
+        (codes "PLAIN" ++ 0 ∷ 255 ∷ 255 ∷ 255 ∷ 254 ∷ [])
+        (ValueLength 6 (negsuc 1)) }
     ensures sasl_response { Means sasl_response (codes "c=biws") (codes "c=biws") }
 {}
 
-/// Messages without a tag: their numbers, and keys of 4 and of 256 bytes; 3 or 257 are a fault.
+/// Messages without a tag: their numbers, two minor versions, and keys of 4 and of 256 bytes; 3 or 257 are a fault, and
+/// so are bytes after a Startup, a name without its value, and a code of no message.
 pub fn examples_without_a_tag()
-    ensures startup { Means startup (0 ∷ 3 ∷ 0 ∷ 0 ∷ codes "user" ++ 0 ∷ codes "ann" ++ 0 ∷ 0 ∷ [])
-        (196608, (codes "user", codes "ann") ∷ []) }
-    ensures cancel_request { Means cancel_request
+    ensures startup { Means first_message
+        (0 ∷ 3 ∷ 0 ∷ 0 ∷ codes "user" ++ 0 ∷ codes "ann" ++ 0 ∷ 0 ∷ [])
+        (opening 0 ((codes "user", codes "ann") ∷ [])) }
+    ensures minor_version { Means first_message (0 ∷ 3 ∷ 0 ∷ 2 ∷ 0 ∷ []) (opening 2 []) }
+    ensures startup_and_more { IsFaultOf first_message (0 ∷ 3 ∷ 0 ∷ 0 ∷ 0 ∷ 7 ∷ []) (BodyTooLong 5) }
+    ensures name_without_a_value { IsFaultOf first_message
+        (0 ∷ 3 ∷ 0 ∷ 0 ∷ codes "a" ++ 0 ∷ codes "b")
+        (MissingNul 6) }
+    ensures cancel_request { Means first_message
         (4 ∷ 210 ∷ 22 ∷ 46 ∷ 0 ∷ 0 ∷ 1 ∷ 0 ∷ 7 ∷ 0 ∷ 8 ∷ 9 ∷ [])
-        (80877102, record { process_id = 256; secret_key = 7 ∷ 0 ∷ 8 ∷ 9 ∷ [] }) }
-    ensures longest_key { Means cancel_request (4 ∷ 210 ∷ 22 ∷ 46 ∷ 0 ∷ 0 ∷ 1 ∷ 0 ∷ replicate 256 7)
-        (80877102, record { process_id = 256; secret_key = replicate 256 7 }) }
-    ensures short_key { IsFaultOf cancel_request
+        (cancelling (record { process_id = 256; secret_key = 7 ∷ 0 ∷ 8 ∷ 9 ∷ [] })) }
+    ensures longest_key { Means first_message
+        (4 ∷ 210 ∷ 22 ∷ 46 ∷ 0 ∷ 0 ∷ 1 ∷ 0 ∷ replicate 256 7)
+        (cancelling (record { process_id = 256; secret_key = replicate 256 7 })) }
+    ensures short_key { IsFaultOf first_message
         (4 ∷ 210 ∷ 22 ∷ 46 ∷ 0 ∷ 0 ∷ 1 ∷ 0 ∷ 7 ∷ 0 ∷ 8 ∷ [])
         (BadKeyLength 3) }
-    ensures long_key { IsFaultOf cancel_request
+    ensures long_key { IsFaultOf first_message
         (4 ∷ 210 ∷ 22 ∷ 46 ∷ 0 ∷ 0 ∷ 1 ∷ 0 ∷ replicate 257 7)
         (BadKeyLength 257) }
-    ensures ssl_request { Means ssl_request (4 ∷ 210 ∷ 22 ∷ 47 ∷ []) 80877103 }
-    ensures gss_enc_request { Means gss_enc_request (4 ∷ 210 ∷ 22 ∷ 48 ∷ []) 80877104 }
+    ensures ssl_request { Means first_message (4 ∷ 210 ∷ 22 ∷ 47 ∷ []) tls }
+    ensures gss_enc_request { Means first_message (4 ∷ 210 ∷ 22 ∷ 48 ∷ []) gssapi }
+    ensures unknown_code { IsFaultOf first_message (4 ∷ 210 ∷ 22 ∷ 49 ∷ []) (UnknownCode 80877105) }
 {}
 
 /// Errors and notices with a severity that is no word of those that there are.

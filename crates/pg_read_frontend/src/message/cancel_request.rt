@@ -1,7 +1,8 @@
 //! A session whose query is to be cancelled.
 
 ghost use Rattle.std.specs.Prelude.{◌≤◌, length};
-ghost use Rattle.pg_read_frontend.specs.CancelRequest.{cancel, shown_cancel};
+ghost use Rattle.pg_format.specs.Messages.{cancel_request};
+ghost use Rattle.pg_read_frontend.specs.CancelRequest.{shown_cancel};
 ghost use Rattle.pg_read_frontend.specs.Message.{ReadsRest};
 
 use crate::error::FrontendFault;
@@ -24,7 +25,7 @@ pub struct CancelRequestRef<'a> {
 /// The request after its code.
 pub(crate) fn cancel_at(body: &[u8], at: usize) -> Result<CancelRequestRef<'_>, FrontendFault>
     requires { at ≤ length body.now }
-    ensures { ReadsRest cancel shown_cancel body.now at result }
+    ensures { ReadsRest cancel_request shown_cancel body.now at result }
 {
     let (process_id, end) = u32_at(body, at)?;
     let secret_key = &body[end..];

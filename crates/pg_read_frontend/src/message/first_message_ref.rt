@@ -1,7 +1,7 @@
 //! The first message of a connection, which has no tag.
 
-ghost use Rattle.std.specs.Prelude.{◌≡◌, ◌+◌, IfSome, IfNone};
-ghost use Rattle.pg_read_frontend.specs.FirstMessageRef.{IsVersion3, ReadsFirst};
+ghost use Rattle.std.specs.Prelude.{◌≡◌, ◌+◌, ◌<◌, ◌≤◌, IfSome, IfNone};
+ghost use Rattle.pg_read_frontend.specs.FirstMessageRef.{ReadsFirst};
 
 use crate::error::FrontendFault;
 use crate::message::cancel_request::{CancelRequestRef, cancel_at};
@@ -63,7 +63,7 @@ impl<'a> FirstMessageRef<'a> {
 // The minor version of a code that is one of the protocol's version 3.
 fn minor_of(code: u32) -> Option<u16>
     ensures minor { IfSome result (λ minor. code ≡ 196608 + minor) }
-    ensures none { IfNone result (¬ (IsVersion3 code)) }
+    ensures none { IfNone result (¬ ((196608 ≤ code) × (code < 262144))) }
 {
     u16::try_from(code.checked_sub(VERSION_3)?).ok()
 }

@@ -2,9 +2,9 @@
 
 ghost use Rattle.std.specs.Prelude.{◌≤◌, length};
 ghost use Rattle.std.specs.Iterator.{YieldsFirstBy, item_count};
-ghost use Rattle.pg_format.specs.Format.Ends.{exactly};
+ghost use Rattle.pg_format.specs.Format.Lists.{until_zero};
+ghost use Rattle.pg_format.specs.Messages.{setting, startup};
 ghost use Rattle.pg_read_frontend.specs.Message.{GivesAt, ReadsRest};
-ghost use Rattle.pg_read_frontend.specs.Settings.{settings};
 
 use crate::error::FrontendFault;
 use crate::message::parts::{end_at, text_at};
@@ -50,7 +50,7 @@ impl<'a> Iterator for Settings<'a> {
 /// The settings from an offset on, up to an empty name, after which nothing follows.
 pub(crate) fn all_settings(body: &[u8], at: usize) -> Result<Settings<'_>, FrontendFault>
     requires { at ≤ length body.now }
-    ensures { ReadsRest (exactly settings) (λ settings. settings) body.now at result }
+    ensures { ReadsRest startup (λ settings. settings) body.now at result }
 {
     let (settings, end) = settings_at(body, at)?;
     end_at(body, end)?;
@@ -60,7 +60,7 @@ pub(crate) fn all_settings(body: &[u8], at: usize) -> Result<Settings<'_>, Front
 // The settings at an offset, which an empty name ends.
 fn settings_at(body: &[u8], at: usize) -> Result<(Settings<'_>, usize), FrontendFault>
     requires { at ≤ length body.now }
-    ensures { GivesAt settings (λ settings. settings) body.now at result }
+    ensures { GivesAt (until_zero setting) (λ settings. settings) body.now at result }
 {
     let mut end = at;
     'settings: loop {

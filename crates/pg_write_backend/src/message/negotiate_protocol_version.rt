@@ -8,18 +8,25 @@ use crate::message::BackendText;
 use crate::message::item::{AsItem, Item, any_broken, holds_nul, items_len, nul_fault, put_items};
 use pg_base::io::Sink;
 
+// The version of the protocol, without the minor one.
+const MAJOR: u16 = 3;
+
 /// The server speaks an older minor version than the client asked for, or doesn't know some of its
 /// options. Documentation: "Message Formats", NegotiateProtocolVersion (B).
 #[derive(Drop)]
 pub struct NegotiateProtocolVersionText<'a, N = &'a [u8]> {
-    /// The newest minor version that the server speaks.
-    pub minor: u32,
+    /// The newest minor version of the protocol's version 3 that the server speaks.
+    pub minor: u16,
     /// The names of the options that it doesn't know. A NUL in one is refused with `TextHoldsNul`.
     pub options: &'a [N],
 }
 
 impl<'a, N: AsItem<&'a [u8]>> BackendText for NegotiateProtocolVersionText<'a, N> {
-    ghost message = { λ version. messages.NegotiateProtocolVersion (record { minor = version.minor; options = map (λ name. (N.item name).now) version.options.now }) };
+    ghost message = { λ version. messages.NegotiateProtocolVersion (record {
+      major = 3;
+      minor = version.minor;
+      options = map (λ name. (N.item name).now) version.options.now;
+    }) };
 
     fn tag(&self) -> u8 {
         b'v'
@@ -35,7 +42,8 @@ impl<'a, N: AsItem<&'a [u8]>> BackendText for NegotiateProtocolVersionText<'a, N
 
     #[inline(always)]
     fn put_body<S: Sink>(&self, sink: &mut S) {
-        sink.put_u32(self.minor);
+        sink.put_u16(MAJOR);
+        sink.put_u16(self.minor);
         // Each has a byte or more, so that they can be counted where their length can be said.
         sink.put_u32(self.options.len() as u32);
         put_items(self.options, sink);

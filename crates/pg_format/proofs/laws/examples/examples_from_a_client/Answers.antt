@@ -1,9 +1,9 @@
-use Rattle.std.specs.Prelude.{[], ◌∷◌, codes, Some, None}
-use Rattle.std.proofs.Common.{refl, arith}
+use Rattle.std.specs.Prelude.{[], ◌∷◌, negsuc, codes, Some, None}
+use Rattle.std.proofs.Common.{refl, inl, inr, arith}
 use Rattle.pg_format.specs.Tables.{statement, portal}
 use Rattle.pg_format.proofs.ExamplesLemmas.{clean}
 use Rattle.pg_format.proofs.FormatLaws.FromClient.{lawful_bind, lawful_targeted, lawful_empty, lawful_execute, lawful_function_call, lawful_parse, lawful_text, lawful_sasl_initial_response, lawful_sasl_response}
-use Rattle.pg_format.proofs.FormatLaws.Parts.{lawful_remaining}
+use Rattle.pg_format.proofs.FormatLaws.Parts.{lawful_remaining, lawful_signed}
 use Rattle.pg_format.proofs.laws.examples.examples_from_a_client.Goals as goal
 
 pub returns-clause-bind : goal.returns-clause-bind
@@ -62,6 +62,15 @@ returns-clause-sasl_initial_response c = lawful_sasl_initial_response.written (r
 
 pub returns-clause-sasl_initial_none : goal.returns-clause-sasl_initial_none
 returns-clause-sasl_initial_none c = lawful_sasl_initial_response.written (record { mechanism = codes "PLAIN"; response = None }) [] (((clean (codes "PLAIN") refl), ((omega arith, refl), refl)), refl)
+
+pub returns-clause-sasl_initial_length : goal.returns-clause-sasl_initial_length
+returns-clause-sasl_initial_length c =
+    inl (inr (record {
+      value = codes "PLAIN";
+      mid = 255 ∷ 255 ∷ 255 ∷ 254 ∷ [];
+      reads = record { clean = clean (codes "PLAIN") refl; parts = refl };
+      breaks = inr (record { value = negsuc 1; mid = []; reads = (lawful_signed 4 tt).written (negsuc 1) [] (omega arith); breaks = refl });
+    }))
 
 pub returns-clause-sasl_response : goal.returns-clause-sasl_response
 returns-clause-sasl_response c = lawful_sasl_response.written (codes "c=biws") [] refl

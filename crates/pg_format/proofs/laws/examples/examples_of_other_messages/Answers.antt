@@ -11,7 +11,7 @@ pub returns-clause-called_null : goal.returns-clause-called_null
 returns-clause-called_null c = lawful_function_call_response.written None [] (((omega arith, refl), refl), refl)
 
 pub returns-clause-negotiated : goal.returns-clause-negotiated
-returns-clause-negotiated c = lawful_negotiation.written (record { minor = 2; options = codes "_pq_.a" ∷ codes "_pq_.b" ∷ [] }) [] ((omega arith, ((omega arith, (refl, (clean (codes "_pq_.a") refl, (clean (codes "_pq_.b") refl, tt)))), refl)), refl)
+returns-clause-negotiated c = lawful_negotiation.written (record { major = 3; minor = 2; options = codes "_pq_.a" ∷ codes "_pq_.b" ∷ [] }) [] (((omega arith, omega arith), ((omega arith, (refl, (clean (codes "_pq_.a") refl, (clean (codes "_pq_.b") refl, tt)))), refl)), refl)
 
 pub returns-clause-key_of_five_bytes : goal.returns-clause-key_of_five_bytes
 returns-clause-key_of_five_bytes c = lawful_backend_key.written (record { process_id = 1234; secret_key = 7 ∷ 0 ∷ 8 ∷ 9 ∷ 255 ∷ [] }) [] (omega arith, (refl, refl))

@@ -1,37 +1,58 @@
-use Rattle.std.specs.Prelude.{◌≡◌, List, ℕ, [], ◌∷◌, length, codes, replicate, Some}
-use Rattle.std.proofs.Common.{refl, arith, inr}
+use Rattle.std.specs.Prelude.{◌≡◌, ℕ, ◌<◌, ◌^◌, List, [], ◌∷◌, ◌++◌, length, codes, replicate, Some}
+use Rattle.std.proofs.Common.{refl, arith, inl, inr}
 use Rattle.pg_base.specs.declared.error.ProtocolFault.{ProtocolFault}
 use Rattle.pg_base.specs.declared.error.ProtocolFault.TheVariants.{BadKeyLength}
 use Rattle.pg_format.specs.Format.{IsFaultOf}
-use Rattle.pg_format.specs.Messages.{key_fault, cancel_request}
+use Rattle.pg_format.specs.Format.Parts.{be_u32}
+use Rattle.pg_format.specs.Messages.{key_fault, opening, cancelling, tls, gssapi, by_code, first_message}
 use Rattle.pg_format.proofs.ExamplesLemmas.{clean}
-use Rattle.pg_format.proofs.FormatLaws.FromClient.{lawful_cancel_request, lawful_gss_enc_request, lawful_ssl_request, lawful_startup}
+use Rattle.pg_format.proofs.FormatLaws.FromClient.{lawful_first_message}
 use Rattle.pg_format.proofs.FormatLaws.Parts.{lawful_unsigned}
 use Rattle.pg_format.proofs.laws.examples.examples_without_a_tag.Goals as goal
 
--- the fault of a key is that of the message
-of_key : (key : List ℕ) (fault : ProtocolFault) → key_fault (length key) ≡ Some fault → IsFaultOf cancel_request (4 ∷ 210 ∷ 22 ∷ 46 ∷ 0 ∷ 0 ∷ 1 ∷ 0 ∷ key) fault
+-- the fault of what follows a code is that of the message
+after_code : (code : ℕ) (bytes : List ℕ) (fault : ProtocolFault) → code < 256 ^ 4 → (by_code code).Breaks (length (be_u32.Writes code ++ bytes)) bytes fault → IsFaultOf first_message (be_u32.Writes code ++ bytes) fault
+after_code code bytes fault fits p = inr (record { value = code; mid = bytes; reads = (lawful_unsigned 4 tt).written code bytes fits; breaks = p })
+
+of_key : (key : List ℕ) (fault : ProtocolFault) → key_fault (length key) ≡ Some fault → IsFaultOf first_message (4 ∷ 210 ∷ 22 ∷ 46 ∷ 0 ∷ 0 ∷ 1 ∷ 0 ∷ key) fault
 of_key key fault is =
-    inr (record {
-      value = 80877102;
-      mid = 0 ∷ 0 ∷ 1 ∷ 0 ∷ key;
-      reads = ((lawful_unsigned 4 tt).written 80877102 (0 ∷ 0 ∷ 1 ∷ 0 ∷ key) (omega arith), refl);
-      breaks = inr (record {
-        value = 256;
-        mid = key;
-        reads = (lawful_unsigned 4 tt).written 256 key (omega arith);
-        breaks = inr (record { value = key; rest = []; reads = (refl, refl); is = is });
-      });
-    })
+    after_code 80877102 (0 ∷ 0 ∷ 1 ∷ 0 ∷ key) fault (omega arith) (inr (record {
+      value = 256;
+      mid = key;
+      reads = (lawful_unsigned 4 tt).written 256 key (omega arith);
+      breaks = inr (record { value = key; rest = []; reads = (refl, refl); is = is });
+    }))
 
 pub returns-clause-startup : goal.returns-clause-startup
-returns-clause-startup c = lawful_startup.written (196608, (codes "user", codes "ann") ∷ []) [] ((omega arith, refl), (((((clean (codes "user") refl), (clean (codes "ann") refl)), (λ e. absurd (cc e))), tt), refl))
+returns-clause-startup c = lawful_first_message.written (opening 0 ((codes "user", codes "ann") ∷ [])) [] ((omega arith, (((((clean (codes "user") refl, clean (codes "ann") refl), (λ e. absurd (cc e))), tt), refl), refl)), refl)
+
+pub returns-clause-minor_version : goal.returns-clause-minor_version
+returns-clause-minor_version c = lawful_first_message.written (opening 2 []) [] ((omega arith, ((tt, refl), refl)), refl)
+
+pub returns-clause-startup_and_more : goal.returns-clause-startup_and_more
+returns-clause-startup_and_more c =
+    after_code 196608 (0 ∷ 7 ∷ []) _ (omega arith) (inr (record { value = []; mid = 7 ∷ []; reads = record { mid = 0 ∷ 7 ∷ []; are_read = refl; ends = refl }; breaks = record { some = omega arith; is = refl } }))
+
+pub returns-clause-name_without_a_value : goal.returns-clause-name_without_a_value
+returns-clause-name_without_a_value c =
+    after_code 196608 (codes "a" ++ 0 ∷ codes "b") _ (omega arith) (inl (record {
+      some = [];
+      mid = codes "a" ++ 0 ∷ codes "b";
+      are_read = refl;
+      goes_on = λ e. omega (arith, e);
+      breaks = inr (record {
+        value = codes "a";
+        mid = codes "b";
+        reads = record { clean = clean (codes "a") refl; parts = refl };
+        breaks = record { no_nul = clean (codes "b") refl; is = refl };
+      });
+    }))
 
 pub returns-clause-cancel_request : goal.returns-clause-cancel_request
-returns-clause-cancel_request c = lawful_cancel_request.written (80877102, record { process_id = 256; secret_key = 7 ∷ 0 ∷ 8 ∷ 9 ∷ [] }) [] ((omega arith, refl), (omega arith, (refl, refl)))
+returns-clause-cancel_request c = lawful_first_message.written (cancelling (record { process_id = 256; secret_key = 7 ∷ 0 ∷ 8 ∷ 9 ∷ [] })) [] ((omega arith, ((omega arith, (refl, refl)), refl)), refl)
 
 pub returns-clause-longest_key : goal.returns-clause-longest_key
-returns-clause-longest_key c = lawful_cancel_request.written (80877102, record { process_id = 256; secret_key = replicate 256 7 }) [] ((omega arith, refl), (omega arith, (refl, refl)))
+returns-clause-longest_key c = lawful_first_message.written (cancelling (record { process_id = 256; secret_key = replicate 256 7 })) [] ((omega arith, ((omega arith, (refl, refl)), refl)), refl)
 
 pub returns-clause-short_key : goal.returns-clause-short_key
 returns-clause-short_key c = of_key (7 ∷ 0 ∷ 8 ∷ []) (BadKeyLength 3) refl
@@ -40,7 +61,10 @@ pub returns-clause-long_key : goal.returns-clause-long_key
 returns-clause-long_key c = of_key (replicate 257 7) (BadKeyLength 257) refl
 
 pub returns-clause-ssl_request : goal.returns-clause-ssl_request
-returns-clause-ssl_request c = lawful_ssl_request.written 80877103 [] ((omega arith, refl), refl)
+returns-clause-ssl_request c = lawful_first_message.written tls [] ((omega arith, ((refl, refl), refl)), refl)
 
 pub returns-clause-gss_enc_request : goal.returns-clause-gss_enc_request
-returns-clause-gss_enc_request c = lawful_gss_enc_request.written 80877104 [] ((omega arith, refl), refl)
+returns-clause-gss_enc_request c = lawful_first_message.written gssapi [] ((omega arith, ((refl, refl), refl)), refl)
+
+pub returns-clause-unknown_code : goal.returns-clause-unknown_code
+returns-clause-unknown_code c = after_code 80877105 [] _ (omega arith) refl

@@ -1,6 +1,6 @@
 use Rattle.std.proofs.Common.{ℕ, ◌-◌, ◌≤◌, List, length, drop}
 use Rattle.pg_format.specs.Format.Lists.{AreRead}
-use Rattle.pg_read_frontend.specs.Settings.{setting}
+use Rattle.pg_format.specs.Messages.{setting}
 use Rattle.pg_read_frontend.proofs.message.settings.settings_at.Given as goal
 
 -- settings up to here, which is within the body

@@ -6,5 +6,5 @@ use Rattle.pg_write_backend.proofs.message.negotiate_protocol_version.NegotiateP
 pub overflow_cast-self : goal.overflow_cast-self
 overflow_cast-self g c =
     let version = c.args.self.now in
-    let few = few_options (record { minor = version.minor; options = map (λ name. (g.N.AsItem.item name).now) version.options.now }) c.requires.limits in
+    let few = few_options (record { major = 3; minor = version.minor; options = map (λ name. (g.N.AsItem.item name).now) version.options.now }) c.requires.limits in
     omega (arith, few, length-map version.options.now (λ name. (g.N.AsItem.item name).now))
