@@ -4,8 +4,7 @@ use Rattle.pg_frontend_frames.specs.declared.frame.Expects.{Expects}
 use Rattle.pg_relay.specs.Answer.{bytes_in, Lead}
 use Rattle.pg_relay.specs.Frame.{HasHead, HasLowLength, IsFrame}
 use Rattle.pg_relay.specs.Pass.{IsGiven, HasPassed}
-use Rattle.pg_relay.specs.Pass.Stops.{StopsAtRelay}
-use Rattle.pg_relay.specs.Relay.{Relaying, IsKept, IsUnfinished}
+use Rattle.pg_relay.specs.Relay.{Relaying, IsKept, IsRelayError, IsUnfinished}
 use Rattle.pg_relay.specs.declared.answer.Answer.{Answer}
 use Rattle.pg_relay.specs.declared.error.RelayError.TheVariants.{BadLength}
 use Rattle.pg_relay.proofs.FrameLemmas.{head_stays, low_has_no_head, one_head}
@@ -68,11 +67,10 @@ rest_is_not_low wants given relay announced (inl g) k low =
 rest_is_not_low wants given relay announced (inr g) k low =
     low_has_no_head relay.expects (given ++ relay.held) announced g.tag g.count low (head_stays relay.expects given relay.held g.tag g.count g.head)
 
-pub low_stops : {U : Type 0} (wanted : U → ℕ → ℕ → Bool) (Answers : U → Option ℕ → List ℕ → Answer → List ℕ → U → Type 0) (start : Expects) (first : U) (before rest a b : List ℕ) (u v : U) (r s : Relaying) (announced : ℤ) → StopsAtRelay wanted Answers start first before rest a u r (BadLength announced) → HasPassed wanted Answers start first (before ++ rest) b v s → IsKept s.limit s.expects s.held s.left → ⊥
-low_stops wanted Answers start first before rest a b u v r s announced p q k =
-    let passed = p.passed in
-    let nothing : passed.given ≡ [] = nothing_given (wanted u) r.expects passed.given r.left p.is.0 passed.part in
+pub low_stops : {U : Type 0} (wanted : U → ℕ → ℕ → Bool) (Answers : U → Option ℕ → List ℕ → Answer → List ℕ → U → Type 0) (start : Expects) (first : U) (before rest a b : List ℕ) (u v : U) (r s : Relaying) (announced : ℤ) → HasPassed wanted Answers start first before a u r → IsRelayError (wanted u) r rest (BadLength announced) → HasPassed wanted Answers start first (before ++ rest) b v s → IsKept s.limit s.expects s.held s.left → ⊥
+low_stops wanted Answers start first before rest a b u v r s announced passed is q k =
+    let nothing : passed.given ≡ [] = nothing_given (wanted u) r.expects passed.given r.left is.0 passed.part in
     let front : before ≡ bytes_in passed.came ++ r.held = passed.bytes_are ∙ ap (λ (l : List ℕ). bytes_in passed.came ++ (l ++ r.held)) nothing in
     let all : before ++ rest ≡ bytes_in passed.came ++ (r.held ++ rest) = ap (λ (l : List ℕ). l ++ rest) front ∙ append_assoc (bytes_in passed.came) r.held rest in
-    let one = one_way start (before ++ rest) passed.came q.came r.expects s.expects (r.held ++ rest) (q.given ++ s.held) (relayed_lead wanted Answers r.limit start first passed.came passed.sent r.expects u passed.relayed).0 all (low_has_no_frame r.expects (r.held ++ rest) announced p.is.1) (relayed_lead wanted Answers s.limit start first q.came q.sent s.expects v q.relayed).0 q.bytes_are (rest_has_no_frame (wanted v) q.given s q.part k) in
-    rest_is_not_low (wanted v) q.given s announced q.part k (rw (one.1, one.2) at p.is.1)
+    let one = one_way start (before ++ rest) passed.came q.came r.expects s.expects (r.held ++ rest) (q.given ++ s.held) (relayed_lead wanted Answers r.limit start first passed.came passed.sent r.expects u passed.relayed).0 all (low_has_no_frame r.expects (r.held ++ rest) announced is.1) (relayed_lead wanted Answers s.limit start first q.came q.sent s.expects v q.relayed).0 q.bytes_are (rest_has_no_frame (wanted v) q.given s q.part k) in
+    rest_is_not_low (wanted v) q.given s announced q.part k (rw (one.1, one.2) at is.1)

@@ -5,14 +5,13 @@ use Rattle.std.proofs.lemmas.List.{append_cancel_right, take-append-drop}
 use Rattle.pg_frames.specs.Pieces.{joined}
 use Rattle.pg_frontend_frames.specs.declared.frame.Expects.{Expects}
 use Rattle.pg_relay.specs.Answer.{bytes_in}
-use Rattle.pg_relay.specs.Pass.{HasPassed, PutsOut}
-use Rattle.pg_relay.specs.Pass.Stops.{IsEventError, HasNoRoom, Stops, StopsIn}
-use Rattle.pg_relay.specs.Relay.{Relaying, bytes_of, passed, IsRelayError, Takes}
+use Rattle.pg_relay.specs.Pass.{HasAdded, HasPassed, PassesOn}
+use Rattle.pg_relay.specs.Pass.Stops.{StopsAtRelay, StopsAtEvent, Stops, StopsIn}
+use Rattle.pg_relay.specs.Relay.{Relaying, passed, Takes}
 use Rattle.pg_relay.specs.declared.answer.Answer.{Answer}
 use Rattle.pg_relay.specs.declared.error.RelayError.{RelayError}
 use Rattle.pg_relay.specs.declared.event.Event.{Event}
-use Rattle.pg_relay.specs.declared.event.Event.TheVariants.{Frame, Part, Held}
-use Rattle.pg_relay.proofs.PassedLemmas.{with_held, passed_step}
+use Rattle.pg_relay.proofs.PassedLemmas.{with_held}
 
 -- these bytes end a piece
 abbrev pub Ends : List ℕ → List ℕ → Type 0
@@ -56,46 +55,28 @@ passed_front wanted Answers start first bytes piece rest out user relay e p =
       part = p.part;
     }
 
-pub stops_at_relay : {U : Type 0} (wanted : U → ℕ → ℕ → Bool) (Answers : U → Option ℕ → List ℕ → Answer → List ℕ → U → Type 0) (Exhausts : U → Option ℕ → List ℕ → Type 0) (start : Expects) (first : U) (bytes piece rest : List ℕ) (room : ℕ) (out : List ℕ) (user : U) (relay : Relaying) (error : RelayError) → 0 < length rest → Ends rest piece → HasPassed wanted Answers start first (bytes ++ piece) out user (with_held relay rest) → IsRelayError (wanted user) relay rest error → Stops wanted Answers Exhausts start first bytes piece room out user relay error
-stops_at_relay wanted Answers Exhausts start first bytes piece rest room out user relay error some e p is = record {
+added_front : {U : Type 0} (wanted : U → ℕ → ℕ → Bool) (Answers : U → Option ℕ → List ℕ → Answer → List ℕ → U → Type 0) (user : U) (relay : Relaying) (piece old out : List ℕ) (by : U) (at : Relaying) (rest : List ℕ) (e : Ends rest piece) → HasAdded old out (PassesOn wanted Answers user relay piece by (with_held at rest)) → HasAdded old out (PassesOn wanted Answers user relay e.0 by at)
+added_front wanted Answers user relay piece old out by at rest e p = record {
+  added = p.added;
+  adds = p.adds;
+  are = λ start first before sent q. passed_front wanted Answers start first before piece rest (sent ++ p.added) by at e (p.are start first before sent q);
+}
+
+-- what comes next doesn't pass
+pub stops_here : {U : Type 0} (wanted : U → ℕ → ℕ → Bool) (Answers : U → Option ℕ → List ℕ → Answer → List ℕ → U → Type 0) (Exhausts : U → Option ℕ → List ℕ → U → Type 0) (user : U) (relay : Relaying) (piece : List ℕ) (room : ℕ) (old out : List ℕ) (by : U) (at : Relaying) (rest : List ℕ) (later : U) (after : Relaying) (error : RelayError) → Ends rest piece → HasAdded old out (PassesOn wanted Answers user relay piece by (with_held at rest)) → (StopsAtRelay wanted by at rest later after error ⊎ StopsAtEvent wanted Answers Exhausts by at rest room out later after error) → Stops wanted Answers Exhausts user relay piece room old out later after error
+stops_here wanted Answers Exhausts user relay piece room old out by at rest later after error e p why = record {
   front = e.0;
   rest = rest;
   parts = e.1;
-  why = inl (record { passed = passed_front wanted Answers start first bytes piece rest out user relay e p; some = some; is = is });
+  by = by;
+  at = at;
+  passed = added_front wanted Answers user relay piece old out by at rest e p;
+  why = why;
 }
-
-stops_at_answer : {U : Type 0} (wanted : U → ℕ → ℕ → Bool) (Answers : U → Option ℕ → List ℕ → Answer → List ℕ → U → Type 0) (Exhausts : U → Option ℕ → List ℕ → Type 0) (start : Expects) (first : U) (bytes piece rest : List ℕ) (room : ℕ) (out : List ℕ) (user : U) (old : Relaying) (event : Event) (after : List ℕ) (new : Relaying) (later : U) (error : RelayError) → Ends rest piece → HasPassed wanted Answers start first (bytes ++ piece) out user (with_held old rest) → Takes (wanted user) old rest event after new → IsEventError Answers Exhausts user old.expects event new.expects later error → Stops wanted Answers Exhausts start first bytes piece room out later new error
-stops_at_answer wanted Answers Exhausts start first bytes piece rest room out user old (Frame tag frame) after new later error e p t is = record {
-  front = e.0;
-  rest = rest;
-  parts = e.1;
-  why = inr (inl (record { user = user; at = old; passed = passed_front wanted Answers start first bytes piece rest out user old e p; tag = tag; frame = bytes_of frame; after = new.held ++ after; next = t.conserved ∙ append_assoc (bytes_of frame) new.held after; whole = t.comes; is = is }));
-}
-stops_at_answer wanted Answers Exhausts start first bytes piece rest room out user old (Part part left) after new later error e p t is = absurd is
-stops_at_answer wanted Answers Exhausts start first bytes piece rest room out user old Held after new later error e p t is = absurd is
-
-stops_for_room : {U : Type 0} (wanted : U → ℕ → ℕ → Bool) (Answers : U → Option ℕ → List ℕ → Answer → List ℕ → U → Type 0) (Exhausts : U → Option ℕ → List ℕ → Type 0) (start : Expects) (first : U) (bytes piece rest : List ℕ) (room : ℕ) (out : List ℕ) (user : U) (old : Relaying) (event : Event) (after : List ℕ) (new : Relaying) (later : U) (error : RelayError) → 0 < length rest → Ends rest piece → HasPassed wanted Answers start first (bytes ++ piece) out user (with_held old rest) → Takes (wanted user) old rest event after new → HasNoRoom (PutsOut Answers user old.expects event new.expects later out) room out error → Stops wanted Answers Exhausts start first bytes piece room out later new error
-stops_for_room wanted Answers Exhausts start first bytes piece rest room out user old event after new later error some e p t n =
-    let all = out ++ n.more in
-    let f = ends_on (wanted user) old piece rest event after new some e t in
-    let q = passed_step wanted Answers start first (bytes ++ piece) out user old rest event after new later all p t n.is_out in
-    record {
-      front = f.0;
-      rest = after;
-      parts = f.1;
-      why = inr (inr (record { more = n.more; is_out = passed_front wanted Answers start first bytes piece after all later new f q; full = n.full; is = n.is }));
-    }
-
--- what comes of the rest doesn't go out
-pub stops_at_event : {U : Type 0} (wanted : U → ℕ → ℕ → Bool) (Answers : U → Option ℕ → List ℕ → Answer → List ℕ → U → Type 0) (Exhausts : U → Option ℕ → List ℕ → Type 0) (start : Expects) (first : U) (bytes piece rest : List ℕ) (room : ℕ) (out : List ℕ) (user : U) (old : Relaying) (event : Event) (after : List ℕ) (new : Relaying) (later : U) (error : RelayError) → 0 < length rest → Ends rest piece → HasPassed wanted Answers start first (bytes ++ piece) out user (with_held old rest) → Takes (wanted user) old rest event after new → (IsEventError Answers Exhausts user old.expects event new.expects later error ⊎ HasNoRoom (PutsOut Answers user old.expects event new.expects later out) room out error) → Stops wanted Answers Exhausts start first bytes piece room out later new error
-stops_at_event wanted Answers Exhausts start first bytes piece rest room out user old event after new later error some e p t (inl is) =
-    stops_at_answer wanted Answers Exhausts start first bytes piece rest room out user old event after new later error e p t is
-stops_at_event wanted Answers Exhausts start first bytes piece rest room out user old event after new later error some e p t (inr n) =
-    stops_for_room wanted Answers Exhausts start first bytes piece rest room out user old event after new later error some e p t n
 
 -- in one of some pieces
-pub stops_in : {U : Type 0} (wanted : U → ℕ → ℕ → Bool) (Answers : U → Option ℕ → List ℕ → Answer → List ℕ → U → Type 0) (Exhausts : U → Option ℕ → List ℕ → Type 0) (start : Expects) (first : U) (bytes : List ℕ) (pieces : List (Bor (List ℕ))) (i : ℕ) (d : Bor (List ℕ)) (room : ℕ) (out : List ℕ) (user : U) (relay : Relaying) (error : RelayError) → i < length pieces → Stops wanted Answers Exhausts start first (bytes ++ joined (take i pieces)) (get_or pieces i d).now room out user relay error → StopsIn wanted Answers Exhausts start first bytes pieces room out user relay error
-stops_in wanted Answers Exhausts start first bytes pieces i d room out user relay error lt s =
-    let at = get_or pieces i d in
-    let are : pieces ≡ take i pieces ++ at ∷ drop (suc i) pieces = sym (take-append-drop i pieces) ∙ ap (λ (l : List (Bor (List ℕ))). take i pieces ++ l) (drop-cons pieces i d lt) in
-    record { passed = take i pieces; piece = at; after = drop (suc i) pieces; are = are; stops = s }
+pub stops_in : {U : Type 0} (wanted : U → ℕ → ℕ → Bool) (Answers : U → Option ℕ → List ℕ → Answer → List ℕ → U → Type 0) (Exhausts : U → Option ℕ → List ℕ → U → Type 0) (user : U) (relay : Relaying) (pieces : List (Bor (List ℕ))) (i : ℕ) (d : Bor (List ℕ)) (room : ℕ) (old sent : List ℕ) (by : U) (at : Relaying) (new : List ℕ) (later : U) (after : Relaying) (error : RelayError) → i < length pieces → HasAdded old sent (PassesOn wanted Answers user relay (joined (take i pieces)) by at) → Stops wanted Answers Exhausts by at (get_or pieces i d).now room sent new later after error → StopsIn wanted Answers Exhausts user relay pieces room old new later after error
+stops_in wanted Answers Exhausts user relay pieces i d room old sent by at new later after error lt p s =
+    let piece = get_or pieces i d in
+    let are : pieces ≡ take i pieces ++ piece ∷ drop (suc i) pieces = sym (take-append-drop i pieces) ∙ ap (λ (l : List (Bor (List ℕ))). take i pieces ++ l) (drop-cons pieces i d lt) in
+    record { before = take i pieces; piece = piece; following = drop (suc i) pieces; are = are; by = by; at = at; sent = sent; passed = p; stops = s }

@@ -1,14 +1,13 @@
 -- What has passed, after one more step.
 use Rattle.std.proofs.Common.{◌≡◌, ◌+◌, ◌<◌, ◌≤◌, ℕ, zero, suc, Bool, List, [], ◌∷◌, ◌++◌, length, take, get_or, add-one, Option, inl, inr, refl, sym, ap, ◌∙◌, append_assoc, append-nil, arith}
 use Rattle.std.specs.Borrow.{Bor}
-use Rattle.std.proofs.lemmas.List.{take_all}
 use Rattle.std.proofs.Math.Seq.{take-suc}
 use Rattle.pg_frames.specs.Pieces.{joined}
 use Rattle.pg_frames.proofs.PiecesLemmas.{joined-append}
 use Rattle.pg_frontend_frames.specs.declared.frame.Expects.{Expects}
 use Rattle.pg_relay.specs.Answer.{bytes_in, placed}
 use Rattle.pg_relay.specs.Frame.{HasHead, IsFrame}
-use Rattle.pg_relay.specs.Pass.{HasPassed, PutsAnswer, PutsOut}
+use Rattle.pg_relay.specs.Pass.{HasAdded, HasPassed, PassesOn, PutsAnswer, PutsOut}
 use Rattle.pg_relay.specs.Relay.{Relaying, bytes_of, ComesWhole, ComesInParts, Holds, Takes}
 use Rattle.pg_relay.specs.declared.answer.Answer.{Answer}
 use Rattle.pg_relay.specs.declared.event.Event.{Event}
@@ -87,7 +86,7 @@ passed_part wanted Answers start first bytes out user old piece b (suc k) rest n
       part = inr (rw (same, w.expects, w.left_is) (record { tag = more.0; count = more.1; head = more.2; unwanted = more.3; counts = more.4; more = omega arith }));
     }
 
-pub passed_step : {U : Type 0} (wanted : U → ℕ → ℕ → Bool) (Answers : U → Option ℕ → List ℕ → Answer → List ℕ → U → Type 0) (start : Expects) (first : U) (bytes out : List ℕ) (user : U) (old : Relaying) (piece : List ℕ) (event : Event) (rest : List ℕ) (new : Relaying) (later : U) (after : List ℕ) → HasPassed wanted Answers start first bytes out user (with_held old piece) → Takes (wanted user) old piece event rest new → PutsOut Answers user old.expects event new.expects later out after → HasPassed wanted Answers start first bytes after later (with_held new rest)
+passed_step : {U : Type 0} (wanted : U → ℕ → ℕ → Bool) (Answers : U → Option ℕ → List ℕ → Answer → List ℕ → U → Type 0) (start : Expects) (first : U) (bytes out : List ℕ) (user : U) (old : Relaying) (piece : List ℕ) (event : Event) (rest : List ℕ) (new : Relaying) (later : U) (after : List ℕ) → HasPassed wanted Answers start first bytes out user (with_held old piece) → Takes (wanted user) old piece event rest new → PutsOut Answers user old.expects event new.expects later out after → HasPassed wanted Answers start first bytes after later (with_held new rest)
 passed_step wanted Answers start first bytes out user old piece (Frame tag frame) rest new later after p t o =
     passed_frame wanted Answers start first bytes out user old piece tag (bytes_of frame) rest new later after p t.limit t.conserved t.comes o
 passed_step wanted Answers start first bytes out user old piece (Part part left) rest new later after p t o =
@@ -96,7 +95,7 @@ passed_step wanted Answers start first bytes out user old piece Held rest new la
     passed_held wanted Answers start first bytes out user old piece rest new later after p t.limit t.conserved t.comes o.0 o.1
 
 -- a piece that comes is not yet taken
-pub passed_fed : {U : Type 0} (wanted : U → ℕ → ℕ → Bool) (Answers : U → Option ℕ → List ℕ → Answer → List ℕ → U → Type 0) (start : Expects) (first : U) (bytes out : List ℕ) (user : U) (relay : Relaying) (piece : List ℕ) → HasPassed wanted Answers start first bytes out user relay → HasPassed wanted Answers start first (bytes ++ piece) out user (with_held relay piece)
+passed_fed : {U : Type 0} (wanted : U → ℕ → ℕ → Bool) (Answers : U → Option ℕ → List ℕ → Answer → List ℕ → U → Type 0) (start : Expects) (first : U) (bytes out : List ℕ) (user : U) (relay : Relaying) (piece : List ℕ) → HasPassed wanted Answers start first bytes out user relay → HasPassed wanted Answers start first (bytes ++ piece) out user (with_held relay piece)
 passed_fed wanted Answers start first bytes out user relay piece p = record {
   came = p.came;
   sent = p.sent;
@@ -108,7 +107,7 @@ passed_fed wanted Answers start first bytes out user relay piece p = record {
 }
 
 -- a piece of which nothing is left is taken
-pub passed_all : {U : Type 0} (wanted : U → ℕ → ℕ → Bool) (Answers : U → Option ℕ → List ℕ → Answer → List ℕ → U → Type 0) (start : Expects) (first : U) (bytes out : List ℕ) (user : U) (relay : Relaying) (rest : List ℕ) → rest ≡ [] → HasPassed wanted Answers start first bytes out user (with_held relay rest) → HasPassed wanted Answers start first bytes out user relay
+passed_all : {U : Type 0} (wanted : U → ℕ → ℕ → Bool) (Answers : U → Option ℕ → List ℕ → Answer → List ℕ → U → Type 0) (start : Expects) (first : U) (bytes out : List ℕ) (user : U) (relay : Relaying) (rest : List ℕ) → rest ≡ [] → HasPassed wanted Answers start first bytes out user (with_held relay rest) → HasPassed wanted Answers start first bytes out user relay
 passed_all wanted Answers start first bytes out user relay rest e p = record {
   came = p.came;
   sent = p.sent;
@@ -119,17 +118,64 @@ passed_all wanted Answers start first bytes out user relay rest e p = record {
   part = p.part;
 }
 
+-- what goes out for a step is the same after any bytes
+puts_added : {U : Type 0} (Answers : U → Option ℕ → List ℕ → Answer → List ℕ → U → Type 0) (user : U) (state : Expects) (event : Event) (next : Expects) (later : U) (old new : List ℕ) → PutsOut Answers user state event next later old new → HasAdded old new (λ (more : List ℕ). (sent : List ℕ) → PutsOut Answers user state event next later sent (sent ++ more))
+puts_added Answers user state (Frame tag frame) next later old new p = record {
+  added = placed p.answer (bytes_of frame) p.added;
+  adds = p.out;
+  are = λ sent. record { answer = p.answer; added = p.added; answers = p.answers; fits = p.fits; out = refl };
+}
+puts_added Answers user state (Part part left) next later old new p = record { added = bytes_of part; adds = p.1; are = λ sent. (p.0, refl) }
+puts_added Answers user state Held next later old new p = record { added = []; adds = p.1 ∙ sym (append-nil old); are = λ sent. (p.0, append-nil sent) }
+
+-- at first nothing is added, and the relay has a piece to take
+pub added_first : {U : Type 0} (wanted : U → ℕ → ℕ → Bool) (Answers : U → Option ℕ → List ℕ → Answer → List ℕ → U → Type 0) (user : U) (relay : Relaying) (piece out : List ℕ) → HasAdded out out (PassesOn wanted Answers user relay piece user (with_held relay piece))
+added_first wanted Answers user relay piece out = record {
+  added = [];
+  adds = sym (append-nil out);
+  are = λ start first before sent p. rw (append-nil sent) (passed_fed wanted Answers start first before sent user relay piece p);
+}
+
+-- after one more step
+pub added_step : {U : Type 0} (wanted : U → ℕ → ℕ → Bool) (Answers : U → Option ℕ → List ℕ → Answer → List ℕ → U → Type 0) (user : U) (relay : Relaying) (piece old out : List ℕ) (by : U) (at : Relaying) (rest : List ℕ) (event : Event) (after : List ℕ) (new : Relaying) (later : U) (more : List ℕ) → HasAdded old out (PassesOn wanted Answers user relay piece by (with_held at rest)) → Takes (wanted by) at rest event after new → PutsOut Answers by at.expects event new.expects later out more → HasAdded old more (PassesOn wanted Answers user relay piece later (with_held new after))
+added_step wanted Answers user relay piece old out by at rest event after new later more p t o =
+    let puts = puts_added Answers by at.expects event new.expects later out more o in
+    record {
+      added = p.added ++ puts.added;
+      adds = puts.adds ∙ ap (λ (l : List ℕ). l ++ puts.added) p.adds ∙ append_assoc old p.added puts.added;
+      are = λ start first before sent q.
+          let went : sent ++ (p.added ++ puts.added) ≡ (sent ++ p.added) ++ puts.added = sym (append_assoc sent p.added puts.added) in
+          rw went (passed_step wanted Answers start first (before ++ piece) (sent ++ p.added) by at rest event after new later ((sent ++ p.added) ++ puts.added) (p.are start first before sent q) t (puts.are (sent ++ p.added)));
+    }
+
+-- a piece of which nothing is left has passed
+pub added_all : {U : Type 0} (wanted : U → ℕ → ℕ → Bool) (Answers : U → Option ℕ → List ℕ → Answer → List ℕ → U → Type 0) (user : U) (relay : Relaying) (piece old out : List ℕ) (by : U) (at : Relaying) (rest : List ℕ) → rest ≡ [] → HasAdded old out (PassesOn wanted Answers user relay piece by (with_held at rest)) → HasAdded old out (PassesOn wanted Answers user relay piece by at)
+added_all wanted Answers user relay piece old out by at rest e p = record {
+  added = p.added;
+  adds = p.adds;
+  are = λ start first before sent q. passed_all wanted Answers start first (before ++ piece) (sent ++ p.added) by at rest e (p.are start first before sent q);
+}
+
+-- nothing has passed where nothing came
+pub added_none : {U : Type 0} (wanted : U → ℕ → ℕ → Bool) (Answers : U → Option ℕ → List ℕ → Answer → List ℕ → U → Type 0) (user : U) (relay : Relaying) (out : List ℕ) → HasAdded out out (PassesOn wanted Answers user relay [] user relay)
+added_none wanted Answers user relay out = record { added = []; adds = sym (append-nil out); are = λ start first before sent p. rw (append-nil before, append-nil sent) p }
+
+-- some bytes have passed, and then more
+added_more : {U : Type 0} (wanted : U → ℕ → ℕ → Bool) (Answers : U → Option ℕ → List ℕ → Answer → List ℕ → U → Type 0) (user : U) (relay : Relaying) (bytes old out : List ℕ) (by : U) (at : Relaying) (more new : List ℕ) (later : U) (after : Relaying) → HasAdded old out (PassesOn wanted Answers user relay bytes by at) → HasAdded out new (PassesOn wanted Answers by at more later after) → HasAdded old new (PassesOn wanted Answers user relay (bytes ++ more) later after)
+added_more wanted Answers user relay bytes old out by at more new later after p q = record {
+  added = p.added ++ q.added;
+  adds = q.adds ∙ ap (λ (l : List ℕ). l ++ q.added) p.adds ∙ append_assoc old p.added q.added;
+  are = λ start first before sent h.
+      let came : before ++ (bytes ++ more) ≡ (before ++ bytes) ++ more = sym (append_assoc before bytes more) in
+      let went : sent ++ (p.added ++ q.added) ≡ (sent ++ p.added) ++ q.added = sym (append_assoc sent p.added q.added) in
+      rw (came, went) (q.are start first (before ++ bytes) (sent ++ p.added) (p.are start first before sent h));
+}
+
 -- one more piece
-pub passed_more : {U : Type 0} (wanted : U → ℕ → ℕ → Bool) (Answers : U → Option ℕ → List ℕ → Answer → List ℕ → U → Type 0) (start : Expects) (first : U) (bytes out : List ℕ) (user : U) (relay : Relaying) (pieces : List (Bor (List ℕ))) (i : ℕ) (d : Bor (List ℕ)) → i < length pieces → HasPassed wanted Answers start first ((bytes ++ joined (take i pieces)) ++ (get_or pieces i d).now) out user relay → HasPassed wanted Answers start first (bytes ++ joined (take (i + 1) pieces)) out user relay
-passed_more wanted Answers start first bytes out user relay pieces i d lt p =
+pub added_piece : {U : Type 0} (wanted : U → ℕ → ℕ → Bool) (Answers : U → Option ℕ → List ℕ → Answer → List ℕ → U → Type 0) (user : U) (relay : Relaying) (pieces : List (Bor (List ℕ))) (i : ℕ) (d : Bor (List ℕ)) (old out : List ℕ) (by : U) (at : Relaying) (new : List ℕ) (later : U) (after : Relaying) → i < length pieces → HasAdded old out (PassesOn wanted Answers user relay (joined (take i pieces)) by at) → HasAdded out new (PassesOn wanted Answers by at (get_or pieces i d).now later after) → HasAdded old new (PassesOn wanted Answers user relay (joined (take (i + 1) pieces)) later after)
+added_piece wanted Answers user relay pieces i d old out by at new later after lt p q =
     let piece = get_or pieces i d in
     let fronts : take (i + 1) pieces ≡ take i pieces ++ piece ∷ [] = rw add-one (take-suc pieces i d lt) in
     let all : joined (take (i + 1) pieces) ≡ joined (take i pieces) ++ piece.now =
     ap joined fronts ∙ joined-append (take i pieces) (piece ∷ []) ∙ ap (λ (l : List ℕ). joined (take i pieces) ++ l) (append-nil piece.now) in
-    let same : bytes ++ joined (take (i + 1) pieces) ≡ (bytes ++ joined (take i pieces)) ++ piece.now =
-    ap (λ (l : List ℕ). bytes ++ l) all ∙ sym (append_assoc bytes (joined (take i pieces)) piece.now) in
-    rw same p
-
--- all of them
-pub passed_last : {U : Type 0} (wanted : U → ℕ → ℕ → Bool) (Answers : U → Option ℕ → List ℕ → Answer → List ℕ → U → Type 0) (start : Expects) (first : U) (bytes out : List ℕ) (user : U) (relay : Relaying) (pieces : List (Bor (List ℕ))) (i : ℕ) → length pieces ≤ i → HasPassed wanted Answers start first (bytes ++ joined (take i pieces)) out user relay → HasPassed wanted Answers start first (bytes ++ joined pieces) out user relay
-passed_last wanted Answers start first bytes out user relay pieces i le p = rw (take_all i pieces le) at p
+    rw all (added_more wanted Answers user relay (joined (take i pieces)) old out by at piece.now new later after p q)

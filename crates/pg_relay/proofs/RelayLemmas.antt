@@ -88,7 +88,7 @@ error_longer wants limit state held left piece bytes rest (TooLong count most) s
     let all : held ++ piece ≡ (held ++ bytes) ++ rest = rw e (sym (append_assoc held bytes rest)) in
     (between, record { tag = f.1.tag; head = rw all (head_stays state (held ++ bytes) rest f.1.tag count f.1.head); wanted = f.1.wanted; high = f.1.high; is = f.1.is })
 error_longer wants limit state held left piece bytes rest NotFrames some between e f = f
-error_longer wants limit state held left piece bytes rest OutOfMemory some between e f = record { between = between; holds = inl some }
+error_longer wants limit state held left piece bytes rest OutOfMemory some between e f = record { between = between; some = omega (arith, f.some, ap length e, length-append bytes rest); holds = inl some }
 
 -- a step over a piece where nothing is held: the front of a frame that goes out in parts
 pub takes_parts : (wants : ℕ → ℕ → Bool) (limit : ℕ) (state : Expects) (held : List ℕ) (l : ℕ) (piece : List ℕ) (b : FrameBytes) (rest : List ℕ) (count left : ℕ) → held ≡ [] → l ≡ 0 → IsForParts wants state piece count → piece ≡ bytes_of b ++ rest → length (bytes_of b) ≡ min count (length piece) → length (bytes_of b) + left ≡ count → Takes wants (record { limit = limit; expects = state; held = held; left = l }) piece (Part b left) rest (record { limit = limit; expects = state; held = held; left = left })

@@ -61,6 +61,17 @@ pub record HasPassed {U : Type 0} (wanted : U → ℕ → ℕ → Bool) (Answers
   pub out_is : out ≡ bytes_in sent ++ given
   pub part : IsGiven (wanted user) relay.expects given relay.left
 
+-- bytes are added to a buffer whose old bytes stay
+pub record HasAdded (old new : List ℕ) (Are : List ℕ → Type 0) : Type 0 where
+  pub added : List ℕ
+  pub adds : new ≡ old ++ added
+  pub are : Are added
+
+-- whatever had passed before, these bytes have passed after it, and what was added for them went out after all else
+abbrev pub PassesOn : {U : Type 0} → (U → ℕ → ℕ → Bool) → (U → Option ℕ → List ℕ → Answer → List ℕ → U → Type 0) → U → Relaying → List ℕ → U → Relaying → List ℕ → Type 0
+PassesOn {U = U} wanted Answers user relay bytes later new added =
+    (start : Expects) (first : U) (before sent : List ℕ) → HasPassed wanted Answers start first before sent user relay → HasPassed wanted Answers start first (before ++ bytes) (sent ++ added) later new
+
 -- what goes out for what came
 pub record PutsAnswer {U : Type 0} (Answers : U → Option ℕ → List ℕ → Answer → List ℕ → U → Type 0) (user : U) (state : Expects) (tag : Option ℕ) (frame : List ℕ) (next : Expects) (later : U) (old new : List ℕ) : Type 0 where
   pub answer : Answer

@@ -82,9 +82,10 @@ IsFault wants limit state bytes (TooLong count most) = IsTooLong wants limit sta
 IsFault wants limit state bytes NotFrames = ⊥
 IsFault wants limit state bytes OutOfMemory = ⊥
 
--- bytes have to be held: something is held already, or the piece is no whole frame
+-- bytes have to be held: some came, and something is held already, or the piece is no whole frame
 pub record NeedsMemory (old : Relaying) (piece : List ℕ) : Type 0 where
   pub between : old.left ≡ 0
+  pub some : 0 < length piece
   pub holds : (0 < length old.held) ⊎ IsUnfinished old.limit old.expects piece
 
 -- why a relay takes nothing of a piece: the frame that comes next has a fault, or there is no memory to hold it

@@ -7,8 +7,7 @@ ghost use Rattle.pg_frontend_frames.specs.declared.frame.Expects.{Expects};
 ghost use Rattle.pg_frontend_frames.specs.declared.frame.Expects.TheVariants.{Tagged};
 ghost use Rattle.pg_relay.specs.Answer.{bytes_in, Lead, messages_in};
 ghost use Rattle.pg_relay.specs.Pass.{HasPassed, Relayed};
-ghost use Rattle.pg_relay.specs.Pass.Stops.{StopsAtRelay};
-ghost use Rattle.pg_relay.specs.Relay.{IsKept, Relaying};
+ghost use Rattle.pg_relay.specs.Relay.{IsKept, IsRelayError, Relaying};
 ghost use Rattle.pg_relay.specs.declared.answer.Answer.{Answer};
 ghost use Rattle.pg_relay.specs.declared.answer.Answer.TheVariants.{Keep};
 ghost use Rattle.pg_relay.specs.declared.error.RelayError.{RelayError};
@@ -46,7 +45,11 @@ pub fn frames_come_however_they_are_cut<U: Answers>()
 /// Where a length is too low, what follows it is never passed on, however the bytes are cut and whatever its user
 /// answers.
 pub fn no_more_passes_after_a_low_length<U: Answers>()
-    ensures { (start : Expects) (first : U) (before rest a b : List ℕ) (u v : U) (r s : Relaying) (announced : ℤ) → StopsAtRelay U.wanted U.answers start first before rest a u r (BadLength announced) → HasPassed U.wanted U.answers start first (before ++ rest) b v s → IsKept s.limit s.expects s.held s.left → ⊥ }
+    ensures { (start : Expects) (first : U) (before rest a b : List ℕ) (u v : U) (r s : Relaying) (announced : ℤ)
+        → HasPassed U.wanted U.answers start first before a u r
+        → IsRelayError (U.wanted u) r rest (BadLength announced)
+        → HasPassed U.wanted U.answers start first (before ++ rest) b v s
+        → IsKept s.limit s.expects s.held s.left → ⊥ }
 {}
 
 /// Frames with tags are messages, and their bytes are cut into these and no others.

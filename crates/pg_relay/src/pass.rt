@@ -5,7 +5,7 @@ ghost use Rattle.pg_frontend_frames.specs.declared.frame.Expects.{Expects};
 ghost use Rattle.pg_frames.specs.Pieces.{joined};
 ghost use Rattle.pg_relay.specs.declared.answer.Answer.{Answer};
 ghost use Rattle.pg_relay.specs.declared.answer.Answer.TheVariants.{Keep};
-ghost use Rattle.pg_relay.specs.Pass.{HasPassed, PutsAnswer, PutsOut};
+ghost use Rattle.pg_relay.specs.Pass.{HasAdded, PassesOn, PutsAnswer, PutsOut};
 ghost use Rattle.pg_relay.specs.Pass.Stops.{Stops, StopsIn, IsAnswerError, IsEventError, HasNoRoom};
 
 use crate::answer::Answer;
@@ -22,8 +22,8 @@ pub trait Answers: Wants {
     /// What it may answer for a frame, what it may add, and what it may be then.
     ghost answers: { Self → Option ℕ → List ℕ → Answer → List ℕ → Self → Type 0 };
 
-    /// The frames for whose answer it may find no memory.
-    ghost exhausts: { Self → Option ℕ → List ℕ → Type 0 };
+    /// The frames for whose answer it may find no memory, and what it may be then.
+    ghost exhausts: { Self → Option ℕ → List ℕ → Self → Type 0 };
 
     /// Answers a frame with this tag, or none, and these bytes, tag and length among them, and writes what it adds.
     fn answer(
@@ -34,14 +34,14 @@ pub trait Answers: Wants {
     ) -> Result<Answer, AllocError>
         requires { added.old.items ≡ [] }
         ensures answers { IfOk result (λ answer. answers self.old tag frame.now answer added.new.items self.new) }
-        ensures exhausts { OnErr result (exhausts self.old tag frame.now) };
+        ensures exhausts { OnErr result (exhausts self.old tag frame.now self.new) };
 }
 
 /// Keeps every frame.
 impl Answers for All {
     ghost answers = { λ user _ _ answer _ later. (answer ≡ Keep) × (later ≡ user) };
 
-    ghost exhausts = { λ _ _ _. ⊥ };
+    ghost exhausts = { λ _ _ _ _. ⊥ };
 
     fn answer(
         &mut self,
@@ -53,13 +53,15 @@ impl Answers for All {
     }
 }
 
-/// Passes a piece of a stream on: adds to `out` what goes out, which are the frames that came, or what its user
-/// put in their places, and the parts of frames that the user doesn't want whole. Where no frame is changed, what
-/// went out and what the relay holds is what came.
+/// Passes a piece of a stream on: adds to `out` the frames that came, or what their user put in their places, and the
+/// parts of frames that the user doesn't want whole. The bytes that `out` held before stay in front of them, so `out`
+/// may be written and cleared between two calls, and may hold bytes of the caller's own, such as a server's answer to
+/// a request for encryption. Where no frame is changed, what went out and what the relay holds is what came.
 ///
 /// An error is that of [`Relay::next`] at what comes next, or of [`Answer::place`] at the user's answer, or it is
-/// `OutOfMemory`, where the answer found none or `out` has no room for what goes out. By then all that came before
-/// has passed. After an error the connection is at its end, since what comes next can't be known.
+/// `OutOfMemory`, where the answer found none or `out` has no room for what goes out next. `out` then holds the bytes
+/// that it held before, and after them what went out for all that came before. After an error the connection is at its
+/// end, since what comes next can't be known.
 pub fn pass_piece<U: Answers>(
     alloc: Global,
     relay: &mut Relay,
@@ -67,8 +69,10 @@ pub fn pass_piece<U: Answers>(
     piece: &[u8],
     out: &mut Vec<u8>,
 ) -> Result<(), RelayError>
-    ensures passed { OnOk result ((start : Expects) (first : U) (bytes : List ℕ) → HasPassed U.wanted U.answers start first bytes out.old.items user.old relay.old → HasPassed U.wanted U.answers start first (bytes ++ piece.now) out.new.items user.new relay.new) }
-    ensures stops { IfErr result (λ error. (start : Expects) (first : U) (bytes : List ℕ) → HasPassed U.wanted U.answers start first bytes out.old.items user.old relay.old → Stops U.wanted U.answers U.exhausts start first bytes piece.now (vec_capacity out.new) out.new.items user.new relay.new error) }
+    ensures passed { OnOk result (HasAdded out.old.items out.new.items
+        (PassesOn U.wanted U.answers user.old relay.old piece.now user.new relay.new)) }
+    ensures stops { IfErr result (Stops U.wanted U.answers U.exhausts user.old relay.old piece.now
+        (vec_capacity out.new) out.old.items out.new.items user.new relay.new) }
 {
     let mut rest = piece;
     while !rest.is_empty() {
@@ -88,8 +92,10 @@ pub fn pass_pieces<U: Answers>(
     pieces: &[&[u8]],
     out: &mut Vec<u8>,
 ) -> Result<(), RelayError>
-    ensures passed { OnOk result ((start : Expects) (first : U) (bytes : List ℕ) → HasPassed U.wanted U.answers start first bytes out.old.items user.old relay.old → HasPassed U.wanted U.answers start first (bytes ++ joined pieces.now) out.new.items user.new relay.new) }
-    ensures stops { IfErr result (λ error. (start : Expects) (first : U) (bytes : List ℕ) → HasPassed U.wanted U.answers start first bytes out.old.items user.old relay.old → StopsIn U.wanted U.answers U.exhausts start first bytes pieces.now (vec_capacity out.new) out.new.items user.new relay.new error) }
+    ensures passed { OnOk result (HasAdded out.old.items out.new.items
+        (PassesOn U.wanted U.answers user.old relay.old (joined pieces.now) user.new relay.new)) }
+    ensures stops { IfErr result (StopsIn U.wanted U.answers U.exhausts user.old relay.old pieces.now
+        (vec_capacity out.new) out.old.items out.new.items user.new relay.new) }
 {
     for piece in pieces {
         pass_piece(alloc, relay, user, piece, out)?;
@@ -107,8 +113,12 @@ fn put_out<U: Answers>(
     next: Expects,
     out: &mut Vec<u8>,
 ) -> Result<(), RelayError>
-    ensures puts { OnOk result (PutsOut U.answers user.old expects event.entry next user.new out.old.items out.new.items) }
-    ensures stops { IfErr result (λ error. IsEventError U.answers U.exhausts user.old expects event.entry next user.new error ⊎ HasNoRoom (PutsOut U.answers user.old expects event.entry next user.new out.old.items) (vec_capacity out.new) out.new.items error) }
+    ensures puts { OnOk result
+        (PutsOut U.answers user.old expects event.entry next user.new out.old.items out.new.items) }
+    ensures stops { IfErr result (λ error.
+        IsEventError U.answers U.exhausts user.old expects event.entry next user.new error
+        ⊎ HasNoRoom (PutsOut U.answers user.old expects event.entry next user.new out.old.items)
+        (vec_capacity out.new) out.new.items error) }
     ensures same { OnErr result (out.new.items ≡ out.old.items) }
 {
     match event {
@@ -134,8 +144,12 @@ fn put_answer<U: Answers>(
     next: Expects,
     out: &mut Vec<u8>,
 ) -> Result<(), RelayError>
-    ensures puts { OnOk result (PutsAnswer U.answers user.old expects tag frame.now next user.new out.old.items out.new.items) }
-    ensures stops { IfErr result (λ error. IsAnswerError U.answers U.exhausts user.old expects tag frame.now next user.new error ⊎ HasNoRoom (PutsAnswer U.answers user.old expects tag frame.now next user.new out.old.items) (vec_capacity out.new) out.new.items error) }
+    ensures puts { OnOk result
+        (PutsAnswer U.answers user.old expects tag frame.now next user.new out.old.items out.new.items) }
+    ensures stops { IfErr result (λ error.
+        IsAnswerError U.answers U.exhausts user.old expects tag frame.now next user.new error
+        ⊎ HasNoRoom (PutsAnswer U.answers user.old expects tag frame.now next user.new out.old.items)
+        (vec_capacity out.new) out.new.items error) }
     ensures same { OnErr result (out.new.items ≡ out.old.items) }
 {
     let mut added = Vec::new(alloc);

@@ -157,7 +157,7 @@ impl Relay {
         requires nothing { self.old.held ≡ [] }
         requires unfinished { IsUnfinished self.old.limit self.old.expects piece.now }
         ensures takes { IfOk result (λ step. (wants : ℕ → ℕ → Bool) → ((tag : Option ℕ) (count : ℕ) → HasHead self.old.expects piece.now tag count → IsTaken wants self.old.limit tag count) → Takes wants self.old piece.now step.event step.rest.now self.new) }
-        ensures error { IfErr result (λ error. error ≡ OutOfMemory) }
+        ensures error { IfErr result (λ error. (error ≡ OutOfMemory) × (0 < length piece.now)) }
         ensures err { OnErr result (self.new ≡ self.old) }
     {
         self.held.extend_from_slice(piece)?;
