@@ -1,6 +1,6 @@
 //! A reader of messages from a stream that comes in pieces.
 
-ghost use Rattle.std.specs.Prelude.{◌≡◌, ◌⊎◌, ◌<◌, IsTrue, ◌+◌, ◌≤◌, ◌==◌, [], ◌++◌, length, take, drop, Some, None, Ok, Err, IsSome, IfOk, OnOk, IfErr, OnErr, IfSome, IfNone, MatchResult, IsOkUnless};
+ghost use Rattle.std.specs.Prelude.{◌≡◌, ◌≢◌, ◌⊎◌, ◌<◌, IsTrue, ◌+◌, ◌≤◌, ◌==◌, [], ◌++◌, length, take, drop, Some, None, Ok, Err, IsSome, IfOk, OnOk, IfErr, OnErr, IfSome, IfNone, MatchResult, IsOkUnless};
 ghost use Rattle.pg_base.specs.declared.error.ProtocolFault.{ProtocolFault};
 ghost use Rattle.pg_base.specs.declared.error.Error.TheVariants.{Protocol, OutOfMemory};
 ghost use Rattle.pg_base.specs.Cutting.{Begins};
@@ -84,12 +84,17 @@ impl FrameReader {
         self.len() == 0
     }
 
-    /// Adds the next bytes of the stream, or is `OutOfMemory` and changes nothing.
+    /// Adds the next bytes of the stream, or is `OutOfMemory` and changes nothing. No bytes need no
+    /// memory.
     pub fn feed(&mut self, bytes: &[u8]) -> Result<(), Error>
         ensures ok { OnOk result (self.new ≡ self.old ++ bytes.now) }
         ensures err { OnErr result (self.new ≡ self.old) }
         ensures memory { IsOkUnless result OutOfMemory }
+        ensures some { OnErr result (bytes.now ≢ []) }
     {
+        if bytes.is_empty() {
+            return Ok(());
+        }
         if self.shared.is_empty() {
             self.buffer.extend_from_slice(bytes)?;
         } else {
@@ -186,6 +191,7 @@ fn take_body(shared: &mut Bytes, end: usize) -> Result<Bytes, AllocError>
     ensures body { IfOk result (λ body. body ≡ drop 5 (take end shared.old)) }
     ensures rest { OnOk result (shared.new ≡ drop end shared.old) }
     ensures err { OnErr result (shared.new ≡ shared.old) }
+    ensures memory { OnErr result ((5 < end) × (end < length shared.old)) }
 {
     if end == HEADER {
         shared.advance(HEADER);

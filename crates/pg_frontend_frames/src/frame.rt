@@ -8,8 +8,9 @@ use pg_base::io::{i32_at, u32_at};
 use pg_read_frontend::FrontendFault;
 use pg_read_frontend::message::format_of;
 
-/// The greatest length of a first message that PostgreSQL's own servers take.
-pub const MAX_FIRST_LENGTH: usize = 10_000;
+/// The greatest length of a first message that PostgreSQL's own servers take. Their limit is 10,000 bytes after the
+/// length field; this length, like the field, counts the field's four bytes too.
+pub const MAX_FIRST_LENGTH: usize = 10_004;
 
 // The length of the shortest first message: it counts itself and a code.
 const MIN_FIRST_LENGTH: i32 = 8;

@@ -11,7 +11,7 @@ ghost use Rattle.pg_frontend_frames.specs.Frame.{Whole, WantsMore, IsStreamFault
 ghost use Rattle.pg_frontend_frames.specs.Pieces.{Stream, IsRead};
 
 use crate::error::FrontendError;
-use crate::frame::{Expects, MAX_FIRST_LENGTH};
+use crate::frame::Expects;
 use crate::message::ClientMessageKind;
 use crate::pieces::ClientStreamEnd;
 
@@ -37,11 +37,6 @@ pub fn one_answer_is_due()
 /// A fault stays, whatever comes next.
 pub fn a_fault_stays()
     ensures { (limit : ℕ) (state : Expects) (bytes more : List ℕ) (fault : FrontendFault) → IsStreamFault limit state bytes fault → IsStreamFault limit state (bytes ++ more) fault }
-{}
-
-/// The greatest first message that PostgreSQL's own servers take has 10,000 bytes.
-pub fn greatest_length_is_that_of_servers()
-    ensures { MAX_FIRST_LENGTH ≡ 10000 }
 {}
 
 /// Values are equal where they are the same.

@@ -1,6 +1,6 @@
 //! A reader of messages from a client's stream that comes in pieces.
 
-ghost use Rattle.std.specs.Prelude.{◌≡◌, ◌==◌, [], length, Some, None, Ok, Err, IsSome, IfOk, OnOk, IfErr, OnErr, IfSome, IfNone, MatchResult};
+ghost use Rattle.std.specs.Prelude.{◌≡◌, ◌≢◌, ◌==◌, [], length, Some, None, Ok, Err, IsSome, IfOk, OnOk, IfErr, OnErr, IfSome, IfNone, MatchResult};
 ghost use Rattle.pg_read_frontend.specs.declared.error.FrontendFault.{FrontendFault};
 ghost use Rattle.pg_frontend_frames.specs.declared.error.FrontendError.TheVariants.{Protocol, OutOfMemory};
 ghost use Rattle.pg_frontend_frames.specs.declared.frame.Expects.TheVariants.{First};
@@ -79,10 +79,12 @@ impl FrontendFrameReader {
         self.expects
     }
 
-    /// Adds the next bytes of the stream, or is `OutOfMemory` and changes nothing.
+    /// Adds the next bytes of the stream, or is out of memory and changes nothing. No bytes need no
+    /// memory.
     pub fn feed(&mut self, bytes: &[u8]) -> Result<(), AllocError>
         ensures ok { OnOk result (self.new ≡ fed self.old bytes.now) }
         ensures err { OnErr result (self.new ≡ self.old) }
+        ensures some { OnErr result (bytes.now ≢ []) }
     {
         self.buffer.extend_from_slice(bytes)
     }

@@ -1,7 +1,7 @@
 -- Authentication requests: what follows the number of a method.
-use Rattle.std.specs.Prelude.{◌≡◌, ◌≢◌, ℕ, ◌==◌, ◌||◌, true, List, [], ◌∷◌, length, Some, None, Err, IsUtf8}
-use Rattle.std.proofs.Common.{refl, sym, ◌∙◌, inr, drop}
-use Rattle.std.proofs.lemmas.Bool.{ne_eqb, false≢true}
+use Rattle.std.specs.Prelude.{◌≡◌, ◌≢◌, ℕ, List, [], ◌∷◌, length, Option, Some, None, Err, IsUtf8}
+use Rattle.std.proofs.Common.{refl, ◌∙◌, inr, drop}
+use Rattle.std.proofs.lemmas.Bool.{ne_eqb}
 use Rattle.std.proofs.lemmas.Str.{IsUtf8-from_is_utf8, is_utf8-from_IsUtf8}
 use Rattle.pg_base.specs.Decode.{Decodes}
 use Rattle.pg_base.specs.declared.error.Error.{Error}
@@ -14,12 +14,16 @@ use Rattle.pg_format.specs.Format.Lists.{AreInOrder}
 use Rattle.pg_format.specs.Format.Tests.{only}
 use Rattle.pg_format.specs.Messages as page
 use Rattle.pg_format.specs.Sasl.{first_message_fault, final_message_fault}
+use Rattle.pg_format.proofs.FormatLaws.Parts.{lawful_remaining}
+use Rattle.pg_format.proofs.FormatLaws.Sequences.{lawful_viewed}
+use Rattle.pg_format.proofs.FormatLaws.Tests.{lawful_checked}
+use Rattle.pg_format.proofs.FormatLaws.Whole.{meaning_or_fault}
 use Rattle.pg_receive.specs.Authentication.Mechanisms.{BeginsWithName, AreMechanisms, mechanisms_in}
-use Rattle.pg_receive.specs.Authentication.SaslContinue.{ContinueValue, challenge_in, challenges}
+use Rattle.pg_receive.specs.Authentication.SaslContinue.{ContinueValue, challenge_in, challenges, ChallengeNeedsNoMemory}
 use Rattle.pg_receive.specs.Authentication.SaslContinue.Shown.{continue_shown}
-use Rattle.pg_receive.specs.Authentication.SaslFinal.{verifier_in, verifiers, GivesNoVerifier}
+use Rattle.pg_receive.specs.Authentication.SaslFinal.{verifier_in, verifiers, VerifierNeedsNoMemory}
 use Rattle.pg_receive.specs.Authentication.Shown.{authentication_shown}
-use Rattle.pg_receive.specs.Authentication.{sasl_continue, sasl_final, value_of, requests, IsNoSaslData}
+use Rattle.pg_receive.specs.Authentication.{sasl_continue, sasl_final, value_of, requests, RequestNeedsNoMemory}
 use Rattle.pg_receive.proofs.AuthenticationMechanismsLemmas.{are_mechanisms}
 
 pub challenge_means : (bytes : List ℕ) (v : ContinueValue) → first_message_fault bytes ≡ None → v ≡ challenge_in bytes → Means challenges bytes v
@@ -27,6 +31,9 @@ challenge_means bytes v clean is = (bytes, ((refl, refl), clean), is)
 
 pub challenge_breaks : (bytes : List ℕ) (fault : ProtocolFault) → first_message_fault bytes ≡ Some fault → IsFaultOf challenges bytes fault
 challenge_breaks bytes fault is = inr (record { value = bytes; rest = []; reads = (refl, refl); is = is })
+
+pub challenge_copied : (bytes : List ℕ) (v : ContinueValue) → Means challenges bytes v → ¬ ChallengeNeedsNoMemory bytes
+challenge_copied bytes v means broken = meaning_or_fault (lawful_viewed challenge_in (lawful_checked first_message_fault lawful_remaining)) bytes v broken.0 means broken.1
 
 pub verifier_means : (bytes v : List ℕ) → final_message_fault bytes ≡ None → v ≡ verifier_in bytes → Means verifiers bytes v
 verifier_means bytes v clean is = (bytes, ((refl, refl), clean), is)
@@ -79,15 +86,25 @@ challenge_refused body method bytes fault found is e p = request_breaks body met
 pub verifier_refused : (body : List ℕ) (method : ℕ) (bytes : List ℕ) (fault : ProtocolFault) → be_u32.Reads body method (drop 4 body) → method ≡ 12 → bytes ≡ drop 4 body → IsFaultOf verifiers bytes fault → IsFaultOf requests body fault
 verifier_refused body method bytes fault found is e p = request_breaks body method (drop 4 body) fault found (rw is (rw e at p))
 
-data_needs_memory : (body : List ℕ) (method : ℕ) → be_u32.Reads body method (drop 4 body) → (method == 11 || method == 12) ≡ true → ¬ IsNoSaslData body
-data_needs_memory body method found is none = false≢true (sym (none method (drop 4 body) found) ∙ is)
+-- ---- what is copied
+
+no_fault : (o : Option ProtocolFault) → ((fault : ProtocolFault) → o ≢ Some fault) → o ≡ None
+no_fault None h = refl
+no_fault (Some fault) h = absurd (h fault refl)
+
+no_bytes : (bytes : List ℕ) → ¬ (bytes ≢ []) → bytes ≡ []
+no_bytes [] h = refl
+no_bytes (byte ∷ bytes) h = absurd (h (λ e. cc))
 
 pub challenge_error : (body : List ℕ) (method : ℕ) (bytes : List ℕ) (error : Error) → be_u32.Reads body method (drop 4 body) → method ≡ 11 → bytes ≡ drop 4 body
-    → Decodes (Means challenges) (IsFaultOf challenges) (λ _. ⊥) continue_shown None bytes (Err error) → Decodes (Means requests) (IsFaultOf requests) IsNoSaslData authentication_shown None body (Err error)
+    → Decodes (Means challenges) (IsFaultOf challenges) ChallengeNeedsNoMemory continue_shown None bytes (Err error) → Decodes (Means requests) (IsFaultOf requests) RequestNeedsNoMemory authentication_shown None body (Err error)
 challenge_error body method bytes (Protocol reading fault) found is e p = (p.0, challenge_refused body method bytes fault found is e p.1)
-challenge_error body method bytes OutOfMemory found is e p = data_needs_memory body method found (rw is refl)
+challenge_error body method bytes OutOfMemory found is e p = λ none.
+    let clean = no_fault (first_message_fault bytes) (λ fault broken. p (fault, challenge_breaks bytes fault broken)) in
+    none (sasl_continue (challenge_in bytes)) (challenge_request body method bytes (challenge_in bytes) found is e (challenge_means bytes (challenge_in bytes) clean refl)) tt
 
 pub verifier_error : {A : Type 0} (shown : A → List ℕ) (body : List ℕ) (method : ℕ) (bytes : List ℕ) (error : Error) → be_u32.Reads body method (drop 4 body) → method ≡ 12 → bytes ≡ drop 4 body
-    → Decodes (Means verifiers) (IsFaultOf verifiers) GivesNoVerifier shown None bytes (Err error) → Decodes (Means requests) (IsFaultOf requests) IsNoSaslData authentication_shown None body (Err error)
+    → Decodes (Means verifiers) (IsFaultOf verifiers) VerifierNeedsNoMemory shown None bytes (Err error) → Decodes (Means requests) (IsFaultOf requests) RequestNeedsNoMemory authentication_shown None body (Err error)
 verifier_error shown body method bytes (Protocol reading fault) found is e p = (p.0, verifier_refused body method bytes fault found is e p.1)
-verifier_error shown body method bytes OutOfMemory found is e p = data_needs_memory body method found (rw is refl)
+verifier_error shown body method bytes OutOfMemory found is e p = λ none.
+    p (λ verifier means. no_bytes verifier (none (sasl_final verifier) (verifier_request body method bytes verifier found is e means)))

@@ -19,6 +19,15 @@ asks_for_memory least inline body n counted holds more (inr free) =
       | inr small ↦ omega (arith, small, counts.0, more)
     ]
 
+-- what asks for memory for any items asks for it where there are more than have room in place
+pub asks_for_more : (least inline : ℕ) (body : List ℕ) → ((count : ℕ) (rest : List ℕ) → be_u16.Reads body count rest → inline < count) → ¬ (ItemsNeedNoMemory least 0 body) → ¬ (ItemsNeedNoMemory least inline body)
+asks_for_more least inline body more asks (inl short) = asks (inl short)
+asks_for_more least inline body more asks (inr free) =
+    elim free.why [
+      | inl fewer ↦ asks (inr (record { count = free.count; after = free.after; counted = free.counted; why = inl fewer }))
+      | inr small ↦ omega (arith, small, more free.count free.after free.counted)
+    ]
+
 -- ---- one step after the other
 
 module _ {A : Type 0} (g : Format A) where

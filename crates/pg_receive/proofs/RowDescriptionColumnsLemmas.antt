@@ -1,5 +1,5 @@
 -- Columns one after the other in a body.
-use Rattle.std.proofs.Common.{◌≡◌, ℕ, zero, suc, ◌+◌, ◌*◌, ◌≤◌, ℤ, List, [], ◌∷◌, ◌++◌, length, take, drop, refl, sym, ap, ◌∙◌, arith, append_assoc, length-append, length-drop}
+use Rattle.std.proofs.Common.{◌≡◌, ℕ, zero, suc, ◌+◌, ◌*◌, ◌≤◌, ℤ, List, [], ◌∷◌, ◌++◌, length, take, drop, refl, sym, ap, ◌∙◌, arith, inr, append_assoc, length-append, length-drop}
 use Rattle.std.proofs.lemmas.Bool.{ne_eqb}
 use Rattle.std.proofs.lemmas.List.{take_at, drop_at}
 use Rattle.pg_base.specs.declared.error.ProtocolFault.{ProtocolFault}
@@ -13,6 +13,8 @@ use Rattle.pg_format.specs.Messages.{Column, Numbers, numbers_of, numbers, colum
 use Rattle.pg_format.proofs.FormatLaws.FromServer.{lawful_column, column_takes}
 use Rattle.pg_format.proofs.FormatLaws.Lists.{times_take}
 use Rattle.pg_format.proofs.FormatLaws.Places.{one_more_at}
+use Rattle.pg_receive.specs.CountedItems.{ItemsNeedNoMemory, CountNeedsNoMemory}
+use Rattle.pg_receive.specs.RowDescription.{ColumnsNeedsNoMemory}
 use Rattle.pg_receive.specs.RowDescription.Columns.{first_text, column_with, first_column, first_length, columns_from, end_from, AreColumns}
 
 pub length-columns_from : (body : List ℕ) (at n : ℕ) → length (columns_from body at n) ≡ n
@@ -134,3 +136,13 @@ pub columns_fit : (body : List ℕ) (columns : List Column) → Means row_descri
 columns_fit body columns p =
     let v = p.1 in
     omega (arith, number_fits 2 body v.0.0 v.1.mid v.1.first, (times_take 19 column_takes v.0.0).takes v.1.mid p.0 v.0.1 v.1.second, v.1.second.0, ap length v.2)
+
+-- a body without columns counts none
+no_columns : (body : List ℕ) → Means row_description body [] → CountNeedsNoMemory 19 0 body
+no_columns body p =
+    let v = p.1 in
+    record { count = v.0.0; after = v.1.mid; counted = v.1.first; why = inr (omega (arith, ap length v.2, v.1.second.0)) }
+
+-- memory is needed for columns
+pub columns_copied : (body : List ℕ) (columns : List Column) → Means row_description body columns → ¬ (ItemsNeedNoMemory 19 0 body) → ¬ (ColumnsNeedsNoMemory body)
+columns_copied body columns means needed none = needed (inr (no_columns body (rw (none columns means) at means)))

@@ -7,9 +7,8 @@ pub mod SaslContinue
 pub mod SaslFinal
 pub mod SaslItems
 pub mod Shown
-use Rattle.std.specs.Prelude.{◌≡◌, ℕ, ◌==◌, ◌||◌, false, List}
-use Rattle.pg_format.specs.Format.{Format}
-use Rattle.pg_format.specs.Format.Parts.{be_u32}
+use Rattle.std.specs.Prelude.{◌≢◌, ℕ, List, []}
+use Rattle.pg_format.specs.Format.{Format, Means}
 use Rattle.pg_format.specs.Format.Sequences.{viewed}
 use Rattle.pg_format.specs.Messages as page
 use Rattle.pg_receive.specs.Authentication.SaslContinue.{ContinueValue, challenge_in}
@@ -43,6 +42,14 @@ method_of (sasl names) = 10
 method_of (sasl_continue challenge) = 11
 method_of (sasl_final verifier) = 12
 
--- data of a SASL exchange is copied, and nothing else
-abbrev pub IsNoSaslData : List ℕ → Type 0
-IsNoSaslData body = (method : ℕ) (rest : List ℕ) → be_u32.Reads body method rest → (method == 11 || method == 12) ≡ false
+-- a challenge is copied, and the bytes of a verifier, and nothing else
+abbrev pub IsCopied : AuthenticationValue → Type 0
+IsCopied accepted = ⊥
+IsCopied cleartext_password = ⊥
+IsCopied (md5_password salt) = ⊥
+IsCopied (sasl names) = ⊥
+IsCopied (sasl_continue challenge) = Unit {0}
+IsCopied (sasl_final verifier) = verifier ≢ []
+
+abbrev pub RequestNeedsNoMemory : List ℕ → Type 0
+RequestNeedsNoMemory body = (value : AuthenticationValue) → Means requests body value → ¬ IsCopied value

@@ -1,11 +1,11 @@
 -- RowDescription: the columns that its fields are, and where no memory is asked for.
 pub mod Columns
 pub mod Raw
-use Rattle.std.specs.Prelude.{ℕ, List, option_map, string_bytes}
+use Rattle.std.specs.Prelude.{◌≡◌, ℕ, List, [], option_map, string_bytes}
 use Rattle.pg_base.specs.declared.io.Oid.{Oid}
-use Rattle.pg_format.specs.Messages.{Column}
+use Rattle.pg_format.specs.Format.{Means}
+use Rattle.pg_format.specs.Messages.{Column, row_description}
 use Rattle.pg_receive.specs.declared.message.row_description.Field.{Field}
-use Rattle.pg_receive.specs.CountedItems.{ItemsNeedNoMemory}
 
 abbrev pub column_of : Field → Column
 column_of field = record {
@@ -18,5 +18,6 @@ column_of field = record {
   format = field.format;
 }
 
+-- columns are copied, and nothing else: a body with a fault has none
 abbrev pub ColumnsNeedsNoMemory : List ℕ → Type 0
-ColumnsNeedsNoMemory body = ItemsNeedNoMemory 19 0 body
+ColumnsNeedsNoMemory body = (columns : List Column) → Means row_description body columns → columns ≡ []

@@ -1,8 +1,8 @@
 -- The challenge of a server in a SASL exchange. Documentation: "Message Formats",
 -- AuthenticationSASLContinue (B), and "SCRAM-SHA-256 Authentication".
 pub mod Shown
-use Rattle.std.specs.Prelude.{ℕ, List, [], unwrap_or}
-use Rattle.pg_format.specs.Format.{Format}
+use Rattle.std.specs.Prelude.{ℕ, List, [], length, unwrap_or}
+use Rattle.pg_format.specs.Format.{Format, IsBroken}
 use Rattle.pg_format.specs.Format.Parts.{remaining}
 use Rattle.pg_format.specs.Format.Sequences.{viewed}
 use Rattle.pg_format.specs.Format.Tests.{checked}
@@ -44,3 +44,7 @@ challenge_in bytes = record {
 -- what the data of an AuthenticationSASLContinue says
 abbrev pub challenges : Format ContinueValue
 challenges = viewed challenge_in (checked first_message_fault remaining)
+
+-- data with a fault is refused before a part of it is copied
+abbrev pub ChallengeNeedsNoMemory : List ℕ → Type 0
+ChallengeNeedsNoMemory bytes = IsBroken challenges (length bytes) bytes

@@ -1,12 +1,12 @@
 -- The server-final-message of a SASL exchange. Documentation: "Message Formats",
 -- AuthenticationSASLFinal (B), and "SCRAM-SHA-256 Authentication".
 pub mod Shown
-use Rattle.std.specs.Prelude.{ℕ, List, []}
-use Rattle.pg_format.specs.Format.{Format}
+use Rattle.std.specs.Prelude.{◌≡◌, ℕ, List, []}
+use Rattle.pg_format.specs.Format.{Format, Means}
 use Rattle.pg_format.specs.Format.Parts.{remaining}
 use Rattle.pg_format.specs.Format.Sequences.{viewed}
 use Rattle.pg_format.specs.Format.Tests.{checked}
-use Rattle.pg_format.specs.Keyed.{last, IsAbsent}
+use Rattle.pg_format.specs.Keyed.{last}
 use Rattle.pg_format.specs.Sasl.{verifier_key, items_in, keyed, final_message_fault}
 use Rattle.pg_receive.specs.Authentication.SaslItems.{base64_value}
 
@@ -17,6 +17,6 @@ verifier_in bytes = last base64_value [] verifier_key (keyed (items_in bytes))
 abbrev pub verifiers : Format (List ℕ)
 verifiers = viewed verifier_in (checked final_message_fault remaining)
 
--- memory is needed for a verifier alone
-abbrev pub GivesNoVerifier : List ℕ → Type 0
-GivesNoVerifier bytes = IsAbsent verifier_key (keyed (items_in bytes))
+-- memory is needed for the bytes of a verifier alone
+abbrev pub VerifierNeedsNoMemory : List ℕ → Type 0
+VerifierNeedsNoMemory bytes = (verifier : List ℕ) → Means verifiers bytes verifier → verifier ≡ []

@@ -4,12 +4,13 @@ mod column_reader;
 mod columns;
 mod raw_columns;
 
-ghost use Rattle.std.specs.Prelude.{◌≡◌, ◌+◌, ◌*◌, ◌≤◌, List, length, map, None};
+ghost use Rattle.std.specs.Prelude.{◌≡◌, ◌+◌, ◌*◌, ◌≤◌, List, length, drop, map, None};
 ghost use Rattle.pg_base.specs.Decode.{Decodes};
 ghost use Rattle.pg_base.specs.declared.format.BackendMessageFormat.TheVariants as formats;
-ghost use Rattle.pg_format.specs.Format.{Means, IsFaultOf};
+ghost use Rattle.pg_format.specs.Format.{Means, IsFaultOf, IsBroken};
 ghost use Rattle.pg_format.specs.Format.Places.{IsReadAt, BreaksAt};
 ghost use Rattle.pg_format.specs.Messages.{column, row_description};
+ghost use Rattle.pg_receive.specs.CountedItems.{ItemsNeedNoMemory};
 ghost use Rattle.pg_receive.specs.RowDescription.{column_of, ColumnsNeedsNoMemory};
 
 use crate::message::BackendMessage;
@@ -82,9 +83,23 @@ impl BackendMessage for RowDescription {
     ghost lawful = { lawful_row_description };
 }
 
+// A body with a fault has that answer, also where memory runs out before the fault is found.
 fn fields_of(alloc: Global, body: &[u8]) -> Result<Vec<Field>, Error>
     requires { length body.now ≤ MAX_BODY }
     ensures { Decodes (Means row_description) (IsFaultOf row_description) ColumnsNeedsNoMemory (λ fields. map column_of fields.items) None body.now result }
+{
+    match copied_fields(alloc, body) {
+        Err(Error::OutOfMemory) => {
+            Columns::read(body)?;
+            Err(Error::OutOfMemory)
+        }
+        answer => answer,
+    }
+}
+
+fn copied_fields(alloc: Global, body: &[u8]) -> Result<Vec<Field>, Error>
+    requires { length body.now ≤ MAX_BODY }
+    ensures { Decodes (Means row_description) (IsFaultOf row_description) (ItemsNeedNoMemory 19 0) (λ fields. map column_of fields.items) None body.now result }
 {
     let count = usize::from(u16_at(body, 0)?);
     bytes_at(body, FIRST_COLUMN, LEAST_COLUMN * count)?;
@@ -102,7 +117,7 @@ fn fields_of(alloc: Global, body: &[u8]) -> Result<Vec<Field>, Error>
 fn field_at(alloc: Global, body: &[u8], at: usize) -> Result<(Field, usize), Error>
     requires within { at ≤ length body.now }
     requires short { length body.now ≤ MAX_BODY }
-    ensures { Decodes (λ body found. IsReadAt column body at (column_of found.0) found.1) (λ body. BreaksAt column body at) (λ _. ⊥) (λ found. found) None body.now result }
+    ensures { Decodes (λ body found. IsReadAt column body at (column_of found.0) found.1) (λ body. BreaksAt column body at) (λ body. IsBroken column (length body) (drop at body)) (λ found. found) None body.now result }
 {
     let (column, end) = column_at(body, at)?;
     Ok((column.to_field(alloc)?, end))

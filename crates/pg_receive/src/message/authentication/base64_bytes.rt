@@ -1,6 +1,6 @@
 //! Bytes that stand as base64 in the data of a SASL exchange.
 
-ghost use Rattle.std.specs.Prelude.{◌≡◌, ◌≤◌, ◌<◌, ◌^◌, ◌==◌, ◌↔◌, [], Some, None, true, length, IfOk, IfErr, IfSome, IfNone};
+ghost use Rattle.std.specs.Prelude.{◌≡◌, ◌≢◌, ◌≤◌, ◌<◌, ◌^◌, ◌==◌, ◌↔◌, [], Some, None, true, length, IfOk, IfErr, OnErr, IfSome, IfNone};
 ghost use Rattle.pg_base.specs.declared.error.ProtocolFault.TheVariants.{Base64};
 ghost use Rattle.pg_format.specs.Sasl.{base64_of};
 ghost use Rattle.pg_receive.specs.Authentication.Base64Bytes.{IsBase64, IsWhole};
@@ -79,10 +79,14 @@ impl<'a> Base64Bytes<'a> {
         let _ = STANDARD.decode_slice(self.text, out);
     }
 
-    /// A copy of them in memory of its own.
+    /// A copy of them in memory of its own. No bytes need none.
     pub fn to_vec(&self, alloc: Global) -> Result<Vec<u8>, AllocError>
-        ensures { IfOk result (λ copy. copy.items ≡ self.now) }
+        ensures copy { IfOk result (λ copy. copy.items ≡ self.now) }
+        ensures some { OnErr result (self.now ≢ []) }
     {
+        if self.is_empty() {
+            return Ok(Vec::new(alloc));
+        }
         let mut copy = vec![in alloc; 0u8; self.len]?;
         self.copy_to(copy.as_mut_slice());
         Ok(copy)

@@ -15,7 +15,7 @@ ghost use Rattle.pg_format.proofs.FormatLaws.FromServer.{lawful_authentication};
 ghost use Rattle.pg_format.proofs.FormatLaws.Sequences.{lawful_viewed};
 ghost use Rattle.pg_base.specs.declared.format.BackendMessageFormat.TheVariants as formats;
 ghost use Rattle.pg_receive.specs.Authentication.Mechanisms.{mechanisms_in};
-ghost use Rattle.pg_receive.specs.Authentication.{AuthenticationValue, value_of, requests, IsNoSaslData};
+ghost use Rattle.pg_receive.specs.Authentication.{AuthenticationValue, value_of, requests, RequestNeedsNoMemory};
 
 use crate::message::BackendMessage;
 pub use authentication_ref::AuthenticationRef;
@@ -105,7 +105,7 @@ impl BackendMessage for Authentication {
 
     ghost format = { requests };
 
-    ghost NeedsNoMemory = { IsNoSaslData };
+    ghost NeedsNoMemory = { RequestNeedsNoMemory };
 
     fn decode_body(alloc: Global, buf: Bytes) -> Result<Self, Error> {
         let body = buf.as_slice();

@@ -5,7 +5,7 @@ ghost use Rattle.pg_base.specs.Decode.{Decodes};
 ghost use Rattle.pg_format.specs.Keyed.{plain, last};
 ghost use Rattle.pg_format.specs.Sasl.{keyed, item_fault, nonce_key, salt_key, first_message_fault};
 ghost use Rattle.pg_receive.specs.Authentication.SaslItems.{base64_value};
-ghost use Rattle.pg_receive.specs.Authentication.SaslContinue.{ContinueValue, challenge_in, challenges, iterations_key, iterations_of};
+ghost use Rattle.pg_receive.specs.Authentication.SaslContinue.{ContinueValue, challenge_in, challenges, ChallengeNeedsNoMemory, iterations_key, iterations_of};
 ghost use Rattle.pg_format.specs.Format.{Means, IsFaultOf, ReadsAs};
 ghost use Rattle.pg_format.proofs.FormatLaws.Whole.{one_meaning, meaning_or_fault};
 ghost use Rattle.pg_format.proofs.FormatLaws.Parts.{lawful_remaining};
@@ -54,7 +54,7 @@ impl ProtocolDecode for AuthenticationSaslContinue {
 
     ghost IsFault = { IsFaultOf challenges };
 
-    ghost NeedsNoMemory = { λ _. ⊥ };
+    ghost NeedsNoMemory = { ChallengeNeedsNoMemory };
 
     fn decode(alloc: Global, buf: Bytes) -> Result<Self, Error> {
         decode_challenge(alloc, buf.as_slice())
@@ -70,7 +70,7 @@ pub(crate) fn decode_challenge(
     alloc: Global,
     body: &[u8],
 ) -> Result<AuthenticationSaslContinue, Error>
-    ensures { Decodes (Means challenges) (IsFaultOf challenges) (λ _. ⊥) continue_shown None body.now result }
+    ensures { Decodes (Means challenges) (IsFaultOf challenges) ChallengeNeedsNoMemory continue_shown None body.now result }
 {
     match AuthenticationSaslContinueRef::read(body) {
         Ok(challenge) => Ok(AuthenticationSaslContinue {

@@ -8,7 +8,7 @@ ghost use Rattle.pg_format.proofs.FormatLaws.Parts.{lawful_remaining};
 ghost use Rattle.pg_format.proofs.FormatLaws.Sequences.{lawful_viewed};
 ghost use Rattle.pg_format.proofs.FormatLaws.Tests.{lawful_checked};
 ghost use Rattle.pg_format.specs.Sasl.{final_message_fault};
-ghost use Rattle.pg_receive.specs.Authentication.SaslFinal.{verifier_in, verifiers, GivesNoVerifier};
+ghost use Rattle.pg_receive.specs.Authentication.SaslFinal.{verifier_in, verifiers, VerifierNeedsNoMemory};
 ghost use Rattle.pg_receive.specs.Authentication.SaslFinal.Shown.{final_shown};
 
 use crate::message::authentication::base64_bytes::Base64Bytes;
@@ -38,7 +38,7 @@ impl ProtocolDecode for AuthenticationSaslFinal {
 
     ghost IsFault = { IsFaultOf verifiers };
 
-    ghost NeedsNoMemory = { GivesNoVerifier };
+    ghost NeedsNoMemory = { VerifierNeedsNoMemory };
 
     fn decode(alloc: Global, buf: Bytes) -> Result<Self, Error> {
         let verifier = decode_verifier(alloc, buf.as_slice())?;
@@ -52,12 +52,9 @@ impl ProtocolDecode for AuthenticationSaslFinal {
 
 /// The verifier in the server-final-message that SASL data is.
 pub(crate) fn decode_verifier(alloc: Global, body: &[u8]) -> Result<Vec<u8>, Error>
-    ensures { Decodes (Means verifiers) (IsFaultOf verifiers) GivesNoVerifier (λ verifier. verifier.items) None body.now result }
+    ensures { Decodes (Means verifiers) (IsFaultOf verifiers) VerifierNeedsNoMemory (λ verifier. verifier.items) None body.now result }
 {
     let verifier = AuthenticationSaslFinalRef::read(body)?.verifier;
-    if verifier.is_empty() {
-        return Ok(Vec::new(alloc));
-    }
     Ok(verifier.to_vec(alloc)?)
 }
 

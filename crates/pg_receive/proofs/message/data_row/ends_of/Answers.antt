@@ -1,12 +1,36 @@
 use Rattle.std.specs.Option.{is_none, is_some}
-use Rattle.std.proofs.Common.{◌≡◌, ◌+◌, ◌*◌, ◌<◌, ◌≤◌, length, refl, sym, ap, ◌∙◌, option_copied, arith, rules}
+use Rattle.std.proofs.Common.{◌≡◌, ℕ, ◌+◌, ◌*◌, ◌<◌, ◌≤◌, List, length, drop, None, Err, refl, sym, ap, ◌∙◌, option_copied, arith, rules}
 use Rattle.std.proofs.lemmas.List.{length_push}
 use Rattle.std.proofs.lemmas.Result.{err_from_is_err_and}
+use Rattle.pg_base.specs.Decode.{Decodes}
+use Rattle.pg_base.specs.declared.error.Error.{Error}
+use Rattle.pg_base.specs.declared.error.Error.TheVariants.{Protocol, OutOfMemory}
+use Rattle.pg_base.proofs.ReadingLemmas.{one_number}
+use Rattle.pg_format.specs.Format.{Means, IsFaultOf}
+use Rattle.pg_format.specs.Format.Parts.{be_u16}
+use Rattle.pg_format.specs.Messages.{data_row}
+use Rattle.pg_receive.specs.CountedItems.{ItemsNeedNoMemory}
+use Rattle.pg_receive.specs.DataRow.{cells_in_place, RowNeedsNoMemory}
 use Rattle.pg_receive.specs.DataRow.CellEnd.{end_of, cell_to, cells_from, last_end}
 use Rattle.pg_format.specs.Format.Nullable.{cell}
 use Rattle.pg_format.proofs.FormatLaws.Places.{one_more_at, counted_at, broken_at}
+use Rattle.pg_receive.proofs.CountedItemsLemmas.{asks_for_more}
 use Rattle.pg_receive.proofs.DataRowLemmas.{cells_from-push, last_end-push, ends_rise_push, entry_gives, cell_is_wide, not_some, is_none-copied}
 use Rattle.pg_receive.proofs.message.data_row.ends_of.Goals as goal
+
+-- an error of a row of more cells than have room in place
+long_error : (body : List ℕ) (e : Error) → ((count : ℕ) (rest : List ℕ) → be_u16.Reads body count rest → cells_in_place < count)
+    → Decodes (Means data_row) (IsFaultOf data_row) (ItemsNeedNoMemory 4 0) (λ row. row) None body (Err e) → Decodes (Means data_row) (IsFaultOf data_row) RowNeedsNoMemory (λ row. row) None body (Err e)
+long_error body (Protocol reading fault) more p = p
+long_error body OutOfMemory more p = asks_for_more 4 cells_in_place body more p
+
+pub returns-in_err-read_ends-clause-answer : goal.returns-in_err-read_ends-clause-answer
+returns-in_err-read_ends-clause-answer c =
+    let p = err_from_is_err_and c.from_residual-in_err-read_ends.result c.from_residual-in_err-read_ends.ensures.1 in
+    let body = c.args.body.now in
+    rw (p.1, p.2) (long_error body c.in_err-read_ends.field-0.0 (λ count rest read.
+    let counts = one_number 2 body c.in_ok-u16_at.field-0 count (drop 2 body) rest c.in_ok-u16_at.ensures.found read in
+    omega (arith, counts.0, c.from-count.ensures, c.if-count-gt8.true)) c.in_err-read_ends.ensures.answer)
 
 pub returns-in_err-cell-clause-answer : goal.returns-in_err-cell-clause-answer
 returns-in_err-cell-clause-answer c =

@@ -3,7 +3,7 @@ use Rattle.pg_format.specs.Format.Lists.{times}
 use Rattle.pg_format.specs.Format.Places.{IsReadAt}
 use Rattle.pg_format.specs.Messages.{column}
 use Rattle.pg_receive.specs.RowDescription.{column_of}
-use Rattle.pg_receive.proofs.message.row_description.fields_of.Given as goal
+use Rattle.pg_receive.proofs.message.row_description.copied_fields.Given as goal
 
 abbrev pub invariant-loop-index : goal.invariant-loop-index
 invariant-loop-index l = record {
