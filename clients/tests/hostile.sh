@@ -50,6 +50,7 @@ test_hostile_logins() {
     listen_to 'an error without a field' 'E\0\0\0\5\0' 3 'no reason'
     listen_to 'an error without an end' 'E\0\0\0\10SERR' 3 'no reason'
     listen_to 'an error that a terminal would obey' 'E\0\0\0\16M\33[2Jred\0\0' 3 '?[2Jred'
+    listen_to 'an error with a control character above ASCII' 'E\0\0\0\14M\302\233red\0\0' 3 '??red'
     listen_to 'a message of two gigabytes' 'N\177\377\377\377' 6 'too long'
 }
 
@@ -72,7 +73,7 @@ test_hostile_sessions() {
     listen_to 'a row' "$logged_in"'D\0\0\0\6\0\0' 6 'type D may not come'
     listen_to 'ready twice' "$logged_in$ready$ready" 6 'type Z may not come'
     against "$logged_in${ready}A\0\0\0\16\0\0\0\7a\033\0b\n\0" "$programs/pg_listen" -n 1 channel
-    same 'a notification' "$status $output" $'0 a\033\t7\tb\\n'
+    same 'a notification' "$status $output" $'0 a\\x1b\t7\tb\\n'
     same 'the session is ended' "$(tail -c 5 "$work/heard" | od -An -tx1 | tr -d ' ')" 5800000004
 }
 

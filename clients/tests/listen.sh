@@ -61,7 +61,19 @@ test_ends() {
     expect 'a channel without a name' 4 42601
 }
 
+# What a terminal would obey, in a channel and in a payload.
+test_obeyed_payloads() {
+    local odd=$'odd\e\302\205'
+    start_listening "$work/lines" -n 1 "$odd"
+    sql "SELECT pg_notify('$odd', '$obeyed')" > /dev/null
+    end_listening
+    expect 'a notification that a terminal would obey' 0
+    same 'its line' "$(cut -f 1,3 <<< "$output")" "odd\x1b\xc2\x85"$'\t'"${escaped/'\x0d'/'\r'}"
+}
+
 test_listen() {
     test_payloads
+    test_obeyed_payloads
     test_ends
+    test_unread_notifications
 }

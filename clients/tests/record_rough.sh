@@ -229,5 +229,7 @@ test_record_rough() {
     test_taped_memory
     test_refused_memory
     test_record_threads
+    test_escaped_traces
+    test_unread_lines
     ok "the second reader reads each of $recordings_read recordings, $records_read records"
 }

@@ -220,13 +220,14 @@ is_listening() {
 }
 
 test_replay() {
-    local begun=$SECONDS passed_before=$passed as_postgres client
+    local begun=$SECONDS passed_before=$passed as_postgres client slow_taping slow_replaying slow_clients=()
     if ! has_python; then
         echo 'left out: replays, whose tests need Python 3.11'
         return
     fi
     as_postgres='startup:user=postgres,database=postgres'
     client=("$(python3 -c 'import sys; print(sys.executable)')" -S -E -B tests/replay_client.py)
+    begin_slow_openings
     test_replay_psql
     test_replay_pgbench
     test_replay_python
@@ -235,9 +236,16 @@ test_replay() {
     test_replay_in_folder
     test_replay_threads
     test_replay_differences
+    test_replay_rounds
     test_replay_damage
+    test_replay_changed
     test_replay_hostile
+    test_asked_again
+    test_no_descriptors
+    test_escaped_differences
+    test_unread_differences
     test_replay_memory
     test_replay_example
+    end_slow_openings
     echo "replay: $((passed - passed_before)) tests in $((SECONDS - begun)) s"
 }

@@ -8,6 +8,7 @@ send         sends what was said so far: at once, but `slowly` in pieces of a by
 read         sends, and reads up to a ReadyForQuery; `count:N` reads so many messages, and `byte` a byte
 timed:SECONDS    does as `read`, and prints whether that took so long
 end          sends, and reads to the end; `half` sends, and then no more; `sleep:SECONDS` waits
+at:NUMBER    goes on with the connection of this number; the first is 1. `leave` closes it
 """
 
 import os
@@ -96,6 +97,10 @@ class Client:
         self.read_to(b"Z")
         print("so long" if time.monotonic() - begun >= float(seconds) else "less")
 
+    def leave(self):
+        self.stream.close()
+        self.socket.close()
+
     def byte(self):
         self.send()
         print(self.stream.read(1).decode())
@@ -119,12 +124,25 @@ class Client:
             self.send()
             self.socket.shutdown(socket.SHUT_WR)
         else:
-            {"send": self.send, "count": self.count, "byte": self.byte, "timed": self.timed}[name](*parts)
+            {"send": self.send, "count": self.count, "byte": self.byte, "timed": self.timed,
+             "leave": self.leave}[name](*parts)
 
 
-client = Client(int(os.environ["PGPORT"]))
+def say(words):
+    """Says words, each at the connection that was named last."""
+    port = int(os.environ["PGPORT"])
+    sys.stdout.reconfigure(line_buffering=True)
+    clients = {"1": Client(port)}
+    client = clients["1"]
+    for word in words:
+        if word.startswith("at:"):
+            number = word.removeprefix("at:")
+            client = clients[number] = clients.get(number) or Client(port)
+        else:
+            client.do(word)
+
+
 try:
-    for said in sys.argv[1:]:
-        client.do(said)
+    say(sys.argv[1:])
 except ConnectionError as error:
     print("broken", type(error).__name__)

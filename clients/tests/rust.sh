@@ -35,6 +35,7 @@ test_rust() {
             rust_examples=out/rust/$version/debug/examples
             test_rust_words
             test_rust_package
+            test_rust_versions
         fi
         test_rust_program
         first=no
@@ -84,6 +85,24 @@ test_rust_package() {
     expect 'pgmsg-sys: packed, and built from that' 0
     by_cargo package --quiet --allow-dirty --package pgmsg --config "patch.crates-io.pgmsg-sys.path='$PWD/rust/pgmsg-sys'"
     expect 'pgmsg: packed, and built from that' 0
+}
+
+# The library with another version.
+make_other_version() {
+    mkdir -p "$1"
+    objcopy --redefine-sym pgmsg_version=pgmsg_own_version "$LIBRARY" "$1/libpg_message.a" \
+        && cc -Ic/include -x c -c -o "$1/version.o" - <<< '#include "pg_message.h"
+pgmsg_text pgmsg_version(void) { return (pgmsg_text){"99.0"}; }' \
+        && ar rs "$1/libpg_message.a" "$1/version.o"
+}
+
+# A library of another version, which no call of the crate gets through to.
+test_rust_versions() {
+    local other=$work/other_version name='the Rust crates: a library of another version'
+    try make_other_version "$other"
+    expect "$name is made" 0
+    LIBRARY=$other/libpg_message.a by_cargo test --quiet --package pgmsg --test version --target-dir "$other/out" -- --nocapture
+    expect "$name" 0 'linked is of version 99.0, and pgmsg of 0.1.0'
 }
 
 # A program that takes the crate by `cargo add`, and the library by pkg-config.

@@ -22,6 +22,18 @@ by_sides() {
     done
 }
 
+# What libpq prints of a text as it is, and we don't: control characters but line feeds and tabs.
+with_escapes() {
+    local byte script=
+    for byte in {1..8} {11..31} 127; do
+        script+=$(printf 's/\\x%02x/\\\\x%02x/g;' "$byte" "$byte")
+    done
+    for byte in {128..159}; do
+        script+=$(printf 's/\\xc2\\x%02x/\\\\xc2\\\\x%02x/g;' "$byte" "$byte")
+    done
+    LC_ALL=C sed "$script"
+}
+
 # Whether libpq's trace can be had: then there is a program over libpq 15, and its version is in $libpq.
 build_sessions() {
     local flags
@@ -70,7 +82,8 @@ compare_traces() {
         bad "the trace of $name" "status $status; $(cat "$work/errors")"
         return
     fi
-    by_sides "$work/trace" > "$work/by_libpq"
+    by_sides "$work/trace" | tee "$work/as_they_are" | with_escapes > "$work/by_libpq"
+    escaped_lines=$((escaped_lines + $(diff -a "$work/as_they_are" "$work/by_libpq" | grep -a -c '^<')))
     lines=$(wc -l < "$work/by_libpq")
     for programs in out out/sanitized; do
         : > "$work/left_out"
@@ -97,7 +110,7 @@ compare_logins() {
 }
 
 test_trace() {
-    local session traced=0
+    local session traced=0 escaped_lines=0
     build_sessions || return
     : > "$work/all_left_out"
     export PGSSLMODE=disable PGGSSENCMODE=disable
@@ -112,7 +125,7 @@ test_trace() {
 
 # A server that says what PostgreSQL says rarely or never.
 test_odd_trace() {
-    local traced=0 serving
+    local traced=0 escaped_lines=0 serving
     build_sessions || return
     : > "$work/all_left_out"
     tests/trace_server.py > "$work/port_of_server" &
@@ -120,6 +133,7 @@ test_odd_trace() {
     await test -s "$work/port_of_server"
     PGUSER=postgres PGSSLMODE=disable PGGSSENCMODE=disable compare_traces odd "$(cat "$work/port_of_server")"
     reap "$serving"
+    echo "$escaped_lines lines of libpq $libpq have control characters as they are, which have escapes here"
 }
 
 test_trace_lines() {

@@ -37,7 +37,7 @@ EVERY_BYTE = bytes(range(256))
 # What each Query of the client is answered by.
 ANSWERS = (
     message("T", 2, column(b"\xe9\t\"'\\", 2**32 - 1, -1, 2**31, -2, -1, 1), column(b"", 0, 0, 0, 0, 2**31 - 1, 7))
-    + message("D", 2, int4(256), EVERY_BYTE, int4(0)) + message("D", 2, int4(-1, -1)) + message("C", "\"\\'\x7f")
+    + message("D", 2, int4(256), EVERY_BYTE, int4(0)) + message("D", 2, int4(-1, -1)) + message("C", "\"\\'\x7f\x1b[2J\r\x9b")
     + message("Z", b"T"),
     message("A", int4(-5), b"ch\xff\0", "") + message("S", "", "") + message("I") + message("Z", b"E"),
     message("q") + message("q", b"abc") + message("s") + message("C", "") + READY,

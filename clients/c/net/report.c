@@ -1,6 +1,7 @@
 #define _DEFAULT_SOURCE
 
 #include "status.h"
+#include "shown.h"
 
 #include <err.h>
 #include <stdarg.h>
@@ -38,7 +39,7 @@ enum status complain_of_message(const struct message *message)
 static void print_text(const uint8_t *text, size_t len)
 {
     for (size_t i = 0; i < len; i++) {
-        bool is_plain = (text[i] >= ' ' && text[i] != 0x7f) || text[i] == '\n' || text[i] == '\t';
+        bool is_plain = !is_control(text, len, i) || text[i] == '\n' || text[i] == '\t';
         putc(is_plain ? text[i] : '?', stderr);
     }
 }

@@ -2,6 +2,7 @@
 #define _GNU_SOURCE
 
 #include "wait.h"
+#include "output.h"
 
 #include <errno.h>
 #include <fcntl.h>
@@ -12,11 +13,14 @@
 #include <unistd.h>
 
 /* Of several threads one takes it. */
-static atomic_int caught_signal;
+static atomic_int new_signal;
+
+/* The last one, also once it is taken. */
+static atomic_int last_signal;
 
 static void note_signal(int number)
 {
-    caught_signal = number;
+    last_signal = new_signal = number;
 }
 
 /* A write that a signal meets goes on; ppoll doesn't. */
@@ -49,14 +53,24 @@ void prepare_process(void)
 {
     open_standard_descriptors();
     ignore_broken_pipes();
+    prepare_output();
+}
+
+static enum status status_of(int number)
+{
+    if (number == 0)
+        return STATUS_OK;
+    return number == SIGTERM ? STATUS_TERMINATED : STATUS_INTERRUPTED;
 }
 
 static enum status take_signal(void)
 {
-    int number = atomic_exchange(&caught_signal, 0);
-    if (number == 0)
-        return STATUS_OK;
-    return number == SIGTERM ? STATUS_TERMINATED : STATUS_INTERRUPTED;
+    return status_of(atomic_exchange(&new_signal, 0));
+}
+
+enum status caught_signal(void)
+{
+    return status_of(last_signal);
 }
 
 /* Blocks the signals that end a program, in this thread, and gives those that were blocked before. An errno, or 0. */
@@ -85,7 +99,7 @@ static int wait_once(struct pollfd *descriptors, nfds_t count, const struct time
     errno = block(&before);
     if (errno != 0)
         return -1;
-    if (caught_signal == 0)
+    if (new_signal == 0)
         ready = ppoll(descriptors, count, limit, &before);
     int failure = errno;
     errno = pthread_sigmask(SIG_SETMASK, &before, NULL);

@@ -12,7 +12,6 @@
 
 enum {
     IN_ROOM = 1 << 18, /* of the longest message that is taken */
-    FIRST_LIMIT = 10000,
     PROCESS = 42,
     LONGEST_NAME = 63
 };
@@ -35,7 +34,7 @@ static const uint8_t *next(int client, bool is_first)
 {
     int32_t found;
     memmove(in_bytes, in_bytes + frame.length, in_used -= frame.length);
-    while ((found = is_first ? pgmsg_next_first_frame(in_bytes, in_used, FIRST_LIMIT, &frame, &fault)
+    while ((found = is_first ? pgmsg_next_first_frame(in_bytes, in_used, PGMSG_MAX_FIRST_LENGTH, &frame, &fault)
                              : pgmsg_next_frontend_frame(in_bytes, in_used, &frame, &fault)) == 0) {
         send_all(client);
         ssize_t count = read(client, in_bytes + in_used, IN_ROOM - in_used);

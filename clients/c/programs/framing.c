@@ -2,7 +2,7 @@
 #include "numbers.h"
 
 /* How many bytes say whether an Authentication is left out: its head and its method. */
-enum { METHOD_END = MESSAGE_HEAD + 4, LONGEST_FIRST = 10000 };
+enum { METHOD_END = MESSAGE_HEAD + 4 };
 
 /* The methods of an Authentication whose content belongs to a secret. */
 enum { METHOD_GSS_CONTINUE = 8, METHOD_SASL = 10, METHOD_SASL_CONTINUE = 11, METHOD_SASL_FINAL = 12 };
@@ -36,7 +36,7 @@ static enum front look(const struct framing *framing, bool leaves_out, const uin
     pgmsg_fault fault;
     int32_t is_whole;
     if (framing->is_first)
-        is_whole = pgmsg_next_first_frame(front, len, LONGEST_FIRST, &frame, &fault);
+        is_whole = pgmsg_next_first_frame(front, len, PGMSG_MAX_FIRST_LENGTH, &frame, &fault);
     else if (framing->is_client)
         is_whole = pgmsg_next_frontend_frame(front, len, &frame, &fault);
     else

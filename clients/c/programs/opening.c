@@ -3,27 +3,32 @@
 #include "opening.h"
 
 enum {
-    LONGEST_FIRST = 10000,
     TLS_HANDSHAKE = 22 /* the first byte of TLS; no length of a first message begins with it */
 };
 
 /* What a client's first message is. */
 enum first { FIRST_SHORT, FIRST_ASKS, FIRST_OPENS };
 
+/* A request for encryption. */
+struct request {
+    size_t length;
+    unsigned kind; /* a bit */
+};
+
 /* Looks at the client's next message. One that breaks the protocol is the server's to refuse. */
-static enum first look(const struct session *session, size_t *length)
+static enum first look(const struct session *session, struct request *request)
 {
     const struct flow *up = &session->up;
     const uint8_t *front = up->bytes + up->start;
     pgmsg_frame frame;
     pgmsg_fault fault;
     pgmsg_first first;
-    int32_t is_whole = pgmsg_next_first_frame(front, up->end - up->start, LONGEST_FIRST, &frame, &fault);
+    int32_t is_whole = pgmsg_next_first_frame(front, up->end - up->start, PGMSG_MAX_FIRST_LENGTH, &frame, &fault);
     if (is_whole == 0)
         return FIRST_SHORT;
     if (is_whole < 0 || pgmsg_read_first(front + frame.body.at, frame.body.len, &first, &fault) < 0)
         return FIRST_OPENS;
-    *length = frame.length;
+    *request = (struct request){.length = frame.length, .kind = 1u << first.kind};
     return first.kind == PGMSG_FIRST_SSL_REQUEST || first.kind == PGMSG_FIRST_GSS_ENC_REQUEST ? FIRST_ASKS
                                                                                             : FIRST_OPENS;
 }
@@ -89,18 +94,27 @@ static enum status take_answer(struct session *session, struct passing *passing)
     return STATUS_OK;
 }
 
-/* Takes a request for encryption: the server's to answer, or answered by a no. */
-static void take_request(struct session *session, const struct passing *passing, size_t length)
+/* Answers a request for encryption by a no. Another one of its kind is no first message to PostgreSQL's servers. */
+static void refuse_request(struct session *session, const struct request *request)
 {
     struct flow *up = &session->up;
-    if (passing->passes_encryption) {
-        up->known = up->start + length;
-        flow_write(up);
-        session->stage = STAGE_ASKING;
+    if ((session->asked & request->kind) != 0) {
+        complain(STATUS_OK, "a client at %s asks for encryption again", session->peer);
+        fail(session, STATUS_PROTOCOL);
     } else if (flow_put(&session->down, 'N')) {
-        up->start += length;
+        session->asked |= request->kind;
+        up->start += request->length;
         up->known = up->start;
     }
+}
+
+/* Passes a request for encryption on. */
+static void pass_request(struct session *session, const struct request *request)
+{
+    struct flow *up = &session->up;
+    up->known = up->start + request->length;
+    flow_write(up);
+    session->stage = STAGE_ASKING;
 }
 
 /* Takes the first bytes of TLS, where a client begins it without a request. */
@@ -117,14 +131,16 @@ static enum status take_tls(struct session *session, struct passing *passing)
 static enum status take_first(struct session *session, struct passing *passing)
 {
     struct flow *up = &session->up;
-    size_t length = 0;
+    struct request request;
     if (up->start < up->end && up->bytes[up->start] == TLS_HANDSHAKE)
         return take_tls(session, passing);
-    enum first first = look(session, &length);
+    enum first first = look(session, &request);
     if (first == FIRST_SHORT && up->is_ended)
         session->stage = STAGE_OVER;
-    else if (first == FIRST_ASKS && (session->is_served || !passing->passes_encryption))
-        take_request(session, passing, length);
+    else if (first == FIRST_ASKS && !passing->passes_encryption)
+        refuse_request(session, &request);
+    else if (first == FIRST_ASKS && session->is_served)
+        pass_request(session, &request);
     else if (first != FIRST_SHORT && !session->is_served)
         return connect_session(session, passing);
     else if (first == FIRST_OPENS)

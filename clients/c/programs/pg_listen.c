@@ -2,9 +2,10 @@
 #define _DEFAULT_SOURCE
 
 #include "connection.h"
+#include "output.h"
+#include "shown.h"
 #include "wait.h"
 
-#include <errno.h>
 #include <inttypes.h>
 #include <limits.h>
 #include <stdio.h>
@@ -14,7 +15,8 @@
 static const char usage[] =
     "usage: pg_listen " OPTION_WORDS " [-n COUNT] CHANNEL..\n"
     "Prints a line for each notification: channel, process and payload, with tabs between them. Backslash,\n"
-    "tab, line feed and carriage return in them are \\\\, \\t, \\n and \\r. Ends after COUNT lines.\n";
+    "tab, line feed and carriage return in them are \\\\, \\t, \\n and \\r, and the bytes of other control\n"
+    "characters \\x and two hexadecimal digits. Ends after COUNT lines.\n";
 
 struct listener {
     bool is_listening; /* the server has said so */
@@ -30,17 +32,12 @@ static void print_escaped(const uint8_t *text, size_t len)
         if (found != NULL) {
             putchar('\\');
             putchar(letters[found - special]);
+        } else if (is_control(text, len, i)) {
+            printf("\\x%02x", text[i]);
         } else {
             putchar(text[i]);
         }
     }
-}
-
-static enum status flush_lines(void)
-{
-    if (fflush(stdout) == EOF || ferror(stdout))
-        return complain(STATUS_LOCAL, "standard output can't be written: %s", strerror(errno));
-    return STATUS_OK;
 }
 
 static bool is_done(const struct listener *listener)
@@ -62,7 +59,7 @@ static enum status take_notification(struct listener *listener, const struct mes
     putchar('\n');
     if (listener->is_limited)
         listener->left--;
-    return flush_lines();
+    return flush_output();
 }
 
 static enum status take_ready(struct listener *listener, const struct message *message)

@@ -23,7 +23,7 @@ static const char usage[] =
     "  --patience SECONDS   takes silence for a difference where the recorded client had sent more\n"
     "  --go-on              serves on after a difference\n"
     "  --again              serves the recording again when all of it is replayed; with --any-order, a connection\n"
-    "                       as soon as its client is gone\n"
+    "                       as soon as its client is gone, for which another one waits some seconds\n"
     "  --threads N          serves with N threads, and not with half as many as there are processors\n"
     "\n"
     "These hold for messages up to a mebibyte; longer ones have to be as recorded.\n";
@@ -32,6 +32,9 @@ static enum status serve(struct replay *replay, const char *path, unsigned long 
 {
     struct listener listener;
     enum status status = replay_index_open(&replay->index, path);
+    /* In any order no round has to end before the next one. */
+    if (replay->options.begins_again && replay->options.has_any_order)
+        replay->index.round = SIZE_MAX;
     if (status == STATUS_OK)
         status = listener_open(&listener, replay->options.folder, port);
     if (status == STATUS_OK) {

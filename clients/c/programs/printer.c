@@ -1,17 +1,15 @@
 #include "printer.h"
 #include "numbers.h"
+#include "output.h"
 #include "said_words.h"
 #include "server_words.h"
 
-#include <errno.h>
 #include <inttypes.h>
 #include <stdlib.h>
-#include <string.h>
 
 enum {
     FIRST_ROOM = 4096,
     FIRST_CONNECTIONS = 16,
-    LONGEST_FIRST = 10000,
     LONGEST_SHOWN = 64 * 1024 * 1024
 };
 
@@ -46,7 +44,7 @@ static int32_t find_message(const struct printer *printer, const struct shown *s
     const uint8_t *front = shown->bytes.bytes + shown->bytes.start;
     size_t len = shown->bytes.end - shown->bytes.start;
     if (shown->is_first)
-        return pgmsg_next_first_frame(front, len, LONGEST_FIRST, frame, fault);
+        return pgmsg_next_first_frame(front, len, PGMSG_MAX_FIRST_LENGTH, frame, fault);
     if (shown->is_client)
         return pgmsg_next_frontend_frame(front, len, frame, fault);
     if (printer->form == PRINT_TRACE)
@@ -193,12 +191,9 @@ static enum status take_entry(struct printer *printer, const struct entry *entry
 
 static enum status flush_lines(struct printer *printer)
 {
-    if (printer->is_refused)
-        return STATUS_LOCAL;
-    printer->is_refused = fflush(stdout) == EOF || ferror(stdout);
-    if (printer->is_refused)
-        return complain(STATUS_LOCAL, "standard output can't be written: %s", strerror(errno));
-    return STATUS_OK;
+    if (printer->failure == STATUS_OK)
+        printer->failure = flush_output();
+    return printer->failure;
 }
 
 enum status printer_take(struct printer *printer, const struct entry *entry)

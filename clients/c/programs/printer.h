@@ -32,7 +32,7 @@ struct printer {
     enum printer_form form;
     enum trace_style style; /* of a trace */
     uint32_t only;          /* the number of the connection that is shown, 0 for all */
-    bool is_refused;        /* standard output can't be written */
+    enum status failure;    /* why standard output can't be written any more */
     bool shows_numbers;     /* a connection's number and a space begin each line */
     struct shown_connection *all;
     size_t count;

@@ -37,6 +37,7 @@ struct session {
     bool has_hung_up; /* nothing more comes */
     bool is_broken;   /* nothing more can be sent */
     bool has_failed;  /* the client did otherwise than recorded, or can't be served */
+    unsigned asked;   /* a bit for each kind of request for encryption that came */
     struct buffer in; /* what came and isn't taken */
     struct buffer out;
     struct buffer last_words; /* what is sent after all that was recorded */
@@ -44,22 +45,22 @@ struct session {
     struct names names;
 
     struct cursor client; /* where the message begins that is to come next */
-    enum found found;
     struct found_message next;
-    struct buffer room; /* for that message */
+    struct reading of_client; /* has that message */
     size_t matched;     /* messages so far */
     size_t left;        /* bytes of a long message that are not compared */
     bool is_terminated; /* the last message was a Terminate */
     bool is_owing;      /* the recorded client sent that message without waiting for an answer */
 
     struct cursor server; /* what is to be sent next */
-    struct buffer server_room;
+    struct reading of_server;
     bool is_open;         /* the server's answers to the Startup are sent */
     struct cursor opened; /* where those end */
     uint64_t sent;        /* bytes after that */
 
     uint64_t recorded_at; /* when the last message passed, by the recording's clock */
     uint64_t matched_at;  /* when the client sent it here, by our clock */
+    uint64_t begun;       /* when the client was accepted */
     uint64_t heard_at;    /* when something came last */
     uint64_t ends_at;     /* when it is over, whatever is left; 0 for never */
     uint64_t due;         /* when something is to be done by itself; 0 for never */
@@ -88,8 +89,8 @@ enum status session_check(struct replay *replay, struct session *session);
 /* Adds to what is sent what the server had sent before the next message of the client. */
 enum status session_answer(struct replay *replay, struct session *session);
 
-/* Gives a session the recorded connection whose Startup fits. STATUS_DIFFERENT where none does; the connection that
- * was tried first is left, if there was one. */
+/* Begins with the recorded connection whose Startup fits. STATUS_DIFFERENT where none does; the session is at the one
+ * that was tried first then, if there was one. */
 enum status session_choose(struct replay *replay, struct session *session, const struct message *startup,
                            struct difference *difference);
 
@@ -109,7 +110,7 @@ enum status session_match(struct session *session);
 
 /* Moves after those of the server's messages that answer a Startup, and adds them to a buffer where it isn't NULL:
  * but requests for a password. `limit` is the record before which they end. Answers whether they are whole. */
-enum status answers_to_startup(struct cursor *server, size_t limit, struct buffer *room, struct buffer *out,
+enum status answers_to_startup(struct cursor *server, size_t limit, struct reading *reading, struct buffer *out,
                                bool *is_open);
 
 /* The first record that may not be sent before the next message. */

@@ -5,7 +5,7 @@
 
 size_t session_limit(const struct session *session)
 {
-    return session->found == FOUND_NONE ? session->client.connection->count : session->client.record;
+    return session->next.found == FOUND_NONE ? session->client.connection->count : session->client.record;
 }
 
 /* Whether a server's message asks for a password, or is a part of a SASL exchange. */
@@ -18,18 +18,17 @@ static bool is_asking(const uint8_t *bytes, const pgmsg_frame *frame)
         && authentication.method != 0;
 }
 
-enum status answers_to_startup(struct cursor *server, size_t limit, struct buffer *room, struct buffer *out,
+enum status answers_to_startup(struct cursor *server, size_t limit, struct reading *reading, struct buffer *out,
                                bool *is_open)
 {
     struct found_message message;
     while (!*is_open) {
-        enum found found = message_find(server, RECORD_FROM_SERVER, pgmsg_next_raw_frame, room, &message);
-        if (found == FOUND_NO_MEMORY)
-            return complain_of_memory();
-        if (found == FOUND_NONE || (found == FOUND_WHOLE && message.end.record >= limit))
-            return STATUS_OK;
-        *is_open = found != FOUND_WHOLE || message.frame.tag == 'Z' || message.frame.tag == 'E';
-        if (found != FOUND_WHOLE)
+        enum status status = message_find(server, RECORD_FROM_SERVER, pgmsg_next_raw_frame, reading, &message);
+        bool is_whole = message.found == FOUND_WHOLE;
+        if (status != STATUS_OK || message.found == FOUND_NONE || (is_whole && message.end.record >= limit))
+            return status;
+        *is_open = !is_whole || message.frame.tag == 'Z' || message.frame.tag == 'E';
+        if (!is_whole)
             return STATUS_OK;
         *server = message.end;
         if (out != NULL && !is_asking(message.bytes, &message.frame)
@@ -51,8 +50,10 @@ static enum status add_bytes(const struct replay *replay, struct session *sessio
     bool keeps_times = replay->options.keeps_times && session->state == SESSION_SERVING;
     size_t limit = session_limit(session);
     struct piece piece;
-    while (session->out.end - session->out.start < OUT_MOST
-           && cursor_find(&session->server, RECORD_FROM_SERVER, &piece) && session->server.record < limit) {
+    while (session->out.end - session->out.start < OUT_MOST) {
+        enum status status = cursor_read(&session->server, RECORD_FROM_SERVER, &session->of_server, &piece);
+        if (status != STATUS_OK || piece.bytes == NULL || session->server.record >= limit)
+            return status;
         uint64_t time = keeps_times ? time_to_send(session, piece.time) : 0;
         if (time > 0 && time > microseconds()) {
             session->due = time;
@@ -68,26 +69,20 @@ static enum status add_bytes(const struct replay *replay, struct session *sessio
     return STATUS_OK;
 }
 
-/* Whether the server had answered all that came, as far as it is recorded. */
-static bool is_idle(const struct session *session)
+/* Finds whether the server had answered all that came, as far as it is recorded. */
+static enum status find_idle(struct session *session, bool *is_idle)
 {
-    const struct recorded *recorded = session->recorded;
-    struct cursor last = {.file = session->server.file, .connection = recorded};
+    struct cursor last = session->server;
     struct piece piece;
-    if (recorded->count == 0)
-        return false;
-    last.record = recorded->count - 1;
-    return cursor_find(&last, RECORD_FROM_SERVER, &piece) && piece.len >= 6
-        && piece.bytes[piece.len - 6] == 'Z' && piece.bytes[piece.len - 2] == 5;
-}
-
-/* The side that closed the connection; 0 where that isn't recorded. Nothing follows it. */
-static char closing_side(const struct session *session)
-{
-    const struct recorded *recorded = session->recorded;
-    struct cursor last = {.file = session->server.file, .connection = recorded, .record = recorded->count - 1};
-    struct piece piece;
-    return cursor_find(&last, RECORD_CLOSED, &piece) ? (char)*piece.bytes : '\0';
+    *is_idle = false;
+    if (last.connection->count == 0)
+        return STATUS_OK;
+    last.record = last.connection->count - 1;
+    last.at = 0;
+    enum status status = cursor_read(&last, RECORD_FROM_SERVER, &session->of_server, &piece);
+    *is_idle = status == STATUS_OK && piece.len >= 6 && piece.bytes[piece.len - 6] == 'Z'
+        && piece.bytes[piece.len - 2] == 5;
+    return status;
 }
 
 /* Ends a session of which no more is recorded. */
@@ -95,12 +90,15 @@ static enum status end_session(struct replay *replay, struct session *session)
 {
     static const struct side recorded = {.words = "the recording ends here"};
     static const struct side received = {.words = "a client that waits for more"};
-    if (session->is_terminated || (session->recorded->is_closed && closing_side(session) == RECORD_FROM_SERVER)) {
+    uint8_t closing_side = session->recorded->closing_side;
+    bool is_idle;
+    if (session->is_terminated || closing_side == RECORD_FROM_SERVER)
         session->state = SESSION_ENDING;
+    if (session->state == SESSION_ENDING || closing_side != 0)
         return STATUS_OK;
-    }
-    if (session->recorded->is_closed || is_idle(session))
-        return STATUS_OK;
+    enum status status = find_idle(session, &is_idle);
+    if (status != STATUS_OK || is_idle)
+        return status;
     return session_differ(replay, session, &recorded, &received, NULL);
 }
 
@@ -109,15 +107,15 @@ enum status session_answer(struct replay *replay, struct session *session)
     enum status status = STATUS_OK;
     struct piece rest;
     if (!session->is_open) {
-        status = answers_to_startup(&session->server, session_limit(session), &session->server_room, &session->out,
+        status = answers_to_startup(&session->server, session_limit(session), &session->of_server, &session->out,
                                     &session->is_open);
         session->opened = session->server;
-        if (session->found == FOUND_NONE)
+        if (session->next.found == FOUND_NONE)
             session->is_open = true;
     }
     if (status == STATUS_OK && session->is_open)
         status = add_bytes(replay, session);
-    if (status == STATUS_OK && session->state == SESSION_SERVING && session->found == FOUND_NONE
+    if (status == STATUS_OK && session->state == SESSION_SERVING && session->next.found == FOUND_NONE
         && !cursor_find(&session->server, RECORD_FROM_SERVER, &rest))
         status = end_session(replay, session);
     return status;

@@ -5,6 +5,13 @@
 
 #include <string.h>
 
+enum {
+    /* How long a client waits for a connection that another one has, which may take two seconds to hang up, and when it
+     * looks again, in microseconds. */
+    TAKING_PATIENCE = 2500000,
+    TAKING_PAUSE = 5000
+};
+
 static const uint8_t *front_of(const struct buffer *buffer)
 {
     return buffer->bytes + buffer->start;
@@ -14,12 +21,12 @@ enum status session_find(struct session *session)
 {
     cutter *cut = session->matched == 0 ? cut_first : pgmsg_next_frontend_frame;
     for (;;) {
-        session->found = message_find(&session->client, RECORD_FROM_CLIENT, cut, &session->room, &session->next);
-        if (session->found == FOUND_NO_MEMORY)
-            return complain_of_memory();
+        enum status status =
+            message_find(&session->client, RECORD_FROM_CLIENT, cut, &session->of_client, &session->next);
+        bool is_whole = status == STATUS_OK && session->next.found == FOUND_WHOLE;
         /* A password isn't asked for again. */
-        if (session->found != FOUND_WHOLE || session->matched == 0 || session->next.frame.tag != 'p')
-            return STATUS_OK;
+        if (!is_whole || session->matched == 0 || session->next.frame.tag != 'p')
+            return status;
         session->client = session->next.end;
     }
 }
@@ -35,7 +42,7 @@ enum status session_match(struct session *session)
     session->matched++;
     enum status status = session_find(session);
     bool is_answered = cursor_find(&answer, RECORD_FROM_SERVER, &piece) && answer.record < session->client.record;
-    session->is_owing = session->found != FOUND_NONE && !is_answered;
+    session->is_owing = session->next.found != FOUND_NONE && !is_answered;
     return status;
 }
 
@@ -54,7 +61,7 @@ static enum status refuse_bytes(struct replay *replay, struct session *session, 
 static struct side recorded_side(const struct session *session)
 {
     const pgmsg_frame *frame = &session->next.frame;
-    switch (session->found) {
+    switch (session->next.found) {
     case FOUND_WHOLE:
         return (struct side){
             .message = {frame->tag, session->next.bytes + frame->body.at, frame->body.len},
@@ -63,7 +70,8 @@ static struct side recorded_side(const struct session *session)
     case FOUND_BROKEN: return (struct side){.words = "bytes that are no message"};
     default: break;
     }
-    return (struct side){.words = session->recorded->is_closed ? "the connection ended" : "the recording ends here"};
+    bool is_closed = session->recorded->closing_side != 0;
+    return (struct side){.words = is_closed ? "the connection ended" : "the recording ends here"};
 }
 
 /* Ends a session where the client begins a long message that isn't the recorded one. */
@@ -81,7 +89,7 @@ static enum status refuse_long(struct replay *replay, struct session *session, c
 static enum status take_long(struct replay *replay, struct session *session, const pgmsg_frame *frame)
 {
     const pgmsg_frame *next = &session->next.frame;
-    if (session->found != FOUND_LONG || next->tag != frame->tag || next->length != frame->length)
+    if (session->next.found != FOUND_LONG || next->tag != frame->tag || next->length != frame->length)
         return refuse_long(replay, session, frame);
     session->left = frame->length;
     return STATUS_OK;
@@ -109,7 +117,10 @@ static enum status take_piece(struct replay *replay, struct session *session, bo
     *is_taken = count > 0;
     if (count == 0)
         return STATUS_OK;
-    if (!cursor_find(&session->client, RECORD_FROM_CLIENT, &piece)) {
+    enum status status = cursor_read(&session->client, RECORD_FROM_CLIENT, &session->of_client, &piece);
+    if (status != STATUS_OK)
+        return status;
+    if (piece.bytes == NULL) {
         static const struct side recorded = {.words = "the recording ends here"};
         static const struct side received = {.words = "more of a message"};
         return session_differ(replay, session, &recorded, &received, NULL);
@@ -129,7 +140,7 @@ static enum status take_piece(struct replay *replay, struct session *session, bo
 /* Whether a session ends in order where the recorder ended before it did. */
 static bool is_last(const struct session *session, const struct message *received)
 {
-    return session->found == FOUND_NONE && !session->recorded->is_closed && received->tag == 'X';
+    return session->next.found == FOUND_NONE && session->recorded->closing_side == 0 && received->tag == 'X';
 }
 
 /* Compares a whole message with the recorded one. */
@@ -138,7 +149,7 @@ static enum status match_next(struct replay *replay, struct session *session, co
 {
     struct side recorded = recorded_side(session);
     *difference = (struct difference){.part = "the length", .recorded = 1, .received = 1};
-    if (session->found != FOUND_WHOLE)
+    if (session->next.found != FOUND_WHOLE)
         return STATUS_DIFFERENT;
     return match_message(&replay->options, &session->names, &recorded.message, received, difference);
 }
@@ -147,7 +158,7 @@ static enum status match_next(struct replay *replay, struct session *session, co
 static enum status compare(struct replay *replay, struct session *session, const struct message *received)
 {
     struct side recorded = recorded_side(session), side = {.message = *received};
-    struct difference difference, other;
+    struct difference difference;
     if (is_last(session, received)) {
         session->state = SESSION_ENDING;
         return STATUS_OK;
@@ -155,8 +166,10 @@ static enum status compare(struct replay *replay, struct session *session, const
     enum status status = match_next(replay, session, received, &difference);
     if (status == STATUS_DIFFERENT && replay->options.has_any_order) {
         status = session_choose_again(replay, session, received);
-        if (status == STATUS_OK)
-            status = match_next(replay, session, received, &other);
+        if (status == STATUS_OK) {
+            recorded = recorded_side(session);
+            status = match_next(replay, session, received, &difference);
+        }
     }
     if (status == STATUS_DIFFERENT)
         return session_differ(replay, session, &recorded, &side, recorded.words == NULL ? &difference : NULL);
@@ -185,18 +198,42 @@ static enum status take_next(struct replay *replay, struct session *session, boo
     return compare(replay, session, &received);
 }
 
-/* Takes a Startup. */
-static enum status open_session(struct replay *replay, struct session *session, const struct message *startup)
+/* Ends a session whose Startup fits no connection that is free. */
+static enum status refuse_startup(struct replay *replay, struct session *session, const struct message *startup,
+                                  const struct difference *difference)
 {
     static const struct side none = {.words = "no connection that isn't replayed"};
-    struct difference difference;
     struct side received = {.message = *startup};
+    struct side recorded = session->recorded == NULL ? none : recorded_side(session);
+    return session_differ(replay, session, &recorded, &received, recorded.words == NULL ? difference : NULL);
+}
+
+/* Whether a client waits for a connection whose client may be about to leave, in place of a difference. */
+static bool may_wait(const struct replay *replay, const struct session *session)
+{
+    bool may_fit = session->recorded == NULL || replay->options.has_any_order;
+    return replay->options.begins_again && may_fit && microseconds() < session->heard_at + TAKING_PATIENCE
+        && replay_index_is_held(&replay->index);
+}
+
+/* Takes a Startup. */
+static enum status open_session(struct replay *replay, struct session *session, const struct message *startup,
+                                bool *is_taken)
+{
+    struct difference difference;
     enum status status = session_choose(replay, session, startup, &difference);
-    if (status == STATUS_DIFFERENT) {
-        struct side recorded = session->recorded == NULL ? none : recorded_side(session);
-        return session_differ(replay, session, &recorded, &received, recorded.words == NULL ? &difference : NULL);
+    if (status == STATUS_DIFFERENT && may_wait(replay, session)) {
+        *is_taken = false;
+        session->recorded = NULL;
+        session->due = microseconds() + TAKING_PAUSE;
+        return STATUS_OK;
     }
+    if (session->recorded != NULL)
+        replay_index_give(&replay->index, session->recorded, session);
+    if (status == STATUS_DIFFERENT)
+        return refuse_startup(replay, session, startup, &difference);
     session->state = SESSION_SERVING;
+    session->ends_at = 0;
     return status == STATUS_OK ? session_match(session) : status;
 }
 
@@ -207,6 +244,17 @@ static enum status hang_up(struct session *session, const pgmsg_fault *fault)
         complain(STATUS_OK, "a connection is refused: %.*s", (int)fault->words_len, (const char *)fault->words);
     session->state = SESSION_OVER;
     return STATUS_OK;
+}
+
+/* Answers a request for encryption. Another one of its kind is no first message to PostgreSQL's servers. */
+static enum status answer_request(struct session *session, uint32_t kind)
+{
+    if ((session->asked >> kind & 1) != 0) {
+        complain(STATUS_OK, "a connection is refused: it asks for encryption again");
+        return hang_up(session, NULL);
+    }
+    session->asked |= 1u << kind;
+    return buffer_add(&session->out, "N", 1) ? STATUS_OK : complain_of_memory();
 }
 
 static enum status take_first(struct replay *replay, struct session *session, bool *is_taken)
@@ -224,12 +272,15 @@ static enum status take_first(struct replay *replay, struct session *session, bo
     struct message message = {.body = front_of(in) + frame.body.at, .len = frame.body.len};
     if (pgmsg_read_first(message.body, message.len, &first, &fault) < 0)
         return hang_up(session, &fault);
-    in->start += frame.length;
+    enum status status = STATUS_OK;
     switch (first.kind) {
-    case PGMSG_FIRST_STARTUP: return open_session(replay, session, &message);
+    case PGMSG_FIRST_STARTUP: status = open_session(replay, session, &message, is_taken); break;
     case PGMSG_FIRST_CANCEL_REQUEST: return hang_up(session, NULL);
-    default: return buffer_add(&session->out, "N", 1) ? STATUS_OK : complain_of_memory();
+    default: status = answer_request(session, first.kind);
     }
+    if (*is_taken)
+        in->start += frame.length;
+    return status;
 }
 
 /* Takes the end of what the client sends. */
@@ -238,7 +289,7 @@ static enum status take_end(struct replay *replay, struct session *session)
     static const struct side received = {.words = "the connection ended"};
     if (session->state == SESSION_OPENING)
         return hang_up(session, NULL);
-    if (session->found == FOUND_NONE && session->in.start == session->in.end) {
+    if (session->next.found == FOUND_NONE && session->in.start == session->in.end) {
         session->state = SESSION_ENDING;
         return STATUS_OK;
     }

@@ -5,7 +5,7 @@
 #include <string.h>
 
 /* How many messages may have passed when another connection is taken. */
-enum { MESSAGES_MOST = 100, FIRST_ROOM = 256 };
+enum { MESSAGES_MOST = 100 };
 
 enum status session_attach(struct replay *replay, struct session *session, struct recorded *recorded)
 {
@@ -26,7 +26,7 @@ static struct recorded *first_free(struct replay *replay)
 {
     struct recorded *first = replay_index_next(&replay->index, NULL);
     if (first == NULL && replay->options.begins_again) {
-        replay_index_free_replayed(&replay->index);
+        replay_index_begin_round(&replay->index);
         first = replay_index_next(&replay->index, NULL);
     }
     return first;
@@ -48,40 +48,42 @@ static enum status find_startup(struct replay *replay, struct session *session, 
                                 struct recorded **best)
 {
     struct difference difference;
-    enum status status = STATUS_DIFFERENT;
     struct recorded *tried = replay_index_next(&replay->index, NULL);
     for (*best = NULL; tried != NULL; tried = replay_index_next(&replay->index, tried)) {
         if (*best != NULL && tried->rounds >= (*best)->rounds)
             continue;
-        status = try_startup(replay, session, tried, startup, &difference);
+        enum status status = try_startup(replay, session, tried, startup, &difference);
         if (status == STATUS_OK)
             *best = tried;
-        if (status == STATUS_MEMORY || (status == STATUS_OK && (tried->rounds == 0 || !replay->options.begins_again)))
+        if (status == STATUS_OK && tried->rounds == 0)
+            return STATUS_OK;
+        if (status != STATUS_OK && status != STATUS_DIFFERENT)
             return status;
     }
-    return *best == NULL ? STATUS_DIFFERENT : STATUS_OK;
+    return STATUS_OK;
 }
 
 enum status session_choose(struct replay *replay, struct session *session, const struct message *startup,
                            struct difference *difference)
 {
     struct recorded *taken = first_free(replay), *best = NULL;
+    enum status status = STATUS_OK;
     if (taken == NULL)
         return STATUS_DIFFERENT;
-    if (replay->options.has_any_order && find_startup(replay, session, startup, &best) == STATUS_MEMORY)
-        return STATUS_MEMORY;
+    if (replay->options.has_any_order)
+        status = find_startup(replay, session, startup, &best);
+    if (status != STATUS_OK)
+        return status;
     if (best != NULL)
         taken = best;
-    enum status status = try_startup(replay, session, taken, startup, difference);
-    replay_index_give(&replay->index, taken, session);
-    return status;
+    return try_startup(replay, session, taken, startup, difference);
 }
 
 /* Whether two connections have the same next message. */
 static bool is_same_next(const struct replay *replay, const struct session *one, const struct session *other)
 {
     struct difference difference;
-    if (one->found != FOUND_WHOLE || other->found != FOUND_WHOLE)
+    if (one->next.found != FOUND_WHOLE || other->next.found != FOUND_WHOLE)
         return false;
     struct message message = message_of(one), same = message_of(other);
     if (one->matched == 0)
@@ -109,30 +111,38 @@ static enum status pass_messages(const struct replay *replay, struct session *on
 /* Goes to where the answers to the Startup end. */
 static enum status pass_opening(struct session *session)
 {
-    enum status status = answers_to_startup(&session->server, session_limit(session), &session->server_room, NULL,
+    enum status status = answers_to_startup(&session->server, session_limit(session), &session->of_server, NULL,
                                             &session->is_open);
     session->opened = session->server;
     return status;
 }
 
-static bool find_answer(struct session *session, struct piece *piece)
+/* Reads the next answers before the next message: none where there are no bytes. */
+static enum status read_answer(struct session *session, struct piece *piece)
 {
-    return cursor_find(&session->server, RECORD_FROM_SERVER, piece) && session->server.record < session_limit(session);
+    enum status status = cursor_read(&session->server, RECORD_FROM_SERVER, &session->of_server, piece);
+    if (session->server.record >= session_limit(session))
+        piece->bytes = NULL;
+    return status;
 }
 
 /* Whether the answers that follow up to the next message are the same. */
-static bool are_same_answers(struct session *one, struct session *other)
+static enum status compare_answers(struct session *one, struct session *other, bool *are_alike)
 {
     struct piece piece, same;
     for (;;) {
-        bool is_there = find_answer(one, &piece);
-        if (find_answer(other, &same) != is_there)
-            return false;
-        if (!is_there)
-            return true;
+        enum status status = read_answer(one, &piece);
+        if (status == STATUS_OK)
+            status = read_answer(other, &same);
+        if (status != STATUS_OK)
+            return status;
+        *are_alike = (piece.bytes == NULL) == (same.bytes == NULL);
+        if (piece.bytes == NULL || same.bytes == NULL)
+            return STATUS_OK;
         size_t count = piece.len < same.len ? piece.len : same.len;
-        if (memcmp(piece.bytes, same.bytes, count) != 0)
-            return false;
+        *are_alike = memcmp(piece.bytes, same.bytes, count) == 0;
+        if (!*are_alike)
+            return STATUS_OK;
         one->server.at += count;
         other->server.at += count;
     }
@@ -160,15 +170,15 @@ static enum status compare_connections(const struct replay *replay, struct sessi
     status = pass_opening(one);
     if (status == STATUS_OK)
         status = pass_opening(other);
-    *are_alike = status == STATUS_OK && one->is_open && other->is_open && are_same_answers(one, other);
-    return status;
+    *are_alike = status == STATUS_OK && one->is_open && other->is_open;
+    return *are_alike ? compare_answers(one, other, are_alike) : status;
 }
 
 /* Goes to the place in an alike connection that the session has in its own. */
 static enum status move_to(struct replay *replay, struct session *session, struct session *scratch,
                            struct recorded *recorded)
 {
-    struct buffer room = session->room;
+    struct reading of_client = session->of_client;
     enum status status = session_attach(replay, scratch, recorded);
     scratch->is_open = false;
     while (status == STATUS_OK && scratch->matched < session->matched)
@@ -180,13 +190,12 @@ static enum status move_to(struct replay *replay, struct session *session, struc
     skip_sent(scratch, session->sent);
     session->recorded = recorded;
     session->client = scratch->client;
-    session->found = scratch->found;
     session->next = scratch->next;
     session->server = scratch->server;
     session->opened = scratch->opened;
     session->recorded_at = scratch->recorded_at;
-    session->room = scratch->room;
-    scratch->room = room;
+    session->of_client = scratch->of_client;
+    scratch->of_client = of_client;
     return STATUS_OK;
 }
 
@@ -220,21 +229,21 @@ static enum status try_other(struct replay *replay, struct session *session, str
         status = compare_connections(replay, &pair[0], &pair[1], session->matched, &are_alike);
     if (status != STATUS_OK)
         return status;
-    if (!are_alike || pair[1].found != FOUND_WHOLE)
+    if (!are_alike || pair[1].next.found != FOUND_WHOLE)
         return STATUS_DIFFERENT;
     struct message own = message_of(&pair[1]);
     return match_message(&replay->options, &session->names, &own, received, &difference);
 }
 
 /* Whether a connection is free, or has a client that may as well have the session's: none that is ahead of it. */
-static bool is_candidate(const struct session *session, const struct recorded *recorded)
+static bool is_candidate(const struct replay_index *index, const struct session *session,
+                         const struct recorded *recorded)
 {
     const struct session *holder = recorded->holder;
-    if (!recorded->is_session || recorded == session->recorded)
-        return false;
-    return !recorded->is_taken
-        || (holder != NULL && holder->state == SESSION_SERVING && holder->is_open && holder->left == 0
-            && holder->matched <= session->matched);
+    if (holder == NULL)
+        return replay_index_is_free(index, recorded);
+    return holder != session && holder->state == SESSION_SERVING && holder->is_open && holder->left == 0
+        && holder->matched <= session->matched;
 }
 
 /* Finds the connection to exchange the session's for, of those that were taken most seldom. */
@@ -244,7 +253,7 @@ static enum status find_other(struct replay *replay, struct session *session, st
     *best = NULL;
     for (size_t i = 0; i < replay->index.count; i++) {
         struct recorded *tried = &replay->index.all[i];
-        if (!is_candidate(session, tried) || (*best != NULL && tried->rounds >= (*best)->rounds))
+        if (!is_candidate(&replay->index, session, tried) || (*best != NULL && tried->rounds >= (*best)->rounds))
             continue;
         enum status status = try_other(replay, session, pair, tried, received);
         if (status == STATUS_OK)
@@ -255,9 +264,9 @@ static enum status find_other(struct replay *replay, struct session *session, st
     return *best == NULL ? STATUS_DIFFERENT : STATUS_OK;
 }
 
-static bool make_rooms(struct session *session)
+static bool make_readings(struct session *session)
 {
-    return buffer_make(&session->room, FIRST_ROOM) && buffer_make(&session->server_room, FIRST_ROOM);
+    return reading_make(&session->of_client) && reading_make(&session->of_server);
 }
 
 enum status session_choose_again(struct replay *replay, struct session *session, const struct message *received)
@@ -269,15 +278,15 @@ enum status session_choose_again(struct replay *replay, struct session *session,
         return status;
     if (!session->is_open || session->matched > MESSAGES_MOST)
         return STATUS_DIFFERENT;
-    if (make_rooms(&pair[0]) && make_rooms(&pair[1]))
+    if (make_readings(&pair[0]) && make_readings(&pair[1]))
         status = find_other(replay, session, pair, received, &best);
     else
         status = complain_of_memory();
     if (status == STATUS_OK)
         status = exchange(replay, session, &pair[0], best);
     for (int i = 0; i < 2; i++) {
-        buffer_free(&pair[i].room);
-        buffer_free(&pair[i].server_room);
+        reading_free(&pair[i].of_client);
+        reading_free(&pair[i].of_server);
     }
     return status;
 }

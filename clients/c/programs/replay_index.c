@@ -1,14 +1,13 @@
 #define _DEFAULT_SOURCE
 
 #include "replay_index.h"
+#include "numbers.h"
 #include "recording.h"
 
 #include <errno.h>
 #include <fcntl.h>
-#include <signal.h>
 #include <stdlib.h>
 #include <string.h>
-#include <sys/mman.h>
 #include <unistd.h>
 
 enum { FIRST_ROOM = 8 };
@@ -41,15 +40,21 @@ static enum status add_record(struct replay_index *index, const struct entry *en
     if (entry->kind == RECORD_OPENED)
         return add_connection(index, entry->connection);
     struct recorded *connection = &index->all[entry->connection - 1];
-    uint64_t *places = grown(connection->places, connection->count, &connection->room, sizeof *places);
-    if (places == NULL)
+    struct record *records = grown(connection->records, connection->count, &connection->room, sizeof *records);
+    if (records == NULL)
         return complain_of_memory();
-    connection->places = places;
-    places[connection->count++] = entry->at;
+    connection->records = records;
+    records[connection->count++] = (struct record){
+        .place = entry->at + RECORD_HEAD,
+        .time = entry->time,
+        .checksum = get_four(entry->content + entry->len),
+        .len = (uint32_t)entry->len,
+        .kind = entry->kind,
+    };
     if (entry->kind == RECORD_ENCRYPTED)
         connection->is_encrypted = true;
     if (entry->kind == RECORD_CLOSED)
-        connection->is_closed = true;
+        connection->closing_side = *entry->content;
     return STATUS_OK;
 }
 
@@ -60,74 +65,71 @@ static enum status read_records(struct replay_index *index, struct recording *re
     while ((status = recording_next(recording, &entry)) == STATUS_OK && entry.kind != 0)
         if ((status = add_record(index, &entry)) != STATUS_OK)
             break;
-    index->len = recording->at;
     return status;
 }
 
-/* What a read of bytes that the file doesn't have any more ends in. */
-static void end_at_cut(int number)
-{
-    static const char words[] = "the recording became shorter while it was served\n";
-    (void)number;
-    if (write(STDERR_FILENO, words, sizeof words - 1) < 0)
-        _exit(STATUS_LOCAL);
-    _exit(STATUS_LOCAL);
-}
-
-static enum status map_file(struct replay_index *index, const struct recording *recording)
-{
-    struct sigaction action = {.sa_handler = end_at_cut};
-    sigemptyset(&action.sa_mask);
-    void *bytes = mmap(NULL, index->len, PROT_READ, MAP_PRIVATE, fileno(recording->file), 0);
-    if (bytes == MAP_FAILED || sigaction(SIGBUS, &action, NULL) < 0)
-        return complain(STATUS_LOCAL, "%s can't be read: %s", index->path, strerror(errno));
-    index->bytes = bytes;
-    return STATUS_OK;
-}
-
-/* Whether a connection begins with a Startup, and can be read to its end. */
-static bool is_session(const struct replay_index *index, const struct recorded *connection, struct buffer *room)
+/* Notes whether a connection begins with a Startup, and isn't encrypted. */
+static enum status check_session(struct replay_index *index, struct recorded *connection, struct reading *reading)
 {
     struct cursor cursor = replay_index_cursor(index, connection);
     struct found_message message;
     pgmsg_first first;
     pgmsg_fault fault;
-    if (connection->is_encrypted || message_find(&cursor, RECORD_FROM_CLIENT, cut_first, room, &message) != FOUND_WHOLE)
-        return false;
+    enum status status = message_find(&cursor, RECORD_FROM_CLIENT, cut_first, reading, &message);
+    if (status != STATUS_OK || connection->is_encrypted || message.found != FOUND_WHOLE)
+        return status;
     const pgmsg_span *body = &message.frame.body;
-    return pgmsg_read_first(message.bytes + body->at, body->len, &first, &fault) == 0
+    connection->is_session = pgmsg_read_first(message.bytes + body->at, body->len, &first, &fault) == 0
         && first.kind == PGMSG_FIRST_STARTUP;
+    return STATUS_OK;
+}
+
+/* Finds the connections that can be replayed. */
+static enum status check_sessions(struct replay_index *index, struct reading *reading)
+{
+    const char *path = index->source.path;
+    size_t encrypted = 0;
+    for (size_t i = 0; i < index->count; i++) {
+        enum status status = check_session(index, &index->all[i], reading);
+        if (status != STATUS_OK)
+            return status;
+        index->sessions += index->all[i].is_session;
+        encrypted += index->all[i].is_encrypted;
+    }
+    if (encrypted > 0)
+        complain(STATUS_OK, "%s: %zu connections are encrypted, and left out", path, encrypted);
+    if (index->sessions == 0)
+        return complain(STATUS_DAMAGED, "%s has no session that can be replayed", path);
+    return STATUS_OK;
 }
 
 static enum status find_sessions(struct replay_index *index)
 {
-    struct buffer room;
-    size_t encrypted = 0;
-    if (!buffer_make(&room, FIRST_ROOM))
-        return complain_of_memory();
-    for (size_t i = 0; i < index->count; i++) {
-        index->all[i].is_session = is_session(index, &index->all[i], &room);
-        index->sessions += index->all[i].is_session;
-        encrypted += index->all[i].is_encrypted;
-    }
-    buffer_free(&room);
-    if (encrypted > 0)
-        complain(STATUS_OK, "%s: %zu connections are encrypted, and left out", index->path, encrypted);
-    if (index->sessions == 0)
-        return complain(STATUS_DAMAGED, "%s has no session that can be replayed", index->path);
+    struct reading reading;
+    enum status status = reading_make(&reading) ? check_sessions(index, &reading) : complain_of_memory();
+    reading_free(&reading);
+    return status;
+}
+
+/* Keeps the file for what is read of it later. */
+static enum status keep_file(struct replay_index *index, const struct recording *recording)
+{
+    index->source.file = fcntl(fileno(recording->file), F_DUPFD_CLOEXEC, 0);
+    if (index->source.file < 0)
+        return complain(STATUS_LOCAL, "%s can't be read: %s", index->source.path, strerror(errno));
     return STATUS_OK;
 }
 
 enum status replay_index_open(struct replay_index *index, const char *path)
 {
     struct recording recording;
-    *index = (struct replay_index){.path = path};
+    *index = (struct replay_index){.source = {.file = -1, .path = path}};
     enum status status = recording_open(&recording, path);
     if (status != STATUS_OK)
         return status;
     status = read_records(index, &recording);
     if (status == STATUS_OK)
-        status = map_file(index, &recording);
+        status = keep_file(index, &recording);
     recording_close(&recording);
     return status == STATUS_OK ? find_sessions(index) : status;
 }
@@ -135,16 +137,21 @@ enum status replay_index_open(struct replay_index *index, const char *path)
 void replay_index_close(struct replay_index *index)
 {
     for (size_t i = 0; i < index->count; i++)
-        free(index->all[i].places);
+        free(index->all[i].records);
     free(index->all);
-    if (index->bytes != NULL)
-        (void)munmap((void *)(uintptr_t)index->bytes, index->len);
+    if (index->source.file >= 0)
+        close(index->source.file);
+}
+
+bool replay_index_is_free(const struct replay_index *index, const struct recorded *connection)
+{
+    return connection->is_session && connection->holder == NULL && connection->rounds <= index->round;
 }
 
 struct recorded *replay_index_next(struct replay_index *index, const struct recorded *after)
 {
     size_t at = after == NULL ? index->first_free : (size_t)(after - index->all) + 1;
-    while (at < index->count && (!index->all[at].is_session || index->all[at].is_taken))
+    while (at < index->count && !replay_index_is_free(index, &index->all[at]))
         at++;
     if (after == NULL)
         index->first_free = at;
@@ -153,22 +160,34 @@ struct recorded *replay_index_next(struct replay_index *index, const struct reco
 
 struct cursor replay_index_cursor(const struct replay_index *index, const struct recorded *connection)
 {
-    return (struct cursor){.file = index->bytes, .connection = connection};
+    return (struct cursor){.source = &index->source, .connection = connection};
 }
 
 void replay_index_give(struct replay_index *index, struct recorded *connection, struct session *holder)
 {
     size_t at = (size_t)(connection - index->all);
     connection->holder = holder;
-    connection->is_taken = holder != NULL;
     if (holder == NULL && at < index->first_free)
         index->first_free = at;
 }
 
-void replay_index_free_replayed(struct replay_index *index)
+bool replay_index_is_held(const struct replay_index *index)
 {
-    for (size_t i = 0; i < index->count; i++)
-        if (index->all[i].is_replayed)
-            index->all[i].is_taken = index->all[i].is_replayed = false;
+    size_t at = 0;
+    while (at < index->count && index->all[at].holder == NULL)
+        at++;
+    return at < index->count;
+}
+
+void replay_index_begin_round(struct replay_index *index)
+{
+    size_t fewest = SIZE_MAX;
+    for (size_t i = 0; i < index->count; i++) {
+        const struct recorded *connection = &index->all[i];
+        if (connection->is_session && connection->holder == NULL && connection->rounds < fewest)
+            fewest = connection->rounds;
+    }
+    if (fewest < SIZE_MAX)
+        index->round = fewest;
     index->first_free = 0;
 }

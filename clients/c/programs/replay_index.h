@@ -6,13 +6,12 @@
 #include "status.h"
 
 struct replay_index {
-    const char *path;
-    const uint8_t *bytes; /* of the file, in memory that is the file's own */
-    size_t len;           /* up to the end of its last whole record */
+    struct source source;
     struct recorded *all;
     size_t count;
     size_t room;
-    size_t sessions;  /* how many of them can be replayed */
+    size_t sessions;   /* how many of them can be replayed */
+    size_t round;      /* those can be taken that so many clients had, or fewer */
     size_t first_free; /* none before it can be taken */
 };
 
@@ -30,7 +29,13 @@ struct cursor replay_index_cursor(const struct replay_index *index, const struct
 /* Gives a connection to a client, or makes it free again with NULL. */
 void replay_index_give(struct replay_index *index, struct recorded *connection, struct session *holder);
 
-/* Makes those connections free again that were replayed. */
-void replay_index_free_replayed(struct replay_index *index);
+/* Whether a client can take a connection. */
+bool replay_index_is_free(const struct replay_index *index, const struct recorded *connection);
+
+/* Whether a client has one. */
+bool replay_index_is_held(const struct replay_index *index);
+
+/* Lets clients take those connections again that the fewest had, of those that none has. */
+void replay_index_begin_round(struct replay_index *index);
 
 #endif

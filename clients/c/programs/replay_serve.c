@@ -8,23 +8,25 @@
 #include <unistd.h>
 
 enum {
-    /* How long a client may be silent before its Startup while others wait for a place, in milliseconds. */
-    SILENCE = 1000,
+    /* How long a client may take for its Startup while others wait for a place, in milliseconds. */
+    CROWDED_PATIENCE = 2000,
+    /* When it looks again where no client can be accepted, in milliseconds. */
+    PAUSE = 50,
     /* How often it looks for the next message before it waits: for some 50 microseconds. */
     LOOKS = 100
 };
 
-/* Ends the connection that has been silent longest before its Startup, where others wait for a place. */
+/* Ends the oldest connection without a Startup, where others wait for a place. */
 static void make_place(struct worker *leader)
 {
     size_t found = leader->count;
     for (size_t i = 0; i < leader->count; i++) {
         const struct session *session = leader->sessions[i];
         if (session->state == SESSION_OPENING
-            && (found == leader->count || session->heard_at < leader->sessions[found]->heard_at))
+            && (found == leader->count || session->begun < leader->sessions[found]->begun))
             found = i;
     }
-    if (found < leader->count && microseconds() >= leader->sessions[found]->heard_at + SILENCE * 1000)
+    if (found < leader->count && microseconds() >= leader->sessions[found]->begun + CROWDED_PATIENCE * 1000)
         worker_end_session(leader, found);
 }
 
@@ -51,17 +53,12 @@ static void give_sessions(struct pool *pool)
     }
 }
 
-static enum status accept_client(struct pool *pool, int listening)
+/* Accepts a client, or says that what it takes is short. */
+static enum status accept_client(struct pool *pool, int listening, bool *is_short)
 {
     char peer[PEER_ROOM];
     int client;
-    bool is_short;
-    enum status status = listener_accept(listening, &client, peer, &is_short);
-    if (status == STATUS_OK && is_short) {
-        replay_lock(pool->replay);
-        pool->is_short = true;
-        replay_unlock(pool->replay);
-    }
+    enum status status = listener_accept(listening, &client, peer, is_short);
     if (status != STATUS_OK || client < 0)
         return status;
     struct session *session = session_new(client);
@@ -82,19 +79,20 @@ static void lead(struct pool *pool, int listening)
     bool is_over = false, is_full = false;
     replay_lock(pool->replay);
     while (!is_over) {
+        bool is_short = false;
         worker_list(pool->leader, is_full ? -1 : listening);
         replay_unlock(pool->replay);
-        enum status status = worker_wait(pool->leader, is_full ? SILENCE : -1);
+        enum status status = worker_wait(pool->leader, is_full ? PAUSE : -1);
         bool is_called = status == STATUS_OK && worker_is_called(pool->leader);
         if (status == STATUS_OK)
             status = worker_serve(pool->leader);
         if (status == STATUS_OK && is_called)
-            status = accept_client(pool, listening);
+            status = accept_client(pool, listening, &is_short);
         replay_lock(pool->replay);
         give_sessions(pool);
         if (status != STATUS_OK)
             pool_end(pool, status);
-        is_full = pool_is_full(pool);
+        is_full = is_short || pool_is_full(pool);
         if (is_full)
             make_place(pool->leader);
         is_over = pool_is_over(pool);

@@ -13,8 +13,9 @@ enum {
     FIRST_ROOM = 1024,
     READ_AT_ONCE = 65536,
     ROUNDS = 16, /* of writing, before others have their turn */
-    /* How long a client may take to hang up, and how long to take what was recorded before an error, in
-     * microseconds. */
+    /* How long a client may take for its Startup, as PostgreSQL's servers have it; how long to hang up, and how long to
+     * take what was recorded before an error, in microseconds. */
+    OPENING_PATIENCE = 60000000,
     PATIENCE = 2000000,
     PATIENCE_WITH_ERROR = 10000000
 };
@@ -25,10 +26,11 @@ struct session *session_new(int socket)
     if (session == NULL)
         return NULL;
     session->socket = socket;
-    session->heard_at = microseconds();
+    session->begun = session->heard_at = microseconds();
+    session->due = session->ends_at = session->begun + OPENING_PATIENCE;
     if (!buffer_make(&session->in, FIRST_ROOM) || !buffer_make(&session->out, FIRST_ROOM)
-        || !buffer_make(&session->last_words, FIRST_ROOM) || !buffer_make(&session->room, FIRST_ROOM)
-        || !buffer_make(&session->server_room, FIRST_ROOM)) {
+        || !buffer_make(&session->last_words, FIRST_ROOM) || !reading_make(&session->of_client)
+        || !reading_make(&session->of_server)) {
         session->socket = -1;
         session_free(session);
         return NULL;
@@ -43,8 +45,8 @@ void session_free(struct session *session)
     buffer_free(&session->in);
     buffer_free(&session->out);
     buffer_free(&session->last_words);
-    buffer_free(&session->room);
-    buffer_free(&session->server_room);
+    reading_free(&session->of_client);
+    reading_free(&session->of_server);
     names_free(&session->names);
     free(session);
 }
@@ -131,8 +133,11 @@ static void end_slowly(struct session *session)
     }
     if (session->state == SESSION_LINGERING && session->has_hung_up)
         session->state = SESSION_OVER;
-    if (session->ends_at > 0 && microseconds() >= session->ends_at)
+    if (session->ends_at > 0 && microseconds() >= session->ends_at) {
+        if (session->state == SESSION_OPENING)
+            complain(STATUS_OK, "a client took too long to open its session");
         session->state = SESSION_OVER;
+    }
     if (session->ends_at > 0 && (session->due == 0 || session->ends_at < session->due))
         session->due = session->ends_at;
 }

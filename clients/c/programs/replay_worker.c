@@ -69,7 +69,6 @@ static void leave_place(struct pool *pool)
 {
     if (pool_is_full(pool))
         worker_wake(pool->leader);
-    pool->is_short = false;
     pool->sessions--;
 }
 
@@ -79,13 +78,10 @@ void worker_end_session(struct worker *worker, size_t at)
     struct session *session = worker_take(worker, at);
     struct recorded *recorded = session->recorded;
     if (recorded != NULL) {
-        recorded->is_replayed = true;
-        recorded->holder = NULL;
         recorded->rounds++;
+        replay_index_give(&replay->index, recorded, NULL);
         replay->done++;
         replay->replayed += !session->has_failed;
-        if (replay->options.begins_again && replay->options.has_any_order)
-            replay_index_give(&replay->index, recorded, NULL);
     }
     session_free(session);
     leave_place(worker->pool);
@@ -93,7 +89,7 @@ void worker_end_session(struct worker *worker, size_t at)
 
 bool pool_is_full(const struct pool *pool)
 {
-    return pool->is_short || pool->sessions == SESSIONS_MOST;
+    return pool->sessions == SESSIONS_MOST;
 }
 
 /* Whether a session is to come to its end before all is over. */

@@ -29,7 +29,6 @@ struct pool {
     struct worker *workers[THREADS_MOST];
     size_t count; /* of workers */
     size_t sessions;
-    bool is_short; /* of what it takes to accept a client */
     bool is_over;
     enum status status; /* the first that isn't STATUS_OK */
 };
@@ -75,7 +74,7 @@ bool pool_is_over(struct pool *pool);
 /* Ends all threads with a status. */
 void pool_end(struct pool *pool, enum status status);
 
-/* Whether no client can be accepted now. */
+/* Whether there is no place for another client. */
 bool pool_is_full(const struct pool *pool);
 
 #endif

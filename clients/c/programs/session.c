@@ -39,6 +39,7 @@ struct session *session_begin(int client, const char *peer)
     session->client = client;
     session->is_due = session->is_served = session->is_encrypted = session->is_recorded_closed = false;
     session->first_end = 0;
+    session->asked = 0;
     session->begun = milliseconds();
     session->deadline = session->begun + OPENING_PATIENCE;
     session->upstream = (struct upstream){.socket = -1};

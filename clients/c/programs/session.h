@@ -34,6 +34,7 @@ struct session {
     bool is_encrypted; /* bytes pass unread */
     uint8_t first_end; /* the side that ended first, or 0 */
     bool is_recorded_closed;
+    unsigned asked;    /* a bit for each kind of request for encryption that was answered by a no */
     int64_t begun;     /* when it was accepted, in milliseconds */
     int64_t deadline;  /* when it is given up, or 0 */
     struct upstream upstream;

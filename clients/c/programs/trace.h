@@ -1,5 +1,6 @@
 /* Lines of libpq's trace, of messages of both sides: what PQtrace of PostgreSQL 15 writes with
- * PQTRACE_SUPPRESS_TIMESTAMPS. */
+ * PQTRACE_SUPPRESS_TIMESTAMPS, but for control characters of texts: libpq prints them as they are, and a terminal obeys
+ * them. Here they are escaped as in values. */
 #ifndef TRACE_H
 #define TRACE_H
 
@@ -23,8 +24,8 @@ enum trace_style {
 };
 
 /* Prints a message: its side, its length without its tag, its name and its parts. `tag` is 0 of a client's first
- * message, and of the one after an SSLRequest or a GSSENCRequest. A text is printed as it is, so it may end the
- * line. Where something follows the last part, the next line says how many bytes were printed, and how many there
+ * message, and of the one after an SSLRequest or a GSSENCRequest. Line feeds and tabs of a text are printed as they
+ * are, so it may end the line. Where something follows the last part, the next line says how many bytes were printed, and how many there
  * are. Passwords and what follows the method of an Authentication are never printed. `body` isn't NULL, also where
  * there is none of it.
  *

@@ -1,6 +1,7 @@
 #define _POSIX_C_SOURCE 200809L
 
 #include "trace_parts.h"
+#include "shown.h"
 
 #include <string.h>
 
@@ -16,15 +17,29 @@ static const uint8_t *next(struct trace_parts *parts, size_t len)
     return from;
 }
 
-static void put_byte(FILE *out, uint8_t byte)
+static void put_escaped(FILE *out, uint8_t byte)
 {
     static const char digits[] = "0123456789abcdef";
-    if (byte >= ' ' && byte <= '~') {
-        putc_unlocked(byte, out);
-        return;
-    }
     char escape[] = {'\\', 'x', digits[byte >> 4], digits[byte & 15]};
     fwrite(escape, 1, sizeof escape, out);
+}
+
+static void put_byte(FILE *out, uint8_t byte)
+{
+    if (byte >= ' ' && byte <= '~')
+        putc_unlocked(byte, out);
+    else
+        put_escaped(out, byte);
+}
+
+/* Writes a text as libpq does, but for what a terminal would obey. */
+static void put_text(FILE *out, const uint8_t *text, size_t len)
+{
+    for (size_t i = 0; i < len; i++)
+        if (is_control(text, len, i) && text[i] != '\n' && text[i] != '\t')
+            put_escaped(out, text[i]);
+        else
+            putc_unlocked(text[i], out);
 }
 
 uint8_t trace_byte(struct trace_parts *parts)
@@ -68,7 +83,9 @@ void trace_text(struct trace_parts *parts)
         return;
     parts->at = (size_t)(nul - parts->body) + 1;
     fputs(" \"", parts->out);
-    fwrite(parts->body + from, 1, parts->at - from - 1, parts->out);
+    flockfile(parts->out);
+    put_text(parts->out, parts->body + from, parts->at - from - 1);
+    funlockfile(parts->out);
     putc('"', parts->out);
 }
 

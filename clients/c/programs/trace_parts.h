@@ -47,7 +47,7 @@ uint16_t trace_int16(struct trace_parts *parts);
 /* A number of four bytes, with its sign. */
 int32_t trace_int32(struct trace_parts *parts);
 
-/* A text, which is printed as it is. */
+/* A text, each byte of a control character in it but line feeds and tabs by its digits. */
 void trace_text(struct trace_parts *parts);
 
 /* So many bytes, each that isn't printable ASCII by its digits. */

@@ -2,7 +2,7 @@
 #include "bytes_test_read.h"
 
 /* The greatest length of a first message that PostgreSQL's own servers take. */
-enum { LIMIT = 10000 };
+enum { LIMIT = PGMSG_MAX_FIRST_LENGTH };
 
 /* Each tag of a message from a client, and each other byte. */
 static void test_tags(struct tally *tally)
@@ -55,9 +55,9 @@ static void test_first_frames(struct tally *tally)
         CHECK(tally, pgmsg_next_first_frame((const uint8_t *)ssl, len, 8, &frame, &fault) == 1);
         CHECK(tally, frame.tag == 0 && frame.length == 8 && frame.body.at == 4 && frame.body.len == 4);
     }
-    CHECK(tally, pgmsg_next_first_frame(BYTES("\0\0\47\20"), LIMIT, &frame, &fault) == 0 && frame.length == LIMIT);
-    CHECK(tally, pgmsg_next_first_frame(BYTES("\0\0\47\21"), LIMIT, &frame, &fault) == PGMSG_FIRST_TOO_LONG);
-    CHECK(tally, pgmsg_next_first_frame(BYTES("\0\0\47\21"), SIZE_MAX, &frame, &fault) == 0 && frame.length == 10001);
+    CHECK(tally, pgmsg_next_first_frame(BYTES("\0\0\47\24"), LIMIT, &frame, &fault) == 0 && frame.length == LIMIT);
+    CHECK(tally, pgmsg_next_first_frame(BYTES("\0\0\47\25"), LIMIT, &frame, &fault) == PGMSG_FIRST_TOO_LONG);
+    CHECK(tally, pgmsg_next_first_frame(BYTES("\0\0\47\25"), SIZE_MAX, &frame, &fault) == 0 && frame.length == 10005);
     CHECK(tally, pgmsg_next_first_frame(BYTES(ssl), 7, &frame, &fault) == PGMSG_FIRST_TOO_LONG);
     CHECK(tally, pgmsg_next_first_frame(BYTES(ssl), 0, &frame, &fault) == PGMSG_FIRST_TOO_LONG);
     CHECK(tally, pgmsg_next_first_frame(BYTES("\0\0\0\7" "\4\322\26"), LIMIT, &frame, &fault) == PGMSG_BAD_LENGTH);

@@ -13,13 +13,13 @@ static void words_of_streams(struct tally *tally)
     REFUSES(tally, PGMSG_BAD_LENGTH, 0, "bad message length: -2147483648",
             pgmsg_next_frontend_frame(BYTES("S\200\0\0\0"), &frame, &fault));
     REFUSES(tally, PGMSG_BAD_LENGTH, 0, "bad message length: 7",
-            pgmsg_next_first_frame(BYTES("\0\0\0\7"), 10000, &frame, &fault));
+            pgmsg_next_first_frame(BYTES("\0\0\0\7"), PGMSG_MAX_FIRST_LENGTH, &frame, &fault));
     REFUSES(tally, PGMSG_BAD_LENGTH, 0, "bad message length: -1",
             pgmsg_next_first_frame(BYTES("\377\377\377\377"), 0, &frame, &fault));
     REFUSES(tally, PGMSG_FIRST_TOO_LONG, 0, "expected a first message of at most 9 bytes, got 10",
             pgmsg_next_first_frame(BYTES("\0\0\0\12"), 9, &frame, &fault));
-    REFUSES(tally, PGMSG_FIRST_TOO_LONG, 0, "expected a first message of at most 10000 bytes, got 10001",
-            pgmsg_next_first_frame(BYTES("\0\0\47\21"), 10000, &frame, &fault));
+    REFUSES(tally, PGMSG_FIRST_TOO_LONG, 0, "expected a first message of at most 10004 bytes, got 10005",
+            pgmsg_next_first_frame(BYTES("\0\0\47\25"), PGMSG_MAX_FIRST_LENGTH, &frame, &fault));
     REFUSES(tally, PGMSG_FIRST_TOO_LONG, 0, "expected a first message of at most 0 bytes, got 2147483647",
             pgmsg_next_first_frame(BYTES("\177\377\377\377"), 0, &frame, &fault));
 }

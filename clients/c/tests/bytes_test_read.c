@@ -44,7 +44,7 @@ static void test_rows(struct tally *tally)
     pgmsg_cell untouched = cells[3];
     CHECK(tally, pgmsg_read_row(BYTES(body), cells, 4, &fault) == 3);
     CHECK(tally, cells[0].len == 2 && memcmp(body + cells[0].at, "ab", 2) == 0);
-    CHECK(tally, cells[1].len == -1);
+    CHECK(tally, cells[1].len == -1 && cells[1].at == 12);
     CHECK(tally, cells[2].len == 0 && cells[2].at == sizeof body - 1);
     CHECK(tally, memcmp(&cells[3], &untouched, sizeof untouched) == 0);
     cells[2] = untouched;

@@ -45,7 +45,7 @@ MESSAGE(bare_continue, pgmsg_put_authentication_continue(BYTES(""), out, out_len
 MESSAGE(sasl_final, pgmsg_put_authentication_final(BYTES("v=YQ=="), out, out_len))
 MESSAGE(bare_final, pgmsg_put_authentication_final(BYTES(""), out, out_len))
 MESSAGE(negotiate_version, pgmsg_put_negotiate_version(2, options, 3, out, out_len))
-MESSAGE(bare_version, pgmsg_put_negotiate_version(UINT32_MAX, options, 0, out, out_len))
+MESSAGE(bare_version, pgmsg_put_negotiate_version(UINT16_MAX, options, 0, out, out_len))
 MESSAGE(key_data, pgmsg_put_backend_key_data(0x80000001, BYTES("\377\0\0\1"), out, out_len))
 MESSAGE(long_key_data, pgmsg_put_backend_key_data(7, BYTES("a key of 28 bytes, not of 4\0"), out, out_len))
 MESSAGE(parameter_status, pgmsg_put_parameter_status(BYTES("TimeZone"), BYTES("UTC"), out, out_len))
@@ -93,8 +93,8 @@ static const struct sample samples[] = {
     SAMPLE(bare_continue, "R\0\0\0\10" "\0\0\0\13"),
     SAMPLE(sasl_final, "R\0\0\0\16" "\0\0\0\14" "v=YQ=="),
     SAMPLE(bare_final, "R\0\0\0\10" "\0\0\0\14"),
-    SAMPLE(negotiate_version, "v\0\0\0\27" "\0\0\0\2" "\0\0\0\3" "_pq_.a\0" "\0" "\377b\0"),
-    SAMPLE(bare_version, "v\0\0\0\14" "\377\377\377\377" "\0\0\0\0"),
+    SAMPLE(negotiate_version, "v\0\0\0\27" "\0\3\0\2" "\0\0\0\3" "_pq_.a\0" "\0" "\377b\0"),
+    SAMPLE(bare_version, "v\0\0\0\14" "\0\3\377\377" "\0\0\0\0"),
     SAMPLE(key_data, "K\0\0\0\14" "\200\0\0\1" "\377\0\0\1"),
     SAMPLE(long_key_data, "K\0\0\0\44" "\0\0\0\7" "a key of 28 bytes, not of 4\0"),
     SAMPLE(parameter_status, "S\0\0\0\21" "TimeZone\0" "UTC\0"),

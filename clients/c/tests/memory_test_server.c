@@ -79,7 +79,7 @@ MESSAGE(last, pgmsg_put_authentication_final(letters, n, out, out_len), add_text
 MESSAGE(md5, pgmsg_put_authentication_md5(salt, out, out_len),
         add_list(to, 'R', "\0\0\0\5salt", 8, 0, item_name, false))
 MESSAGE(option, pgmsg_put_negotiate_version(2, TEXT, 1, out, out_len),
-        add_text(to, 'v', "\0\0\0\2\0\0\0\1", 8, n + 1, 1))
+        add_text(to, 'v', "\0\3\0\2\0\0\0\1", 8, n + 1, 1))
 MESSAGE(key, pgmsg_put_backend_key_data(1, letters, n + 4, out, out_len), add_text(to, 'K', "\0\0\0\1", 4, n + 4, 0))
 MESSAGE(setting, pgmsg_put_parameter_status(letters, n, letters, 0, out, out_len), add_text(to, 'S', "", 0, n, 2))
 MESSAGE(setting_value, pgmsg_put_parameter_status(letters, 0, letters, n, out, out_len), add_text(to, 'S', "", 1, n, 1))
@@ -116,7 +116,7 @@ static ptrdiff_t put_options(size_t n, uint8_t *out, size_t out_len)
 
 static uint8_t *spell_options(size_t n, uint8_t *to)
 {
-    uint8_t head[8] = {0, 0, 0, 2};
+    uint8_t head[8] = {0, 3, 0, 2};
     add_u32(head + 4, n);
     return add_list(to, 'v', head, sizeof head, n, item_name, false);
 }

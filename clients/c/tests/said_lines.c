@@ -14,7 +14,7 @@
 
 /* The greatest length of a first message that PostgreSQL's own servers take, and the most bytes that are read at a
  * time. */
-enum { LIMIT = 10000, PIECE = 65536 };
+enum { LIMIT = PGMSG_MAX_FIRST_LENGTH, PIECE = 65536 };
 
 /* Where it comes from, the bytes that came after the last message, and whether the next message has no tag. */
 struct stream {

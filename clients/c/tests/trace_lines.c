@@ -10,7 +10,7 @@
 #include <string.h>
 
 /* The greatest length of a first message that PostgreSQL's own servers take. */
-enum { LIMIT = 10000 };
+enum { LIMIT = PGMSG_MAX_FIRST_LENGTH };
 
 /* The bytes of a direction. */
 struct stream {

@@ -43,6 +43,8 @@ static const struct sample whole_messages[] = {
     F('H', "", "F\t4\tFlush"),
     F('P', "s\0" "SELECT $1\0" "\0\2" "\0\0\0\27" "\377\377\377\377", "F\t26\tParse\t \"s\" \"SELECT $1\" 2 23 -1"),
     F('Q', "SELECT '\n\351'\0", "F\t16\tQuery\t \"SELECT '\n\351'\""),
+    F('Q', "\t\1\r\33[2J\177\302\233\302\240\302\0",
+      "F\t18\tQuery\t \"\t\\x01\\x0d\\x1b[2J\\x7f\\xc2\\x9b\302\240\302\""),
     F('S', "", "F\t4\tSync"),
     F('X', "", "F\t4\tTerminate"),
     F('c', "", "F\t4\tCopyDone"),

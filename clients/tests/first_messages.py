@@ -1,0 +1,116 @@
+#!/usr/bin/env python3
+"""Compares what a PostgreSQL server takes as the first message of a connection with what pg_server_tool reads.
+
+    first_messages.py PORT    PG_SERVER_TOOL reads what is sent to the server at this port of 127.0.0.1, where postgres
+                              needs no password; prints what was compared
+
+A server that takes a Startup answers with an Authentication, after a NegotiateProtocolVersion where it was asked for more
+than it speaks. What it refuses gets an ErrorResponse or no answer. The greatest length is the one that the sources of all
+languages name.
+"""
+
+import contextlib
+import os
+import pathlib
+import re
+import socket
+import subprocess
+import sys
+
+TOP = pathlib.Path(__file__).resolve().parents[2]
+
+USER = b"user\0postgres\0"
+
+VERSION = b"\0\3\0\0"
+
+# Where each language says the greatest length of a first message; Rust takes that of the header.
+GREATEST = {
+    "crates/pg_frontend_frames/src/frame.rt": r"MAX_FIRST_LENGTH: usize = ([\d_]+)",
+    "clients/c/include/pg_message.h": r"PGMSG_MAX_FIRST_LENGTH = (\d+)",
+    "clients/python/pgmsg/client_frames.py": r"MAX_FIRST_LENGTH = ([\d_]+)",
+}
+
+
+def of_length(length):
+    """A Startup of so many bytes in all."""
+    front = VERSION + USER + b"application_name\0"
+    return front + b"a" * (length - 4 - len(front) - 2) + b"\0\0"
+
+
+def startups(greatest):
+    """The bodies of first messages by what is tried with them."""
+    return {
+        "a user": VERSION + USER + b"\0",
+        "the greatest length": of_length(greatest),
+        "a byte more": of_length(greatest + 1),
+        "a minor version": b"\0\3\0\1" + USER + b"\0",
+        "an option of the protocol": VERSION + USER + b"_pq_.a\0001\0\0",
+        "a version before 3": b"\0\2\0\0" + USER + b"\0",
+        "a version after 3": b"\0\4\0\0" + USER + b"\0",
+        "bytes after the settings": VERSION + USER + b"\0a",
+        "settings after an empty name": VERSION + b"\0" + USER + b"\0",
+        "a name without a value": VERSION + USER + b"a\0",
+        "a name without its end": VERSION + USER + b"ab",
+        "settings without an end": VERSION + USER,
+        "a version alone": VERSION,
+        "another last byte": VERSION + USER + b"a",
+    }
+
+
+# What a server takes and the tool refuses: where the NUL after the settings is due, PostgreSQL 15 looks only whether the
+# message ends after one byte.
+LAXER = ["another last byte"]
+
+
+def message(body):
+    return (len(body) + 4).to_bytes(4, "big") + body
+
+
+def answered(port, body):
+    """The tags and bodies of a server's answers up to an Authentication, an ErrorResponse or the end."""
+    with socket.create_connection(("127.0.0.1", port), timeout=10) as connection, connection.makefile("rb") as stream:
+        connection.sendall(message(body))
+        # A server that refuses a length closes the connection over bytes that it hasn't read.
+        with contextlib.suppress(ConnectionResetError):
+            while head := stream.read(5):
+                tag, content = head[:1], stream.read(int.from_bytes(head[1:], "big") - 4)
+                yield tag, content
+                if tag in (b"R", b"E"):
+                    return
+
+
+def tool(mode, text):
+    return subprocess.run([os.environ["PG_SERVER_TOOL"], mode], input=text, stdout=subprocess.PIPE).stdout
+
+
+def is_read(body):
+    return tool("stream", message(body)).startswith(b"startup 3.")
+
+
+def compare(port, greatest):
+    """Says what differs."""
+    for name, body in startups(greatest).items():
+        answers = dict(answered(port, body))
+        taken = b"R" in answers
+        if taken != (is_read(body) or name in LAXER):
+            yield f"{name}: the server {'takes' if taken else 'refuses'} it, and the tool doesn't"
+        print(f"{name}: {'taken' if taken else 'refused'}")
+        if version := answers.get(b"v"):
+            options = "5f70715f2e61" if b"_pq_" in body else "-"
+            written = tool("encode", f"negotiate 0 {options}\n".encode()).splitlines()[-1].split()
+            if written != [b"v", str(len(version) + 4).encode(), version.hex().encode()]:
+                yield f"{name}: the server negotiates by {version!r}, and the tool writes {written}"
+            print(f"{name}: negotiated")
+
+
+def main():
+    lengths = {file: int(re.search(form, (TOP / file).read_text())[1]) for file, form in GREATEST.items()}
+    wrong = [*compare(int(sys.argv[1]), next(iter(lengths.values())))]
+    if len(set(lengths.values())) != 1:
+        wrong.append(f"the greatest lengths differ: {lengths}")
+    print(*wrong, sep="\n", file=sys.stderr)
+    sys.exit(bool(wrong))
+
+
+if __name__ == "__main__":
+    main()

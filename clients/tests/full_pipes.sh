@@ -1,0 +1,69 @@
+# Programs whose lines nobody reads: a signal ends them. Sourced by `test`.
+
+# Opens a pipe that nobody reads. Leaves its descriptor in $unread.
+open_unread() {
+    rm -f "$work/unread"
+    mkfifo "$work/unread"
+    exec {unread}<> "$work/unread"
+}
+
+# Fills what is left of it.
+fill_unread() {
+    timeout 1 cat /dev/zero >&"$unread"
+}
+
+# Tests that a signal ends a process at once with a status.
+ends_by() {
+    local begun=$SECONDS
+    kill "-$2" "$3"
+    reap "$3"
+    same "$1" "$? $((SECONDS - begun <= 5))" "$4 1"
+}
+
+# Sends rows through a recorder whose lines are not read, so that it holds the session, and ends it.
+test_unread_lines() {
+    local number waiting
+    for number in 1 4; do
+        open_unread
+        start_recording "$work/unread" --stream -h 127.0.0.1 --threads "$number"
+        rows_through 1000 > /dev/null 2>&1 &
+        waiting=$!
+        sleep 1
+        same "lines that nobody reads hold their session, threads: $number" "$(kill -0 "$waiting" && echo held)" held
+        ends_by "Ctrl-C ends a recorder whose lines nobody reads, threads: $number" INT "$recording" 130
+        same 'it says what is lost' "$(grep -c 'its last lines are lost' "$work/errors.record")" 1
+        wait "$waiting"
+        exec {unread}>&-
+    done
+}
+
+test_unread_notifications() {
+    open_unread
+    start_listening "$work/unread" plain
+    fill_unread
+    sql 'NOTIFY plain'
+    sleep 0.2
+    ends_by 'Ctrl-C ends a listener whose lines nobody reads' INT "$listening" 130
+    same 'it says what is lost too' "$(grep -c 'its last lines are lost' "$work/errors")" 1
+    exec {unread}>&-
+}
+
+# A replay that can't say a difference.
+test_unread_differences() {
+    local port number waiting
+    record_words "$as_postgres" read 'query:SELECT 1' read terminate end
+    for number in 1 4; do
+        open_unread
+        port=$(free_port)
+        "$programs/pg_replay" --threads "$number" "$work/words.tape" "$port" 2> "$work/unread" &
+        replaying=$!
+        await at_port "$port" "${client[@]}" cancel end
+        fill_unread
+        at_port "$port" "${client[@]}" "$as_postgres" read 'query:SELECT 2' end > "$work/waiting" &
+        waiting=$!
+        sleep 1
+        ends_by "SIGTERM ends a replay whose differences nobody reads, threads: $number" TERM "$replaying" 143
+        wait "$waiting"
+        exec {unread}>&-
+    done
+}

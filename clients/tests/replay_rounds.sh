@@ -1,0 +1,41 @@
+# Recordings that are served again and again: each round goes as the first. Sourced by `test`.
+
+# Tests that some words get the same answers each time, after the first of which some other words may come.
+same_rounds() {
+    local number first
+    for number in 1 2 3 4; do
+        replayed=$(at_port "$replay_port" "${client[@]}" "${@:2}" 2>&1)
+        first=${first:-$replayed}
+        same "replay: $1, round $number" "$replayed" "$first"
+    done
+}
+
+test_replay_rounds() {
+    local file=$work/rounds.tape opening=("$as_postgres" read) ending=(read terminate end) number
+    start_tape "$file"
+    for number in 1 2; do
+        at_port "$tape_port" "${client[@]}" "${opening[@]}" "query:SELECT $number" "${ending[@]}" > "$work/rounds.$number"
+    done
+    stop_tape
+    start_replay "$file" --any-order --again --go-on
+    same_rounds 'two clients and one too many' "${opening[@]}" at:2 "${opening[@]}" at:3 "$as_postgres" end \
+        at:1 'query:SELECT 2' "${ending[@]}" at:2 'query:SELECT 1' "${ending[@]}"
+    same 'replay: the one too many is refused in each round' \
+        "$(grep -c "no connection that isn't replayed" "$work/errors.replay")" 4
+    same_rounds 'one client after the other' "${opening[@]}" 'query:SELECT 1' "${ending[@]}" leave \
+        at:2 "${opening[@]}" 'query:SELECT 2' "${ending[@]}" leave
+    stop_replay
+    start_replay "$file" --again
+    replayed=$(at_port "$replay_port" "${client[@]}" "${opening[@]}" 'query:SELECT 1' "${ending[@]}" leave sleep:0.2 \
+        at:2 "${opening[@]}" 'query:SELECT 2' read at:3 "${opening[@]}" 'query:SELECT 1' "${ending[@]}" leave sleep:0.2 \
+        at:2 terminate end leave sleep:0.2 at:4 "${opening[@]}" 'query:SELECT 2' "${ending[@]}")
+    stop_replay
+    same 'replay: a client that stays for the next round' "$(grep -v '^end$' <<< "$replayed")" \
+        "$(cat "$work"/rounds.[12] "$work"/rounds.[12] | grep -v '^end$')"
+    head -c "$(read_recording "$file" | awk '$3 == 2 { print $1; exit }')" "$file" > "$work/rounds.one"
+    start_replay "$work/rounds.one" --any-order --again
+    replayed=$(for number in {1..20}; do printf '%s\n' at:$number "${opening[@]}" 'query:SELECT 1' read terminate send leave; done |
+        PGHOST=127.0.0.1 PGPORT=$replay_port timeout 60 xargs -d '\n' "${client[@]}" | grep -c "^D .*1'")
+    stop_replay
+    same 'replay: twenty clients of one connection, each as soon as the one before is gone' "$replayed" 20
+}
