@@ -23,31 +23,43 @@ def path() -> str:
 
 
 def load(name: str) -> ctypes.PyDLL:
-    """The library. Its calls keep the interpreter's lock, so that no thread changes the bytes that one reads."""
+    """The library, which is of the header's version. Its calls keep the interpreter's lock, so that no thread changes
+    the bytes that one reads."""
     try:
         loaded = ctypes.PyDLL(name)
     except OSError as error:
         raise ImportError(
             f"pgmsg finds no shared library ({error}): {VARIABLE} may name PREFIX/lib/libpg_message.so, which "
             "`clients/library --install PREFIX` makes") from None
-    for function, (result, arguments) in header.PROTOTYPES.items():
-        try:
-            call = getattr(loaded, function)
-        except AttributeError:
-            raise ImportError(f"{name} has no {function}: it isn't of this header, {header.VERSION}") from None
-        call.restype, call.argtypes = result, arguments
+    # Another version may have other calls.
+    declare(loaded, "pgmsg_version")
+    version = text_of(loaded.pgmsg_version())
+    if version != header.VERSION:
+        raise ImportError(f"{name} is of version {version}, and its header of {header.VERSION}")
+    for function in header.PROTOTYPES:
+        declare(loaded, function)
     return loaded
+
+
+def declare(loaded: ctypes.PyDLL, function: str) -> None:
+    """Gives a call of the library the prototype that its header has."""
+    try:
+        call = getattr(loaded, function)
+    except AttributeError:
+        raise ImportError(f"{loaded._name} has no {function}: it isn't of this header, {header.VERSION}") from None
+    call.restype, call.argtypes = header.PROTOTYPES[function]
+
+
+def text_of(found: header.Text) -> str:
+    """A text of the library."""
+    return bytes(found.text).partition(b"\0")[0].decode("ascii")
 
 
 def words_of(call: str, *numbers: int) -> str | None:
     """The text that a call of the library gives, where its header has that call."""
     if call not in header.PROTOTYPES:
         return None
-    found = getattr(library, call)(*numbers)
-    return bytes(found.text).partition(b"\0")[0].decode("ascii")
+    return text_of(getattr(library, call)(*numbers))
 
 
 library = load(path())
-
-if words_of("pgmsg_version") not in (None, header.VERSION):
-    raise ImportError(f"{path()} is of version {words_of('pgmsg_version')}, and its header of {header.VERSION}")

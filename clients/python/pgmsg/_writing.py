@@ -3,8 +3,9 @@
 from __future__ import annotations
 
 import ctypes
+import threading
 from collections.abc import Iterable
-from typing import TYPE_CHECKING, Any, Callable
+from typing import TYPE_CHECKING, Any, Callable, NoReturn
 
 from . import _header as header
 from ._memory import Pins
@@ -17,11 +18,32 @@ if TYPE_CHECKING:
 
 LEAST_ROOM = 1 << 10
 
+INNER_CALL = "these messages are being written by the call that this one came into"
+
+
+class Memory:
+    """So many bytes, which keep their address and their number as long as it is there."""
+
+    __slots__ = ("bytes", "address", "_export")
+
+    def __init__(self, size: int, front: memoryview = memoryview(b"")) -> None:
+        self.bytes = bytearray(size)
+        self.bytes[: len(front)] = front
+        # Of which there is an export, no bytearray changes its length.
+        self._export = ctypes.c_char.from_buffer(self.bytes)
+        self.address = ctypes.addressof(self._export)
+
 
 class Room:
-    """Messages, one after the other."""
+    """Messages, one after the other.
+
+    Threads may share them: a call waits for that of another thread. One that comes into a call of its own thread, as
+    from the handler of a signal, can't wait: where both change messages it is a RuntimeError.
+    """
 
     def __init__(self) -> None:
+        self._lock = threading.RLock()
+        self._is_writing = False
         self.clear()
 
     def __len__(self) -> int:
@@ -34,41 +56,50 @@ class Room:
         # Without the bytes, which may hold a password.
         return f"<{len(self)} bytes of messages>"
 
+    def __getstate__(self) -> NoReturn:
+        raise TypeError("messages can't be copied, but their bytes can, by bytes()")
+
     def view(self) -> memoryview:
         """The bytes to send, which aren't copied. They stay as they are, whatever is done with the messages."""
-        return memoryview(self._room)[: self._used].toreadonly()
+        with self._lock:
+            return memoryview(self._memory.bytes)[: self._used].toreadonly()
 
     def clear(self) -> None:
         """Removes all messages."""
-        self._used = 0
-        self._make_room(LEAST_ROOM)
+        memory = Memory(LEAST_ROOM)
+        with self._lock:
+            if self._is_writing:
+                raise RuntimeError(INNER_CALL)
+            self._used = 0
+            self._memory = memory
 
     def _put_bytes(self, call: Callable[..., int], data: str | Buffer, *more: Any) -> Self:
         with Pins() as pins:
             return self._put(call, *pinned(pins, data), *more)
 
     def _put(self, call: Callable[..., int], *parts: Any) -> Self:
-        """Appends what a call writes. It calls again with more room where the first is too small."""
-        length = self._length_of(call, parts)
-        if length > len(self._room) - self._used:
-            self._make_room(max(2 * len(self._room), self._used + length), self.view())
-            length = self._length_of(call, parts)
-        self._used += length
+        """Appends what a call writes."""
+        with self._lock:
+            if self._is_writing:
+                raise RuntimeError(INNER_CALL)
+            self._is_writing = True
+            try:
+                self._used += self._written(call, parts)
+            finally:
+                self._is_writing = False
         return self
 
-    def _length_of(self, call: Callable[..., int], parts: tuple[Any, ...]) -> int:
-        """The length of the message that a call writes into the spare room where it is long enough."""
-        length = call(*parts, self._address + self._used, len(self._room) - self._used)
-        if length < 0:
-            raise refusal(length)
-        return length
-
-    def _make_room(self, size: int, used: memoryview = memoryview(b"")) -> None:
-        """Takes new room, of which a view may show the old one."""
-        room = bytearray(size)
-        room[: len(used)] = used
-        self._room = room
-        self._address = ctypes.addressof(ctypes.c_char.from_buffer(room))
+    def _written(self, call: Callable[..., int], parts: tuple[Any, ...]) -> int:
+        """The length of what a call writes after the messages. It calls again with more room where there is too little."""
+        while True:
+            memory = self._memory
+            spare = len(memory.bytes) - self._used
+            length = call(*parts, memory.address + self._used, spare)
+            if length < 0:
+                raise refusal(length)
+            if length <= spare:
+                return length
+            self._memory = Memory(max(2 * len(memory.bytes), self._used + length), self.view())
 
 
 def pinned(pins: Pins, data: str | Buffer) -> tuple[int, int]:

@@ -74,9 +74,9 @@ class CopyResponse(NamedTuple):
 
 def read_fields(body: Buffer) -> list[Field]:
     """The fields of an error or a notice in order, of which `dict` makes one by letters. No body is refused."""
-    room, count = fill(header.Field, lambda room, size: ask(library.pgmsg_read_fields, body, room, size))
-    view = view_of(body)
-    return [Field(chr(field.letter), part(view, field.value)) for field in room[:count]]
+    with view_of(body) as view:
+        room, count = fill(header.Field, lambda room, size: ask(library.pgmsg_read_fields, view, room, size))
+        return [Field(chr(field.letter), part(view, field.value)) for field in room[:count]]
 
 
 def read_severity(body: Buffer) -> Severity:
@@ -87,17 +87,17 @@ def read_severity(body: Buffer) -> Severity:
 def read_notification(body: Buffer) -> Notification:
     """A notification, by the body of its NotificationResponse."""
     found = header.Notification()
-    read(library.pgmsg_read_notification, body, ctypes.byref(found))
-    view = view_of(body)
-    return Notification(found.process_id, part(view, found.channel), part(view, found.payload))
+    with view_of(body) as view:
+        read(library.pgmsg_read_notification, view, ctypes.byref(found))
+        return Notification(found.process_id, part(view, found.channel), part(view, found.payload))
 
 
 def read_parameter_status(body: Buffer) -> ParameterStatus:
     """A setting of the server, by the body of its ParameterStatus."""
     found = header.ParameterStatus()
-    read(library.pgmsg_read_parameter_status, body, ctypes.byref(found))
-    view = view_of(body)
-    return ParameterStatus(str(part(view, found.name), "utf-8"), str(part(view, found.value), "utf-8"))
+    with view_of(body) as view:
+        read(library.pgmsg_read_parameter_status, view, ctypes.byref(found))
+        return ParameterStatus(str(part(view, found.name), "utf-8"), str(part(view, found.value), "utf-8"))
 
 
 def read_key_data(body: Buffer) -> KeyData:

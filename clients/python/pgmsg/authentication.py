@@ -59,20 +59,21 @@ def read_authentication(body: Buffer) -> Authentication:
 
 def read_mechanisms(body: Buffer) -> list[str]:
     """The names of the mechanisms that the server offers, by the body of an Authentication of method SASL."""
-    room, count = fill(header.Span, lambda room, size: ask(library.pgmsg_read_mechanisms, body, room, size))
-    view = view_of(body)
-    return [str(part(view, span), "utf-8") for span in room[:count]]
+    with view_of(body) as view:
+        room, count = fill(header.Span, lambda room, size: ask(library.pgmsg_read_mechanisms, view, room, size))
+        return [str(part(view, span), "utf-8") for span in room[:count]]
 
 
 def read_challenge(body: Buffer) -> Challenge:
     """The challenge of a SASL exchange, by the body of an Authentication of method SASL_CONTINUE."""
     found = header.Challenge()
-    # No part of a body is longer than the body.
-    salt, nonce = ((ctypes.c_uint8 * memoryview(body).nbytes)() for _ in range(2))
-    read(library.pgmsg_read_challenge, body, ctypes.byref(found), salt, len(salt), nonce, len(nonce))
-    return Challenge(
-        found.iterations, bytes(salt[: found.salt_len]), str(bytes(nonce[: found.nonce_len]), "utf-8"),
-        view_of(body)[METHOD_LENGTH:])
+    with view_of(body) as view:
+        # No part of a body is longer than the body.
+        salt, nonce = ((ctypes.c_uint8 * len(view))() for _ in range(2))
+        read(library.pgmsg_read_challenge, view, ctypes.byref(found), salt, len(salt), nonce, len(nonce))
+        return Challenge(
+            found.iterations, bytes(salt[: found.salt_len]), str(bytes(nonce[: found.nonce_len]), "utf-8"),
+            view[METHOD_LENGTH:])
 
 
 def read_verifier(body: Buffer) -> bytes:

@@ -114,46 +114,49 @@ class FunctionCall(NamedTuple):
 def read_first(body: Buffer) -> First:
     """A message without a tag, by its body."""
     found = header.First()
-    read(library.pgmsg_read_first, body, ctypes.byref(found))
-    view = view_of(body)
-    return First(
-        FirstKind(found.kind), found.minor, found.process_id, part(view, found.settings), part(view, found.secret_key))
+    with view_of(body) as view:
+        read(library.pgmsg_read_first, view, ctypes.byref(found))
+        return First(
+            FirstKind(found.kind), found.minor, found.process_id, part(view, found.settings), part(view, found.secret_key))
 
 
 def read_settings(body: Buffer) -> list[Setting]:
     """The settings of a session in order, by the body of its Startup. Of a broken one the first are given."""
-    room, count = fill(header.ParameterStatus, lambda room, size: ask(library.pgmsg_read_settings, body, room, size))
-    view = view_of(body)
-    return [Setting(part(view, setting.name), part(view, setting.value)) for setting in room[:count]]
+    with view_of(body) as view:
+        room, count = fill(header.ParameterStatus, lambda room, size: ask(library.pgmsg_read_settings, view, room, size))
+        return [Setting(part(view, setting.name), part(view, setting.value)) for setting in room[:count]]
 
 
 def read_parse(body: Buffer) -> Parse:
     """A statement that is prepared, by the body of its Parse."""
     found = header.Parse()
-    read(library.pgmsg_read_parse, body, ctypes.byref(found))
-    view = view_of(body)
-    return Parse(part(view, found.statement), part(view, found.query), items_of(found.types))
+    with view_of(body) as view:
+        read(library.pgmsg_read_parse, view, ctypes.byref(found))
+        return Parse(part(view, found.statement), part(view, found.query), items_of(found.types))
 
 
 def read_target(body: Buffer) -> Target:
     """What is described or closed, by the body of a Describe or a Close."""
     found = header.Target()
-    read(library.pgmsg_read_target, body, ctypes.byref(found))
-    return Target(chr(found.letter), part(view_of(body), found.name))
+    with view_of(body) as view:
+        read(library.pgmsg_read_target, view, ctypes.byref(found))
+        return Target(chr(found.letter), part(view, found.name))
 
 
 def read_execute(body: Buffer) -> Execute:
     """A portal that is run, by the body of its Execute."""
     found = header.Execute()
-    read(library.pgmsg_read_execute, body, ctypes.byref(found))
-    return Execute(part(view_of(body), found.portal), found.max_rows)
+    with view_of(body) as view:
+        read(library.pgmsg_read_execute, view, ctypes.byref(found))
+        return Execute(part(view, found.portal), found.max_rows)
 
 
 def read_text(body: Buffer) -> memoryview:
     """The text, without its NUL, by the body of a Query, a CopyFail or a password."""
     found = header.Span()
-    read(library.pgmsg_read_text, body, ctypes.byref(found))
-    return part(view_of(body), found)
+    with view_of(body) as view:
+        read(library.pgmsg_read_text, view, ctypes.byref(found))
+        return part(view, found)
 
 
 def read_empty(body: Buffer) -> None:
@@ -164,26 +167,28 @@ def read_empty(body: Buffer) -> None:
 def read_sasl_initial(body: Buffer) -> SaslInitial:
     """The first answer to a request for SASL, by the body of its SASLInitialResponse."""
     found = header.SaslInitial()
-    read(library.pgmsg_read_sasl_initial, body, ctypes.byref(found))
-    view, response = view_of(body), found.response
-    given = view[response.at : response.at + response.len] if response.len >= 0 else None
-    return SaslInitial(part(view, found.mechanism), given)
+    with view_of(body) as view:
+        read(library.pgmsg_read_sasl_initial, view, ctypes.byref(found))
+        response = found.response
+        given = view[response.at : response.at + response.len] if response.len >= 0 else None
+        return SaslInitial(part(view, found.mechanism), given)
 
 
 def read_bind(body: Buffer) -> Bind:
     """A portal that is made of a prepared statement, by the body of its Bind."""
     found = header.Bind()
-    values = read_values(library.pgmsg_read_bind, body, found)
-    view = view_of(body)
-    return Bind(
-        part(view, found.portal), part(view, found.statement), items_of(found.formats), values,
-        items_of(found.result_formats))
+    with view_of(body) as view:
+        values = read_values(library.pgmsg_read_bind, view, found)
+        return Bind(
+            part(view, found.portal), part(view, found.statement), items_of(found.formats), values,
+            items_of(found.result_formats))
 
 
 def read_function_call(body: Buffer) -> FunctionCall:
     """A call of a function, by the body of its FunctionCall."""
     found = header.FunctionCall()
-    arguments = read_values(library.pgmsg_read_function_call, body, found)
+    with view_of(body) as view:
+        arguments = read_values(library.pgmsg_read_function_call, view, found)
     return FunctionCall(found.function, items_of(found.formats), arguments, found.result_format)
 
 
@@ -202,16 +207,17 @@ def items_of(found: header.List) -> Items:
     return Items(found.at, found.count)
 
 
-def read_values(call: Callable[..., int], body: Buffer, found: Any) -> Row:
+def read_values(call: Callable[..., int], body: memoryview, found: Any) -> Row:
     """The values that a call gives, beside what else it finds."""
     cells, count = fill(header.Cell, lambda room, size: read(call, body, room, size, ctypes.byref(found)))
-    return Row(view_of(body), cells, count)
+    return Row(body[:], cells, count)
 
 
 def read_numbers(call: Callable[..., int], kind: type[Any], body: Buffer, items: Items) -> list[int]:
     """The numbers of a list, which has to be in the body."""
     place = header.List(items.at, items.count)
     room, count = fill(kind, lambda room, size: ask(call, body, place, room, size))
-    if count != items.count:
+    # ctypes takes the last 64 bits of a number, whatever is before them.
+    if (items.at, items.count) != (place.at, count):
         raise ValueError(f"{items} is no list of a body of {view_of(body).nbytes} bytes")
     return list(room[:count])

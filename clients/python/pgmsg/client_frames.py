@@ -17,7 +17,7 @@ if TYPE_CHECKING:
     from _typeshed import ReadableBuffer as Buffer
 
 # The greatest length of a first message that PostgreSQL's own servers take.
-MAX_FIRST_LENGTH = 10_000
+MAX_FIRST_LENGTH = 10_004
 
 
 class FrontendKind(enum.IntEnum):
@@ -64,9 +64,10 @@ def next_frontend_frame(stream: Buffer) -> FrontendFrame | Incomplete:
     stream is lost then: close the connection.
     """
     frame = header.Frame()
-    if not read(library.pgmsg_next_frontend_frame, stream, ctypes.byref(frame)):
-        return Incomplete(frame.length)
-    return FrontendFrame(FrontendKind(frame.tag), part(view_of(stream), frame.body), frame.length)
+    with view_of(stream) as view:
+        if not read(library.pgmsg_next_frontend_frame, view, ctypes.byref(frame)):
+            return Incomplete(frame.length)
+        return FrontendFrame(FrontendKind(frame.tag), part(view, frame.body), frame.length)
 
 
 def next_first_frame(stream: Buffer, limit: int = MAX_FIRST_LENGTH) -> FirstFrame | Incomplete:
@@ -77,6 +78,7 @@ def next_first_frame(stream: Buffer, limit: int = MAX_FIRST_LENGTH) -> FirstFram
     there.
     """
     frame = header.Frame()
-    if not read(library.pgmsg_next_first_frame, stream, in_bits(64, limit), ctypes.byref(frame)):
-        return Incomplete(frame.length)
-    return FirstFrame(part(view_of(stream), frame.body), frame.length)
+    with view_of(stream) as view:
+        if not read(library.pgmsg_next_first_frame, view, in_bits(64, limit), ctypes.byref(frame)):
+            return Incomplete(frame.length)
+        return FirstFrame(part(view, frame.body), frame.length)

@@ -66,9 +66,10 @@ def next_frame(stream: Buffer) -> Frame | Incomplete:
     stream is lost then: close the connection.
     """
     frame = header.Frame()
-    if not read(library.pgmsg_next_frame, stream, ctypes.byref(frame)):
-        return Incomplete(frame.length)
-    return Frame(Kind(frame.tag), part(view_of(stream), frame.body), frame.length)
+    with view_of(stream) as view:
+        if not read(library.pgmsg_next_frame, view, ctypes.byref(frame)):
+            return Incomplete(frame.length)
+        return Frame(Kind(frame.tag), part(view, frame.body), frame.length)
 
 
 def frames(stream: Buffer) -> Iterator[Frame]:
@@ -83,7 +84,7 @@ class Stream:
     """Messages out of the pieces that a socket gives.
 
     Iterating gives each whole message once, and ends where more bytes are needed: `feed` it, and iterate again. Bodies
-    are views of memory that is never changed, so they can be kept.
+    are views of memory that is never changed, so they can be kept. It is for one thread at a time.
     """
 
     def __init__(self) -> None:

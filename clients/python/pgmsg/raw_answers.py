@@ -9,6 +9,7 @@ from . import _header as header
 from ._library import library
 from ._memory import Pins, view_of
 from ._reading import ask, fill, part, read
+from ._writing import in_bits
 from .fault import reported
 
 if TYPE_CHECKING:
@@ -66,57 +67,60 @@ class RawParameterStatus(NamedTuple):
 def next_raw_frame(stream: Buffer) -> RawFrame | RawIncomplete:
     """The message at the front of a stream, whatever its tag. A length below 4 is refused."""
     frame = header.Frame()
-    view = view_of(stream)
-    if not read(library.pgmsg_next_raw_frame, stream, ctypes.byref(frame)):
-        return RawIncomplete(frame.tag if len(view) else None, frame.length)
-    return RawFrame(frame.tag, part(view, frame.body), frame.length)
+    with view_of(stream) as view:
+        if not read(library.pgmsg_next_raw_frame, view, ctypes.byref(frame)):
+            return RawIncomplete(frame.tag if len(view) else None, frame.length)
+        return RawFrame(frame.tag, part(view, frame.body), frame.length)
 
 
 def read_command_tag(body: Buffer) -> memoryview:
     """The text of a command's tag, without its NUL, by the body of its CommandComplete."""
     found = header.Span()
-    read(library.pgmsg_read_command_tag, body, ctypes.byref(found))
-    return part(view_of(body), found)
+    with view_of(body) as view:
+        read(library.pgmsg_read_command_tag, view, ctypes.byref(found))
+        return part(view, found)
 
 
 def read_raw_authentication(body: Buffer) -> RawAuthentication:
     """A request for authentication by any method, by the body of its Authentication."""
     found = header.RawAuthentication()
-    read(library.pgmsg_read_raw_authentication, body, ctypes.byref(found))
-    return RawAuthentication(found.method, part(view_of(body), found.content))
+    with view_of(body) as view:
+        read(library.pgmsg_read_raw_authentication, view, ctypes.byref(found))
+        return RawAuthentication(found.method, part(view, found.content))
 
 
 def read_raw_mechanisms(body: Buffer) -> list[memoryview]:
     """The names of the mechanisms that the server offers, as `read_mechanisms`, where they need not be UTF-8."""
-    room, count = fill(header.Span, lambda room, size: ask(library.pgmsg_read_raw_mechanisms, body, room, size))
-    view = view_of(body)
-    return [part(view, span) for span in room[:count]]
+    with view_of(body) as view:
+        room, count = fill(header.Span, lambda room, size: ask(library.pgmsg_read_raw_mechanisms, view, room, size))
+        return [part(view, span) for span in room[:count]]
 
 
 def read_raw_key_data(body: Buffer) -> RawKeyData:
     """What a request to cancel has to name, by the body of a BackendKeyData of any version of the protocol."""
     found = header.RawKeyData()
-    read(library.pgmsg_read_raw_key_data, body, ctypes.byref(found))
-    return RawKeyData(found.process_id, part(view_of(body), found.secret_key))
+    with view_of(body) as view:
+        read(library.pgmsg_read_raw_key_data, view, ctypes.byref(found))
+        return RawKeyData(found.process_id, part(view, found.secret_key))
 
 
 def read_raw_columns(body: Buffer) -> list[RawColumn]:
     """The columns of a result, by the body of a RowDescription whose names need not be UTF-8."""
-    room, count = fill(header.Column, lambda room, size: read(library.pgmsg_read_raw_columns, body, room, size))
-    view = view_of(body)
-    return [
-        RawColumn(part(view, column.name), column.table or None, column.attribute or None,
-                  column.type_id, column.type_size, column.type_modifier, column.format)
-        for column in room[:count]
-    ]
+    with view_of(body) as view:
+        room, count = fill(header.Column, lambda room, size: read(library.pgmsg_read_raw_columns, view, room, size))
+        return [
+            RawColumn(part(view, column.name), column.table or None, column.attribute or None,
+                      column.type_id, column.type_size, column.type_modifier, column.format)
+            for column in room[:count]
+        ]
 
 
 def read_raw_parameter_status(body: Buffer) -> RawParameterStatus:
     """A setting of the server, by the body of a ParameterStatus whose texts need not be UTF-8."""
     found = header.ParameterStatus()
-    read(library.pgmsg_read_raw_parameter_status, body, ctypes.byref(found))
-    view = view_of(body)
-    return RawParameterStatus(part(view, found.name), part(view, found.value))
+    with view_of(body) as view:
+        read(library.pgmsg_read_raw_parameter_status, view, ctypes.byref(found))
+        return RawParameterStatus(part(view, found.name), part(view, found.value))
 
 
 def read_end(tag: int, body: Buffer) -> int:
@@ -126,7 +130,7 @@ def read_end(tag: int, body: Buffer) -> int:
     """
     fault = header.Fault()
     with Pins() as pins:
-        end: int = library.pgmsg_read_end(tag, *pins.pin(body), ctypes.byref(fault))
+        end: int = library.pgmsg_read_end(in_bits(8, tag), *pins.pin(body), ctypes.byref(fault))
     if end < 0:
         raise reported(end, fault)
     return end

@@ -80,11 +80,13 @@ class Answer(NamedTuple):
                 return frame.bytes, led(after, self.added, after)
 
 
-def led(before: bool, added: Buffer, after: bool) -> Buffer:
-    """The bytes, where they lead from what is expected before them to what is expected after them."""
-    if check_frames(added, before) is not after:
+def led(before: bool, added: Buffer, after: bool) -> bytes:
+    """A copy of the bytes, where they lead from what is expected before them to what is expected after them."""
+    # What is tested goes out, though another thread changes the bytes.
+    copy = bytes(view_of(added))
+    if check_frames(copy, before) is not after:
         raise refusal(header.Code.NOT_FRAMES)
-    return added
+    return copy
 
 
 def keep(_: WholeFrame) -> Answer:
@@ -99,7 +101,7 @@ class Relay:
     held, and only where it is wanted whole and has at most `limit` bytes. `wanted` are the tags of those that are wanted
     whole; the messages that have none, at the start of a client's stream, always are. `expects_first` says whether one of
     these comes next, or goes on; `held` is the front of a message that isn't whole yet; `left` is how many bytes are still
-    to come of one that goes out in parts.
+    to come of one that goes out in parts. A relay is for one thread at a time.
     """
 
     def __init__(self, limit: int, wanted: Iterable[int] = ALL_TAGS, expects_first: bool = False) -> None:

@@ -69,15 +69,16 @@ class Column(NamedTuple):
 
 def read_row(body: Buffer) -> Row:
     """The cells of a row, by the body of its DataRow."""
-    cells, count = fill(header.Cell, lambda room, size: read(library.pgmsg_read_row, body, room, size))
-    return Row(view_of(body), cells, count)
+    with view_of(body) as view:
+        cells, count = fill(header.Cell, lambda room, size: read(library.pgmsg_read_row, view, room, size))
+        return Row(view[:], cells, count)
 
 
 def read_columns(body: Buffer) -> list[Column]:
     """The columns of a result, by the body of its RowDescription."""
-    room, count = fill(header.Column, lambda room, size: read(library.pgmsg_read_columns, body, room, size))
-    view = view_of(body)
-    return [column_of(view, column) for column in room[:count]]
+    with view_of(body) as view:
+        room, count = fill(header.Column, lambda room, size: read(library.pgmsg_read_columns, view, room, size))
+        return [column_of(view, column) for column in room[:count]]
 
 
 def column_of(body: memoryview, column: header.Column) -> Column:

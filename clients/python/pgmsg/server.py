@@ -9,7 +9,7 @@ from typing import TYPE_CHECKING, Any, Callable
 from . import _header as header
 from ._library import library
 from ._memory import Pins
-from ._writing import Room, array_of, in_32_bits, in_bits, pinned, values_of
+from ._writing import Room, array_of, in_16_bits, in_32_bits, in_bits, pinned, values_of
 from .answers import TransactionStatus
 from .raw_answers import RawColumn
 from .rows import Column
@@ -64,10 +64,10 @@ class ServerMessages(Room):
             return self._put(library.pgmsg_put_backend_key_data, in_32_bits(process_id), *pins.pin(secret_key))
 
     def negotiate_version(self, minor: int, options: Iterable[str | Buffer] = ()) -> Self:
-        """Says which minor version of the protocol is the newest that the server speaks, and which options it doesn't
-        know."""
+        """Says which minor version of the protocol's version 3 is the newest that the server speaks, and which options
+        it doesn't know."""
         with Pins() as pins:
-            return self._put(library.pgmsg_put_negotiate_version, in_32_bits(minor), *texts_of(pins, options))
+            return self._put(library.pgmsg_put_negotiate_version, in_16_bits(minor), *texts_of(pins, options))
 
     def parameter_status(self, name: str | Buffer, value: str | Buffer) -> Self:
         """Reports a setting and its value, at the start of a session and when it changes."""

@@ -100,7 +100,8 @@ class TestValues(unittest.TestCase):
     def test_lists_that_are_not_in_the_body(self):
         self.assertEqual(pgmsg.read_codes(bytes(4), Items(0, 2)), [0, 0])
         self.assertEqual(pgmsg.read_types(bytes(4), Items(4, 0)), [])
-        for items in (Items(1, 2), Items(5, 1), Items(-2, 1), Items(0, 1 << 40), Items(1 << 63, 1 << 63)):
+        for items in (Items(1, 2), Items(5, 1), Items(-2, 1), Items(0, 1 << 40), Items(1 << 63, 1 << 63),
+                      Items(1 << 64, 1), Items(0, 1 << 64 | 1)):
             for call in (pgmsg.read_codes, pgmsg.read_types):
                 with self.assertRaisesRegex(ValueError, "is no list of a body of 4 bytes"):
                     call(bytes(4), items)

@@ -82,13 +82,13 @@ class TestFrames(unittest.TestCase):
         for stream, needed in [(b"", 5), (b"Q\0\0", 5), (b"!\0\0", 5), (b"Q\0\0\1\0", 257),
                                (b"d\x7f\xff\xff\xff", 1 << 31)]:
             self.assertEqual(next_frontend_frame(stream), Incomplete(needed))
-        for stream, needed in [(b"", 4), (b"\0\0\0", 4), (b"\0\0\0\x08", 8), (b"\0\0\x27\x10\0", 10000)]:
+        for stream, needed in [(b"", 4), (b"\0\0\0", 4), (b"\0\0\0\x08", 8), (b"\0\0\x27\x14\0", 10004)]:
             self.assertEqual(next_first_frame(stream), Incomplete(needed))
 
     def test_limits(self):
         self.assertEqual(next_first_frame(FIRSTS[1], 18).length, 18)
         self.assertEqual(next_first_frame(b"\x7f\xff\xff\xff", (1 << 64) - 1), Incomplete((1 << 31) - 1))
-        for stream, limit in [(FIRSTS[1], 17), (FIRSTS[1][:4], 0), (b"\0\0\x27\x11", pgmsg.MAX_FIRST_LENGTH)]:
+        for stream, limit in [(FIRSTS[1], 17), (FIRSTS[1][:4], 0), (b"\0\0\x27\x15", pgmsg.MAX_FIRST_LENGTH)]:
             with self.assertRaises(Fault) as refused:
                 next_first_frame(stream, limit)
             self.assertIs(refused.exception.code, Code.FIRST_TOO_LONG)

@@ -1,13 +1,16 @@
 """Views: that they are of the caller's bytes, and that they keep these; and that nothing else does."""
 
+import contextlib
 import ctypes
 import gc
 import unittest
 import weakref
+from unittest import mock
 
 import support  # noqa: F401
 import pgmsg
-from pgmsg import Fault, Messages, ServerMessages, _memory
+from pgmsg import Fault, Messages, ServerMessages, _memory, _reading
+from pgmsg._reading import ask
 
 ROW = b"\0\2\0\0\0\2ab\xff\xff\xff\xff"
 
@@ -137,6 +140,21 @@ class TestViews(unittest.TestCase):
             self.assertRaises(BufferError, held.clear)
             del view
             held.clear()
+
+    def test_no_other_thread_takes_the_bytes_away(self):
+        for call, body, at, length in VIEWS:
+            held = bytearray(body)
+
+            def asked(*args):
+                found = ask(*args)
+                with contextlib.suppress(BufferError):
+                    held.clear()
+                return found
+
+            # Right after the call of the library, before a view is made of what it found.
+            with mock.patch.object(_reading, "ask", asked):
+                view = call(held)
+            self.assertEqual(view, body[at : at + length])
 
     def test_a_row_keeps_its_body(self):
         held = Bytes(ROW)

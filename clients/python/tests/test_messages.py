@@ -92,7 +92,7 @@ class TestMessages(WritesMessages, unittest.TestCase):
         for call, due in SAMPLES:
             for spare in range(len(due) + 2):
                 messages = Messages()
-                fill = len(messages._room) - 5 - spare
+                fill = len(messages._memory.bytes) - 5 - spare
                 call(messages.copy_data(bytes(fill)))
                 self.assertEqual(messages.view()[fill + 5 :], due)
 

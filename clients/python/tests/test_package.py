@@ -18,7 +18,7 @@ from unittest import mock
 
 import support
 import pgmsg
-from pgmsg import _header, _library
+from pgmsg import _library
 
 BUILD = support.TOP / "build"
 
@@ -108,18 +108,22 @@ class TestMissing(unittest.TestCase):
         self.assertIn("pgmsg finds no shared library (/nowhere/libpg_message.so", error)
         self.assertIn("PGMSG_LIBRARY may name PREFIX/lib/libpg_message.so", error)
 
-    def test_library_without_a_call(self):
+    def declare(self, old, new):
+        """Changes the declarations."""
         declarations = self.folder / "pgmsg" / "_header.py"
-        declarations.write_text(declarations.read_text().replace("'pgmsg_put_sync'", "'pgmsg_put_other'"))
+        declarations.write_text(declarations.read_text().replace(old, new))
+
+    def test_library_without_a_call(self):
+        self.declare("'pgmsg_put_sync'", "'pgmsg_put_other'")
         self.assertIn("has no pgmsg_put_other", self.error(PGMSG_LIBRARY=str(LIBRARY)))
 
-
-    @unittest.skipUnless("pgmsg_version" in _header.PROTOTYPES, "the library doesn't say its version")
     def test_library_of_another_version(self):
-        declarations = self.folder / "pgmsg" / "_header.py"
-        declarations.write_text(declarations.read_text().replace(f"VERSION = '{pgmsg.VERSION}'", "VERSION = '99.0'"))
-        error = self.error(PGMSG_LIBRARY=str(LIBRARY))
-        self.assertIn(f"is of version {pgmsg.VERSION}, and its header of 99.0", error)
+        self.declare(f"VERSION = '{pgmsg.VERSION}'", "VERSION = '99.0'")
+        due = f"is of version {pgmsg.VERSION}, and its header of 99.0"
+        self.assertIn(due, self.error(PGMSG_LIBRARY=str(LIBRARY)))
+        # Nor is another of its calls looked for.
+        self.declare("'pgmsg_put_sync'", "'pgmsg_put_other'")
+        self.assertIn(due, self.error(PGMSG_LIBRARY=str(LIBRARY)))
 
 
 class TestReadme(unittest.TestCase):

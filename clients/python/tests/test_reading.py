@@ -122,6 +122,8 @@ class TestRaw(unittest.TestCase):
             self.assertEqual(pgmsg.read_end(tag[0], body[:end]), end)
         self.assertRaises(pgmsg.Fault, pgmsg.read_end, ord("E"), b"VERROR\0")
         self.assertRaises(pgmsg.Fault, pgmsg.read_end, ord("v"), b"")
+        for tag in (-1, 256 + ord("Z")):
+            self.assertRaises(OverflowError, pgmsg.read_end, tag, b"I")
 
 
 class TestAuthentication(unittest.TestCase):

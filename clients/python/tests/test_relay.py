@@ -2,6 +2,7 @@
 
 import random
 import unittest
+from unittest import mock
 
 import support  # noqa: F401
 import pgmsg
@@ -183,6 +184,19 @@ class TestAnswers(unittest.TestCase):
                 with self.assertRaises(Fault) as refused:
                     self.answered(4, Answer(place, broken))
                 self.assertIs(refused.exception.code, Code.NOT_FRAMES)
+
+    def test_what_is_tested_goes_out(self):
+        for change in (bytearray.clear, bytearray.reverse):
+            added = bytearray(ADDED)
+
+            def tested(*args):
+                found = check_frames(*args)
+                change(added)
+                return found
+
+            # As another thread comes in right after the test.
+            with mock.patch.object(pgmsg.relay, "check_frames", tested):
+                self.assertEqual(self.answered(len(STREAM), Answer(Place.REPLACE, added)), STREAM[:5] + ADDED + STREAM[12:])
 
     def test_messages_without_a_tag(self):
         other, sync = STARTUP.replace(b"ann", b"bob"), b"S\0\0\0\x04"

@@ -32,13 +32,13 @@ class WritesMessages:
         for call, code in self.REFUSALS:
             with self.subTest(code=code):
                 messages = self.MESSAGES().copy_done()
-                room = bytes(messages._room)
+                room = bytes(messages._memory.bytes)
                 with self.assertRaises(Fault) as refused:
                     call(messages)
                 self.assertIs(refused.exception.code, code)
                 self.assertEqual(refused.exception.at, 0)
                 self.assertEqual(bytes(messages), BEFORE)
-                self.assertEqual(bytes(messages._room), room)
+                self.assertEqual(bytes(messages._memory.bytes), room)
                 self.assertEqual(bytes(messages.copy_done()), BEFORE * 2)
 
     def test_a_mistake_changes_nothing(self):

@@ -2,6 +2,7 @@
 
 use crate::error::{Fault, Refusal};
 use crate::sys;
+use crate::version;
 use std::mem::MaybeUninit;
 use std::{slice, str};
 
@@ -43,6 +44,7 @@ impl Report {
 /// that it is passed but a fault, as the calls of the library do.
 #[inline]
 pub(crate) fn answer(call: impl FnOnce(*mut sys::pgmsg_fault) -> isize) -> Result<usize, Fault> {
+    version::check();
     let mut report = Report::new();
     let number = call(&mut report.0);
     usize::try_from(number).map_err(|_| report.fault(number))

@@ -67,8 +67,7 @@ pub enum Refusal {
     NotFrames,
     /// A message that is wanted whole is longer than the caller takes.
     FrameTooLong,
-    /// The library gave this number, which its header excludes. Library and crate are of
-    /// different versions, or the library is defective.
+    /// The library gave this number, which its header excludes: it is defective.
     Unexpected(i64),
 }
 

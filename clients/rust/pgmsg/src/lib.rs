@@ -26,7 +26,8 @@
 //!
 //! A call that writes fails with a [`Refusal`] and leaves the messages that were written before.
 //! A call that reads fails with a [`Fault`]: a [`Refusal`], the offset of the fault, and words.
-//! No input makes a call panic. Both can be made an [`io::Error`](std::io::Error).
+//! Both can be made an [`io::Error`](std::io::Error). No input makes a call panic; a library of another
+//! version than the crate's declarations does, whichever call is the first one.
 //!
 //! # Features
 //!
@@ -54,6 +55,7 @@ pub mod read;
 mod reading;
 pub mod relay;
 pub mod server;
+mod version;
 pub mod write;
 
 pub use error::{Fault, Refusal};

@@ -7,6 +7,7 @@
 use crate::answer::{answer, fill};
 use crate::error::Fault;
 use crate::sys;
+use crate::version;
 
 /// A call that gives a number.
 type ReadNumber = unsafe extern "C" fn(*const u8, usize, *mut sys::pgmsg_fault) -> i32;
@@ -70,6 +71,7 @@ pub(crate) unsafe fn list_items<T: Clone + Default>(
     body: &[u8],
     call: ListItems<T>,
 ) -> Result<Vec<T>, Fault> {
+    version::check();
     collect(|room| {
         // SAFETY: both are slices, valid for their lengths, and `&mut` keeps `room` apart.
         let count = unsafe { call(body.as_ptr(), body.len(), room.as_mut_ptr(), room.len()) };

@@ -76,7 +76,7 @@ mod session;
 
 use crate::error::Refusal;
 use crate::sys;
-use crate::write::{Buffer, Put};
+use crate::write::{Buffer, Put, Spare};
 use std::fmt;
 
 /// Messages to a client, one after the other, as bytes.
@@ -145,10 +145,12 @@ impl<B: Buffer> Messages<B> {
     /// Appends a message without a body.
     #[inline]
     fn put_no_body(&mut self, tag: u8) -> Result<&mut Self, Refusal> {
-        self.put(|mut out| {
+        let call = |mut out: Spare<'_>| {
             // SAFETY: `out` is room, valid for its length.
             unsafe { sys::pgmsg_put_no_body(tag, out.as_mut_ptr(), out.len()) }
-        })
+        };
+        // SAFETY: the call is one of the library, which writes a message so.
+        unsafe { self.put(call) }
     }
 }
 

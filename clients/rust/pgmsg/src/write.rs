@@ -19,6 +19,7 @@ pub use raw::RawParameters;
 pub use session::Mechanism;
 pub use values::Values;
 
+pub(crate) use buffer::Spare;
 pub(crate) use put::Put;
 
 use std::fmt;

@@ -51,11 +51,11 @@ fn settings_and_versions() {
     assert_refused!(TextHoldsNul, parameter_status("a\0", "b"));
     assert_refused!(TextHoldsNul, parameter_status("a", "b\0"));
     assert_writes!(
-        b"v\0\0\0\x12\0\0\0\x02\0\0\0\x02_p.a\0\0",
+        b"v\0\0\0\x12\0\x03\0\x02\0\0\0\x02_p.a\0\0",
         negotiate_version(2, &["_p.a", ""])
     );
     assert_writes!(
-        b"v\0\0\0\x0c\0\0\0\0\0\0\0\0",
+        b"v\0\0\0\x0c\0\x03\0\0\0\0\0\0",
         negotiate_version(0, &[""; 0])
     );
     assert_refused!(TextHoldsNul, negotiate_version(0, &["a", "b\0"]));

@@ -133,6 +133,6 @@ unsafe fn read_values<'b, 'r, M: Default>(
             }
         })
     })?;
-    // SAFETY: no place is outside the body.
+    // SAFETY: they are the places that the call gave of this body.
     Ok((read, unsafe { Row::new(body, cells) }))
 }

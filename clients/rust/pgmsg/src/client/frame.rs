@@ -6,7 +6,7 @@ use crate::error::Fault;
 use crate::sys;
 
 /// The greatest length of a first message that PostgreSQL's own servers take.
-pub const MAX_FIRST_LENGTH: usize = 10_000;
+pub const MAX_FIRST_LENGTH: usize = sys::PGMSG_MAX_FIRST_LENGTH as usize;
 
 /// A message with a tag, cut off the front of a stream.
 #[derive(Clone, Copy, Debug, PartialEq, Eq)]

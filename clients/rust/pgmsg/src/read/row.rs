@@ -43,7 +43,8 @@ impl RowIndex {
     #[inline]
     pub fn read<'b>(&mut self, body: &'b [u8]) -> Result<Row<'b, '_>, Fault> {
         let cells = places(body, &mut self.cells)?;
-        Ok(Row { body, cells })
+        // SAFETY: they are the places that the library gave of this body.
+        Ok(unsafe { Row::new(body, cells) })
     }
 }
 
@@ -98,14 +99,15 @@ pub fn places_in(body: &[u8], room: &mut [Cell]) -> Result<usize, Fault> {
 #[derive(Clone, Copy)]
 pub struct Row<'b, 'r> {
     body: &'b [u8],
-    /// Each is NULL or lies in the body, as the library is proved to give them.
+    /// Each is NULL or lies in the body.
     cells: &'r [Cell],
 }
 
 impl<'b, 'r> Row<'b, 'r> {
     /// # Safety
     ///
-    /// Each cell is NULL or lies in the body.
+    /// Each cell is NULL or lies in the body, as of those that the library gave of it: `version::check`
+    /// has found that it is the one which is declared.
     #[inline]
     pub(crate) unsafe fn new(body: &'b [u8], cells: &'r [Cell]) -> Row<'b, 'r> {
         // The library is proved to give no other place.
@@ -128,9 +130,7 @@ impl<'b, 'r> Row<'b, 'r> {
     /// The cell of a column, counted from 0, or `None` where the row has no such column.
     #[inline]
     pub fn get(&self, index: usize) -> Option<Option<&'b [u8]>> {
-        let cell = self.cells.get(index)?;
-        // SAFETY: each cell is NULL or lies in the body.
-        Some(unsafe { cell.value_in(self.body) })
+        self.cells.get(index).map(|cell| cell.value(self.body))
     }
 
     /// The cells in order.

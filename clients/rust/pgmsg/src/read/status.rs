@@ -4,6 +4,7 @@ use crate::answer::{part, text};
 use crate::error::Fault;
 use crate::reading::{read_number, read_parts};
 use crate::sys;
+use crate::version;
 
 /// A notification from another session.
 #[derive(Clone, Copy, Debug, PartialEq, Eq)]
@@ -98,6 +99,7 @@ pub fn key_data(body: &[u8]) -> Result<KeyData, Fault> {
 /// ```
 #[inline]
 pub fn rows_affected(body: &[u8]) -> u64 {
+    version::check();
     // SAFETY: `body` is a slice, valid for its length.
     unsafe { sys::pgmsg_read_rows_affected(body.as_ptr(), body.len()) }
 }

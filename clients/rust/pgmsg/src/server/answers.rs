@@ -11,7 +11,8 @@ impl<B: Buffer> Messages<B> {
     /// Refused with [`TextHoldsNul`](Refusal::TextHoldsNul) where it holds a NUL.
     #[inline]
     pub fn command_complete(&mut self, command: impl AsRef<[u8]>) -> Result<&mut Self, Refusal> {
-        self.put_bytes(sys::pgmsg_put_command_complete, command.as_ref())
+        // SAFETY: the call is one of the library, which writes a message so.
+        unsafe { self.put_bytes(sys::pgmsg_put_command_complete, command.as_ref()) }
     }
 
     /// Answers a query without a statement: EmptyQueryResponse.

@@ -4,7 +4,7 @@ use super::Messages;
 use crate::error::Refusal;
 use crate::format::{Format, FormatCode};
 use crate::sys;
-use crate::write::{Buffer, Put};
+use crate::write::{Buffer, Put, Spare};
 
 impl<B: Buffer> Messages<B> {
     /// Waits for the data of a COPY, which is spelled so as a whole and in each of its columns:
@@ -58,7 +58,7 @@ impl<B: Buffer> Messages<B> {
         format: Format,
         columns: &[FormatCode],
     ) -> Result<&mut Self, Refusal> {
-        self.put(|mut out| {
+        let call = |mut out: Spare<'_>| {
             // SAFETY: both are slices, valid for their lengths, and `&mut` keeps `out` apart. A
             // `FormatCode` is the number of the library.
             unsafe {
@@ -71,7 +71,9 @@ impl<B: Buffer> Messages<B> {
                     out.len(),
                 )
             }
-        })
+        };
+        // SAFETY: the call is one of the library, which writes a message so.
+        unsafe { self.put(call) }
     }
 
     /// Sends data of a COPY: CopyData. [`copy_head`](crate::write::copy_head) serves data that is not
@@ -80,7 +82,8 @@ impl<B: Buffer> Messages<B> {
     /// Refused with [`MessageTooLong`](Refusal::MessageTooLong) above 2147483643 bytes.
     #[inline]
     pub fn copy_data(&mut self, data: impl AsRef<[u8]>) -> Result<&mut Self, Refusal> {
-        self.put_bytes(sys::pgmsg_put_copy_data, data.as_ref())
+        // SAFETY: the call is one of the library, which writes a message so.
+        unsafe { self.put_bytes(sys::pgmsg_put_copy_data, data.as_ref()) }
     }
 
     /// Ends the data of a COPY: CopyDone.

@@ -4,7 +4,7 @@ use super::Messages;
 use crate::error::Refusal;
 use crate::read::Field;
 use crate::sys;
-use crate::write::{Buffer, Put};
+use crate::write::{Buffer, Put, Spare};
 
 impl<B: Buffer> Messages<B> {
     /// Ends a command by an error, with these fields: ErrorResponse. A client asks for a severity, a
@@ -27,21 +27,34 @@ impl<B: Buffer> Messages<B> {
     /// # Ok::<(), pgmsg::Refusal>(())
     /// ```
     pub fn error(&mut self, fields: &[Field<'_>]) -> Result<&mut Self, Refusal> {
-        self.put_fields(sys::pgmsg_put_error, fields)
+        // SAFETY: the call is one of the library, which writes a message so.
+        unsafe { self.put_fields(sys::pgmsg_put_error, fields) }
     }
 
     /// Sends a notice, with fields as those of an [`error`](Messages::error): NoticeResponse.
     pub fn notice(&mut self, fields: &[Field<'_>]) -> Result<&mut Self, Refusal> {
-        self.put_fields(sys::pgmsg_put_notice, fields)
+        // SAFETY: the call is one of the library, which writes a message so.
+        unsafe { self.put_fields(sys::pgmsg_put_notice, fields) }
     }
 
-    fn put_fields(&mut self, call: PutFields, fields: &[Field<'_>]) -> Result<&mut Self, Refusal> {
+    /// Appends what a call writes of fields.
+    ///
+    /// # Safety
+    ///
+    /// As of the methods of [`Put`].
+    unsafe fn put_fields(
+        &mut self,
+        call: PutFields,
+        fields: &[Field<'_>],
+    ) -> Result<&mut Self, Refusal> {
         let fields: Vec<_> = fields.iter().map(field_of).collect();
-        self.put(|mut out| {
+        let put = |mut out: Spare<'_>| {
             // SAFETY: both are slices, valid for their lengths, as are those that `fields` points to;
             // `&mut` keeps `out` apart.
             unsafe { call(fields.as_ptr(), fields.len(), out.as_mut_ptr(), out.len()) }
-        })
+        };
+        // SAFETY: what is asked of the call is the same.
+        unsafe { self.put(put) }
     }
 }
 

@@ -5,7 +5,7 @@ use crate::error::Refusal;
 use crate::read::RawColumn;
 use crate::sys;
 use crate::write::parameters::values as values_of;
-use crate::write::{Buffer, Put, Value};
+use crate::write::{Buffer, Put, Spare, Value};
 
 /// The most values of a row that are collected without an allocation.
 const FEW: usize = 16;
@@ -17,13 +17,15 @@ impl<B: Buffer> Messages<B> {
     /// [`TextHoldsNul`](Refusal::TextHoldsNul) where a name holds a NUL.
     pub fn columns(&mut self, columns: &[RawColumn<'_>]) -> Result<&mut Self, Refusal> {
         let columns: Vec<_> = columns.iter().map(column_of).collect();
-        self.put(|mut out| {
+        let call = |mut out: Spare<'_>| {
             // SAFETY: both are slices, valid for their lengths, as are the names that `columns` points
             // to; `&mut` keeps `out` apart.
             unsafe {
                 sys::pgmsg_put_columns(columns.as_ptr(), columns.len(), out.as_mut_ptr(), out.len())
             }
-        })
+        };
+        // SAFETY: the call is one of the library, which writes a message so.
+        unsafe { self.put(call) }
     }
 
     /// Describes a statement or a portal that gives no rows: NoData.
@@ -48,13 +50,15 @@ impl<B: Buffer> Messages<B> {
     /// ```
     #[inline]
     pub fn row(&mut self, values: &[Value<'_>]) -> Result<&mut Self, Refusal> {
-        self.put(|mut out| {
+        let call = |mut out: Spare<'_>| {
             // SAFETY: both are slices, valid for their lengths, as are those of the values; `&mut`
             // keeps `out` apart. A value is one of the library.
             unsafe {
                 sys::pgmsg_put_row(values_of(values), values.len(), out.as_mut_ptr(), out.len())
             }
-        })
+        };
+        // SAFETY: the call is one of the library, which writes a message so.
+        unsafe { self.put(call) }
     }
 
     /// Sends a row of what an iterator gives, such as a [`Row`](crate::read::Row) that was read:
@@ -95,7 +99,7 @@ impl<B: Buffer> Messages<B> {
     /// Refused with [`TooMany`](Refusal::TooMany) above 65535 types.
     #[inline]
     pub fn parameter_types(&mut self, types: &[u32]) -> Result<&mut Self, Refusal> {
-        self.put(|mut out| {
+        let call = |mut out: Spare<'_>| {
             // SAFETY: both are slices, valid for their lengths, and `&mut` keeps `out` apart.
             unsafe {
                 sys::pgmsg_put_parameter_types(
@@ -105,7 +109,9 @@ impl<B: Buffer> Messages<B> {
                     out.len(),
                 )
             }
-        })
+        };
+        // SAFETY: the call is one of the library, which writes a message so.
+        unsafe { self.put(call) }
     }
 
     /// Gives the result of a function that was called, `None` for NULL: FunctionCallResponse.
@@ -114,7 +120,7 @@ impl<B: Buffer> Messages<B> {
     #[inline]
     pub fn function_result(&mut self, value: Option<&[u8]>) -> Result<&mut Self, Refusal> {
         let bytes = value.unwrap_or_default();
-        self.put(|mut out| {
+        let call = |mut out: Spare<'_>| {
             // SAFETY: both are slices, valid for their lengths, and `&mut` keeps `out` apart.
             unsafe {
                 sys::pgmsg_put_function_result(
@@ -125,7 +131,9 @@ impl<B: Buffer> Messages<B> {
                     out.len(),
                 )
             }
-        })
+        };
+        // SAFETY: the call is one of the library, which writes a message so.
+        unsafe { self.put(call) }
     }
 }
 

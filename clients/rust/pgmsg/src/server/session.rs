@@ -4,7 +4,7 @@ use super::{texts_of, Messages};
 use crate::error::Refusal;
 use crate::read::TransactionStatus;
 use crate::sys;
-use crate::write::{Buffer, Put};
+use crate::write::{Buffer, Put, Spare};
 
 impl<B: Buffer> Messages<B> {
     /// Gives what a request to cancel has to name: BackendKeyData.
@@ -17,7 +17,8 @@ impl<B: Buffer> Messages<B> {
         process_id: u32,
         secret_key: &[u8],
     ) -> Result<&mut Self, Refusal> {
-        self.put_key(sys::pgmsg_put_backend_key_data, process_id, secret_key)
+        // SAFETY: the call is one of the library, which writes a message so.
+        unsafe { self.put_key(sys::pgmsg_put_backend_key_data, process_id, secret_key) }
     }
 
     /// Reports a setting and its value, at the start of a session and when it changes:
@@ -31,7 +32,7 @@ impl<B: Buffer> Messages<B> {
         value: impl AsRef<[u8]>,
     ) -> Result<&mut Self, Refusal> {
         let (name, value) = (name.as_ref(), value.as_ref());
-        self.put(|mut out| {
+        let call = |mut out: Spare<'_>| {
             // SAFETY: all are slices, valid for their lengths, and `&mut` keeps `out` apart.
             unsafe {
                 sys::pgmsg_put_parameter_status(
@@ -43,20 +44,24 @@ impl<B: Buffer> Messages<B> {
                     out.len(),
                 )
             }
-        })
+        };
+        // SAFETY: the call is one of the library, which writes a message so.
+        unsafe { self.put(call) }
     }
 
     /// Is ready for the next query: ReadyForQuery.
     #[inline]
     pub fn ready(&mut self, status: TransactionStatus) -> Result<&mut Self, Refusal> {
-        self.put(|mut out| {
+        let call = |mut out: Spare<'_>| {
             // SAFETY: `out` is room, valid for its length.
             unsafe { sys::pgmsg_put_ready(status.letter(), out.as_mut_ptr(), out.len()) }
-        })
+        };
+        // SAFETY: the call is one of the library, which writes a message so.
+        unsafe { self.put(call) }
     }
 
-    /// Says which minor version of the protocol is the newest that the server speaks, and which
-    /// options of the Startup it does not know: NegotiateProtocolVersion.
+    /// Says which minor version of the protocol's version 3 is the newest that the server speaks, and
+    /// which options of the Startup it does not know: NegotiateProtocolVersion.
     ///
     /// Refused with [`TextHoldsNul`](Refusal::TextHoldsNul) where a name holds a NUL.
     ///
@@ -68,11 +73,11 @@ impl<B: Buffer> Messages<B> {
     /// ```
     pub fn negotiate_version<T: AsRef<[u8]>>(
         &mut self,
-        minor: u32,
+        minor: u16,
         options: &[T],
     ) -> Result<&mut Self, Refusal> {
         let options = texts_of(options);
-        self.put(|mut out| {
+        let call = |mut out: Spare<'_>| {
             // SAFETY: both are slices, valid for their lengths, as are those that `options` points
             // to; `&mut` keeps `out` apart.
             unsafe {
@@ -84,7 +89,9 @@ impl<B: Buffer> Messages<B> {
                     out.len(),
                 )
             }
-        })
+        };
+        // SAFETY: the call is one of the library, which writes a message so.
+        unsafe { self.put(call) }
     }
 
     /// Passes on what another session notified of: NotificationResponse.
@@ -105,7 +112,7 @@ impl<B: Buffer> Messages<B> {
         payload: impl AsRef<[u8]>,
     ) -> Result<&mut Self, Refusal> {
         let (channel, payload) = (channel.as_ref(), payload.as_ref());
-        self.put(|mut out| {
+        let call = |mut out: Spare<'_>| {
             // SAFETY: all are slices, valid for their lengths, and `&mut` keeps `out` apart.
             unsafe {
                 sys::pgmsg_put_notification(
@@ -118,13 +125,15 @@ impl<B: Buffer> Messages<B> {
                     out.len(),
                 )
             }
-        })
+        };
+        // SAFETY: the call is one of the library, which writes a message so.
+        unsafe { self.put(call) }
     }
 
     /// Sends any tag and any body: what only passes through, or what this crate does not know.
     #[inline]
     pub fn raw_frame(&mut self, tag: u8, body: &[u8]) -> Result<&mut Self, Refusal> {
-        self.put(|mut out| {
+        let call = |mut out: Spare<'_>| {
             // SAFETY: both are slices, valid for their lengths, and `&mut` keeps `out` apart.
             unsafe {
                 sys::pgmsg_put_raw_frame(
@@ -135,6 +144,8 @@ impl<B: Buffer> Messages<B> {
                     out.len(),
                 )
             }
-        })
+        };
+        // SAFETY: the call is one of the library, which writes a message so.
+        unsafe { self.put(call) }
     }
 }

@@ -1,6 +1,7 @@
 //! What messages are appended to.
 
 use crate::error::Refusal;
+use crate::version;
 use std::mem::MaybeUninit;
 
 /// The least room that is added to a vector at once, so that small messages need few allocations.
@@ -142,28 +143,36 @@ impl<B: Room> Room for &mut B {
 
 /// Appends what a call writes. It calls again with more room where the first room is too small.
 ///
-/// The call gives a length, and has written as much where there is room for it, as the calls of the
-/// library do.
+/// # Safety
+///
+/// The call gives the length of what it writes, and has written as much at the front of the room where
+/// so much fits.
 #[inline]
-pub(crate) fn append<B: Room>(
+pub(crate) unsafe fn append<B: Room>(
     buffer: &mut B,
     call: impl Fn(Spare<'_>) -> isize,
 ) -> Result<(), Refusal> {
+    version::check();
     let room = buffer.spare();
     let most = room.len();
     let length = call(room);
     // A number below 0 is above each length as a `usize`.
     if length as usize > most {
-        return append_in_more(buffer, length, call);
+        // SAFETY: what is asked of the call is the same.
+        return unsafe { append_in_more(buffer, length, call) };
     }
-    // SAFETY: the call has written so many bytes at the front of the room.
+    // SAFETY: there is as much room, and the call has written so much at its front.
     unsafe { buffer.extend(length as usize) };
     Ok(())
 }
 
 /// Appends what a call writes that gave a length above that of the room, or a refusal.
+///
+/// # Safety
+///
+/// As of [`append`].
 #[cold]
-fn append_in_more<B: Room>(
+unsafe fn append_in_more<B: Room>(
     buffer: &mut B,
     length: isize,
     call: impl Fn(Spare<'_>) -> isize,
@@ -175,7 +184,7 @@ fn append_in_more<B: Room>(
     let number = call(room);
     match usize::try_from(number) {
         Ok(length) if length <= most => {
-            // SAFETY: the call has written so many bytes at the front of the room.
+            // SAFETY: there is as much room, and the call has written so much at its front.
             unsafe { buffer.extend(length) };
             Ok(())
         }
@@ -184,13 +193,17 @@ fn append_in_more<B: Room>(
 }
 
 #[cfg(test)]
+// Where `append` could be called without `unsafe`, it would trust any call: these tests wouldn't compile.
+#[deny(unused_unsafe)]
 mod tests {
     use super::*;
 
     #[test]
     fn a_length_that_changes_between_two_calls_is_refused() {
         let mut bytes = Vec::new();
-        match append(&mut bytes, |out| out.len() as isize + 1) {
+        // SAFETY: no length that the call gives fits into its room.
+        let refused = unsafe { append(&mut bytes, |out| out.len() as isize + 1) };
+        match refused {
             Err(Refusal::Unexpected(length)) => assert!(length > 1),
             other => panic!("{other:?}"),
         }
@@ -200,7 +213,8 @@ mod tests {
     #[test]
     fn a_length_without_memory_is_refused() {
         let mut bytes = Vec::new();
-        let refused = append(&mut bytes, |_| isize::MAX);
+        // SAFETY: no room has so many bytes.
+        let refused = unsafe { append(&mut bytes, |_| isize::MAX) };
         assert_eq!(refused, Err(Refusal::OutOfMemory));
         assert!(bytes.is_empty());
     }

@@ -3,6 +3,7 @@
 use super::{Buffer, Messages, Put};
 use crate::error::Refusal;
 use crate::sys;
+use crate::version;
 
 /// The first five bytes of a CopyData message, which `len` bytes of data follow.
 ///
@@ -18,6 +19,7 @@ use crate::sys;
 /// ```
 #[inline]
 pub fn copy_head(len: usize) -> Result<[u8; 5], Refusal> {
+    version::check();
     let mut head = [0; 5];
     // SAFETY: `head` is an array of the five bytes that the call writes.
     let number = unsafe { sys::pgmsg_put_copy_head(len, &mut head) };
@@ -33,13 +35,15 @@ impl<B: Buffer> Messages<B> {
     /// Refused with [`MessageTooLong`](Refusal::MessageTooLong) above 2147483643 bytes.
     #[inline]
     pub fn copy_data(&mut self, data: &[u8]) -> Result<&mut Self, Refusal> {
-        self.put_bytes(sys::pgmsg_put_copy_data, data)
+        // SAFETY: the call is one of the library, which writes a message so.
+        unsafe { self.put_bytes(sys::pgmsg_put_copy_data, data) }
     }
 
     /// Ends the data of a COPY: CopyDone.
     #[inline]
     pub fn copy_done(&mut self) -> Result<&mut Self, Refusal> {
-        self.put_same(sys::pgmsg_put_copy_done)
+        // SAFETY: the call is one of the library, which writes a message so.
+        unsafe { self.put_same(sys::pgmsg_put_copy_done) }
     }
 
     /// Makes a COPY fail, for this reason: CopyFail.
@@ -47,6 +51,7 @@ impl<B: Buffer> Messages<B> {
     /// Refused with [`TextHoldsNul`](Refusal::TextHoldsNul) where the reason holds a NUL.
     #[inline]
     pub fn copy_fail(&mut self, reason: &str) -> Result<&mut Self, Refusal> {
-        self.put_bytes(sys::pgmsg_put_copy_fail, reason.as_bytes())
+        // SAFETY: the call is one of the library, which writes a message so.
+        unsafe { self.put_bytes(sys::pgmsg_put_copy_fail, reason.as_bytes()) }
     }
 }

@@ -1,7 +1,7 @@
 //! Prepared statements and the values of their parameters.
 
 use super::parameters::{codes, values};
-use super::{Buffer, Messages, Parameters, Portal, Put, Statement};
+use super::{Buffer, Messages, Parameters, Portal, Put, Spare, Statement};
 use crate::error::Refusal;
 use crate::sys;
 
@@ -20,7 +20,7 @@ impl<B: Buffer> Messages<B> {
         query: &str,
         types: &[u32],
     ) -> Result<&mut Self, Refusal> {
-        self.put(|mut out| {
+        let call = |mut out: Spare<'_>| {
             // SAFETY: all are slices, valid for their lengths, and `&mut` keeps `out` apart.
             unsafe {
                 sys::pgmsg_put_parse(
@@ -33,7 +33,9 @@ impl<B: Buffer> Messages<B> {
                     out.len(),
                 )
             }
-        })
+        };
+        // SAFETY: the call is one of the library, which writes a message so.
+        unsafe { self.put(call) }
     }
 
     /// Makes a portal of a statement and the values of its parameters: Bind.
@@ -63,7 +65,7 @@ impl<B: Buffer> Messages<B> {
         statement: Statement,
         parameters: Parameters<'_>,
     ) -> Result<&mut Self, Refusal> {
-        self.put(|mut out| {
+        let call = |mut out: Spare<'_>| {
             // SAFETY: all are slices, valid for their lengths, as are those of the values; `&mut`
             // keeps `out` apart. A value is one of the library, and a format one byte.
             unsafe {
@@ -80,7 +82,9 @@ impl<B: Buffer> Messages<B> {
                     out.len(),
                 )
             }
-        })
+        };
+        // SAFETY: the call is one of the library, which writes a message so.
+        unsafe { self.put(call) }
     }
 
     /// Runs a query with parameters: Parse of the unnamed statement, Bind of the unnamed portal,
@@ -97,7 +101,7 @@ impl<B: Buffer> Messages<B> {
     /// ```
     #[inline]
     pub fn batch(&mut self, query: &str, parameters: Parameters<'_>) -> Result<&mut Self, Refusal> {
-        self.put(|mut out| {
+        let call = |mut out: Spare<'_>| {
             // SAFETY: all are slices, valid for their lengths, as are those of the values; `&mut`
             // keeps `out` apart. A value is one of the library, and a format one byte.
             unsafe {
@@ -114,6 +118,8 @@ impl<B: Buffer> Messages<B> {
                     out.len(),
                 )
             }
-        })
+        };
+        // SAFETY: the call is one of the library, which writes a message so.
+        unsafe { self.put(call) }
     }
 }

@@ -1,4 +1,10 @@
 //! How messages to the server and messages to a client are appended alike.
+//!
+//! # Safety
+//!
+//! Each method asks of its call that it touches nothing but what it is passed, for the time of the call,
+//! and that it gives the length of a message, of which it has written as much at the front of the room
+//! where so much fits.
 
 use super::buffer::{append, Buffer, Spare};
 use crate::error::Refusal;
@@ -25,42 +31,54 @@ pub(crate) trait Put: Sized {
 
     /// Appends what a call writes, as [`append`] does.
     #[inline]
-    fn put(&mut self, call: impl Fn(Spare<'_>) -> isize) -> Result<&mut Self, Refusal> {
-        append(self.buffer(), call)?;
+    unsafe fn put(&mut self, call: impl Fn(Spare<'_>) -> isize) -> Result<&mut Self, Refusal> {
+        // SAFETY: what is asked of the call is the same.
+        unsafe { append(self.buffer(), call)? };
         Ok(self)
     }
 
     /// Appends a message which is always the same.
     #[inline]
-    fn put_same(&mut self, call: PutSame) -> Result<&mut Self, Refusal> {
-        self.put(move |mut out| {
+    unsafe fn put_same(&mut self, call: PutSame) -> Result<&mut Self, Refusal> {
+        let put = move |mut out: Spare<'_>| {
             // SAFETY: `out` is room, valid for its length.
             unsafe { call(out.as_mut_ptr(), out.len()) }
-        })
+        };
+        // SAFETY: what is asked of the call is the same.
+        unsafe { self.put(put) }
     }
 
     /// Appends what a call writes of a number.
     #[inline]
-    fn put_number(&mut self, call: PutNumber, number: u32) -> Result<&mut Self, Refusal> {
-        self.put(move |mut out| {
+    unsafe fn put_number(&mut self, call: PutNumber, number: u32) -> Result<&mut Self, Refusal> {
+        let put = move |mut out: Spare<'_>| {
             // SAFETY: `out` is room, valid for its length.
             unsafe { call(number, out.as_mut_ptr(), out.len()) }
-        })
+        };
+        // SAFETY: what is asked of the call is the same.
+        unsafe { self.put(put) }
     }
 
     /// Appends what a call writes of some bytes.
     #[inline]
-    fn put_bytes(&mut self, call: PutBytes, bytes: &[u8]) -> Result<&mut Self, Refusal> {
-        self.put(move |mut out| {
+    unsafe fn put_bytes(&mut self, call: PutBytes, bytes: &[u8]) -> Result<&mut Self, Refusal> {
+        let put = move |mut out: Spare<'_>| {
             // SAFETY: both are slices, valid for their lengths, and `&mut` keeps `out` apart.
             unsafe { call(bytes.as_ptr(), bytes.len(), out.as_mut_ptr(), out.len()) }
-        })
+        };
+        // SAFETY: what is asked of the call is the same.
+        unsafe { self.put(put) }
     }
 
     /// Appends what a call writes of a process and its key.
     #[inline]
-    fn put_key(&mut self, call: PutKey, process_id: u32, key: &[u8]) -> Result<&mut Self, Refusal> {
-        self.put(move |mut out| {
+    unsafe fn put_key(
+        &mut self,
+        call: PutKey,
+        process_id: u32,
+        key: &[u8],
+    ) -> Result<&mut Self, Refusal> {
+        let put = move |mut out: Spare<'_>| {
             // SAFETY: both are slices, valid for their lengths, and `&mut` keeps `out` apart.
             unsafe {
                 call(
@@ -71,6 +89,8 @@ pub(crate) trait Put: Sized {
                     out.len(),
                 )
             }
-        })
+        };
+        // SAFETY: what is asked of the call is the same.
+        unsafe { self.put(put) }
     }
 }

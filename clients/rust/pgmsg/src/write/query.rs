@@ -1,6 +1,6 @@
 //! Queries, and what describes, runs and closes statements and portals.
 
-use super::{Buffer, Messages, Portal, Put, Statement};
+use super::{Buffer, Messages, Portal, Put, Spare, Statement};
 use crate::error::Refusal;
 use crate::sys;
 use std::num::NonZeroU32;
@@ -11,19 +11,22 @@ impl<B: Buffer> Messages<B> {
     /// Refused with [`TextHoldsNul`](Refusal::TextHoldsNul) where the text holds a NUL.
     #[inline]
     pub fn query(&mut self, query: &str) -> Result<&mut Self, Refusal> {
-        self.put_bytes(sys::pgmsg_put_query, query.as_bytes())
+        // SAFETY: the call is one of the library, which writes a message so.
+        unsafe { self.put_bytes(sys::pgmsg_put_query, query.as_bytes()) }
     }
 
     /// Asks for the parameters and the columns of a statement: Describe.
     #[inline]
     pub fn describe_statement(&mut self, statement: Statement) -> Result<&mut Self, Refusal> {
-        self.put_number(sys::pgmsg_put_describe_statement, statement.0)
+        // SAFETY: the call is one of the library, which writes a message so.
+        unsafe { self.put_number(sys::pgmsg_put_describe_statement, statement.0) }
     }
 
     /// Asks for the columns of a portal: Describe.
     #[inline]
     pub fn describe_portal(&mut self, portal: Portal) -> Result<&mut Self, Refusal> {
-        self.put_number(sys::pgmsg_put_describe_portal, portal.0)
+        // SAFETY: the call is one of the library, which writes a message so.
+        unsafe { self.put_number(sys::pgmsg_put_describe_portal, portal.0) }
     }
 
     /// Runs a portal, up to so many rows, or to the last one: Execute.
@@ -44,33 +47,39 @@ impl<B: Buffer> Messages<B> {
         limit: Option<NonZeroU32>,
     ) -> Result<&mut Self, Refusal> {
         let limit = limit.map_or(0, NonZeroU32::get);
-        self.put(|mut out| {
+        let call = |mut out: Spare<'_>| {
             // SAFETY: `out` is room, valid for its length.
             unsafe { sys::pgmsg_put_execute(portal.0, limit, out.as_mut_ptr(), out.len()) }
-        })
+        };
+        // SAFETY: the call is one of the library, which writes a message so.
+        unsafe { self.put(call) }
     }
 
     /// Closes a statement: Close.
     #[inline]
     pub fn close_statement(&mut self, statement: Statement) -> Result<&mut Self, Refusal> {
-        self.put_number(sys::pgmsg_put_close_statement, statement.0)
+        // SAFETY: the call is one of the library, which writes a message so.
+        unsafe { self.put_number(sys::pgmsg_put_close_statement, statement.0) }
     }
 
     /// Closes a portal: Close.
     #[inline]
     pub fn close_portal(&mut self, portal: Portal) -> Result<&mut Self, Refusal> {
-        self.put_number(sys::pgmsg_put_close_portal, portal.0)
+        // SAFETY: the call is one of the library, which writes a message so.
+        unsafe { self.put_number(sys::pgmsg_put_close_portal, portal.0) }
     }
 
     /// Asks the server to send the answers that it holds back: Flush.
     #[inline]
     pub fn flush(&mut self) -> Result<&mut Self, Refusal> {
-        self.put_same(sys::pgmsg_put_flush)
+        // SAFETY: the call is one of the library, which writes a message so.
+        unsafe { self.put_same(sys::pgmsg_put_flush) }
     }
 
     /// Ends a run of messages, which the server answers with ReadyForQuery: Sync.
     #[inline]
     pub fn sync(&mut self) -> Result<&mut Self, Refusal> {
-        self.put_same(sys::pgmsg_put_sync)
+        // SAFETY: the call is one of the library, which writes a message so.
+        unsafe { self.put_same(sys::pgmsg_put_sync) }
     }
 }

@@ -1,7 +1,7 @@
 //! Messages whose names, formats and texts are the caller's own bytes.
 
 use super::parameters::values;
-use super::{Buffer, Messages, Put, Value};
+use super::{Buffer, Messages, Put, Spare, Value};
 use crate::error::Refusal;
 use crate::format::FormatCode;
 use crate::sys;
@@ -71,7 +71,7 @@ impl<B: Buffer> Messages<B> {
         query: &[u8],
         types: &[u32],
     ) -> Result<&mut Self, Refusal> {
-        self.put(|mut out| {
+        let call = |mut out: Spare<'_>| {
             // SAFETY: all are slices, valid for their lengths, and `&mut` keeps `out` apart.
             unsafe {
                 sys::pgmsg_put_raw_parse(
@@ -85,7 +85,9 @@ impl<B: Buffer> Messages<B> {
                     out.len(),
                 )
             }
-        })
+        };
+        // SAFETY: the call is one of the library, which writes a message so.
+        unsafe { self.put(call) }
     }
 
     /// Makes a portal of any name, of a statement of any name and the values of its parameters:
@@ -102,7 +104,7 @@ impl<B: Buffer> Messages<B> {
         statement: &[u8],
         parameters: RawParameters<'_>,
     ) -> Result<&mut Self, Refusal> {
-        self.put(|mut out| {
+        let call = |mut out: Spare<'_>| {
             // SAFETY: all are slices, valid for their lengths, as are those of the values; `&mut`
             // keeps `out` apart. A value is one of the library, and a code 16 bits.
             unsafe {
@@ -121,31 +123,37 @@ impl<B: Buffer> Messages<B> {
                     out.len(),
                 )
             }
-        })
+        };
+        // SAFETY: the call is one of the library, which writes a message so.
+        unsafe { self.put(call) }
     }
 
     /// Asks for the parameters and the columns of a statement of any name: Describe.
     #[inline]
     pub fn raw_describe_statement(&mut self, statement: &[u8]) -> Result<&mut Self, Refusal> {
-        self.put_bytes(sys::pgmsg_put_raw_describe_statement, statement)
+        // SAFETY: the call is one of the library, which writes a message so.
+        unsafe { self.put_bytes(sys::pgmsg_put_raw_describe_statement, statement) }
     }
 
     /// Asks for the columns of a portal of any name: Describe.
     #[inline]
     pub fn raw_describe_portal(&mut self, portal: &[u8]) -> Result<&mut Self, Refusal> {
-        self.put_bytes(sys::pgmsg_put_raw_describe_portal, portal)
+        // SAFETY: the call is one of the library, which writes a message so.
+        unsafe { self.put_bytes(sys::pgmsg_put_raw_describe_portal, portal) }
     }
 
     /// Closes a statement of any name: Close.
     #[inline]
     pub fn raw_close_statement(&mut self, statement: &[u8]) -> Result<&mut Self, Refusal> {
-        self.put_bytes(sys::pgmsg_put_raw_close_statement, statement)
+        // SAFETY: the call is one of the library, which writes a message so.
+        unsafe { self.put_bytes(sys::pgmsg_put_raw_close_statement, statement) }
     }
 
     /// Closes a portal of any name: Close.
     #[inline]
     pub fn raw_close_portal(&mut self, portal: &[u8]) -> Result<&mut Self, Refusal> {
-        self.put_bytes(sys::pgmsg_put_raw_close_portal, portal)
+        // SAFETY: the call is one of the library, which writes a message so.
+        unsafe { self.put_bytes(sys::pgmsg_put_raw_close_portal, portal) }
     }
 
     /// Runs a portal of any name, up to so many rows, or to the last one: Execute.
@@ -159,7 +167,7 @@ impl<B: Buffer> Messages<B> {
         limit: Option<NonZeroU32>,
     ) -> Result<&mut Self, Refusal> {
         let limit = limit.map_or(0, NonZeroU32::get);
-        self.put(|mut out| {
+        let call = |mut out: Spare<'_>| {
             // SAFETY: both are slices, valid for their lengths, and `&mut` keeps `out` apart.
             unsafe {
                 sys::pgmsg_put_raw_execute(
@@ -170,7 +178,9 @@ impl<B: Buffer> Messages<B> {
                     out.len(),
                 )
             }
-        })
+        };
+        // SAFETY: the call is one of the library, which writes a message so.
+        unsafe { self.put(call) }
     }
 
     /// Calls a function by its object id: FunctionCall. The codes of the arguments' formats are as
@@ -187,7 +197,7 @@ impl<B: Buffer> Messages<B> {
         formats: &[FormatCode],
         result_format: FormatCode,
     ) -> Result<&mut Self, Refusal> {
-        self.put(|mut out| {
+        let call = |mut out: Spare<'_>| {
             // SAFETY: all are slices, valid for their lengths, as are those of the values; `&mut`
             // keeps `out` apart. A value is one of the library, and a code 16 bits.
             unsafe {
@@ -202,7 +212,9 @@ impl<B: Buffer> Messages<B> {
                     out.len(),
                 )
             }
-        })
+        };
+        // SAFETY: the call is one of the library, which writes a message so.
+        unsafe { self.put(call) }
     }
 
     /// Sends a password of any bytes: PasswordMessage.
@@ -210,7 +222,8 @@ impl<B: Buffer> Messages<B> {
     /// Refused with [`TextHoldsNul`](Refusal::TextHoldsNul) where the password holds a NUL.
     #[inline]
     pub fn password_bytes(&mut self, password: &[u8]) -> Result<&mut Self, Refusal> {
-        self.put_bytes(sys::pgmsg_put_password_bytes, password)
+        // SAFETY: the call is one of the library, which writes a message so.
+        unsafe { self.put_bytes(sys::pgmsg_put_password_bytes, password) }
     }
 
     /// Chooses a mechanism of SASL by any name, with its first response, or without one, so that
@@ -232,7 +245,7 @@ impl<B: Buffer> Messages<B> {
         response: Option<&[u8]>,
     ) -> Result<&mut Self, Refusal> {
         let bytes = response.unwrap_or_default();
-        self.put(|mut out| {
+        let call = |mut out: Spare<'_>| {
             // SAFETY: all are slices, valid for their lengths, and `&mut` keeps `out` apart.
             unsafe {
                 sys::pgmsg_put_sasl_mechanism(
@@ -245,7 +258,9 @@ impl<B: Buffer> Messages<B> {
                     out.len(),
                 )
             }
-        })
+        };
+        // SAFETY: the call is one of the library, which writes a message so.
+        unsafe { self.put(call) }
     }
 
     /// Cancels what a session runs, on a connection of its own: CancelRequest.
@@ -259,7 +274,8 @@ impl<B: Buffer> Messages<B> {
         process_id: u32,
         secret_key: &[u8],
     ) -> Result<&mut Self, Refusal> {
-        self.put_key(sys::pgmsg_put_cancel_request, process_id, secret_key)
+        // SAFETY: the call is one of the library, which writes a message so.
+        unsafe { self.put_key(sys::pgmsg_put_cancel_request, process_id, secret_key) }
     }
 
     /// Asks for a connection that GSSAPI encrypts, before the session is opened: GSSENCRequest.
@@ -267,7 +283,8 @@ impl<B: Buffer> Messages<B> {
     /// The server answers with one byte, `G` or `N`, which is no message.
     #[inline]
     pub fn gss_enc_request(&mut self) -> Result<&mut Self, Refusal> {
-        self.put_same(sys::pgmsg_put_gss_enc_request)
+        // SAFETY: the call is one of the library, which writes a message so.
+        unsafe { self.put_same(sys::pgmsg_put_gss_enc_request) }
     }
 }
 

@@ -1,6 +1,6 @@
 //! How a session begins and ends.
 
-use super::{Buffer, Messages, Put};
+use super::{Buffer, Messages, Put, Spare};
 use crate::error::Refusal;
 use crate::sys;
 
@@ -41,7 +41,7 @@ impl<B: Buffer> Messages<B> {
     /// ```
     pub fn startup(&mut self, settings: &[(&str, &str)]) -> Result<&mut Self, Refusal> {
         let settings: Vec<_> = settings.iter().copied().map(setting_of).collect();
-        self.put(|mut out| {
+        let call = |mut out: Spare<'_>| {
             // SAFETY: both are slices, valid for their lengths, as are those that `settings`
             // points to; `&mut` keeps `out` apart.
             unsafe {
@@ -52,7 +52,9 @@ impl<B: Buffer> Messages<B> {
                     out.len(),
                 )
             }
-        })
+        };
+        // SAFETY: the call is one of the library, which writes a message so.
+        unsafe { self.put(call) }
     }
 
     /// Asks for an encrypted connection, before the session is opened: SSLRequest.
@@ -60,7 +62,8 @@ impl<B: Buffer> Messages<B> {
     /// The server answers with one byte, `S` or `N`, which is no message.
     #[inline]
     pub fn ssl_request(&mut self) -> Result<&mut Self, Refusal> {
-        self.put_same(sys::pgmsg_put_ssl_request)
+        // SAFETY: the call is one of the library, which writes a message so.
+        unsafe { self.put_same(sys::pgmsg_put_ssl_request) }
     }
 
     /// Sends a password in clear: PasswordMessage.
@@ -68,7 +71,8 @@ impl<B: Buffer> Messages<B> {
     /// Refused with [`TextHoldsNul`](Refusal::TextHoldsNul) where the password holds a NUL.
     #[inline]
     pub fn password(&mut self, password: &str) -> Result<&mut Self, Refusal> {
-        self.put_bytes(sys::pgmsg_put_password, password.as_bytes())
+        // SAFETY: the call is one of the library, which writes a message so.
+        unsafe { self.put_bytes(sys::pgmsg_put_password, password.as_bytes()) }
     }
 
     /// Sends the digest of a password: PasswordMessage.
@@ -77,11 +81,13 @@ impl<B: Buffer> Messages<B> {
     /// hexadecimal digits, and the salt that the server sent.
     #[inline]
     pub fn md5_password(&mut self, digest: &[u8; 16]) -> Result<&mut Self, Refusal> {
-        self.put(|mut out| {
+        let call = |mut out: Spare<'_>| {
             // SAFETY: `digest` is an array of sixteen bytes, and `out` a slice, valid for its
             // length and apart from it.
             unsafe { sys::pgmsg_put_md5_password(digest, out.as_mut_ptr(), out.len()) }
-        })
+        };
+        // SAFETY: the call is one of the library, which writes a message so.
+        unsafe { self.put(call) }
     }
 
     /// Chooses a mechanism, and sends the first message of its exchange: SASLInitialResponse.
@@ -99,7 +105,7 @@ impl<B: Buffer> Messages<B> {
         response: &str,
     ) -> Result<&mut Self, Refusal> {
         let plus = mechanism == Mechanism::ScramSha256Plus;
-        self.put(|mut out| {
+        let call = |mut out: Spare<'_>| {
             // SAFETY: both are slices, valid for their lengths, and `&mut` keeps `out` apart.
             unsafe {
                 sys::pgmsg_put_sasl_initial(
@@ -110,19 +116,23 @@ impl<B: Buffer> Messages<B> {
                     out.len(),
                 )
             }
-        })
+        };
+        // SAFETY: the call is one of the library, which writes a message so.
+        unsafe { self.put(call) }
     }
 
     /// Answers the challenge of a SASL exchange: SASLResponse.
     #[inline]
     pub fn sasl_response(&mut self, response: &str) -> Result<&mut Self, Refusal> {
-        self.put_bytes(sys::pgmsg_put_sasl_response, response.as_bytes())
+        // SAFETY: the call is one of the library, which writes a message so.
+        unsafe { self.put_bytes(sys::pgmsg_put_sasl_response, response.as_bytes()) }
     }
 
     /// Ends the session: Terminate.
     #[inline]
     pub fn terminate(&mut self) -> Result<&mut Self, Refusal> {
-        self.put_same(sys::pgmsg_put_terminate)
+        // SAFETY: the call is one of the library, which writes a message so.
+        unsafe { self.put_same(sys::pgmsg_put_terminate) }
     }
 }
 

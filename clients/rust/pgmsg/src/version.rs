@@ -1,0 +1,65 @@
+//! Whether the library that is linked is the one whose declarations this crate has.
+
+use crate::sys;
+use std::sync::atomic::{AtomicBool, Ordering};
+
+/// Whether the versions have been compared, and are the same.
+static IS_COMPARED: AtomicBool = AtomicBool::new(false);
+
+/// Compares the versions, once: each way to a call of the library begins so.
+///
+/// # Panics
+///
+/// Where they differ: the calls and structs of another version may be others.
+#[inline]
+pub(crate) fn check() {
+    if !IS_COMPARED.load(Ordering::Relaxed) {
+        compare();
+    }
+}
+
+#[cold]
+fn compare() {
+    // SAFETY: the call takes nothing, and its text has the same form in each version.
+    let linked = unsafe { sys::pgmsg_version() };
+    assert_same(&linked);
+    IS_COMPARED.store(true, Ordering::Relaxed);
+}
+
+fn assert_same(linked: &sys::pgmsg_text) {
+    let mut parts = linked.text.split(|&byte| byte == 0);
+    let linked = String::from_utf8_lossy(parts.next().unwrap_or_default());
+    assert!(
+        linked == sys::PGMSG_VERSION,
+        "the libpg_message that is linked is of version {linked}, and pgmsg of {}",
+        sys::PGMSG_VERSION
+    );
+}
+
+#[cfg(test)]
+mod tests {
+    use super::*;
+
+    fn text_of(version: &str) -> sys::pgmsg_text {
+        let mut text = [0; 64];
+        text[..version.len()].copy_from_slice(version.as_bytes());
+        sys::pgmsg_text { text }
+    }
+
+    #[test]
+    fn the_library_is_of_the_version_of_its_declarations() {
+        check();
+        assert_same(&text_of(sys::PGMSG_VERSION));
+    }
+
+    #[test]
+    fn another_version_is_refused_by_name() {
+        for other in ["0.0.9", "0.1", "0.1.01", "99.0", "", &"9".repeat(64)] {
+            let refused = std::panic::catch_unwind(|| assert_same(&text_of(other)));
+            let words = refused.expect_err("a panic");
+            let words = words.downcast_ref::<String>().expect("words");
+            assert!(words.contains(&format!("linked is of version {other}, ")));
+            assert!(words.ends_with(&format!("and pgmsg of {}", sys::PGMSG_VERSION)));
+        }
+    }
+}
