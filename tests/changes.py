@@ -85,11 +85,10 @@ class Change:
     def concerns(self, edit):
         """Whether a wrong body is of what changed, changed itself, or no longer applies.
 
-        A definition is all functions' of the crate; what a source says outside of functions is of its own.
+        What a source says outside of functions is of its own. A change of a definition alone is left to the share of all.
         """
-        is_whole = any(path.startswith("specs/") for path in self.restated)
         is_changed = str(edit.file.relative_to(self.crate.folder)) in self.parts or not self.restated.isdisjoint(edit.changes)
-        return is_whole or is_changed or bool(edit.why_not) or not edit.owners.isdisjoint(self.functions)
+        return is_changed or bool(edit.why_not) or not edit.owners.isdisjoint(self.functions)
 
 
 def said(crate, path, text):

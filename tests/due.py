@@ -6,12 +6,12 @@ import subprocess
 import changes
 import crates
 
-# The commit as of which all were tried, and by which toolchain.
+# The commit as of which all were tried, and by the logic of which toolchain.
 TRIED = crates.TOP / "tests" / "tried"
 
-# How many of all wrong bodies are tried at each commit, and how many of these are of crates that stand on no other: those can be
-# tried while all else waits for the proofs of such crates.
-TURN, FIRST = 288, 44
+# How many of all wrong bodies are tried at each commit, a twelfth of them, and how many of these are of crates that stand on no
+# other: those can be tried while all else waits for the proofs of such crates.
+TURN, FIRST = 216, 33
 
 
 class Due:
@@ -19,8 +19,8 @@ class Due:
 
     def __init__(self, edits):
         since, toolchain = TRIED.read_text().splitlines()[1:]
-        # A clone without its history tries all.
-        self.is_all = not is_ancestor(since) or toolchain != printed("rt", "version")
+        # A clone without its history tries all, and so does another logic.
+        self.is_all = not is_ancestor(since) or logic_of(toolchain) != logic_of(printed("rt", "version"))
         if not self.is_all:
             self.share = set(turn_of(edits, int(changes.git("rev-list", "--count", "HEAD"))))
             lines = changes.changed(since)
@@ -69,6 +69,11 @@ def is_ancestor(commit):
     """Whether a commit is in the history of this one."""
     words = ["git", "merge-base", "--is-ancestor", commit, "HEAD"]
     return not subprocess.run(words, cwd=crates.TOP, capture_output=True).returncode
+
+
+def logic_of(version):
+    """What proofs depend on, of the line by which a toolchain names itself."""
+    return version.split(" logic ")[1]
 
 
 def printed(*words):
