@@ -200,9 +200,11 @@ def archive(crate):
 
 
 def program(crate, report=lambda crate, done, total: None):
-    """A program, proved and built after the crates that it stands on."""
+    """A program, proved and built after the crates that it stands on, where that is not done."""
     build([crate], report)
     made = crate.folder / "out" / crate.name
+    if not crate.is_older(made):
+        return made
     made.parent.mkdir(exist_ok=True)
     toolchain = ["--toolchain", kit() / "toolchain"]
     run = crate.run("build", *toolchain, "--backend", "llvm", "--jobs", str(processors()), "-o", f"{made}.o")
