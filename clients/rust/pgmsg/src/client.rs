@@ -56,9 +56,10 @@ mod password;
 mod prepared;
 mod text;
 
+pub use crate::next::Next;
 pub use bind::{bind, function_call, Bind, FunctionCall, Values};
 pub use first::{first, CancelRequest, First, Setting, Settings, Startup};
-pub use frame::{next_first_frame, next_frame, FirstFrame, Frame, Next, MAX_FIRST_LENGTH};
+pub use frame::{next_first_frame, next_frame, FirstFrame, Frame, MAX_FIRST_LENGTH};
 pub use kind::Kind;
 pub use message::Message;
 pub use numbers::{Codes, Numbers, Types};

@@ -51,6 +51,7 @@ mod answer;
 pub mod client;
 mod error;
 mod format;
+mod next;
 pub mod read;
 mod reading;
 pub mod relay;

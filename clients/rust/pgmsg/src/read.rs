@@ -36,12 +36,13 @@ mod row;
 mod shared;
 mod status;
 
+pub use crate::next::Next;
 pub use authentication::{authentication, Authentication, Challenge};
 pub use columns::{columns, parameter_types, Column};
 pub use copy::{copy_response, CopyResponse};
 pub use end::end;
 pub use fields::{fields, severity, Field, FieldKind, Fields, Severity};
-pub use frame::{next_frame, Frame, Next};
+pub use frame::{next_frame, Frame};
 pub use kind::Kind;
 pub use raw::{
     command_tag, no_body, raw_authentication, raw_key_data, raw_mechanisms, raw_parameter_status,

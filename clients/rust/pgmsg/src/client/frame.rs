@@ -3,6 +3,7 @@
 use super::Kind;
 use crate::answer::{answer, body_of};
 use crate::error::Fault;
+use crate::next::Next;
 use crate::sys;
 
 /// The greatest length of a first message that PostgreSQL's own servers take.
@@ -28,30 +29,6 @@ pub struct FirstFrame<'a> {
     pub body: &'a [u8],
     /// How many bytes of the stream the message takes. The next message begins there.
     pub length: usize,
-}
-
-/// What is at the front of a stream.
-#[derive(Clone, Copy, Debug, PartialEq, Eq)]
-pub enum Next<F> {
-    /// A complete message.
-    Frame(F),
-    /// The beginning of a message, or nothing.
-    Incomplete {
-        /// How many bytes the stream needs at least, those that are there included. Of a message with
-        /// a tag it can be up to 2 GiB: limit it before you allocate as much.
-        needed: usize,
-    },
-}
-
-impl<F> Next<F> {
-    /// The message, where it is complete.
-    #[inline]
-    pub fn frame(self) -> Option<F> {
-        match self {
-            Next::Frame(frame) => Some(frame),
-            Next::Incomplete { .. } => None,
-        }
-    }
 }
 
 /// Cuts the first message off a stream whose messages have tags, without copying it.

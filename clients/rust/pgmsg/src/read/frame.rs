@@ -3,6 +3,7 @@
 use super::Kind;
 use crate::answer::{answer, body_of};
 use crate::error::Fault;
+use crate::next::Next;
 use crate::sys;
 
 /// A message, cut off the front of a stream.
@@ -15,30 +16,6 @@ pub struct Frame<'a> {
     pub body: &'a [u8],
     /// How many bytes of the stream the message takes. The next message begins there.
     pub length: usize,
-}
-
-/// What is at the front of a stream.
-#[derive(Clone, Copy, Debug, PartialEq, Eq)]
-pub enum Next<'a> {
-    /// A complete message.
-    Frame(Frame<'a>),
-    /// The beginning of a message, or nothing.
-    Incomplete {
-        /// How many bytes the stream needs at least, those that are there included. A peer can
-        /// announce up to 2 GiB: limit it before you allocate as much.
-        needed: usize,
-    },
-}
-
-impl<'a> Next<'a> {
-    /// The message, where it is complete.
-    #[inline]
-    pub fn frame(self) -> Option<Frame<'a>> {
-        match self {
-            Next::Frame(frame) => Some(frame),
-            Next::Incomplete { .. } => None,
-        }
-    }
 }
 
 /// Cuts the first message off a stream, without copying it.
@@ -60,7 +37,7 @@ impl<'a> Next<'a> {
 /// # Ok::<(), pgmsg::Fault>(())
 /// ```
 #[inline]
-pub fn next_frame(stream: &[u8]) -> Result<Next<'_>, Fault> {
+pub fn next_frame(stream: &[u8]) -> Result<Next<Frame<'_>>, Fault> {
     let mut frame = sys::pgmsg_frame::default();
     let number = answer(|fault| {
         // SAFETY: `stream` is a slice, valid for its length; `frame` and `fault` are apart from it.
