@@ -1,4 +1,4 @@
-# What clients say to a server: read by pg_server_tool, and written again. Sourced by `test`.
+# What clients say to a server: read by pg_server_tool, and in C. Sourced by `test`.
 
 # Leaves the process that keeps what is said in $keeping, its port in $said_port, what precedes a client in $aloud.
 start_keeping() {
@@ -107,6 +107,6 @@ test_said() {
     fi
     keep_said
     try tests/said.py read "$work/connections" "$programs/said_lines"
-    expect "what clients say is read, also in C, and written as the same bytes: $errors" 0
+    expect "what clients say is read, in C as well: $errors" 0
     same 'each kind of message is said' "$(comm -23 <(echo "$said_kinds") <(tr ' ' '\n' <<< "$output" | sort))" ''
 }
