@@ -19,8 +19,9 @@ def bad_key(length):
 # those are listed, the last byte is one too many.
 MESSAGES = [
     (b"B", b"p1\0s\0\0\2\0\0\0\1\0\3\0\0\0\2hi" + NULL + b"\0\0\0\0\0\1\0\1\0",
-     (2, no_nul(0)), (4, no_nul(3)), (6, short(5, 2)), (10, short(7, 4)), (12, short(11, 2)), (16, short(13, 4)), (18, short(17, 2)),
-     (22, short(19, 4)), (26, short(23, 4)), (28, short(27, 2)), (30, short(29, 2)), (31, "bind 7031 73 0,1 x6869,null,x 1"), (32, end(31))),
+     (2, no_nul(0)), (4, no_nul(3)), (6, short(5, 2)), (10, short(7, 4)), (12, short(11, 2)), (16, short(13, 4)),
+     (18, short(17, 2)), (22, short(19, 4)), (26, short(23, 4)), (28, short(27, 2)), (30, short(29, 2)),
+     (31, "bind 7031 73 0,1 x6869,null,x 1"), (32, end(31))),
     (b"B", bytes(8), "bind - - - - -"),
     (b"B", b"\0\0\0\2\xff\xff\x80\0\0\0\0\1\x7f\xff", "bind - - -1,-32768 - 32767"),
     (b"B", b"\0\0\0\0\0\1\0\0\0\3\0\0\xff\0\0", "bind - - - x0000ff -"),
@@ -34,12 +35,13 @@ MESSAGES = [
     (b"E", b"\0\x7f\xff\xff\xff", "execute - 2147483647"),
     (b"E", b"\0\x80\0\0\0", "execute - -2147483648"),
     (b"F", b"\0\0\4\xd2\0\1\0\1\0\2\0\0\0\1A" + NULL + b"\0\0\0",
-     (3, short(0, 4)), (5, short(4, 2)), (7, short(6, 2)), (9, short(8, 2)), (13, short(10, 4)), (14, short(14, 1)), (18, short(15, 4)),
-     (20, short(19, 2)), (21, "functioncall 1234 1 x41,null 0"), (22, end(21))),
+     (3, short(0, 4)), (5, short(4, 2)), (7, short(6, 2)), (9, short(8, 2)), (13, short(10, 4)), (14, short(14, 1)),
+     (18, short(15, 4)), (20, short(19, 2)), (21, "functioncall 1234 1 x41,null 0"), (22, end(21))),
     (b"F", NULL + b"\0\0\0\0\xff\xff", "functioncall 4294967295 - - -1"),
     (b"H", b"\0", (0, "flush"), (1, end(0))),
     (b"P", b"s\0SELECT $1\0\0\2\0\0\0\x17\0\0\0\0\0",
-     (1, no_nul(0)), (11, no_nul(2)), (13, short(12, 2)), (21, short(14, 8)), (22, "parse 73 53454c454354202431 23,0"), (23, end(22))),
+     (1, no_nul(0)), (11, no_nul(2)), (13, short(12, 2)), (21, short(14, 8)),
+     (22, "parse 73 53454c454354202431 23,0"), (23, end(22))),
     (b"P", b"\0\0\0\1" + NULL, "parse - - 4294967295"),
     (b"P", bytes(4), "parse - - -"),
     (b"Q", b"SELECT 1\0b", (8, no_nul(0)), (9, "query 53454c4543542031"), (10, end(9))),
@@ -59,7 +61,8 @@ MESSAGES = [
     (None, b"\0\3\xff\xff\0", "startup 3.65535 -"),
     (None, SSL + b"\0", (3, short(0, 4)), (4, "sslrequest"), (5, end(4))),
     (None, GSS_ENC + b"\0", (3, short(0, 4)), (4, "gssencrequest"), (5, end(4))),
-    (None, CANCEL + b"\0\0\x30\x39\1\2\3\4", (3, short(0, 4)), (7, short(4, 4)), (11, bad_key), (12, "cancelrequest 12345 01020304")),
+    (None, CANCEL + b"\0\0\x30\x39\1\2\3\4",
+     (3, short(0, 4)), (7, short(4, 4)), (11, bad_key), (12, "cancelrequest 12345 01020304")),
     (None, CANCEL + NULL + bytes(256), "cancelrequest 4294967295 " + "00" * 256),
 ]
 
@@ -192,8 +195,9 @@ RUNS = [
 # Lines that fit no form, by the word that the program is run with.
 BAD = {
     "decode": [
-        b"", b"53", b"53 ", b"53-", b"5 -", b"53  -", b" 53 -", b"53 - ", b"53 - -", b"53 -\r", b"53 0", b"53 0g", b"5g -", b"053 -", b"sync",
-        b"first", b"first ", b"first  04d2162f", b"first 04d2162", b"first 04d2162f -", b"First 04d2162f", b"53 \xff", b"first \xff",
+        b"", b"53", b"53 ", b"53-", b"5 -", b"53  -", b" 53 -", b"53 - ", b"53 - -", b"53 -\r", b"53 0", b"53 0g", b"5g -",
+        b"053 -", b"sync", b"first", b"first ", b"first  04d2162f", b"first 04d2162", b"first 04d2162f -", b"First 04d2162f",
+        b"53 \xff", b"first \xff",
     ],
     "encode": [
         b"", b" ", b"sync", b"strict", b"Nodata", b"nodata ", b"nodata -", b" nodata", b"nodata\r", b"nodata\0", b"5a 49",
@@ -211,9 +215,9 @@ BAD = {
         b"errorresponse M=", b"errorresponse =41", b"errorresponse MM=41", b"errorresponse 04d=41", b"errorresponse M=41=42",
         b"errorresponse M=41,", b"errorresponse \xc3\xa9=41", b"errorresponse \xff=41", b"noticeresponse  =41",
         b"functioncallresponse", b"functioncallresponse -", b"functioncallresponse null,null", b"negotiate 0", b"negotiate - -",
-        b"negotiate -1 -", b"negotiate 65536 -", b"notification 1 -", b"notification 1 - - -", b"parameterdescription", b"parameterdescription -1",
-        b"parameterdescription 1,,2", b"parameterstatus -", b"parameterstatus - - -", b"ready", b"ready -", b"ready i",
-        b"ready IT", b"ready I ", b"rowdescription", b"rowdescription 61", b"rowdescription 61:0:0:0:0:0",
+        b"negotiate -1 -", b"negotiate 65536 -", b"notification 1 -", b"notification 1 - - -", b"parameterdescription",
+        b"parameterdescription -1", b"parameterdescription 1,,2", b"parameterstatus -", b"parameterstatus - - -", b"ready",
+        b"ready -", b"ready i", b"ready IT", b"ready I ", b"rowdescription", b"rowdescription 61", b"rowdescription 61:0:0:0:0:0",
         b"rowdescription 61:0:0:0:0:0:0:0", b"rowdescription :0:0:0:0:0:0", b"rowdescription 61:-1:0:0:0:0:0",
         b"rowdescription 61:0:32768:0:0:0:0", b"rowdescription 61:0:0:4294967296:0:0:0", b"rowdescription 61:0:0:0:-32769:0:0",
         b"rowdescription 61:0:0:0:0:2147483648:0", b"rowdescription 61:0:0:0:0:-2147483649:0",

@@ -28,7 +28,8 @@ FRONTS = {
     ("BackendKeyData", b"K"): [(b"\0\0\x27\xc6\x89\x52\xc5\x2b", (3, short(0, 4)), (7, short(4, 4)), (8, FINE))],
     ("CommandComplete", b"C"): [
         (tag, (len(tag), FINE))
-        for tag in (b"INSERT 0 1214\0", b"BEGIN\0", b"UPDATE 18446744073709551616\0", b"COPY +5\0", b"SELECT 007x\0", b"SELECT 7 \0")],
+        for tag in (b"INSERT 0 1214\0", b"BEGIN\0", b"UPDATE 18446744073709551616\0",
+                    b"COPY +5\0", b"SELECT 007x\0", b"SELECT 7 \0")],
     ("CopyDone", b"c"): [(b"X", (1, FINE))],
     ("CopyInResponse", b"G"): [
         (b"\0\xff\xff", (0, short(0, 1)), (2, short(1, 2)), (3, FINE)),
@@ -39,7 +40,8 @@ FRONTS = {
         (b"\0\x7f\xff", (0, short(0, 1)), (2, short(1, 2)), (3, short(3, 65534))),
     ],
     ("DataRow", b"D"): [
-        (ROW, (1, short(0, 2)), (33, short(2, 32)), (37, short(34, 4)), (41, short(38, 4)), (45, short(42, 4)), (49, short(46, 4)), (50, FINE)),
+        (ROW, (1, short(0, 2)), (33, short(2, 32)), (37, short(34, 4)), (41, short(38, 4)),
+         (45, short(42, 4)), (49, short(46, 4)), (50, FINE)),
         (b"\0\x01\0\0\0\x05ab", (1, short(0, 2)), (5, short(2, 4)), (8, short(6, 5))),
         (b"\0\x01\xff\xff\xff\xfez", (1, short(0, 2)), (5, short(2, 4)), (7, FINE)),
         (b"\xff\xff", (1, short(0, 2)), (2, short(2, 262140))),
@@ -50,7 +52,8 @@ FRONTS = {
     ],
     ("ErrorResponse", b"E"): [
         (fields, (len(fields), FINE))
-        for fields in (b"Mboom\0C23505\0L12\0\0", b"Px\0p7\0qSELECT\0\0", b"P+3x\0\0", b"P-0\0\0", b"p7\0\0", b"Mm\0Lx\0\0", b"C53300\0\0")],
+        for fields in (b"Mboom\0C23505\0L12\0\0", b"Px\0p7\0qSELECT\0\0", b"P+3x\0\0", b"P-0\0\0", b"p7\0\0",
+                       b"Mm\0Lx\0\0", b"C53300\0\0")],
     ("NoticeResponse", b"N"): [
         (fields, (len(fields), FINE))
         for fields in (b"Mfoo\0Mbar\0C1\0VERROR\0\0", b"Mfoo\0M\0C1\0Mbar\0\0", b"Cx\0M\0Ma\0VFOO\0\0", b"Ma\0C1\0M\xff\0\0",
@@ -188,8 +191,10 @@ RUNS = [
     (["encode"], lines("strict", "copydata 6100", "sasl a\0", "saslinit 0 a\0"),
      lines("1 ok", "2 ok", "3 ok", "d 6 6100", "p 6 6100", "p 24 534352414d2d5348412d32353600000000026100")),
     (["encode"], lines("strict", "bind 0 0 - 0 - 0", "bind 0 0 - 1 00000002abcd -", "bind 0 0 - 2 00000000ffffffff -"),
-     lines("1 ok", "2 ok", "3 ok", "B 14 00000000000000010000", "B 18 0000000000010000" + "0002abcd0000", "B 20 00000000000200000000ffffffff0000")),
-    (["encode"], lines("strict", "bind 0 0 - 1 fffffffe -", "bind 0 0 - 1 0000000261 -", "bind 0 0 - 1 0000000000 -", "bind 0 0 - 65535 - -"),
+     lines("1 ok", "2 ok", "3 ok", "B 14 00000000000000010000", "B 18 00000000000100000002abcd0000",
+           "B 20 00000000000200000000ffffffff0000")),
+    (["encode"], lines("strict", "bind 0 0 - 1 fffffffe -", "bind 0 0 - 1 0000000261 -", "bind 0 0 - 1 0000000000 -",
+                       "bind 0 0 - 65535 - -"),
      lines(*(f"{number} {NOT_SO_MANY}" for number in (1, 2, 3, 4)))),
     (["encode"], lines("strict", f"bind 0 0 {FORMATS} 0 00 -"), lines("1 refused: too many parameter format codes (65536)")),
     (["decode"], "", ""),
@@ -199,15 +204,15 @@ RUNS = [
 # Lines that fit no form, by the word that the program is run with.
 BAD = {
     "encode": [
-        b"", b"sink", b"strict", b"query", b"query \xff", b"sync ", b" sync", b"sync\r", b"Query a", b"flush now", b"execute 4294967296 0",
-        b"execute +1 0", b"execute 00000000001 0", b"execute 0", b"execute 0 0 ", b"bind 0 0 2 0 - -", b"bind 0 0 - 65536 - -",
-        b"bind 0 0 - 000000 - -", b"bind 0 0 - 0 - - -", b"bind 0 0 , 0 - -", b"bind 0 0 - 0 -", b"md5 3e", b"md5 " + b"3e" * 17,
-        b"md5 " + b"3g" * 16, b"copydata", b"copydata ", b"copydata 5", b"saslinit 2 x", b"saslinit 1", b"describe X 1", b"describe S",
-        b"close P -1", b"close S", b"parse 1 25, SELECT", b"parse 1 -",
+        b"", b"sink", b"strict", b"query", b"query \xff", b"sync ", b" sync", b"sync\r", b"Query a", b"flush now",
+        b"execute 4294967296 0", b"execute +1 0", b"execute 00000000001 0", b"execute 0", b"execute 0 0 ", b"bind 0 0 2 0 - -",
+        b"bind 0 0 - 65536 - -", b"bind 0 0 - 000000 - -", b"bind 0 0 - 0 - - -", b"bind 0 0 , 0 - -", b"bind 0 0 - 0 -",
+        b"md5 3e", b"md5 " + b"3e" * 17, b"md5 " + b"3g" * 16, b"copydata", b"copydata ", b"copydata 5", b"saslinit 2 x",
+        b"saslinit 1", b"describe X 1", b"describe S", b"close P -1", b"close S", b"parse 1 25, SELECT", b"parse 1 -",
     ],
     "decode": [
-        b"", b"5a", b"5a ", b"5 -", b"5a4 -", b"zz -", b"5g 45", b"5a45", b"5a 4", b"5a 4g", b"5a  45", b" 5a 49", b"5a 49 ", b"5a 49\r",
-        b"5a 45 45", b"5a \xff", b"first 00",
+        b"", b"5a", b"5a ", b"5 -", b"5a4 -", b"zz -", b"5g 45", b"5a45", b"5a 4", b"5a 4g", b"5a  45", b" 5a 49", b"5a 49 ",
+        b"5a 49\r", b"5a 45 45", b"5a \xff", b"first 00",
     ],
 }
 
