@@ -125,6 +125,7 @@ ENCODED = [
     ("functioncallresponse null", b"V", NULL),
     ("functioncallresponse x", b"V", bytes(4)),
     ("functioncallresponse x00ff", b"V", b"\0\0\0\2\0\xff"),
+    # servers send both halves of the version, where the standard speaks of the minor one alone
     ("negotiate 0 5f70715f2e61,-", b"v", b"\0\3\0\0\0\0\0\2_pq_.a\0\0"),
     ("negotiate 65535 -", b"v", b"\0\3\xff\xff" + bytes(4)),
     ("nodata", b"n", b""),

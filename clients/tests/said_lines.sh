@@ -1,4 +1,4 @@
-# A program in C that reads what clients say, beside a model of their messages. Sourced by `test`.
+# A program in C that reads what clients say, beside the tables of pg_server_tool. Sourced by `test`.
 
 test_said_lines() {
     local programs
