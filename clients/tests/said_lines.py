@@ -29,7 +29,7 @@ def streams():
         length = (len(body) + 4).to_bytes(4, "big")
         if tag is None and len(body) >= 4:
             yield length + body, [line]
-        elif tag is not None and not line.startswith("unknown message type"):
+        elif tag is not None:
             yield OPENED + tag + length + body, [OPENING, line]
 
 
