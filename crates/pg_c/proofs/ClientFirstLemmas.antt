@@ -8,11 +8,11 @@ use Rattle.pg_format.specs.Format.Parts.{fail}
 use Rattle.pg_format.specs.Format.Sequences.{case_of, choose}
 use Rattle.pg_format.specs.Messages.{Cancel, First, opening, cancelling, tls, gssapi, settings_of, cancelled, asks_tls, asks_gssapi, cancel_request, ssl_request, gss_enc_request, startup, is_version_3}
 use Rattle.pg_base.proofs.ReadingLemmas.{number_fits}
-use Rattle.pg_read_frontend.specs.CancelRequest.{shown_cancel}
-use Rattle.pg_read_frontend.specs.FirstMessageRef.{ReadsFirst}
-use Rattle.pg_read_frontend.specs.declared.message.cancel_request.CancelRequestRef.{CancelRequestRef}
-use Rattle.pg_read_frontend.specs.declared.message.first_message_ref.FirstMessageRef.{FirstMessageRef}
-use Rattle.pg_read_frontend.specs.declared.message.first_message_ref.FirstMessageRef.TheVariants as messages
+use Rattle.pg_server.specs.Frontend.CancelRequest.{shown_cancel}
+use Rattle.pg_server.specs.Frontend.FirstMessageRef.{ReadsFirst}
+use Rattle.pg_server.specs.declared.frontend.cancel_request.CancelRequestRef.{CancelRequestRef}
+use Rattle.pg_server.specs.declared.frontend.first_message_ref.FirstMessageRef.{FirstMessageRef}
+use Rattle.pg_server.specs.declared.frontend.first_message_ref.FirstMessageRef.TheVariants as messages
 use Rattle.pg_c.specs.Place.{bytes_in}
 use Rattle.pg_c.proofs.PlaceLemmas.{bytes_are}
 

@@ -7,10 +7,10 @@ use Rattle.pg_base.specs.Reading.{Signed}
 use Rattle.pg_base.specs.declared.format.FrontendMessageFormat.{FrontendMessageFormat}
 use Rattle.pg_base.proofs.ReadingLemmas.{signed_fits}
 use Rattle.pg_frames.specs.Stream.{Announces}
-use Rattle.pg_frontend_frames.specs.Frame.{BeginsFirst, BeginsTagged, StandsFirst, WantsMoreTagged}
-use Rattle.pg_frontend_frames.specs.declared.frame.Expects.{Expects}
-use Rattle.pg_frontend_frames.specs.declared.message.ClientMessageKind.{ClientMessageKind}
-use Rattle.pg_frontend_frames.specs.declared.message.ClientMessageKind.TheVariants as kinds
+use Rattle.pg_frames.specs.Frontend.Frame.{BeginsFirst, BeginsTagged, StandsFirst, WantsMoreTagged}
+use Rattle.pg_frames.specs.declared.frontend.frame.Expects.{Expects}
+use Rattle.pg_frames.specs.declared.frontend.message.ClientMessageKind.{ClientMessageKind}
+use Rattle.pg_frames.specs.declared.frontend.message.ClientMessageKind.TheVariants as kinds
 use Rattle.pg_c.specs.Client.Frames.{Needs}
 use Rattle.pg_c.specs.Place.{bytes_in}
 use Rattle.pg_c.specs.Read.RawFrame as read

@@ -1,8 +1,8 @@
 -- The settings of a Startup are given one by one.
 use Rattle.std.proofs.Common.{◌≡◌, ℕ, ◌+◌, ◌<◌, ◌≤◌, Some, List, [], ◌∷◌, ◌++◌, length, set, refl, sym, ap, ◌∙◌, arith, append_assoc, length-append}
 use Rattle.pg_format.specs.Messages.{setting}
-use Rattle.pg_read_frontend.specs.Settings.{settings_in}
-use Rattle.pg_read_frontend.proofs.SettingsLemmas.{first_setting}
+use Rattle.pg_server.specs.Frontend.Settings.{settings_in}
+use Rattle.pg_server.proofs.FrontendSettingsLemmas.{first_setting}
 use Rattle.pg_c.specs.Client.Startup.{setting_in}
 use Rattle.pg_c.specs.declared.read.status.PgmsgParameterStatus.{PgmsgParameterStatus}
 use Rattle.pg_c.proofs.ReadListsLemmas.{GivesAll, one_more, no_more}

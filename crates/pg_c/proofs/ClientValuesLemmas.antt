@@ -9,9 +9,9 @@ use Rattle.pg_format.specs.Format.Parts.{until_nul, be_i32, bytes_of}
 use Rattle.pg_format.specs.Format.Places.{IsReadAt}
 use Rattle.pg_format.proofs.FormatLaws.Places.{stands_at, items_then_fault}
 use Rattle.pg_format.proofs.FormatLaws.Takes.{takes_signed}
-use Rattle.pg_read_frontend.proofs.ValuesLemmas.{null_stands, some_stands}
-use Rattle.pg_read_frontend.specs.Message.{HasFault}
-use Rattle.pg_read_frontend.specs.declared.error.FrontendFault.{FrontendFault}
+use Rattle.pg_server.proofs.FrontendValuesLemmas.{null_stands, some_stands}
+use Rattle.pg_server.specs.Frontend.Message.{HasFault}
+use Rattle.pg_server.specs.declared.frontend.error.FrontendFault.{FrontendFault}
 use Rattle.pg_c.specs.Client.Parts.{Finds}
 use Rattle.pg_c.specs.Client.Values.{GivesValues, GivesCounted}
 use Rattle.pg_c.specs.Place.{part}

@@ -7,9 +7,9 @@ use Rattle.std.proofs.lemmas.List.Elements.{All-map}
 use Rattle.pg_base.specs.Cutting.{max_length}
 use Rattle.pg_base.specs.Reading.{Value, Values}
 use Rattle.pg_base.proofs.RoundTripLemmas.{value_before}
-use Rattle.pg_request.specs.Values.{value_text, counted_values}
-use Rattle.pg_request.proofs.RoundTripLemmas.{a_value, a_null}
-use Rattle.pg_request.proofs.ValuesLemmas.{length-counted_values}
+use Rattle.pg_send.specs.Values.{value_text, counted_values}
+use Rattle.pg_send.proofs.RoundTripLemmas.{a_value, a_null}
+use Rattle.pg_send.proofs.ValuesLemmas.{length-counted_values}
 use Rattle.pg_c.specs.Put.Lists.{format_of, value_of, fits, values_spelled}
 use Rattle.pg_c.specs.declared.put.prepared.PgmsgValue.{PgmsgValue}
 

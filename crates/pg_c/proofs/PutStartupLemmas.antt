@@ -3,7 +3,7 @@ use Rattle.std.proofs.Common.{ℕ, ◌<◌, List, [], length, map, arith, get_or
 use Rattle.std.specs.List.{All}
 use Rattle.std.proofs.lemmas.List.{length-map, get_or-map}
 use Rattle.std.proofs.lemmas.List.Elements.{All-get_or}
-use Rattle.pg_request.specs.Startup.{IsReadable}
+use Rattle.pg_send.specs.Startup.{IsReadable}
 use Rattle.pg_c.specs.Put.Startup.{name_and_value}
 use Rattle.pg_c.specs.declared.put.session.PgmsgSetting.{PgmsgSetting}
 

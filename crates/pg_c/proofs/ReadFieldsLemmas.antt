@@ -1,16 +1,16 @@
 -- The fields of an error or a notice are given one by one.
 use Rattle.std.proofs.Common.{inl, inr, pos, Result, Ok, Err, IfOk, IfErr, OnOk, ◌≡◌, ℕ, ◌+◌, ◌<◌, ◌≤◌, Some, List, [], ◌∷◌, ◌++◌, length, set, refl, sym, ap, ◌∙◌, arith, append_assoc, length-append}
 use Rattle.std.proofs.lemmas.Bool.{cases_lt}
-use Rattle.pg_response.specs.Response.Fields.{BeginsWithField, fields_in}
-use Rattle.pg_response.proofs.ResponseFieldsLemmas.{fields_at}
+use Rattle.pg_receive.specs.Response.Fields.{BeginsWithField, fields_in}
+use Rattle.pg_receive.proofs.ResponseFieldsLemmas.{fields_at}
 use Rattle.pg_base.specs.declared.error.ProtocolFault.{ProtocolFault}
 use Rattle.pg_base.specs.declared.error.ProtocolFault.TheVariants.{BodyTooLong}
 use Rattle.pg_format.specs.Format.{Means, IsFaultOf, ReadsAs}
 use Rattle.pg_format.specs.Notices.{read_part}
-use Rattle.pg_response.specs.Received.{max_body}
-use Rattle.pg_response.specs.Response.{notice_of, notices, severities}
-use Rattle.pg_response.specs.Response.Severity.{severity_number}
-use Rattle.pg_response.specs.declared.message.response.severity.PgSeverity.{PgSeverity}
+use Rattle.pg_format.specs.Received.{max_body}
+use Rattle.pg_receive.specs.Response.{notice_of, notices, severities}
+use Rattle.pg_receive.specs.Response.Severity.{severity_number}
+use Rattle.pg_receive.specs.declared.message.response.severity.PgSeverity.{PgSeverity}
 use Rattle.pg_c.specs.Read.{IsBodyFault, ReadsBody}
 use Rattle.pg_c.specs.Read.Fields.{field_in, IsSeverityOf}
 use Rattle.pg_c.specs.declared.read.fields.PgmsgField.{PgmsgField}

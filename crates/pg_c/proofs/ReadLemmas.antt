@@ -2,7 +2,7 @@
 use Rattle.std.proofs.Common.{◌≡◌, ℕ, zero, suc, ◌+◌, ◌*◌, ◌<◌, ◌≤◌, pos, Option, Some, List, [], ◌∷◌, ◌++◌, length, map, take, drop, set, refl, sym, ap, ◌∙◌, arith, inr, length-append}
 use Rattle.std.proofs.lemmas.List.{length-set, drop-drop, drop-set-lt}
 use Rattle.pg_base.specs.declared.error.ProtocolFault.{ProtocolFault}
-use Rattle.pg_response.specs.Received.{max_body}
+use Rattle.pg_format.specs.Received.{max_body}
 use Rattle.pg_format.specs.Format.{Format, IsFaultOf}
 use Rattle.pg_format.specs.Format.Ends.{loosely}
 use Rattle.pg_format.specs.Format.Lists.{times, counted_least}

@@ -5,8 +5,8 @@ use Rattle.pg_base.specs.declared.error.Error.{Error}
 use Rattle.pg_base.specs.declared.error.Error.TheVariants.{Protocol, OutOfMemory}
 use Rattle.pg_base.specs.declared.error.ProtocolFault.{ProtocolFault}
 use Rattle.pg_base.specs.declared.error.ProtocolFault.TheVariants as faults
-use Rattle.pg_read_frontend.specs.declared.error.FrontendFault.{FrontendFault}
-use Rattle.pg_read_frontend.specs.declared.error.FrontendFault.TheVariants as client
+use Rattle.pg_server.specs.declared.frontend.error.FrontendFault.{FrontendFault}
+use Rattle.pg_server.specs.declared.frontend.error.FrontendFault.TheVariants as client
 use Rattle.pg_c.specs.Refusal.{client_number, fault_number, refusal_number}
 
 fault_below : (fault : ProtocolFault) → fault_number fault <ℤ pos 0

@@ -1,12 +1,12 @@
 -- The tag of a message that goes out in parts is the first byte of the stream.
 use Rattle.std.proofs.Common.{◌≡◌, ℕ, Bool, true, false, List, take, drop, get_or, Option, None, Some, inl, inr, refl, arith}
 use Rattle.std.proofs.lemmas.List.{take-append-drop}
-use Rattle.pg_frontend_frames.specs.declared.frame.Expects.{Expects}
-use Rattle.pg_frontend_frames.specs.declared.frame.Expects.TheVariants as expects
-use Rattle.pg_relay.specs.Frame.{HasHead}
-use Rattle.pg_relay.specs.Passage.{PassesPart}
-use Rattle.pg_relay.specs.Relay.{is_wanted}
-use Rattle.pg_relay.proofs.FrameLemmas.{head_stays}
+use Rattle.pg_frames.specs.declared.frontend.frame.Expects.{Expects}
+use Rattle.pg_frames.specs.declared.frontend.frame.Expects.TheVariants as expects
+use Rattle.pg_frames.specs.Relay.Head.{HasHead}
+use Rattle.pg_frames.specs.Relay.Passage.{PassesPart}
+use Rattle.pg_frames.specs.Relay.{is_wanted}
+use Rattle.pg_frames.proofs.RelayHeadLemmas.{head_stays}
 
 tag_first : (wants : ℕ → ℕ → Bool) (state : Expects) (stream : List ℕ) (tag : Option ℕ) (count : ℕ) → HasHead state stream tag count → is_wanted wants tag count ≡ false → HasHead state stream (Some (get_or stream 0 0)) count
 tag_first wants expects.First stream None count h e = absurd (let clash : true ≡ false = e in cc)

@@ -2,14 +2,14 @@
 use Rattle.std.proofs.Common.{◌≡◌, ◌≢◌, ℕ, ℤ, Bool, true, false, cond, eqb, List, [], ◌∷◌, Option, Some, None, refl, sym, ap, ◌∙◌}
 use Rattle.std.proofs.lemmas.Bool.{eqb-true}
 use Rattle.pg_base.specs.declared.error.ProtocolFault.{ProtocolFault}
-use Rattle.pg_write_backend.specs.Copy.{direction_tag}
-use Rattle.pg_write_backend.specs.Message.{Message}
-use Rattle.pg_write_backend.specs.declared.message.copy.CopyDirection.{CopyDirection}
-use Rattle.pg_write_backend.specs.declared.message.copy.CopyDirection.TheVariants as directions
-use Rattle.pg_write_backend.specs.declared.message.no_body.NoBodyText.{NoBodyText}
-use Rattle.pg_write_backend.specs.declared.message.no_body.NoBodyText.TheVariants as messages
-use Rattle.pg_write_backend.specs.declared.message.ready_for_query.ReadyForQueryText.{ReadyForQueryText}
-use Rattle.pg_write_backend.specs.declared.message.ready_for_query.ReadyForQueryText.TheVariants as statuses
+use Rattle.pg_server.specs.Backend.Copy.{direction_tag}
+use Rattle.pg_server.specs.Backend.Message.{Message}
+use Rattle.pg_server.specs.declared.backend.copy.CopyDirection.{CopyDirection}
+use Rattle.pg_server.specs.declared.backend.copy.CopyDirection.TheVariants as directions
+use Rattle.pg_server.specs.declared.backend.no_body.NoBodyText.{NoBodyText}
+use Rattle.pg_server.specs.declared.backend.no_body.NoBodyText.TheVariants as messages
+use Rattle.pg_server.specs.declared.backend.ready_for_query.ReadyForQueryText.{ReadyForQueryText}
+use Rattle.pg_server.specs.declared.backend.ready_for_query.ReadyForQueryText.TheVariants as statuses
 use Rattle.pg_c.specs.Put.{IsRefused}
 use Rattle.pg_c.specs.Server.{PutsServerMessage, PutsByLetter}
 use Rattle.pg_c.specs.Server.Letters.{kind_of, no_body_tag, no_body_of, direction_of, ready_letter, ready_of}

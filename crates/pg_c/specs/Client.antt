@@ -13,9 +13,9 @@ pub mod Text
 pub mod Values
 use Rattle.std.specs.Prelude.{◌≤◌, ◌<ℤ◌, ◌⊎◌, ℕ, ℤ, pos, List, length}
 use Rattle.pg_format.specs.Format.{Format}
-use Rattle.pg_read_frontend.specs.Message.{HasFault}
-use Rattle.pg_read_frontend.specs.declared.error.FrontendFault.{FrontendFault}
-use Rattle.pg_response.specs.Received.{max_body}
+use Rattle.pg_server.specs.Frontend.Message.{HasFault}
+use Rattle.pg_server.specs.declared.frontend.error.FrontendFault.{FrontendFault}
+use Rattle.pg_format.specs.Received.{max_body}
 use Rattle.pg_c.specs.Read.{IsTooLong}
 use Rattle.pg_c.specs.Refusal.{Refuses, RefusesClient}
 use Rattle.pg_c.specs.declared.refusal.PgmsgFault.{PgmsgFault}

@@ -10,8 +10,8 @@ use Rattle.pg_base.specs.Sink.{IsGiven}
 use Rattle.pg_base.specs.declared.error.Error.{Error}
 use Rattle.pg_base.specs.declared.error.Error.TheVariants.{Protocol, OutOfMemory}
 use Rattle.pg_base.specs.declared.error.ProtocolFault.{ProtocolFault}
-use Rattle.pg_request.specs.Frame.{Law, fault, text}
-use Rattle.pg_request.specs.Message.{Message, law_of}
+use Rattle.pg_send.specs.FrontendMessage.{Law, fault, text}
+use Rattle.pg_send.specs.Message.{Message, law_of}
 use Rattle.pg_c.specs.Refusal.{fault_number, refusal_number}
 
 -- the message breaks no limit, and a reader gets it back

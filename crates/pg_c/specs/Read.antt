@@ -12,7 +12,7 @@ pub mod Status
 use Rattle.std.specs.Prelude.{◌≡◌, ◌<◌, ◌≤◌, ◌<ℤ◌, ◌⊎◌, ℕ, ℤ, pos, List, Option, Some, map, take, drop, length, Result, Ok, Err}
 use Rattle.pg_base.specs.declared.error.ProtocolFault.{ProtocolFault}
 use Rattle.pg_base.specs.declared.error.ProtocolFault.TheVariants.{BodyTooLong}
-use Rattle.pg_response.specs.Received.{max_body}
+use Rattle.pg_format.specs.Received.{max_body}
 use Rattle.pg_format.specs.Format.{Format, Means, IsFaultOf}
 use Rattle.pg_format.specs.Format.Lists.{times}
 use Rattle.pg_format.specs.Format.Places.{IsReadAt}

@@ -5,11 +5,11 @@ use Rattle.pg_base.specs.declared.error.ProtocolFault.{ProtocolFault}
 use Rattle.pg_base.specs.declared.error.ProtocolFault.TheVariants as faults
 use Rattle.pg_base.specs.declared.error.Error.{Error}
 use Rattle.pg_base.specs.declared.error.Error.TheVariants.{Protocol, OutOfMemory}
-use Rattle.pg_read_frontend.specs.Error.{fault_words}
-use Rattle.pg_read_frontend.specs.declared.error.FrontendFault.{FrontendFault}
-use Rattle.pg_read_frontend.specs.declared.error.FrontendFault.TheVariants as client
-use Rattle.pg_write_backend.specs.declared.error.BackendFault.{BackendFault}
-use Rattle.pg_write_backend.specs.declared.error.BackendFault.TheVariants as backend
+use Rattle.pg_server.specs.Frontend.Error.{fault_words}
+use Rattle.pg_server.specs.declared.frontend.error.FrontendFault.{FrontendFault}
+use Rattle.pg_server.specs.declared.frontend.error.FrontendFault.TheVariants as client
+use Rattle.pg_server.specs.declared.backend.error.BackendFault.{BackendFault}
+use Rattle.pg_server.specs.declared.backend.error.BackendFault.TheVariants as backend
 use Rattle.pg_c.specs.declared.refusal.PgmsgFault.{PgmsgFault}
 
 -- the number of any message or value that is too long

@@ -2,8 +2,8 @@
 pub mod Passage
 pub mod Refusal
 use Rattle.std.specs.Prelude.{Bool, true, false}
-use Rattle.pg_frontend_frames.specs.declared.frame.Expects.{Expects}
-use Rattle.pg_frontend_frames.specs.declared.frame.Expects.TheVariants.{First, Tagged}
+use Rattle.pg_frames.specs.declared.frontend.frame.Expects.{Expects}
+use Rattle.pg_frames.specs.declared.frontend.frame.Expects.TheVariants.{First, Tagged}
 
 -- which message comes next, by whether it is a first one
 abbrev pub expected : Bool → Expects

@@ -4,9 +4,9 @@ pub mod Letters
 pub mod Lists
 use Rattle.std.specs.Prelude.{◌≡◌, ◌≢◌, ◌≤◌, ℕ, ℤ, pos, List, length, Result, Ok, Err, IfOk}
 use Rattle.pg_base.specs.declared.error.ProtocolFault.{ProtocolFault}
-use Rattle.pg_write_backend.specs.Frame.{IsWritten}
-use Rattle.pg_write_backend.specs.Message.{Message, law_of, IsRead}
-use Rattle.pg_write_backend.specs.declared.error.BackendFault.{BackendFault}
+use Rattle.pg_server.specs.Backend.BackendText.{IsWritten}
+use Rattle.pg_server.specs.Backend.Message.{Message, law_of, IsRead}
+use Rattle.pg_server.specs.declared.backend.error.BackendFault.{BackendFault}
 use Rattle.pg_c.specs.Put.{IsRefused}
 use Rattle.pg_c.specs.Refusal.{backend_number}
 

@@ -5,8 +5,8 @@ ghost use Rattle.pg_c.specs.Refusal.{fault_number, refusal_number, fault_place, 
 ghost use Rattle.pg_c.specs.Refusal.{backend_number, client_number, client_place, IsClientReport};
 
 use pg_base::{Error, ProtocolFault};
-use pg_read_frontend::FrontendFault;
-use pg_write_backend::BackendFault;
+use pg_server::backend::BackendFault;
+use pg_server::frontend::FrontendFault;
 use std::alloc::{AllocError, Global};
 
 /// No memory was there. No call of this library returns it.

@@ -1,2 +1,4 @@
+pub mod EndedTextsLemmas
 pub mod ExamplesLemmas
 pub mod FormatLaws
+pub mod TextLemmas

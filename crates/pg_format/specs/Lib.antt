@@ -1,6 +1,9 @@
+pub mod EndedTexts
 pub mod Format
 pub mod Keyed
+pub mod Lawful
 pub mod Messages
 pub mod Notices
+pub mod Received
 pub mod Sasl
 pub mod Tables

@@ -7,7 +7,7 @@ use Rattle.pg_base.specs.declared.error.ProtocolFault.{ProtocolFault}
 use Rattle.pg_base.specs.Format.{backend_tag, IsBackendTag}
 use Rattle.pg_base.proofs.CuttingLemmas.{one_first}
 use Rattle.std.specs.Borrow.{Bor}
-use Rattle.pg_response.specs.declared.message.received.ReceivedMessage.{ReceivedMessage}
+use Rattle.pg_format.specs.declared.received.ReceivedMessage.{ReceivedMessage}
 use Rattle.pg_frames.specs.declared.pieces.StreamEnd.{StreamEnd}
 use Rattle.pg_frames.specs.declared.pieces.StreamEnd.TheVariants.{Rest, Fault}
 use Rattle.pg_frames.specs.Pieces.{joined, tags_and_bodies, IsEnd, IsRead}

@@ -8,7 +8,7 @@ use Rattle.pg_base.specs.Format.{backend_tag}
 use Rattle.pg_base.specs.declared.error.Error.{Error}
 use Rattle.pg_base.specs.declared.error.Error.TheVariants.{Protocol, OutOfMemory}
 use Rattle.pg_base.specs.declared.error.ProtocolFault.{ProtocolFault}
-use Rattle.pg_response.specs.declared.message.received.ReceivedMessage.{ReceivedMessage}
+use Rattle.pg_format.specs.declared.received.ReceivedMessage.{ReceivedMessage}
 use Rattle.pg_frames.specs.declared.frame.Frame.{Frame}
 use Rattle.pg_frames.specs.Stream.{Whole, WantsMore, IsStreamFault, IsReaderError}
 use Rattle.pg_frames.proofs.StreamLemmas.{whole_wants_none, fault_not_whole, fault_wants_none, one_fault, known_whole}

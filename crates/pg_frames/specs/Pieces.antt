@@ -2,7 +2,7 @@
 use Rattle.std.specs.Prelude.{◌≡◌, ℕ, List, [], ◌∷◌, ◌++◌, length, map}
 use Rattle.std.specs.Borrow.{Bor}
 use Rattle.pg_base.specs.Format.{backend_tag}
-use Rattle.pg_response.specs.declared.message.received.ReceivedMessage.{ReceivedMessage}
+use Rattle.pg_format.specs.declared.received.ReceivedMessage.{ReceivedMessage}
 use Rattle.pg_frames.specs.Stream.{Stream, WantsMore, IsStreamFault}
 use Rattle.pg_frames.specs.declared.pieces.StreamEnd.{StreamEnd}
 use Rattle.pg_frames.specs.declared.pieces.StreamEnd.TheVariants.{Rest, Fault}

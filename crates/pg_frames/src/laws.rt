@@ -14,7 +14,7 @@ ghost use Rattle.pg_frames.specs.Stream.{Stream, Whole, WantsMore, IsStreamFault
 
 use crate::frame::Frame;
 use crate::pieces::StreamEnd;
-use pg_response::message::BackendMessage;
+use pg_format::BackendMessage;
 use std::alloc::AllocError;
 
 /// A stream is one list of messages and one rest that isn't whole. So it is read into one list with
@@ -42,7 +42,7 @@ pub fn a_fault_stays()
 {}
 
 /// However a stream was cut, its messages of one kind mean the same values, in order; and what
-/// [`ReceivedMessage::decode`](pg_response::message::ReceivedMessage::decode) answers for them agrees
+/// [`ReceivedMessage::decode`](pg_format::ReceivedMessage::decode) answers for them agrees
 /// place by place, memory aside.
 pub fn values_are_those_of_the_stream<T: BackendMessage>()
     ensures values { (bytes : List ℕ) (xs ys : List (ℕ × List ℕ)) (d e : StreamEnd) (vs ws : List T.Shown) → IsRead bytes xs d → IsRead bytes ys e → EachHas (Means T.format) (bodies_of (backend_tag T.FORMAT) xs) vs → EachHas (Means T.format) (bodies_of (backend_tag T.FORMAT) ys) ws → vs ≡ ws }

@@ -1,11 +1,14 @@
-//! The messages of a stream from a PostgreSQL server, however its bytes come in.
+//! The messages of a stream, however its bytes come in: of a server's stream here, of a client's in
+//! [`frontend`]; and the core of a proxy between the two in [`relay`].
 #![tactic(auto)]
 
 mod frame;
+pub mod frontend;
 pub mod laws;
 mod pieces;
 mod raw_frame;
 mod reader;
+pub mod relay;
 
 pub use frame::{Frame, next_frame};
 pub use pieces::{StreamEnd, read_pieces};

@@ -7,7 +7,7 @@ ghost use Rattle.pg_frames.specs.Stream.{Stream, WantsMore, IsStreamFault};
 
 use crate::reader::FrameReader;
 use pg_base::{Error, ProtocolFault};
-use pg_response::message::ReceivedMessage;
+use pg_format::ReceivedMessage;
 use std::alloc::Global;
 
 /// Why a stream gives no more messages.

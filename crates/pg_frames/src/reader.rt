@@ -10,7 +10,7 @@ ghost use Rattle.pg_frames.specs.Stream.{Whole, WantsMore, IsStreamFault, IsRead
 use crate::frame::{Frame, next_frame};
 use bytes::{Bytes, BytesMut};
 use pg_base::Error;
-use pg_response::message::ReceivedMessage;
+use pg_format::ReceivedMessage;
 use std::alloc::{AllocError, Global};
 use std::marker::Model;
 

@@ -2,7 +2,7 @@
 //! server reports.
 
 pub use pg_base::{Error, ErrorKind, ProtocolFault};
-pub use pg_frontend_frames::FrontendError;
-pub use pg_read_frontend::FrontendFault;
-pub use pg_receive::error::{PgDatabaseError, PgErrorPosition, error_codes};
+pub use pg_frames::frontend::FrontendError;
+pub use pg_receive::database_error::{PgDatabaseError, PgErrorPosition, error_codes};
 pub use pg_receive::message::PgSeverity;
+pub use pg_server::frontend::FrontendFault;

@@ -2,13 +2,12 @@
 //! [`FirstMessageRef::read`], any other by [`FrontendMessageRef::read`]; both out of a stream by
 //! [`FrontendFrameReader`].
 
-pub use pg_frontend_frames::{
+pub use pg_frames::frontend::{
     ClientMessage, ClientMessageKind, ClientMessageRef, ClientStreamEnd, Expects, FrontendFrame,
     FrontendFrameReader, MAX_FIRST_LENGTH, after_first, next_frontend_frame, read_client_pieces,
 };
-pub use pg_read_frontend::message::{
+pub use pg_server::frontend::{
     BindRef, CancelRequestRef, ExecuteRef, FirstMessageRef, FormatCodes, FrontendMessageRef,
     FunctionCallRef, ParameterTypes, ParseRef, SaslInitialRef, Settings, Target, TargetRef, Values,
-    format_of, read_empty, read_text, utf8_text,
+    format_of, parts, read_empty, read_text, utf8_text,
 };
-pub use pg_read_frontend::parts;

@@ -5,8 +5,8 @@ use Rattle.std.specs.Str.{is_utf8}
 use Rattle.pg_base.specs.Reading.{HoldsNo, Text}
 use Rattle.pg_receive.specs.Authentication.Mechanisms.{is_name, name_of, mechanisms_in, BeginsWithName, AreMechanisms, raw_name_of, raw_mechanisms_in}
 use Rattle.pg_receive.specs.Layout.{name}
-use Rattle.pg_response.specs.EndedTexts.{AreInOrder}
-use Rattle.pg_response.proofs.EndedTextsLemmas.{IsMeaning, meanings_clean, meanings_none, meanings_begin, meanings_are, only_meanings, half_as_many}
+use Rattle.pg_format.specs.EndedTexts.{AreInOrder}
+use Rattle.pg_format.proofs.EndedTextsLemmas.{IsMeaning, meanings_clean, meanings_none, meanings_begin, meanings_are, only_meanings, half_as_many}
 
 name_passes : (name : List ℕ) → name ≢ [] → is_utf8 name ≡ true → is_name name ≡ true
 name_passes [] nonempty utf8 = absurd (nonempty refl)

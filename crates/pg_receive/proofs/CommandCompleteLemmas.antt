@@ -7,9 +7,9 @@ use Rattle.pg_base.specs.Reading.{HoldsNo}
 use Rattle.pg_base.specs.Atoi.{Atoi}
 use Rattle.pg_base.proofs.ReadingLemmas.{holds_no, no_part}
 use Rattle.pg_receive.specs.CommandComplete.{max_rows, space, after_last, row_count, AfterLastSpace, IsRowsAffected}
-use Rattle.pg_response.specs.Decimal.{leading_decimal}
-use Rattle.pg_response.proofs.DecimalLemmas.{number_is, number_is_there}
-use Rattle.pg_response.proofs.TextLemmas.{around, nowhere_holds_no}
+use Rattle.pg_receive.specs.Decimal.{leading_decimal}
+use Rattle.pg_receive.proofs.DecimalLemmas.{number_is, number_is_there}
+use Rattle.pg_format.proofs.TextLemmas.{around, nowhere_holds_no}
 
 one_tail : (front other x y : List ℕ) → HoldsNo 32 x → HoldsNo 32 y → front ++ 32 ∷ x ≡ other ++ 32 ∷ y → x ≡ y
 one_tail [] [] x y p q e = cc

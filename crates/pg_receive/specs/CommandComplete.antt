@@ -7,7 +7,7 @@ use Rattle.pg_base.specs.Atoi.{Atoi}
 use Rattle.pg_format.specs.Format.{Format}
 use Rattle.pg_format.specs.Format.Ends.{loosely}
 use Rattle.pg_format.specs.Format.Parts.{until_nul}
-use Rattle.pg_response.specs.Decimal.{leading_decimal}
+use Rattle.pg_receive.specs.Decimal.{leading_decimal}
 
 -- the text of a tag, which the first NUL of the body ends
 abbrev pub tag_text : Format (List ℕ)

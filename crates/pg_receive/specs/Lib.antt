@@ -4,8 +4,13 @@ pub mod CommandComplete
 pub mod Copy
 pub mod CountedItems
 pub mod DataRow
+pub mod DatabaseError
+pub mod Decimal
 pub mod Layout
 pub mod ParameterDescription
 pub mod ParameterStatus
 pub mod ReadyForQuery
+pub mod Response
 pub mod RowDescription
+pub mod ServerMessage
+pub mod ServerMessageRef

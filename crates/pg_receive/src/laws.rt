@@ -1,5 +1,6 @@
 //! Laws of what is received. Each is a function whose contract is the law; most have an empty body.
 
+pub mod response;
 mod values;
 
 ghost use Rattle.std.specs.Prelude.{◌≡◌, ℕ, ◌+◌, ◌*◌, ◌≤◌, List, ◌∷◌, ◌++◌, Option, Some, length};

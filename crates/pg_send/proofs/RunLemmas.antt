@@ -10,15 +10,15 @@ use Rattle.pg_base.proofs.CuttingLemmas.{cut_frame, is_cut_into}
 use Rattle.pg_base.specs.Encode.{IsAnswer}
 use Rattle.pg_format.specs.Format.{AreBytes, Means}
 use Rattle.pg_format.proofs.FormatLaws.Parts.{are_bytes_before, are_bytes_after}
-use Rattle.pg_request.specs.Frame.{EncodesMessage}
-use Rattle.pg_request.specs.Message.{Message, law_of, tag, body, hint, fault, text, IsInRange, CanRoundTrip, RoundTrips}
-use Rattle.pg_request.specs.Page.{line, Meant}
-use Rattle.pg_request.proofs.PageLemmas.{means}
+use Rattle.pg_send.specs.FrontendMessage.{EncodesMessage}
+use Rattle.pg_send.specs.Message.{Message, law_of, tag, body, hint, fault, text, IsInRange, CanRoundTrip, RoundTrips}
+use Rattle.pg_send.specs.Page.{line, Meant}
+use Rattle.pg_send.proofs.PageLemmas.{means}
 use Rattle.pg_send.specs.Run.{IsAnswerOf, IsStrictAnswer, EachRoundTrips, Answer, added, added_by, accepted, run_room, EncodesOne, EncodesRun, AreAnswers, AllRoundTrip, NoneRanOut, RanOutWhereShort, IsMeantByTag, IsMeantIfItCan, AreFrames, AreReadByTag}
 use Rattle.pg_send.specs.declared.message.tagged.TaggedMessage.{TaggedMessage}
 use Rattle.pg_send.specs.TaggedMessage.{message_of, messages_of}
-use Rattle.pg_request.proofs.FrameLemmas.{len_fits, accepted_fits}
-use Rattle.pg_request.proofs.MessageLemmas.{hint_covers, round_trips_if_ok}
+use Rattle.pg_send.proofs.FrontendMessageLemmas.{len_fits, accepted_fits}
+use Rattle.pg_send.proofs.MessageLemmas.{hint_covers, round_trips_if_ok}
 
 -- memory ran out for a message only where there was less room than its hint and five
 abbrev pub RanOutIfShort : ℕ → ℕ → Message → Answer → Type 0

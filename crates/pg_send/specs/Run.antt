@@ -5,10 +5,10 @@ use Rattle.pg_base.specs.declared.error.Error.TheVariants.{Protocol, OutOfMemory
 use Rattle.std.specs.declared.alloc.Global.{Global}
 use Rattle.pg_base.specs.Cutting.{IsCutInto}
 use Rattle.pg_base.specs.Encode.{IsAnswer}
-use Rattle.pg_request.specs.Frame as law
-use Rattle.pg_request.specs.Message.{Message, law_of, tag, body, hint, fault, text, CanRoundTrip, RoundTrips}
+use Rattle.pg_send.specs.FrontendMessage as law
+use Rattle.pg_send.specs.Message.{Message, law_of, tag, body, hint, fault, text, CanRoundTrip, RoundTrips}
 use Rattle.pg_format.specs.Format.{Means}
-use Rattle.pg_request.specs.Page.{line, Meant}
+use Rattle.pg_send.specs.Page.{line, Meant}
 
 abbrev pub Answer : Type 0
 Answer = Result (Unit {0}) Error

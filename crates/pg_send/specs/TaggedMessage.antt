@@ -2,21 +2,21 @@
 use Rattle.std.specs.Prelude.{List, map, string_bytes}
 use Rattle.pg_send.specs.declared.message.tagged.TaggedMessage.{TaggedMessage}
 use Rattle.pg_send.specs.declared.message.tagged.TaggedMessage.TheVariants as tagged
-use Rattle.pg_request.specs.Bind.{bind_fields}
-use Rattle.pg_request.specs.Close.{close_target}
-use Rattle.pg_request.specs.Describe.{describe_target}
-use Rattle.pg_request.specs.Execute.{execute_fields}
-use Rattle.pg_request.specs.FunctionCall.{function_call_fields}
-use Rattle.pg_request.specs.Message as message
-use Rattle.pg_request.specs.Message.{Message, password_message}
-use Rattle.pg_request.specs.Parse.{parse_fields}
-use Rattle.pg_request.specs.RawBind.{raw_bind_fields}
-use Rattle.pg_request.specs.RawClose.{raw_close_target}
-use Rattle.pg_request.specs.RawDescribe.{raw_describe_target}
-use Rattle.pg_request.specs.RawExecute.{raw_execute_fields}
-use Rattle.pg_request.specs.RawParse.{raw_parse_fields}
-use Rattle.pg_request.specs.SaslInitial.{any_sasl_fields}
-use Rattle.pg_request.specs.SaslInitialResponse.{sasl_initial_fields}
+use Rattle.pg_send.specs.Bind.{bind_fields}
+use Rattle.pg_send.specs.Close.{close_target}
+use Rattle.pg_send.specs.Describe.{describe_target}
+use Rattle.pg_send.specs.Execute.{execute_fields}
+use Rattle.pg_send.specs.FunctionCall.{function_call_fields}
+use Rattle.pg_send.specs.Message as message
+use Rattle.pg_send.specs.Message.{Message, password_message}
+use Rattle.pg_send.specs.Parse.{parse_fields}
+use Rattle.pg_send.specs.RawBind.{raw_bind_fields}
+use Rattle.pg_send.specs.RawClose.{raw_close_target}
+use Rattle.pg_send.specs.RawDescribe.{raw_describe_target}
+use Rattle.pg_send.specs.RawExecute.{raw_execute_fields}
+use Rattle.pg_send.specs.RawParse.{raw_parse_fields}
+use Rattle.pg_send.specs.SaslInitial.{any_sasl_fields}
+use Rattle.pg_send.specs.SaslInitialResponse.{sasl_initial_fields}
 
 abbrev pub message_of : TaggedMessage → Message
 message_of (tagged.Bind bind) = message.Bind (bind_fields bind)

@@ -1,12 +1,12 @@
 -- A message that is taken from a stream leaves fewer bytes of it.
 use Rattle.std.proofs.Common.{ℕ, ◌<◌, List, ◌++◌, length, ap, arith, length-append}
-use Rattle.pg_frontend_frames.specs.declared.frame.Expects.{Expects}
-use Rattle.pg_frontend_frames.specs.declared.frame.Expects.TheVariants as expects
-use Rattle.pg_frontend_frames.specs.declared.message.ClientMessage.{ClientMessage}
-use Rattle.pg_frontend_frames.specs.declared.message.ClientMessageKind.{ClientMessageKind}
-use Rattle.pg_frontend_frames.specs.declared.message.ClientMessageKind.TheVariants as kinds
-use Rattle.pg_frontend_frames.specs.Frame.{BeginsWith}
-use Rattle.pg_frontend_frames.specs.Reader.{Reading, Takes}
+use Rattle.pg_frames.specs.declared.frontend.frame.Expects.{Expects}
+use Rattle.pg_frames.specs.declared.frontend.frame.Expects.TheVariants as expects
+use Rattle.pg_frames.specs.declared.frontend.message.ClientMessage.{ClientMessage}
+use Rattle.pg_frames.specs.declared.frontend.message.ClientMessageKind.{ClientMessageKind}
+use Rattle.pg_frames.specs.declared.frontend.message.ClientMessageKind.TheVariants as kinds
+use Rattle.pg_frames.specs.Frontend.Frame.{BeginsWith}
+use Rattle.pg_frames.specs.Frontend.Reader.{Reading, Takes}
 
 rest_is_shorter : (limit : ℕ) (state : Expects) (bytes : List ℕ) (kind : ClientMessageKind) (body rest : List ℕ) (next : Expects) → BeginsWith limit state bytes kind body rest next → length rest < length bytes
 rest_is_shorter limit expects.First bytes kinds.First body rest next p =

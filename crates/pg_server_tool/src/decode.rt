@@ -1,10 +1,9 @@
 //! Lines that hold a body from a client, and what each reads as.
 
 use crate::message::push_line;
-use pg_frontend_frames::ClientMessageRef;
+use pg_frames::frontend::ClientMessageRef;
 use pg_lines::{Fault, Lines, TaggedBody, hex_bytes, tagged_body};
-use pg_read_frontend::FrontendFault;
-use pg_read_frontend::message::{FirstMessageRef, FrontendMessageRef};
+use pg_server::frontend::{FirstMessageRef, FrontendFault, FrontendMessageRef};
 use std::alloc::Global;
 
 /// The word in place of a tag on the line of a first message.

@@ -3,7 +3,7 @@
 use crate::frame::push_frame;
 use crate::reply_line::reply_of;
 use pg_lines::{Fault, Lines, push_frames};
-use pg_write_backend::BackendError;
+use pg_server::backend::BackendError;
 use std::alloc::{AllocError, Global};
 
 /// The answers to the messages that the lines name, a line each, and then their frames.

@@ -1,9 +1,8 @@
 //! The frame that a message becomes.
 
 use crate::reply::{Column, Field, Negotiation, Notice, Reply, Request};
-use pg_write_backend::BackendError;
-use pg_write_backend::message::{
-    AuthenticationText, ColumnText, CommandCompleteText, CopyDataText, DataRowText,
+use pg_server::backend::{
+    AuthenticationText, BackendError, ColumnText, CommandCompleteText, CopyDataText, DataRowText,
     FunctionCallResponseText, NegotiateProtocolVersionText, NoticeFieldText, NoticeText,
     ParameterDescriptionText, RowDescriptionText, encode,
 };

@@ -1,12 +1,11 @@
 //! The words of a message: its name and its fields in the order of its body.
 
 use crate::word::{Setting, Value, push_list};
-use pg_frontend_frames::ClientMessageRef;
+use pg_frames::frontend::ClientMessageRef;
 use pg_lines::Hex;
-use pg_read_frontend::FrontendFault;
-use pg_read_frontend::message::{
-    BindRef, CancelRequestRef, FirstMessageRef, FormatCodes, FrontendMessageRef, FunctionCallRef,
-    ParseRef, Settings, Target, TargetRef, Values,
+use pg_server::frontend::{
+    BindRef, CancelRequestRef, FirstMessageRef, FormatCodes, FrontendFault, FrontendMessageRef,
+    FunctionCallRef, ParseRef, Settings, Target, TargetRef, Values,
 };
 use std::alloc::AllocError;
 

@@ -1,7 +1,7 @@
 //! A message to a client with all that it borrows, as a line of `encode` names it.
 
 use pg_base::io::Oid;
-use pg_write_backend::message::{
+use pg_server::backend::{
     BackendKeyDataText, ColumnText, CopyDirection, CopyResponseText, NoBodyText, NoticeFieldText,
     NoticeKind, NotificationText, ParameterStatusText, ReadyForQueryText,
 };

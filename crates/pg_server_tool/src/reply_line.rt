@@ -6,7 +6,7 @@ use crate::reply::{
 };
 use crate::spelling::{Parts, Spelled, Word};
 use pg_lines::{Fault, hex_array};
-use pg_write_backend::message::{CopyDirection, NoBodyText, NoticeKind, ReadyForQueryText};
+use pg_server::backend::{CopyDirection, NoBodyText, NoticeKind, ReadyForQueryText};
 use std::alloc::Global;
 
 /// The message that a line spells. A line that fits no form has the fault `bad`.

@@ -1,9 +1,9 @@
 //! Raw bytes from a client, and a line for each message as soon as it is whole.
 
 use crate::message::push_line;
-use pg_frontend_frames::{ClientMessageRef, FrontendError, FrontendFrameReader, MAX_FIRST_LENGTH};
+use pg_frames::frontend::{ClientMessageRef, FrontendError, FrontendFrameReader, MAX_FIRST_LENGTH};
 use pg_lines::{Fault, write_text};
-use pg_read_frontend::FrontendFault;
+use pg_server::frontend::FrontendFault;
 use std::alloc::{AllocError, Global};
 use std::io::{self, Read, Write};
 

@@ -3,8 +3,7 @@
 use bytes::Bytes;
 use pg_base::{BackendMessageFormat, Error};
 use pg_lines::{Fault, TaggedBodies, TaggedBody};
-use pg_receive::message::ReceivedMessage;
-use pg_server_message::message::ServerMessage;
+use pg_receive::message::{ReceivedMessage, ServerMessage};
 use std::alloc::{AllocError, Global};
 
 /// A line for each line of input: the name of the message and `ok` or `untyped`, or the error.

@@ -1,9 +1,12 @@
 //! Writes and reads PostgreSQL messages that are given as lines of text, and finds them in a stream.
 #![tactic(auto)]
 
+mod command;
 mod decode;
+mod encode;
 mod run;
 mod stream;
+mod word;
 
 use pg_lines::Fault;
 use std::env;

@@ -1,8 +1,8 @@
 //! A run of the program over any input and output.
 
 use crate::decode::decode;
+use crate::encode::encode;
 use crate::stream::stream;
-use pg_commands::encode::encode;
 use pg_lines::{Fault, read_all, write_text};
 use std::alloc::Global;
 use std::io::{Read, Write};

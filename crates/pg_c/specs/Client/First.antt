@@ -1,8 +1,8 @@
 -- A first message as a C program reads it.
 use Rattle.std.specs.Prelude.{◌≡◌, ℕ, List, Some, Ok, drop}
-use Rattle.pg_read_frontend.specs.FirstMessageRef as frontend
-use Rattle.pg_read_frontend.specs.declared.message.first_message_ref.FirstMessageRef.{FirstMessageRef}
-use Rattle.pg_read_frontend.specs.declared.message.first_message_ref.FirstMessageRef.TheVariants as messages
+use Rattle.pg_server.specs.Frontend.FirstMessageRef as frontend
+use Rattle.pg_server.specs.declared.frontend.first_message_ref.FirstMessageRef.{FirstMessageRef}
+use Rattle.pg_server.specs.declared.frontend.first_message_ref.FirstMessageRef.TheVariants as messages
 use Rattle.pg_c.specs.Place.{part}
 use Rattle.pg_c.specs.declared.client.first.PgmsgFirst.{PgmsgFirst}
 use Rattle.pg_c.specs.declared.place.PgmsgSpan.{PgmsgSpan}

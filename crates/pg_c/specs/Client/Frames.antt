@@ -4,7 +4,7 @@ use Rattle.pg_base.specs.Cutting.{Begins}
 use Rattle.pg_base.specs.Format.{frontend_tag}
 use Rattle.pg_base.specs.declared.format.FrontendMessageFormat.{FrontendMessageFormat}
 use Rattle.pg_frames.specs.Stream.{Announces}
-use Rattle.pg_frontend_frames.specs.Frame.{AnnouncesFirst, StandsFirst}
+use Rattle.pg_frames.specs.Frontend.Frame.{AnnouncesFirst, StandsFirst}
 use Rattle.pg_c.specs.Place.{part}
 use Rattle.pg_c.specs.Read.Frame.{NeedsHeader}
 use Rattle.pg_c.specs.declared.read.frame.PgmsgFrame.{PgmsgFrame}

@@ -1,7 +1,7 @@
 -- A Bind with the caller's arrays, as a message.
 use Rattle.std.specs.Prelude.{ℕ, List, map, length}
 use Rattle.pg_format.specs.Messages as page
-use Rattle.pg_request.specs.Bind.{BindFields}
+use Rattle.pg_send.specs.Bind.{BindFields}
 use Rattle.pg_c.specs.declared.put.prepared.PgmsgValue.{PgmsgValue}
 use Rattle.pg_c.specs.Put.Lists.{format_of, value_of, values_spelled}
 

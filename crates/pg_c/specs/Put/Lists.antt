@@ -4,7 +4,7 @@ use Rattle.std.specs.List.{flat_map, list_all}
 use Rattle.pg_base.specs.Cutting.{max_length}
 use Rattle.pg_base.specs.Numbers.{max_count}
 use Rattle.pg_base.specs.declared.error.ProtocolFault.TheVariants.{BadParams}
-use Rattle.pg_request.specs.Values.{value_text}
+use Rattle.pg_send.specs.Values.{value_text}
 use Rattle.pg_c.specs.Refusal.{fault_number, too_long_number}
 use Rattle.pg_c.specs.declared.put.prepared.PgmsgValue.{PgmsgValue}
 

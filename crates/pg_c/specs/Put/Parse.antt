@@ -1,6 +1,6 @@
 -- A Parse with the caller's arrays, as a message.
 use Rattle.pg_format.specs.Messages as page
-use Rattle.pg_request.specs.Parse.{ParseFields}
+use Rattle.pg_send.specs.Parse.{ParseFields}
 use Rattle.pg_c.specs.declared.put.parse.Parse.{Parse}
 use Rattle.pg_c.specs.declared.put.parse.RawParse.{RawParse}
 

@@ -1,8 +1,8 @@
 -- What a call for a prepared statement puts, and where the values of a Bind are refused.
 use Rattle.std.specs.Prelude.{◌≡◌, ℕ, ℤ, List, [], ◌∷◌, MatchOption}
-use Rattle.pg_request.specs.Bind.{BindFields}
-use Rattle.pg_request.specs.Message.{Message, Parse, Bind, Describe, Execute, Sync}
-use Rattle.pg_request.specs.Target.{Portal}
+use Rattle.pg_send.specs.Bind.{BindFields}
+use Rattle.pg_send.specs.Message.{Message, Parse, Bind, Describe, Execute, Sync}
+use Rattle.pg_send.specs.Target.{Portal}
 use Rattle.pg_c.specs.declared.put.prepared.PgmsgValue.{PgmsgValue}
 use Rattle.pg_c.specs.Put.Lists.{values_refusal}
 

@@ -1,9 +1,9 @@
 -- What the place of a field says of the body: nothing where its value isn't in it.
 use Rattle.std.specs.Prelude.{◌≡◌, ℕ, ℤ, pos, List, Option, option_map}
 use Rattle.pg_format.specs.Notices.{Field}
-use Rattle.pg_response.specs.Response.Severity.{severity_number}
+use Rattle.pg_receive.specs.Response.Severity.{severity_number}
 use Rattle.pg_format.specs.Format.{Means}
-use Rattle.pg_response.specs.Response.{NoticeValue, notices}
+use Rattle.pg_receive.specs.Response.{NoticeValue, notices}
 use Rattle.pg_c.specs.Place.{part}
 use Rattle.pg_c.specs.declared.read.fields.PgmsgField.{PgmsgField}
 

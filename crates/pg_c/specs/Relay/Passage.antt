@@ -1,7 +1,7 @@
 -- What is at the front of a stream that is passed on, as C has it.
 use Rattle.std.specs.Prelude.{◌≡◌, ◌==◌, ◌<◌, ℕ, Bool, not, List, Option, None, Some, get_or}
-use Rattle.pg_relay.specs.Frame.{HasHead}
-use Rattle.pg_relay.specs.Passage.{PassesWhole, PassesPart}
+use Rattle.pg_frames.specs.Relay.Head.{HasHead}
+use Rattle.pg_frames.specs.Relay.Passage.{PassesWhole, PassesPart}
 use Rattle.pg_c.specs.Relay.{expected}
 use Rattle.pg_c.specs.declared.relay.passage.PgmsgPassage.{PgmsgPassage}
 use Rattle.pg_c.specs.declared.relay.passage.PgmsgRelay.{PgmsgRelay}

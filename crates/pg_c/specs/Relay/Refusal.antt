@@ -1,8 +1,8 @@
 -- Why a stream isn't passed on, as a number and in words.
 use Rattle.std.specs.Prelude.{ℤ, negsuc}
-use Rattle.pg_relay.specs.Error.{error_words}
-use Rattle.pg_relay.specs.declared.error.RelayError.{RelayError}
-use Rattle.pg_relay.specs.declared.error.RelayError.TheVariants.{BadLength, TooLong, NotFrames, OutOfMemory}
+use Rattle.pg_frames.specs.Relay.Error.{error_words}
+use Rattle.pg_frames.specs.declared.relay.error.RelayError.{RelayError}
+use Rattle.pg_frames.specs.declared.relay.error.RelayError.TheVariants.{BadLength, TooLong, NotFrames, OutOfMemory}
 use Rattle.pg_c.specs.Refusal.{IsReportOf}
 use Rattle.pg_c.specs.declared.refusal.PgmsgFault.{PgmsgFault}
 

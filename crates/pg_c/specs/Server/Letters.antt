@@ -2,15 +2,15 @@
 use Rattle.std.specs.Prelude.{ℕ, ◌==◌, List, [], ◌∷◌, Option, Some, None, if◌then◌else◌}
 use Rattle.pg_base.specs.Format.{backend_tag}
 use Rattle.pg_format.specs.Tables.{status_letter}
-use Rattle.pg_write_backend.specs.Copy.{direction_tag}
-use Rattle.pg_write_backend.specs.NoBody.{no_body_kind}
-use Rattle.pg_write_backend.specs.ReadyForQuery.{status_of}
-use Rattle.pg_write_backend.specs.declared.message.copy.CopyDirection.{CopyDirection}
-use Rattle.pg_write_backend.specs.declared.message.copy.CopyDirection.TheVariants as directions
-use Rattle.pg_write_backend.specs.declared.message.no_body.NoBodyText.{NoBodyText}
-use Rattle.pg_write_backend.specs.declared.message.no_body.NoBodyText.TheVariants as messages
-use Rattle.pg_write_backend.specs.declared.message.ready_for_query.ReadyForQueryText.{ReadyForQueryText}
-use Rattle.pg_write_backend.specs.declared.message.ready_for_query.ReadyForQueryText.TheVariants as statuses
+use Rattle.pg_server.specs.Backend.Copy.{direction_tag}
+use Rattle.pg_server.specs.Backend.NoBody.{no_body_kind}
+use Rattle.pg_server.specs.Backend.ReadyForQuery.{status_of}
+use Rattle.pg_server.specs.declared.backend.copy.CopyDirection.{CopyDirection}
+use Rattle.pg_server.specs.declared.backend.copy.CopyDirection.TheVariants as directions
+use Rattle.pg_server.specs.declared.backend.no_body.NoBodyText.{NoBodyText}
+use Rattle.pg_server.specs.declared.backend.no_body.NoBodyText.TheVariants as messages
+use Rattle.pg_server.specs.declared.backend.ready_for_query.ReadyForQueryText.{ReadyForQueryText}
+use Rattle.pg_server.specs.declared.backend.ready_for_query.ReadyForQueryText.TheVariants as statuses
 
 -- the first of some kinds that has the letter
 abbrev pub kind_of : {K : Type 0} → (K → ℕ) → List K → ℕ → Option K

@@ -3,10 +3,10 @@ use Rattle.std.specs.Prelude.{ℕ, List, Option, Some, None, if◌then◌else◌
 use Rattle.std.specs.Borrow.{Bor}
 use Rattle.pg_format.specs.Messages as page
 use Rattle.pg_format.specs.Notices.{Field}
-use Rattle.pg_write_backend.specs.Notice as notice
-use Rattle.pg_write_backend.specs.RowDescription as description
-use Rattle.pg_write_backend.specs.declared.message.notice.NoticeFieldText.{NoticeFieldText}
-use Rattle.pg_write_backend.specs.declared.message.row_description.ColumnText.{ColumnText}
+use Rattle.pg_server.specs.Backend.Notice as notice
+use Rattle.pg_server.specs.Backend.RowDescription as description
+use Rattle.pg_server.specs.declared.backend.notice.NoticeFieldText.{NoticeFieldText}
+use Rattle.pg_server.specs.declared.backend.row_description.ColumnText.{ColumnText}
 use Rattle.pg_c.specs.declared.put.prepared.PgmsgValue.{PgmsgValue}
 use Rattle.pg_c.specs.declared.server.authentication.PgmsgBytes.{PgmsgBytes}
 use Rattle.pg_c.specs.declared.server.notices.PgmsgFieldText.{PgmsgFieldText}

@@ -2,8 +2,8 @@
 
 ghost use Rattle.std.specs.Prelude.{◌≡◌, ◌≤◌, ◌<ℤ◌, ◌≤ℤ◌, pos, length, IfOk, IfErr};
 ghost use Rattle.pg_format.specs.Messages as page;
-ghost use Rattle.pg_read_frontend.specs.Message.{HasFault};
-ghost use Rattle.pg_response.specs.Received.{max_body};
+ghost use Rattle.pg_server.specs.Frontend.Message.{HasFault};
+ghost use Rattle.pg_format.specs.Received.{max_body};
 ghost use Rattle.pg_c.specs.Client.{RefusesClientBody};
 ghost use Rattle.pg_c.specs.Client.Bind.{ReadsBind, bind_front};
 ghost use Rattle.pg_c.specs.Client.Values.{GivesFrontAfter};
@@ -15,8 +15,8 @@ use crate::read::check_body;
 use crate::read::row::PgmsgCell;
 use crate::refusal::{PgmsgFault, report, report_client};
 use pg_base::io::MAX_BODY;
-use pg_read_frontend::FrontendFault;
-use pg_read_frontend::parts::end_at;
+use pg_server::frontend::FrontendFault;
+use pg_server::frontend::parts::end_at;
 use std::alloc::Global;
 
 /// A portal to make of a prepared statement: the names of both, empty for those without one, the format

@@ -2,8 +2,8 @@
 
 ghost use Rattle.std.specs.Prelude.{◌≡◌, ◌≤◌, ◌<ℤ◌, ◌≤ℤ◌, pos, length, IfOk, IfErr};
 ghost use Rattle.pg_format.specs.Messages as page;
-ghost use Rattle.pg_read_frontend.specs.Message.{HasFault};
-ghost use Rattle.pg_response.specs.Received.{max_body};
+ghost use Rattle.pg_server.specs.Frontend.Message.{HasFault};
+ghost use Rattle.pg_format.specs.Received.{max_body};
 ghost use Rattle.pg_c.specs.Client.{RefusesClientBody};
 ghost use Rattle.pg_c.specs.Client.Execute.{ReadsExecute};
 
@@ -12,8 +12,8 @@ use crate::place::PgmsgSpan;
 use crate::read::check_body;
 use crate::refusal::{PgmsgFault, report, report_client};
 use pg_base::io::MAX_BODY;
-use pg_read_frontend::FrontendFault;
-use pg_read_frontend::parts::{end_at, u32_at};
+use pg_server::frontend::FrontendFault;
+use pg_server::frontend::parts::{end_at, u32_at};
 use std::alloc::Global;
 
 /// A portal that is run, empty for the one without a name, and the most rows to send back: 0 for all of

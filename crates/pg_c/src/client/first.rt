@@ -1,15 +1,15 @@
 //! The first message of a connection, which has no tag.
 
 ghost use Rattle.std.specs.Prelude.{◌≡◌, ◌≤◌, ◌<ℤ◌, ◌≤ℤ◌, pos, length, Ok, Err};
-ghost use Rattle.pg_read_frontend.specs.FirstMessageRef as frontend;
-ghost use Rattle.pg_response.specs.Received.{max_body};
+ghost use Rattle.pg_server.specs.Frontend.FirstMessageRef as frontend;
+ghost use Rattle.pg_format.specs.Received.{max_body};
 ghost use Rattle.pg_c.specs.Client.{RefusesClientBodyFor};
 ghost use Rattle.pg_c.specs.Client.First.{IsGivenAs, ReadsFirst};
 
 use crate::place::PgmsgSpan;
 use crate::read::check_body;
 use crate::refusal::{PgmsgFault, report, report_client};
-use pg_read_frontend::message::FirstMessageRef;
+use pg_server::frontend::FirstMessageRef;
 use std::alloc::Global;
 
 /// A session is opened: a StartupMessage.

@@ -1,7 +1,7 @@
 //! The message at the front of a client's stream.
 
 ghost use Rattle.std.specs.Prelude.{◌≡◌, ◌<ℤ◌, ◌≤ℤ◌, ℕ, List, pos, get_or};
-ghost use Rattle.pg_frontend_frames.specs.Frame.{BeginsFirst, BeginsTagged, IsFirstFault, IsTaggedFault, WantsMoreFirst, WantsMoreTagged};
+ghost use Rattle.pg_frames.specs.Frontend.Frame.{BeginsFirst, BeginsTagged, IsFirstFault, IsTaggedFault, WantsMoreFirst, WantsMoreTagged};
 ghost use Rattle.pg_c.specs.Client.Frames.{IsWhole, IsWholeFirst, Needs, NeedsFirst};
 ghost use Rattle.pg_c.specs.Refusal.{RefusesClient};
 
@@ -9,7 +9,7 @@ use crate::place::PgmsgSpan;
 use crate::read::frame::{HEADER, PgmsgFrame, needed};
 use crate::refusal::{PgmsgFault, report_client};
 use pg_base::io::i32_at;
-use pg_frontend_frames::{Expects, FrontendFrame, next_frontend_frame};
+use pg_frames::frontend::{Expects, FrontendFrame, next_frontend_frame};
 use std::alloc::Global;
 
 // The bytes before the body of a first message: the length.

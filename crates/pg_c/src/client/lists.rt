@@ -3,15 +3,15 @@
 ghost use Rattle.std.specs.Prelude.{◌≡◌, ◌+◌, ◌*◌, ◌<◌, ◌≤◌, Some, length, IfSome, IfNone, IfOk, IfErr};
 ghost use Rattle.pg_format.specs.Format.Parts.{be_u16, be_u32};
 ghost use Rattle.pg_format.specs.Messages.{format_codes};
-ghost use Rattle.pg_read_frontend.specs.Message.{HasFault};
+ghost use Rattle.pg_server.specs.Frontend.Message.{HasFault};
 ghost use Rattle.pg_c.specs.Client.Parts.{Finds};
 ghost use Rattle.pg_c.specs.Place.{StandAt};
 ghost use Rattle.pg_c.specs.Read.{GivesItems};
 
 use crate::place::PgmsgList;
 use byteorder::{BigEndian, ByteOrder};
-use pg_read_frontend::FrontendFault;
-use pg_read_frontend::parts::{bytes_at, u16_at};
+use pg_server::frontend::FrontendFault;
+use pg_server::frontend::parts::{bytes_at, u16_at};
 
 const CODE_LENGTH: usize = 2;
 

@@ -4,8 +4,8 @@ ghost use Rattle.std.specs.Prelude.{◌≡◌, ◌≤◌, ◌<ℤ◌, ◌≤ℤ�
 ghost use Rattle.pg_format.specs.Format.Lists.{counted_least};
 ghost use Rattle.pg_format.specs.Format.Parts.{be_u32};
 ghost use Rattle.pg_format.specs.Messages as page;
-ghost use Rattle.pg_read_frontend.specs.Message.{HasFault};
-ghost use Rattle.pg_response.specs.Received.{max_body};
+ghost use Rattle.pg_server.specs.Frontend.Message.{HasFault};
+ghost use Rattle.pg_format.specs.Received.{max_body};
 ghost use Rattle.pg_c.specs.Client.{RefusesClientBody};
 ghost use Rattle.pg_c.specs.Client.Parse.{ReadsParse};
 ghost use Rattle.pg_c.specs.Client.Parts.{Finds};
@@ -16,8 +16,8 @@ use crate::place::{PgmsgList, PgmsgSpan};
 use crate::read::check_body;
 use crate::refusal::{PgmsgFault, report, report_client};
 use pg_base::io::MAX_BODY;
-use pg_read_frontend::FrontendFault;
-use pg_read_frontend::parts::{bytes_at, end_at, u16_at};
+use pg_server::frontend::FrontendFault;
+use pg_server::frontend::parts::{bytes_at, end_at, u16_at};
 use std::alloc::Global;
 
 // The bytes of a type.

@@ -2,7 +2,7 @@
 
 ghost use Rattle.std.specs.Prelude.{◌≡◌, ◌≤◌, ◌<ℤ◌, ◌≤ℤ◌, pos, length};
 ghost use Rattle.pg_format.specs.Messages as page;
-ghost use Rattle.pg_response.specs.Received.{max_body};
+ghost use Rattle.pg_format.specs.Received.{max_body};
 ghost use Rattle.pg_c.specs.Client.{RefusesClientBody};
 ghost use Rattle.pg_c.specs.Client.SaslInitial.{ReadsSaslInitial};
 
@@ -10,7 +10,7 @@ use crate::place::PgmsgSpan;
 use crate::read::check_body;
 use crate::read::row::{PgmsgCell, place_of};
 use crate::refusal::{PgmsgFault, report, report_client};
-use pg_read_frontend::message::SaslInitialRef;
+use pg_server::frontend::SaslInitialRef;
 use std::alloc::Global;
 
 /// The mechanism that a client chose, and its first message: its `len` is -1 where it sent none.

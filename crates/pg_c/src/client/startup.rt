@@ -2,13 +2,13 @@
 
 ghost use Rattle.std.specs.Prelude.{◌≡◌, [], length, drop, IfSome, IfNone};
 ghost use Rattle.pg_format.specs.Messages.{setting};
-ghost use Rattle.pg_read_frontend.specs.Settings.{settings_in};
+ghost use Rattle.pg_server.specs.Frontend.Settings.{settings_in};
 ghost use Rattle.pg_c.specs.Client.Startup.{setting_in};
 ghost use Rattle.pg_c.specs.Read.{AreGiven};
 
 use crate::place::PgmsgSpan;
 use crate::read::status::PgmsgParameterStatus;
-use pg_response::message::split_text;
+use pg_receive::message::split_text;
 
 // The bytes of the code at the front.
 const CODE_LENGTH: usize = 4;

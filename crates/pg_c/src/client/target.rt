@@ -2,15 +2,15 @@
 
 ghost use Rattle.std.specs.Prelude.{◌≡◌, ◌≤◌, ◌<ℤ◌, ◌≤ℤ◌, pos, length};
 ghost use Rattle.pg_format.specs.Messages as page;
-ghost use Rattle.pg_read_frontend.specs.Target.{shown_target};
-ghost use Rattle.pg_response.specs.Received.{max_body};
+ghost use Rattle.pg_server.specs.Frontend.Target.{shown_target};
+ghost use Rattle.pg_format.specs.Received.{max_body};
 ghost use Rattle.pg_c.specs.Client.{RefusesClientBody};
 ghost use Rattle.pg_c.specs.Client.Target.{ReadsTarget};
 
 use crate::place::PgmsgSpan;
 use crate::read::check_body;
 use crate::refusal::{PgmsgFault, report, report_client};
-use pg_read_frontend::message::{Target, TargetRef};
+use pg_server::frontend::{Target, TargetRef};
 use std::alloc::Global;
 
 // The letter before the name.

@@ -3,14 +3,14 @@
 ghost use Rattle.std.specs.Prelude.{◌≡◌, ◌≤◌, ◌<ℤ◌, ◌≤ℤ◌, pos, length};
 ghost use Rattle.pg_format.specs.Format.{Means};
 ghost use Rattle.pg_format.specs.Messages as page;
-ghost use Rattle.pg_response.specs.Received.{max_body};
+ghost use Rattle.pg_format.specs.Received.{max_body};
 ghost use Rattle.pg_c.specs.Client.{RefusesClientBody};
 ghost use Rattle.pg_c.specs.Client.Text.{ReadsText};
 
 use crate::place::PgmsgSpan;
 use crate::read::check_body;
 use crate::refusal::{PgmsgFault, report, report_client};
-use pg_read_frontend::message::{read_empty, read_text};
+use pg_server::frontend::{read_empty, read_text};
 use std::alloc::Global;
 
 /// The text of a Query, a CopyFail or a PasswordMessage, by its body: the bytes before its NUL. 0, or why

@@ -4,7 +4,7 @@ ghost use Rattle.std.specs.Prelude.{◌≡◌, ◌+◌, ◌≤◌, ℕ, List, So
 ghost use Rattle.pg_format.specs.Format.Lists.{counted, times};
 ghost use Rattle.pg_format.specs.Format.Nullable.{value};
 ghost use Rattle.pg_format.specs.Format.Parts.{until_nul};
-ghost use Rattle.pg_read_frontend.specs.Message.{HasFault};
+ghost use Rattle.pg_server.specs.Frontend.Message.{HasFault};
 ghost use Rattle.pg_c.specs.Client.Parts.{Finds};
 ghost use Rattle.pg_c.specs.Client.Values.{GivesValues, GivesSome, GivesCounted};
 ghost use Rattle.pg_c.specs.Place.{part};
@@ -15,8 +15,8 @@ use crate::place::{PgmsgList, PgmsgSpan};
 use crate::read::row::{PgmsgCell, place_of, placed};
 use byteorder::{BigEndian, ByteOrder};
 use pg_base::io::MAX_BODY;
-use pg_read_frontend::FrontendFault;
-use pg_read_frontend::parts::{text_at, u16_at, value_at};
+use pg_server::frontend::FrontendFault;
+use pg_server::frontend::parts::{text_at, u16_at, value_at};
 
 // The bytes of a value's length.
 const LENGTH: usize = 4;

@@ -2,8 +2,8 @@
 
 ghost use Rattle.std.specs.Prelude.{◌≡◌, ◌≤◌, length, Some, OnOk, IfErr};
 ghost use Rattle.pg_base.specs.Numbers.{max_count};
-ghost use Rattle.pg_request.specs.Bind.{bind_law};
-ghost use Rattle.pg_request.specs.RawBind.{raw_bind_law};
+ghost use Rattle.pg_send.specs.Bind.{bind_law};
+ghost use Rattle.pg_send.specs.RawBind.{raw_bind_law};
 ghost use Rattle.pg_c.specs.Put.Bind.{bind_of, raw_bind_of};
 
 use crate::put::check_name;
@@ -11,10 +11,10 @@ use crate::put::lists::{put_formats, put_name, put_raw_formats, put_values, valu
 use crate::put::prepared::PgmsgValue;
 use pg_base::io::{PortalId, Sink, StatementId};
 use pg_base::{FrontendMessageFormat, ProtocolFault};
-use pg_request::message::FrontendMessage;
-use pg_request::message::counted::too_many;
+use pg_send::message::FrontendMessage;
+use pg_send::message::counted::too_many;
 
-/// As [`pg_request::message::Bind`], with formats of which 0 is text and all others binary.
+/// As [`pg_send::message::Bind`], with formats of which 0 is text and all others binary.
 #[derive(Drop)]
 pub(crate) struct Bind<'a> {
     pub portal: PortalId,
@@ -75,7 +75,7 @@ impl FrontendMessage for Bind<'_> {
     ghost enough = { λ bind h. Prim.grind (arith) };
 }
 
-/// As [`pg_request::message::RawBind`].
+/// As [`pg_send::message::RawBind`].
 #[derive(Drop)]
 pub(crate) struct RawBind<'a> {
     pub portal: &'a [u8],

@@ -4,9 +4,9 @@ ghost use Rattle.std.specs.Prelude.{◌≡◌, ◌≢◌, ◌+◌, ◌<◌, ◌�
 ghost use Rattle.std.specs.Str.{is_utf8};
 ghost use Rattle.pg_base.specs.declared.error.ProtocolFault.TheVariants.{NotUtf8};
 ghost use Rattle.pg_base.specs.Cutting.{max_length};
-ghost use Rattle.pg_request.specs.CopyFail.{copy_fail_law};
-ghost use Rattle.pg_request.specs.Message as message;
-ghost use Rattle.pg_request.specs.Message.{text, fault};
+ghost use Rattle.pg_send.specs.CopyFail.{copy_fail_law};
+ghost use Rattle.pg_send.specs.Message as message;
+ghost use Rattle.pg_send.specs.Message.{text, fault};
 ghost use Rattle.pg_c.specs.Put.{PutsMessage, IsRefused};
 ghost use Rattle.pg_c.specs.Refusal.{too_long_number};
 
@@ -14,9 +14,9 @@ use crate::put::{put, text_of};
 use crate::refusal::{MESSAGE_TOO_LONG, number_of};
 use pg_base::io::{MAX_BODY, Sink};
 use pg_base::{FrontendMessageFormat, ProtocolFault};
-use pg_request::message::parts::text_len;
-use pg_request::message::round_trip::check_text;
-use pg_request::message::{CopyData, CopyDone, FrontendMessage};
+use pg_send::message::parts::text_len;
+use pg_send::message::round_trip::check_text;
+use pg_send::message::{CopyData, CopyDone, FrontendMessage};
 
 /// A part of the data of a COPY.
 #[unsafe(no_mangle)]
@@ -69,7 +69,7 @@ pub extern "C" fn pgmsg_put_copy_fail(reason: &[u8], out: &mut [u8]) -> isize
     }
 }
 
-// As `pg_request::message::CopyFail`, with the text where the caller has it.
+// As `pg_send::message::CopyFail`, with the text where the caller has it.
 #[derive(Drop)]
 struct CopyFail<'a>(&'a str);
 

@@ -1,16 +1,16 @@
 //! A call of a function, with the arguments where the caller has them.
 
-ghost use Rattle.pg_request.specs.FunctionCall.{function_call_law};
+ghost use Rattle.pg_send.specs.FunctionCall.{function_call_law};
 ghost use Rattle.pg_c.specs.Put.FunctionCall.{function_call_of};
 
 use crate::put::lists::{put_values, values_len};
 use crate::put::prepared::PgmsgValue;
 use pg_base::io::Sink;
 use pg_base::{FrontendMessageFormat, ProtocolFault};
-use pg_request::message::FrontendMessage;
-use pg_request::message::counted::{put_codes, too_many};
+use pg_send::message::FrontendMessage;
+use pg_send::message::counted::{put_codes, too_many};
 
-/// As [`pg_request::message::FunctionCall`].
+/// As [`pg_send::message::FunctionCall`].
 #[derive(Drop)]
 pub(crate) struct FunctionCall<'a> {
     pub object_id: u32,

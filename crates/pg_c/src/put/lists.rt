@@ -5,17 +5,17 @@ ghost use Rattle.pg_base.specs.Cutting.{max_length};
 ghost use Rattle.pg_base.specs.Numbers.{max_count};
 ghost use Rattle.pg_base.specs.Reading.{Values};
 ghost use Rattle.pg_base.specs.Text.{ended};
-ghost use Rattle.pg_request.specs.Counted.{counted16, counted32};
-ghost use Rattle.pg_request.specs.Frame.{saturated};
-ghost use Rattle.pg_request.specs.Values.{value_text};
+ghost use Rattle.pg_send.specs.Counted.{counted16, counted32};
+ghost use Rattle.pg_send.specs.FrontendMessage.{saturated};
+ghost use Rattle.pg_send.specs.Values.{value_text};
 ghost use Rattle.pg_c.specs.Put.Lists.{format_of, value_of, fits, values_spelled, values_refusal};
 ghost use Rattle.pg_c.specs.Refusal.{fault_number, too_long_number};
 
 use crate::put::prepared::PgmsgValue;
 use pg_base::ProtocolFault;
 use pg_base::io::{MAX_BODY, Sink};
-use pg_request::message::counted::put_codes;
-use pg_request::message::values::{LENGTH_SIZE, NULL_LENGTH};
+use pg_send::message::counted::put_codes;
+use pg_send::message::values::{LENGTH_SIZE, NULL_LENGTH};
 
 // The most values that a Bind can count.
 const MAX_VALUES: usize = u16::MAX as usize;

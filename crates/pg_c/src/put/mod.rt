@@ -24,16 +24,16 @@ ghost use Rattle.pg_base.specs.declared.error.ProtocolFault.TheVariants.{NotUtf8
 ghost use Rattle.pg_base.specs.Cutting.{max_length};
 ghost use Rattle.pg_base.specs.Reading.{HoldsNo};
 ghost use Rattle.pg_base.specs.Sink.{IsGiven};
-ghost use Rattle.pg_request.specs.Frame.{IsMeasured};
+ghost use Rattle.pg_send.specs.FrontendMessage.{IsMeasured};
 ghost use Rattle.pg_c.specs.Put.{CannotRoundTrip, IsSound, IsDue, IsWritten, PutsLaw};
 
 use crate::put::room::write_frame;
 use crate::refusal::number_of;
 use pg_base::io::{Text, write_text};
 use pg_base::{Error, ProtocolFault};
-use pg_request::message::FrontendMessage;
-use pg_request::message::round_trip::check_ended;
-use pg_response::message::utf8_text;
+use pg_receive::message::utf8_text;
+use pg_send::message::FrontendMessage;
+use pg_send::message::round_trip::check_ended;
 
 /// The bytes before a body: the tag and the length.
 pub(crate) const HEADER: usize = 5;

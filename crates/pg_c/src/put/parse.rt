@@ -1,19 +1,19 @@
 //! Statements that are prepared, with the types where the caller has them.
 
 ghost use Rattle.std.specs.Prelude.{◌≡◌, Some, OnOk, IfErr};
-ghost use Rattle.pg_request.specs.Parse.{parse_law};
-ghost use Rattle.pg_request.specs.RawParse.{raw_parse_law};
+ghost use Rattle.pg_send.specs.Parse.{parse_law};
+ghost use Rattle.pg_send.specs.RawParse.{raw_parse_law};
 ghost use Rattle.pg_c.specs.Put.Parse.{parse_fields, raw_parse_fields};
 
 use crate::put::check_name;
 use crate::put::lists::put_types;
 use pg_base::io::{Sink, StatementId};
 use pg_base::{FrontendMessageFormat, ProtocolFault};
-use pg_request::message::FrontendMessage;
-use pg_request::message::counted::too_many;
-use pg_request::message::round_trip::{check_ended, check_text};
+use pg_send::message::FrontendMessage;
+use pg_send::message::counted::too_many;
+use pg_send::message::round_trip::{check_ended, check_text};
 
-/// As [`pg_request::message::Parse`], with the numbers of the types.
+/// As [`pg_send::message::Parse`], with the numbers of the types.
 #[derive(Drop)]
 pub(crate) struct Parse<'a> {
     pub statement: StatementId,
@@ -70,7 +70,7 @@ impl FrontendMessage for Parse<'_> {
     ghost enough = { λ parse h. Prim.grind (arith) };
 }
 
-/// As [`pg_request::message::RawParse`], with the numbers of the types.
+/// As [`pg_send::message::RawParse`], with the numbers of the types.
 #[derive(Drop)]
 pub(crate) struct RawParse<'a> {
     pub statement: &'a [u8],

@@ -4,7 +4,7 @@ ghost use Rattle.std.specs.Prelude.{◌≡◌, ◌<◌, true, false, length, IfO
 ghost use Rattle.std.specs.Str.{is_utf8};
 ghost use Rattle.pg_base.specs.declared.error.ProtocolFault.TheVariants.{NotUtf8};
 ghost use Rattle.pg_base.specs.Reading.{Values};
-ghost use Rattle.pg_request.specs.Message as message;
+ghost use Rattle.pg_send.specs.Message as message;
 ghost use Rattle.pg_c.specs.Put.{PutsMessage, PutsBatch, IsBatchWritten, IsRefused};
 ghost use Rattle.pg_c.specs.Put.Bind.{bind_of};
 ghost use Rattle.pg_c.specs.Put.Lists.{values_spelled};
@@ -18,7 +18,7 @@ use crate::put::{HEADER, put, sound_len, text_of};
 use crate::refusal::number_of;
 use pg_base::Error;
 use pg_base::io::{PortalId, StatementId, write_text};
-use pg_request::message::{Describe, Execute, Framed, Sync};
+use pg_send::message::{Describe, Execute, Framed, Sync};
 
 /// The value of a parameter, or of a row.
 #[repr(C)]

@@ -3,14 +3,14 @@
 ghost use Rattle.std.specs.Prelude.{◌≡◌, true, false};
 ghost use Rattle.std.specs.Str.{is_utf8};
 ghost use Rattle.pg_base.specs.declared.error.ProtocolFault.TheVariants.{NotUtf8};
-ghost use Rattle.pg_request.specs.Message as message;
-ghost use Rattle.pg_request.specs.Target.{Statement, Portal};
+ghost use Rattle.pg_send.specs.Message as message;
+ghost use Rattle.pg_send.specs.Target.{Statement, Portal};
 ghost use Rattle.pg_c.specs.Put.{PutsMessage, IsRefused};
 
 use crate::put::{put, text_of};
 use crate::refusal::number_of;
 use pg_base::io::{PortalId, StatementId};
-use pg_request::message::{Close, Describe, Execute, Flush, Query, Sync};
+use pg_send::message::{Close, Describe, Execute, Flush, Query, Sync};
 
 /// Runs the statements of a text, in UTF-8.
 #[unsafe(no_mangle)]

@@ -2,9 +2,9 @@
 
 ghost use Rattle.std.specs.Prelude.{◌≡◌, length, Some, None, option_copied, if◌then◌else◌};
 ghost use Rattle.pg_format.specs.Messages as page;
-ghost use Rattle.pg_request.specs.CancelRequest.{cancel_request_text};
-ghost use Rattle.pg_request.specs.GssEncRequest.{gss_enc_request_text};
-ghost use Rattle.pg_request.specs.Message as message;
+ghost use Rattle.pg_send.specs.CancelRequest.{cancel_request_text};
+ghost use Rattle.pg_send.specs.GssEncRequest.{gss_enc_request_text};
+ghost use Rattle.pg_send.specs.Message as message;
 ghost use Rattle.pg_c.specs.Put.Bind.{raw_bind_of};
 ghost use Rattle.pg_c.specs.Put.FunctionCall.{function_call_of};
 ghost use Rattle.pg_c.specs.Put.{PutsMessage, PutsText};
@@ -15,7 +15,7 @@ use crate::put::parse::RawParse;
 use crate::put::prepared::PgmsgValue;
 use crate::put::{check_name, put, put_text};
 use crate::refusal::number_of;
-use pg_request::message::{
+use pg_send::message::{
     CODE_LENGTH, CancelRequest, GssEncRequest, Password, RawClose, RawDescribe, RawExecute,
     SaslInitial,
 };

@@ -2,11 +2,11 @@
 
 ghost use Rattle.std.specs.Prelude.{◌≡◌, ◌+◌, ◌≤◌, ◌++◌, Some, None, length, take};
 ghost use Rattle.pg_base.specs.Sink.{IsGiven};
-ghost use Rattle.pg_request.specs.Frame.{fault, text, IsMeasured};
+ghost use Rattle.pg_send.specs.FrontendMessage.{fault, text, IsMeasured};
 
 use crate::put::HEADER;
 use pg_base::io::Sink;
-use pg_request::message::FrontendMessage;
+use pg_send::message::FrontendMessage;
 
 /// A place in the room, after what is written.
 #[derive(Drop)]

@@ -4,8 +4,8 @@ ghost use Rattle.std.specs.Prelude.{◌≡◌, true, false, None};
 ghost use Rattle.std.specs.List.{list_all};
 ghost use Rattle.std.specs.Str.{is_utf8};
 ghost use Rattle.pg_base.specs.declared.error.ProtocolFault.TheVariants.{NotUtf8};
-ghost use Rattle.pg_request.specs.Message as message;
-ghost use Rattle.pg_request.specs.SslRequest.{ssl_request_text};
+ghost use Rattle.pg_send.specs.Message as message;
+ghost use Rattle.pg_send.specs.SslRequest.{ssl_request_text};
 ghost use Rattle.pg_c.specs.Put.{PutsMessage, PutsText, IsRefused};
 ghost use Rattle.pg_c.specs.Put.Startup.{PutsStartup, is_text};
 
@@ -13,7 +13,7 @@ use crate::put::startup::{are_texts, write_startup};
 use crate::put::{put, put_text, text_of};
 use crate::refusal::number_of;
 use pg_base::ProtocolFault;
-use pg_request::message::{
+use pg_send::message::{
     CODE_LENGTH, Password, SaslInitialResponse, SaslResponse, SslRequest, Terminate,
 };
 

@@ -4,16 +4,16 @@ ghost use Rattle.std.specs.Prelude.{◌≡◌, ◌+◌, ◌≤◌, ◌++◌, IfO
 ghost use Rattle.std.specs.List.{flat_map, list_all, All};
 ghost use Rattle.pg_base.specs.declared.error.ProtocolFault.TheVariants.{TextHoldsNul};
 ghost use Rattle.pg_base.specs.Cutting.{max_length};
-ghost use Rattle.pg_request.specs.Frame.{saturated};
-ghost use Rattle.pg_request.specs.Startup.{setting, startup_body, startup_text, IsReadable};
+ghost use Rattle.pg_send.specs.FrontendMessage.{saturated};
+ghost use Rattle.pg_send.specs.Startup.{setting, startup_body, startup_text, IsReadable};
 ghost use Rattle.pg_c.specs.Put.Startup.{is_text, name_and_value, startup_of, IsStartupWritten};
 
 use crate::put::session::PgmsgSetting;
 use pg_base::io::{MAX_LENGTH, Sink, Text, write_text};
 use pg_base::{Error, ProtocolFault};
-use pg_request::message::PROTOCOL_VERSION;
-use pg_request::message::round_trip::check_ended;
-use pg_response::message::utf8_text;
+use pg_receive::message::utf8_text;
+use pg_send::message::PROTOCOL_VERSION;
+use pg_send::message::round_trip::check_ended;
 
 // The length of a message without settings: the length field, the version and the last NUL.
 const EMPTY_LENGTH: usize = 9;

@@ -8,7 +8,7 @@ ghost use Rattle.pg_format.specs.Format.{Means};
 ghost use Rattle.pg_receive.specs.Authentication.{requests, sasl_continue, sasl_final, method_of};
 ghost use Rattle.pg_receive.specs.Authentication.AuthenticationRef.{authentication_borrowed};
 ghost use Rattle.pg_receive.specs.Authentication.SaslContinue.Shown.{continue_borrowed};
-ghost use Rattle.pg_response.specs.Received.{max_body};
+ghost use Rattle.pg_format.specs.Received.{max_body};
 ghost use Rattle.pg_c.specs.Read.Authentication.{ReadsAuthentication, ReadsChallenge, ReadsVerifier, IsAskedFault, salt_of};
 ghost use Rattle.pg_c.specs.Place.{part};
 ghost use Rattle.pg_c.specs.Read.{AreGiven, ReadsBody, RefusesBody};

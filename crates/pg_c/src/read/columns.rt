@@ -7,7 +7,7 @@ ghost use Rattle.pg_format.specs.Format.Parts.{be_u32};
 ghost use Rattle.pg_format.specs.Format.Places.{IsReadAt};
 ghost use Rattle.pg_format.specs.Messages.{column, row_description, parameter_description};
 ghost use Rattle.pg_receive.specs.RowDescription.Columns.{column_of_ref};
-ghost use Rattle.pg_response.specs.Received.{max_body};
+ghost use Rattle.pg_format.specs.Received.{max_body};
 ghost use Rattle.pg_c.specs.Read.Columns.{column_in};
 ghost use Rattle.pg_c.specs.Read.{ReadsItems, GivesFront, IsBodyFault, RefusesBody};
 

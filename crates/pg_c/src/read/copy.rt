@@ -4,7 +4,7 @@ ghost use Rattle.std.specs.Prelude.{◌≡◌, ◌≤◌, ◌<ℤ◌, ◌≤ℤ�
 ghost use Rattle.pg_format.specs.Format.{IsFaultOf};
 ghost use Rattle.pg_format.specs.Format.Parts.{be_i16};
 ghost use Rattle.pg_format.specs.Messages.{columns_of, copy_response};
-ghost use Rattle.pg_response.specs.Received.{max_body};
+ghost use Rattle.pg_format.specs.Received.{max_body};
 ghost use Rattle.pg_c.specs.Read.Copy.{ReadsFormats};
 ghost use Rattle.pg_c.specs.Read.{GivesFront, IsBodyFault, RefusesBody};
 

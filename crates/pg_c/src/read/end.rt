@@ -4,7 +4,7 @@ ghost use Rattle.std.specs.Prelude.{◌≡◌, ◌≤◌, ◌<ℤ◌, ◌≤ℤ�
 ghost use Rattle.pg_base.specs.declared.error.Error.TheVariants.{Protocol};
 ghost use Rattle.pg_format.specs.Format.{IsFaultOf};
 ghost use Rattle.pg_receive.specs.Layout.{EndsAt, layout};
-ghost use Rattle.pg_response.specs.Received.{max_body};
+ghost use Rattle.pg_format.specs.Received.{max_body};
 ghost use Rattle.pg_c.specs.Read.End.{GivesEnd, IsEndFault};
 ghost use Rattle.pg_c.specs.Read.{IsBodyFault};
 ghost use Rattle.pg_c.specs.Refusal.{Refuses};

@@ -1,18 +1,18 @@
 //! The fields of an error or a notice, and how grave it is.
 
 ghost use Rattle.std.specs.Prelude.{◌≡◌, ◌≤◌, ◌≤ℤ◌, pos, length, OnOk, IfOk, IfErr};
-ghost use Rattle.pg_response.specs.Response.Fields.{fields_in};
-ghost use Rattle.pg_response.specs.Response.Severity.{severity_number};
+ghost use Rattle.pg_receive.specs.Response.Fields.{fields_in};
+ghost use Rattle.pg_receive.specs.Response.Severity.{severity_number};
 ghost use Rattle.pg_format.specs.Format.{IsFaultOf};
-ghost use Rattle.pg_response.specs.Response.{notices};
-ghost use Rattle.pg_response.specs.Received.{max_body};
+ghost use Rattle.pg_receive.specs.Response.{notices};
+ghost use Rattle.pg_format.specs.Received.{max_body};
 ghost use Rattle.pg_c.specs.Read.Fields.{field_in, IsSeverityOf};
 ghost use Rattle.pg_c.specs.Read.{AreGiven, IsBodyFault, RefusesBody};
 
 use crate::place::PgmsgSpan;
 use crate::refusal::{PgmsgFault, report};
 use pg_base::ProtocolFault;
-use pg_response::message::{PgSeverity, severity_in, split_field};
+use pg_receive::message::{PgSeverity, severity_in, split_field};
 use std::alloc::Global;
 
 /// A field of an error or a notice, by its letter.

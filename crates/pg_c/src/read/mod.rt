@@ -17,7 +17,7 @@ pub mod row;
 pub mod status;
 
 ghost use Rattle.std.specs.Prelude.{◌≤◌, length, OnOk, IfErr};
-ghost use Rattle.pg_response.specs.Received.{max_body};
+ghost use Rattle.pg_format.specs.Received.{max_body};
 ghost use Rattle.pg_c.specs.Read.{IsTooLong};
 
 use pg_base::ProtocolFault;

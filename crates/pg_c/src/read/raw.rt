@@ -10,7 +10,7 @@ ghost use Rattle.pg_receive.specs.Authentication.Raw.{raw_request};
 ghost use Rattle.pg_receive.specs.BackendKeyData.{raw_key_data};
 ghost use Rattle.pg_receive.specs.CommandComplete.{tag_text};
 ghost use Rattle.pg_receive.specs.ParameterStatus.{raw_parameter_status};
-ghost use Rattle.pg_response.specs.Received.{max_body};
+ghost use Rattle.pg_format.specs.Received.{max_body};
 ghost use Rattle.pg_c.specs.Place.{part};
 ghost use Rattle.pg_c.specs.Read.{AreGiven, ReadsBody, RefusesBody};
 ghost use Rattle.pg_c.specs.Read.Raw.{ReadsTag, ReadsRequest, ReadsKey, ReadsRawSetting};

@@ -4,7 +4,7 @@ ghost use Rattle.std.specs.Prelude.{◌≡◌, ◌≤◌, ◌<ℤ◌, ◌≤ℤ�
 ghost use Rattle.pg_format.specs.Format.{IsFaultOf};
 ghost use Rattle.pg_format.specs.Format.Places.{IsReadAt};
 ghost use Rattle.pg_receive.specs.RowDescription.Raw.{column_of_raw, raw_column, raw_row_description};
-ghost use Rattle.pg_response.specs.Received.{max_body};
+ghost use Rattle.pg_format.specs.Received.{max_body};
 ghost use Rattle.pg_c.specs.Read.Columns.{column_in};
 ghost use Rattle.pg_c.specs.Read.{ReadsItems, GivesFront, IsBodyFault, RefusesBody};
 

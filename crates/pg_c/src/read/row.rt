@@ -6,7 +6,7 @@ ghost use Rattle.pg_format.specs.Format.Nullable.{cell};
 ghost use Rattle.pg_format.specs.Format.Parts.{be_u16};
 ghost use Rattle.pg_format.specs.Format.Places.{IsReadAt};
 ghost use Rattle.pg_format.specs.Messages.{data_row};
-ghost use Rattle.pg_response.specs.Received.{max_body};
+ghost use Rattle.pg_format.specs.Received.{max_body};
 ghost use Rattle.pg_c.specs.Read.{ReadsItems, GivesItems, GivesFront, IsBodyFault, RefusesBody};
 ghost use Rattle.pg_c.specs.Read.Row.{cell_in, FindsCell};
 

@@ -5,7 +5,7 @@ ghost use Rattle.pg_format.specs.Format.{Means};
 ghost use Rattle.pg_format.specs.Messages as page;
 ghost use Rattle.pg_receive.specs.CommandComplete.{row_count};
 ghost use Rattle.pg_receive.specs.ReadyForQuery.{shown_status};
-ghost use Rattle.pg_response.specs.Received.{max_body};
+ghost use Rattle.pg_format.specs.Received.{max_body};
 ghost use Rattle.pg_c.specs.Read.{ReadsBody, RefusesBody};
 ghost use Rattle.pg_c.specs.Read.Status.{ReadsNotification, ReadsSetting, IsStatusLetter};
 

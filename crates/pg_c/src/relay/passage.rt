@@ -1,8 +1,8 @@
 //! What is at the front of a stream that is passed on.
 
 ghost use Rattle.std.specs.Prelude.{◌≡◌, ◌<◌, ◌<ℤ◌, ◌≤ℤ◌, pos};
-ghost use Rattle.pg_relay.specs.Passage.{NeedsMore};
-ghost use Rattle.pg_relay.specs.Relay.{IsFault};
+ghost use Rattle.pg_frames.specs.Relay.Passage.{NeedsMore};
+ghost use Rattle.pg_frames.specs.Relay.{IsFault};
 ghost use Rattle.pg_c.specs.Relay.{expected};
 ghost use Rattle.pg_c.specs.Relay.Passage.{is_asked, GoesWhole, GoesInParts};
 ghost use Rattle.pg_c.specs.Relay.Refusal.{RefusesRelay};
@@ -10,7 +10,7 @@ ghost use Rattle.pg_c.specs.Relay.Refusal.{RefusesRelay};
 use crate::refusal::PgmsgFault;
 use crate::relay::refusal::report_relay;
 use crate::relay::state::{expects_of, is_of_first};
-use pg_relay::{Passage, Wants, next_passage};
+use pg_frames::relay::{Passage, Wants, next_passage};
 use std::alloc::Global;
 
 /// One direction of a connection that is passed on. Set `limit` to the most bytes of a message that is taken

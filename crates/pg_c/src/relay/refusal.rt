@@ -4,7 +4,7 @@ ghost use Rattle.std.specs.Prelude.{◌≡◌, ◌<ℤ◌, pos};
 ghost use Rattle.pg_c.specs.Relay.Refusal.{relay_number, IsRelayReport};
 
 use crate::refusal::{BAD_LENGTH, FRAME_TOO_LONG, NOT_FRAMES, OUT_OF_MEMORY, PgmsgFault, fill};
-use pg_relay::RelayError;
+use pg_frames::relay::RelayError;
 use std::alloc::Global;
 
 // The number of what is wrong.

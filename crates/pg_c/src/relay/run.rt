@@ -1,16 +1,16 @@
 //! Whether bytes are whole messages.
 
 ghost use Rattle.std.specs.Prelude.{◌≡◌, ◌<ℤ◌, ◌≤ℤ◌, pos};
-ghost use Rattle.pg_frontend_frames.specs.declared.frame.Expects.{Expects};
-ghost use Rattle.pg_relay.specs.Answer.{IsRun};
-ghost use Rattle.pg_relay.specs.declared.error.RelayError.TheVariants.{NotFrames};
+ghost use Rattle.pg_frames.specs.declared.frontend.frame.Expects.{Expects};
+ghost use Rattle.pg_frames.specs.Relay.Answer.{IsRun};
+ghost use Rattle.pg_frames.specs.declared.relay.error.RelayError.TheVariants.{NotFrames};
 ghost use Rattle.pg_c.specs.Relay.{expected};
 ghost use Rattle.pg_c.specs.Relay.Refusal.{IsRelayReport};
 
 use crate::refusal::PgmsgFault;
 use crate::relay::refusal::report_relay;
 use crate::relay::state::{expects_of, is_of_first};
-use pg_relay::{RelayError, end_of_run};
+use pg_frames::relay::{RelayError, end_of_run};
 use std::alloc::Global;
 
 /// Whether bytes are whole messages one after the other, so that they may be added to a stream: 0, and `is_first`,

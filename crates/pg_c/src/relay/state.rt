@@ -3,7 +3,7 @@
 ghost use Rattle.std.specs.Prelude.{◌≡◌};
 ghost use Rattle.pg_c.specs.Relay.{expected};
 
-use pg_frontend_frames::Expects;
+use pg_frames::frontend::Expects;
 
 /// What comes next where it is a first message or not.
 pub(crate) fn expects_of(is_first: bool) -> Expects

@@ -2,12 +2,12 @@
 
 ghost use Rattle.std.specs.Prelude.{map};
 ghost use Rattle.pg_format.specs.Messages.{ok, cleartext_password, md5_password, sasl, sasl_continue, sasl_final};
-ghost use Rattle.pg_write_backend.specs.Message.{Authentication};
+ghost use Rattle.pg_server.specs.Backend.Message.{Authentication};
 ghost use Rattle.pg_c.specs.Server.{PutsServerMessage};
 ghost use Rattle.pg_c.specs.Server.Lists.{bytes_of};
 
 use crate::server::put;
-use pg_write_backend::message::{AsItem, AuthenticationText, SaslText};
+use pg_server::backend::{AsItem, AuthenticationText, SaslText};
 
 /// Some bytes.
 #[repr(C)]

@@ -11,16 +11,15 @@ pub mod session;
 ghost use Rattle.std.specs.Prelude.{◌≡◌, ◌+◌, ◌≤◌, ◌++◌, None, IfOk, length};
 ghost use Rattle.pg_base.specs.Cutting.{max_length};
 ghost use Rattle.pg_base.specs.Sink.{IsGiven};
-ghost use Rattle.pg_write_backend.specs.Frame.{IsWritten};
-ghost use Rattle.pg_write_backend.specs.Message.{law_of, body, fault, text, IsInRange, IsRead};
+ghost use Rattle.pg_server.specs.Backend.BackendText.{IsWritten};
+ghost use Rattle.pg_server.specs.Backend.Message.{law_of, body, fault, text, IsInRange, IsRead};
 ghost use Rattle.pg_c.specs.Server.{PutsServerMessage};
 
 use crate::put::HEADER;
 use crate::put::room::Room;
 use crate::refusal::number_of_backend;
 use pg_base::io::Sink;
-use pg_write_backend::BackendFault;
-use pg_write_backend::message::BackendText;
+use pg_server::backend::{BackendFault, BackendText};
 
 /// Writes a message.
 #[inline]
@@ -33,7 +32,7 @@ pub(crate) fn put<M: BackendText>(message: &M, out: &mut [u8]) -> isize
     }
 }
 
-// As `pg_write_backend::message::write`, by the room that copies numbers without a call.
+// As `pg_server::backend::write`, by the room that copies numbers without a call.
 fn write<M: BackendText>(message: &M, out: &mut [u8]) -> Result<usize, BackendFault>
     ensures written { IsWritten (law_of (M.message message.now)) out.old out.new result }
     ensures read { IfOk result (λ len. len ≤ length out.old → IsRead (M.message message.now)) }

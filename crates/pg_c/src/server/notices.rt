@@ -1,15 +1,13 @@
 //! Errors, notices and notifications.
 
 ghost use Rattle.std.specs.Prelude.{map};
-ghost use Rattle.pg_write_backend.specs.Message as messages;
-ghost use Rattle.pg_write_backend.specs.declared.message.notice.NoticeKind.TheVariants as kinds;
+ghost use Rattle.pg_server.specs.Backend.Message as messages;
+ghost use Rattle.pg_server.specs.declared.backend.notice.NoticeKind.TheVariants as kinds;
 ghost use Rattle.pg_c.specs.Server.{PutsServerMessage};
 ghost use Rattle.pg_c.specs.Server.Lists.{field_of, field_text_of};
 
 use crate::server::put;
-use pg_write_backend::message::{
-    AsItem, NoticeFieldText, NoticeKind, NoticeText, NotificationText,
-};
+use pg_server::backend::{AsItem, NoticeFieldText, NoticeKind, NoticeText, NotificationText};
 
 /// A field of an error or a notice that is written, by the letter of what it says.
 #[repr(C)]

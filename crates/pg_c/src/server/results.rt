@@ -2,15 +2,15 @@
 
 ghost use Rattle.std.specs.Prelude.{◌≡◌, Some, None, if◌then◌else◌};
 ghost use Rattle.pg_base.specs.declared.error.ProtocolFault.TheVariants.{UnknownMessageType};
-ghost use Rattle.pg_write_backend.specs.Copy.{direction_tag};
-ghost use Rattle.pg_write_backend.specs.Message as messages;
+ghost use Rattle.pg_server.specs.Backend.Copy.{direction_tag};
+ghost use Rattle.pg_server.specs.Backend.Message as messages;
 ghost use Rattle.pg_c.specs.Server.{PutsServerMessage, PutsByLetter};
 ghost use Rattle.pg_c.specs.Server.Letters.{no_body_tag, no_body_of, direction_of};
 
 use crate::put::prepared::PgmsgValue;
 use crate::refusal::UNKNOWN_MESSAGE_TYPE;
 use crate::server::put;
-use pg_write_backend::message::{
+use pg_server::backend::{
     AsItem, CommandCompleteText, CopyDirection, CopyResponseText, FunctionCallResponseText,
     NoBodyText, RawText,
 };

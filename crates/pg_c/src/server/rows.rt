@@ -1,7 +1,7 @@
 //! Rows, and what they are made of.
 
 ghost use Rattle.std.specs.Prelude.{map};
-ghost use Rattle.pg_write_backend.specs.Message as messages;
+ghost use Rattle.pg_server.specs.Backend.Message as messages;
 ghost use Rattle.pg_c.specs.Put.Lists.{value_of};
 ghost use Rattle.pg_c.specs.Server.{PutsServerMessage};
 ghost use Rattle.pg_c.specs.Server.Lists.{borrowed, column_of, column_text_of};
@@ -9,7 +9,7 @@ ghost use Rattle.pg_c.specs.Server.Lists.{borrowed, column_of, column_text_of};
 use crate::put::prepared::PgmsgValue;
 use crate::server::put;
 use pg_base::io::Oid;
-use pg_write_backend::message::{
+use pg_server::backend::{
     AsItem, ColumnText, DataRowText, ParameterDescriptionText, RowDescriptionText,
 };
 

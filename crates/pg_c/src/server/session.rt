@@ -2,7 +2,7 @@
 
 ghost use Rattle.std.specs.Prelude.{◌≡◌, map};
 ghost use Rattle.pg_base.specs.declared.error.ProtocolFault.TheVariants.{UnknownStatus};
-ghost use Rattle.pg_write_backend.specs.Message as messages;
+ghost use Rattle.pg_server.specs.Backend.Message as messages;
 ghost use Rattle.pg_c.specs.Server.{PutsServerMessage, PutsByLetter};
 ghost use Rattle.pg_c.specs.Server.Lists.{bytes_of};
 ghost use Rattle.pg_c.specs.Server.Letters.{ready_letter, ready_of};
@@ -10,7 +10,7 @@ ghost use Rattle.pg_c.specs.Server.Letters.{ready_letter, ready_of};
 use crate::refusal::UNKNOWN_STATUS;
 use crate::server::authentication::PgmsgBytes;
 use crate::server::put;
-use pg_write_backend::message::{
+use pg_server::backend::{
     BackendKeyDataText, NegotiateProtocolVersionText, ParameterStatusText, ReadyForQueryText,
 };
 

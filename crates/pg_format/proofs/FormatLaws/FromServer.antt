@@ -18,6 +18,7 @@ use Rattle.pg_format.proofs.FormatLaws.Ends.{lawful_loosely, total_loosely}
 use Rattle.pg_format.proofs.FormatLaws.Lists.{lawful_times, total_times, times_take, lawful_counted_least, total_counted_least, lawful_counted_long, total_counted_long, lawful_many, decided_only, total_many}
 use Rattle.pg_format.proofs.FormatLaws.Nullable.{lawful_cell, total_cell}
 use Rattle.pg_format.proofs.FormatLaws.Takes.{takes_until_nul, takes_unsigned, takes_signed, takes_pair, takes_record_of, takes_mapped, takes_verify, takes_only, takes_with_room, takes_cell}
+pub use Rattle.pg_format.specs.Lawful.{lawful_no_body}
 
 pub u32 : Lawful be_u32
 u32 = lawful_unsigned 4 tt
@@ -83,9 +84,6 @@ lawful_backend_key = lawful_record_of _ (λ a b e i. record { process_id = (e i)
 
 pub total_backend_key : Total backend_key
 total_backend_key = total_record_of _ (λ a. record { process_id = a.0; secret_key = a.1 }) (λ a. refl) (total_unsigned 4 t⨾ total_checked (λ key. key_fault (length key)) total_remaining)
-
-pub lawful_no_body : Lawful no_body
-lawful_no_body = lawful_loosely (lawful_success tt)
 
 pub total_no_body : Total no_body
 total_no_body = total_loosely (total_success tt)

@@ -12,6 +12,7 @@ use Rattle.pg_base.proofs.ReadingLemmas.{one_number, one_signed, one_text, no_te
 use Rattle.pg_format.specs.Format.{Lawful, Canonical, Total, IsRead, IsBroken, AreBytes}
 use Rattle.pg_format.specs.Format.Parts.{offset, Lacks, UnknownLetter, complement, until_nul, unsigned, signed, bytes_of, remaining, one_of, success, fail_before}
 use Rattle.pg_format.proofs.FormatLaws.Numbers.{IsWidth, bytes_wide, num_of_bytes, bytes_of_num, complement_wide, int_of_complement, spelled}
+pub use Rattle.pg_format.specs.Lawful.{lawful_remaining}
 
 after : (front rest : List ℕ) → AreBytes (front ++ rest) → AreBytes rest
 after [] rest p = p
@@ -168,14 +169,6 @@ total_bytes_of n = record {
         | inl few ↦ inr (lacks n len bytes few)
         | inr s ↦ inl (s.front, s.rest, (s.wide, s.parts))
       ];
-}
-
-pub lawful_remaining : Lawful remaining
-lawful_remaining = record {
-  one_value = λ bytes x y a b p q. (p.0 ∙ sym q.0, p.1 ∙ sym q.1);
-  one_fault = λ len bytes e f p q. absurd p;
-  never_both = λ len bytes rest a f p q. q;
-  written = λ a rest fits. (rw fits (sym (append-nil a)), fits);
 }
 
 pub canonical_remaining : Canonical remaining

@@ -3,7 +3,7 @@
 use Rattle.std.specs.Prelude.{◌≡◌, ◌≢◌, ℕ, Bool, true, false, List, [], ◌∷◌, Option, Some, None, if◌then◌else◌}
 use Rattle.std.specs.Str.{is_utf8}
 use Rattle.pg_base.specs.Reading.{Text}
-use Rattle.pg_response.specs.EndedTexts.{texts_in, meanings_of, AreInOrder}
+use Rattle.pg_format.specs.EndedTexts.{texts_in, meanings_of, AreInOrder}
 
 abbrev pub is_name : List ℕ → Bool
 is_name [] = false

@@ -8,7 +8,7 @@ use Rattle.pg_format.specs.Format.Sequences.{viewed}
 use Rattle.pg_format.specs.Format.Tests.{checked}
 use Rattle.pg_format.specs.Keyed.{plain, last}
 use Rattle.pg_format.specs.Sasl.{salt_key, nonce_key, items_in, keyed, first_message_fault}
-use Rattle.pg_response.specs.Decimal.{leading_decimal}
+use Rattle.pg_receive.specs.Decimal.{leading_decimal}
 use Rattle.pg_receive.specs.Authentication.SaslItems.{base64_value}
 
 abbrev pub iterations_key : ℕ

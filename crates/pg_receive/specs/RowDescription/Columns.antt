@@ -2,7 +2,7 @@
 use Rattle.std.specs.Prelude.{ℕ, zero, suc, ◌+◌, ◌==◌, ◌≤◌, List, [], ◌∷◌, length, take, drop, option_map, if◌then◌else◌}
 use Rattle.pg_base.specs.declared.io.Oid.{Oid}
 use Rattle.pg_base.specs.Numbers.{num, int}
-use Rattle.pg_response.specs.Received.{max_body}
+use Rattle.pg_format.specs.Received.{max_body}
 use Rattle.pg_receive.specs.declared.message.row_description.columns.FieldRef.{FieldRef}
 use Rattle.pg_format.specs.Format.Lists.{times}
 use Rattle.pg_format.specs.Format.Places.{IsReadAt}

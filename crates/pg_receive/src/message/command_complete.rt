@@ -5,11 +5,10 @@ ghost use Rattle.pg_base.specs.declared.format.BackendMessageFormat.TheVariants 
 ghost use Rattle.pg_receive.specs.CommandComplete.{row_count, tag_text};
 ghost use Rattle.pg_format.specs.Format.{ReadsAs};
 
-use crate::message::{BackendMessage, text_at};
+use crate::message::{BackendMessage, leading_u64, text_at};
 use bytes::Bytes;
 use memchr::memrchr;
 use pg_base::{BackendMessageFormat, Error, ProtocolFault};
-use pg_response::message::leading_u64;
 use std::alloc::Global;
 use std::marker::Model;
 

@@ -1,4 +1,4 @@
-//! What a message from the server is, and how one is read.
+//! What a message from the server is, and how one of any kind is read.
 
 mod authentication;
 mod backend_key_data;
@@ -10,8 +10,13 @@ mod no_body;
 mod notification;
 mod parameter_description;
 mod parameter_status;
+pub(crate) mod parts;
 mod ready_for_query;
+pub(crate) mod response;
 mod row_description;
+mod server_message;
+mod server_message_ref;
+mod visitor;
 
 pub use authentication::{
     Authentication, AuthenticationMd5Password, AuthenticationRef, AuthenticationSasl,
@@ -28,11 +33,15 @@ pub use no_body::check_no_body;
 pub use notification::{Notification, NotificationRef};
 pub use parameter_description::ParameterDescription;
 pub use parameter_status::{ParameterStatus, ParameterStatusRef, RawParameterStatus};
-pub use pg_response::message::{
-    BackendMessage, CopyData, CopyDone, Fields, Notice, PgSeverity, ReceivedMessage, severity_in,
-    split_field, split_text, str_at, text_at, utf8_text,
-};
+pub use parts::{Fields, leading_u32, leading_u64, leading_usize, split_field};
+pub use pg_base::io::{CopyData, CopyDone};
+pub use pg_format::text::{split_text, str_at, text_at, utf8_text};
+pub use pg_format::{BackendMessage, ReceivedMessage};
 pub use ready_for_query::{ReadyForQuery, TransactionStatus};
+pub use response::{Notice, PgSeverity, severity_in};
 pub use row_description::{
     ColumnReader, Columns, Field, FieldRef, RawFieldRef, RowDescription, column_at, raw_column_at,
 };
+pub use server_message::ServerMessage;
+pub use server_message_ref::ServerMessageRef;
+pub use visitor::Visitor;

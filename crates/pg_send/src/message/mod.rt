@@ -1,14 +1,66 @@
 //! What a message to the server is, and how one or many are written.
 
+mod bind;
+mod bind_values;
+mod cancel_request;
+mod close;
+mod copy;
+pub mod counted;
+mod describe;
+mod execute;
+mod flush;
+mod frontend_message;
+mod function_call;
+mod gss_enc_request;
+mod parse;
+pub mod parts;
+mod password;
+mod query;
+mod raw_bind;
+mod raw_close;
+mod raw_describe;
+mod raw_execute;
+mod raw_parse;
+pub mod round_trip;
 mod run;
+mod sasl;
+mod sasl_initial;
+mod ssl_request;
+mod startup;
+mod sync;
 mod tagged;
-mod visitor;
+mod tagged_visitor;
+mod target;
+mod terminate;
+pub mod values;
 
-pub use pg_request::message::{
-    Bind, BindValues, CancelRequest, Close, CopyData, CopyDone, CopyFail, Describe, EncodeMessage,
-    Execute, Flush, FrontendMessage, FunctionCall, GssEncRequest, Parse, Password, Query, RawBind,
-    RawClose, RawDescribe, RawExecute, RawParse, SaslInitial, SaslInitialResponse, SaslResponse,
-    SslRequest, Startup, Sync, Terminate, encode_frame, put_if_fits, write_frame,
+pub use bind::Bind;
+pub use bind_values::BindValues;
+pub use cancel_request::CancelRequest;
+pub use close::Close;
+pub use copy::CopyFail;
+pub use describe::Describe;
+pub use execute::Execute;
+pub use flush::Flush;
+pub use frontend_message::{
+    EncodeMessage, Framed, FrontendMessage, encode_frame, put_if_fits, write_frame,
 };
+pub use function_call::FunctionCall;
+pub use gss_enc_request::GssEncRequest;
+pub use parse::Parse;
+pub use password::Password;
+pub use pg_base::io::{CopyData, CopyDone};
+pub use query::Query;
+pub use raw_bind::RawBind;
+pub use raw_close::RawClose;
+pub use raw_describe::RawDescribe;
+pub use raw_execute::RawExecute;
+pub use raw_parse::RawParse;
 pub use run::{encode_all, encode_strict};
+pub use sasl::{SaslInitialResponse, SaslResponse};
+pub use sasl_initial::SaslInitial;
+pub use ssl_request::{CODE_LENGTH, SslRequest};
+pub use startup::{PROTOCOL_VERSION, Startup};
+pub use sync::Sync;
 pub use tagged::TaggedMessage;
+pub use terminate::Terminate;

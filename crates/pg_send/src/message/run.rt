@@ -3,7 +3,7 @@
 ghost use Rattle.std.specs.Prelude.{◌≡◌, ◌+◌, ◌<◌, ◌≤◌, [], ◌∷◌, ◌++◌, length, drop, replicate, slice_index_or, Ok, OnOk, OnErr, IfOk, IsErrOf, IsOkUnless, vec_len, vec_capacity};
 ghost use Rattle.std.specs.Bool.{OnTrue, OnFalse};
 ghost use Rattle.pg_base.specs.declared.error.Error.TheVariants.{OutOfMemory};
-ghost use Rattle.pg_request.specs.Message.{hint, text, CanRoundTrip, RoundTrips};
+ghost use Rattle.pg_send.specs.Message.{hint, text, CanRoundTrip, RoundTrips};
 ghost use Rattle.pg_send.specs.Run.{IsLimitAnswer, IsStrictAnswer, IsAnswerOf, EachRoundTrips, NoneRanOut, EncodesOne, AnswersOne, EncodesRun, IsMeantByTag, IsMeantIfItCan, AreReadByTag};
 ghost use Rattle.pg_send.specs.TaggedMessage.{message_of, messages_of};
 

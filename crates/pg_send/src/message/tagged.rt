@@ -2,12 +2,12 @@
 
 ghost use Rattle.std.specs.Prelude.{◌≡◌, ◌+◌, ◌<◌, ◌≤◌, [], ◌∷◌, ◌++◌, length, drop, Some, None, Ok, OnOk, IfErr, vec_len, vec_capacity};
 ghost use Rattle.std.specs.Bool.{OnTrue, OnFalse};
-ghost use Rattle.pg_request.specs.Frame.{EncodesMessage, room_or_fault};
-ghost use Rattle.pg_request.specs.Message.{law_of, body, fault, hint, text, IsInRange, CanRoundTrip, round_trip_fault, RoundTrips};
+ghost use Rattle.pg_send.specs.FrontendMessage.{EncodesMessage, room_or_fault};
+ghost use Rattle.pg_send.specs.Message.{law_of, body, fault, hint, text, IsInRange, CanRoundTrip, round_trip_fault, RoundTrips};
 ghost use Rattle.pg_send.specs.Run.{IsMeantIfItCan, AreReadByTag};
 ghost use Rattle.pg_send.specs.TaggedMessage.{message_of};
 
-use crate::message::visitor::{EncodeFrame, FrameRoom, PutFrame, PutIfFits, Visitor};
+use crate::message::tagged_visitor::{EncodeFrame, FrameRoom, PutFrame, PutIfFits, TaggedVisitor};
 use crate::message::{
     Bind, Close, CopyData, CopyDone, CopyFail, Describe, Execute, Flush, FrontendMessage,
     FunctionCall, Parse, Password, Query, RawBind, RawClose, RawDescribe, RawExecute, RawParse,
@@ -210,7 +210,7 @@ impl TaggedMessage<'_> {
 
     // What a visitor makes of what it holds, whichever type that is.
     #[inline(always)]
-    fn visit<State, V: Visitor<State>>(&self, state: &mut State) -> V::Output
+    fn visit<State, V: TaggedVisitor<State>>(&self, state: &mut State) -> V::Output
         requires { V.asks (law_of (message_of self.now)) state.old }
         ensures { V.gives (law_of (message_of self.now)) state.old state.new result }
     {

@@ -2,7 +2,7 @@ use Rattle.std.proofs.Common.{rules}
 use Rattle.std.specs.Int.{w32}
 use Rattle.std.proofs.lemmas.Int.{to_z-of_z}
 use mir.Val.{SFits}
-use Rattle.pg_read_frontend.specs.Error.{fault_words}
+use Rattle.pg_server.specs.Frontend.Error.{fault_words}
 use Rattle.pg_c.proofs.RefusalLemmas.{client_below}
 use Rattle.pg_c.proofs.refusal.report_client.Goals as goal
 

@@ -1,8 +1,8 @@
 use Rattle.std.proofs.Common.{sym, ◌∙◌, length, arith}
-use Rattle.pg_write_backend.specs.Frame.{body}
-use Rattle.pg_write_backend.specs.Message.{law_of}
-use Rattle.pg_write_backend.proofs.FrameLemmas.{len_fits}
-use Rattle.pg_write_backend.proofs.MessageLemmas.{own_message, accepted}
+use Rattle.pg_server.specs.Backend.BackendText.{body}
+use Rattle.pg_server.specs.Backend.Message.{law_of}
+use Rattle.pg_server.proofs.BackendTextLemmas.{len_fits}
+use Rattle.pg_server.proofs.BackendMessageLemmas.{own_message, accepted}
 use Rattle.pg_c.proofs.server.write.Goals as goal
 
 pub returns-clause-read : goal.returns-clause-read

@@ -15,11 +15,10 @@ ghost use Rattle.pg_receive.specs.Authentication.SaslContinue.Shown.{continue_sh
 
 use crate::message::authentication::base64_bytes::Base64Bytes;
 use crate::message::authentication::sasl_items::{SaslItems, split_key};
-use crate::message::utf8_text;
+use crate::message::{leading_u32, utf8_text};
 use bytes::Bytes;
 use pg_base::io::ProtocolDecode;
 use pg_base::{Error, ProtocolFault};
-use pg_response::message::leading_u32;
 use std::alloc::Global;
 
 const DEFAULT_ITERATIONS: u32 = 4096;

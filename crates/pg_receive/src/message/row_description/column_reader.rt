@@ -29,7 +29,7 @@ pub struct ColumnReader<'a> {
 
 impl<'a> Model for ColumnReader<'a> {
     ghost use Rattle.std.specs.Prelude.{◌≤◌, length};
-    ghost use Rattle.pg_response.specs.Received.{max_body};
+    ghost use Rattle.pg_format.specs.Received.{max_body};
     ghost use Rattle.pg_receive.specs.CountedItems.{Reading};
 
     ghost Value = { Reading };

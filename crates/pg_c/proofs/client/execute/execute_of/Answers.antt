@@ -2,7 +2,7 @@ use Rattle.std.proofs.Common.{◌≡◌, [], drop, refl, inl, inr, arith}
 use Rattle.std.proofs.lemmas.List.{drop_all}
 use Rattle.std.proofs.lemmas.Result.{err_from_is_err_and}
 use Rattle.pg_format.specs.Messages.{Execute}
-use Rattle.pg_read_frontend.proofs.MessageLemmas.{after, ◌then◌, trailing}
+use Rattle.pg_server.proofs.FrontendMessageLemmas.{after, ◌then◌, trailing}
 use Rattle.pg_c.proofs.client.execute.execute_of.Goals as goal
 
 pub returns-in_err-max_rows-clause-fault : goal.returns-in_err-max_rows-clause-fault

@@ -2,7 +2,7 @@ use Rattle.std.proofs.Common.{◌≡◌, [], drop, sym, ap, pos, refl, inl, inr,
 use Rattle.std.proofs.lemmas.List.{drop_all}
 use Rattle.std.proofs.lemmas.Result.{err_from_is_err_and}
 use Rattle.pg_format.specs.Messages.{FunctionCall}
-use Rattle.pg_read_frontend.proofs.MessageLemmas.{after, ◌then◌, trailing}
+use Rattle.pg_server.proofs.FrontendMessageLemmas.{after, ◌then◌, trailing}
 use Rattle.pg_c.proofs.ClientValuesLemmas.{values_stand, values_given}
 use Rattle.pg_c.proofs.client.function_call.call_of.Goals as goal
 

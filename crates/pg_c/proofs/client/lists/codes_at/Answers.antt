@@ -1,6 +1,6 @@
 use Rattle.std.proofs.Common.{refl, arith, drop}
-use Rattle.pg_read_frontend.specs.FormatCodes.{codes_in}
-use Rattle.pg_read_frontend.proofs.FormatCodesLemmas.{codes_are_read}
+use Rattle.pg_server.specs.Frontend.FormatCodes.{codes_in}
+use Rattle.pg_server.proofs.FrontendFormatCodesLemmas.{codes_are_read}
 use Rattle.pg_c.proofs.client.lists.codes_at.Goals as goal
 
 pub returns-clause-found : goal.returns-clause-found

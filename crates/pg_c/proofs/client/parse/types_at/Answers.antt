@@ -1,6 +1,6 @@
 use Rattle.std.proofs.Common.{refl, arith, drop}
-use Rattle.pg_read_frontend.specs.ParameterTypes.{types_in}
-use Rattle.pg_read_frontend.proofs.ParameterTypesLemmas.{types_are_read}
+use Rattle.pg_server.specs.Frontend.ParameterTypes.{types_in}
+use Rattle.pg_server.proofs.FrontendParameterTypesLemmas.{types_are_read}
 use Rattle.pg_c.proofs.client.parse.types_at.Goals as goal
 
 pub returns-clause-found : goal.returns-clause-found

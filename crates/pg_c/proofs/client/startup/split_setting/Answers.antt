@@ -1,5 +1,5 @@
 use Rattle.std.proofs.Common.{◌≡◌, []}
-use Rattle.pg_read_frontend.proofs.SettingsLemmas.{is_nothing, is_something, no_name, empty_name, no_value}
+use Rattle.pg_server.proofs.FrontendSettingsLemmas.{is_nothing, is_something, no_name, empty_name, no_value}
 use Rattle.pg_c.proofs.client.startup.split_setting.Goals as goal
 
 pub returns-in_err-name-clause-none : goal.returns-in_err-name-clause-none

@@ -1,8 +1,8 @@
 use Rattle.std.proofs.Common.{◌≡◌, ℕ, List, Result, Ok, Err, IfErr, arith}
 use Rattle.pg_format.specs.Format.Lists.{times}
 use Rattle.pg_format.specs.Format.Nullable.{value}
-use Rattle.pg_read_frontend.specs.Message.{HasFault}
-use Rattle.pg_read_frontend.specs.declared.error.FrontendFault.{FrontendFault}
+use Rattle.pg_server.specs.Frontend.Message.{HasFault}
+use Rattle.pg_server.specs.declared.frontend.error.FrontendFault.{FrontendFault}
 use Rattle.pg_c.specs.Read.{GivesItems}
 use Rattle.pg_c.specs.Read.Row.{cell_in}
 use Rattle.pg_c.specs.declared.read.row.PgmsgCell.{PgmsgCell}

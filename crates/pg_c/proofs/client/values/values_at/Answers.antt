@@ -1,6 +1,6 @@
 use Rattle.std.proofs.Common.{inr}
 use Rattle.std.proofs.lemmas.Result.{err_from_is_err_and}
-use Rattle.pg_read_frontend.proofs.MessageLemmas.{after}
+use Rattle.pg_server.proofs.FrontendMessageLemmas.{after}
 use Rattle.pg_c.proofs.client.values.values_at.Goals as goal
 
 pub returns-in_err-end-clause-fault : goal.returns-in_err-end-clause-fault

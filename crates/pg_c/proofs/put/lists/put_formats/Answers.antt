@@ -1,6 +1,6 @@
 use Rattle.std.proofs.Common.{length, arith, rules}
 use Rattle.pg_base.specs.Numbers.{be16}
-use Rattle.pg_request.proofs.CountedLemmas.{room_for_one}
+use Rattle.pg_send.proofs.CountedLemmas.{room_for_one}
 use Rattle.pg_c.specs.Put.Lists.{format_of}
 use Rattle.pg_c.proofs.put.lists.put_formats.Goals as goal
 

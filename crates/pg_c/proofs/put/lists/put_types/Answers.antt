@@ -1,7 +1,7 @@
 use Rattle.std.proofs.Common.{◌^◌, ◌<◌, length, arith, ◌∙◌, rules}
 use Rattle.std.proofs.lemmas.List.Elements.{All-more}
 use Rattle.pg_base.specs.Numbers.{be16, be32}
-use Rattle.pg_request.proofs.CountedLemmas.{one_more_number, room_for_one_number}
+use Rattle.pg_send.proofs.CountedLemmas.{one_more_number, room_for_one_number}
 use Rattle.pg_c.proofs.put.lists.put_types.Goals as goal
 
 pub put_u32-requires : goal.put_u32-requires

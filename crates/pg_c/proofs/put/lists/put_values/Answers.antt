@@ -1,7 +1,7 @@
 use Rattle.std.proofs.Common.{[], arith, refl, rules}
 use Rattle.pg_base.specs.Cutting.{max_length}
-use Rattle.pg_request.specs.Values.{value_text}
-use Rattle.pg_request.proofs.CountedLemmas.{room_for_one}
+use Rattle.pg_send.specs.Values.{value_text}
+use Rattle.pg_send.proofs.CountedLemmas.{room_for_one}
 use Rattle.pg_c.specs.Put.Lists.{value_of}
 use Rattle.pg_c.proofs.PutListsLemmas.{none}
 use Rattle.pg_c.proofs.put.lists.put_values.Goals as goal

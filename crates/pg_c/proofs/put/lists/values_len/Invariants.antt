@@ -1,5 +1,5 @@
 use Rattle.std.proofs.Common.{◌≡◌, length, take}
-use Rattle.pg_request.specs.Frame.{saturated}
+use Rattle.pg_send.specs.FrontendMessage.{saturated}
 use Rattle.pg_c.specs.Put.Lists.{values_spelled}
 use Rattle.pg_c.proofs.put.lists.values_len.Given as goal
 

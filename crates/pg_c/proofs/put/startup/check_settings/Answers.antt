@@ -2,7 +2,7 @@ use Rattle.std.proofs.Common.{rules}
 use Rattle.std.proofs.lemmas.Result.{err_from_is_err_and}
 use Rattle.std.proofs.lemmas.List.{take_all}
 use Rattle.std.proofs.lemmas.List.Elements.{All-map, All-more}
-use Rattle.pg_request.specs.Startup.{IsReadable}
+use Rattle.pg_send.specs.Startup.{IsReadable}
 use Rattle.pg_c.specs.Put.Startup.{name_and_value}
 use Rattle.pg_c.proofs.PutStartupLemmas.{none, readable_at}
 use Rattle.pg_c.proofs.put.startup.check_settings.Goals as goal

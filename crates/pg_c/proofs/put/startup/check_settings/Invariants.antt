@@ -1,6 +1,6 @@
 use Rattle.std.proofs.Common.{take}
 use Rattle.std.specs.List.{All}
-use Rattle.pg_request.specs.Startup.{IsReadable}
+use Rattle.pg_send.specs.Startup.{IsReadable}
 use Rattle.pg_c.specs.Put.Startup.{name_and_value}
 use Rattle.pg_c.proofs.put.startup.check_settings.Given as goal
 

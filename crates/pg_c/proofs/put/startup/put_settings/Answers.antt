@@ -1,6 +1,6 @@
 use Rattle.std.proofs.Common.{[], arith, rules}
-use Rattle.pg_request.specs.Startup.{setting}
-use Rattle.pg_request.proofs.CountedLemmas.{room_for_one}
+use Rattle.pg_send.specs.Startup.{setting}
+use Rattle.pg_send.proofs.CountedLemmas.{room_for_one}
 use Rattle.pg_c.specs.Put.Startup.{name_and_value}
 use Rattle.pg_c.proofs.PutStartupLemmas.{none}
 use Rattle.pg_c.proofs.put.startup.put_settings.Goals as goal

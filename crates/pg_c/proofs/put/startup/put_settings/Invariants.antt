@@ -1,6 +1,6 @@
 use Rattle.std.proofs.Common.{◌≡◌, ◌≤◌, ◌++◌, take, map}
 use Rattle.std.specs.List.{flat_map}
-use Rattle.pg_request.specs.Startup.{setting}
+use Rattle.pg_send.specs.Startup.{setting}
 use Rattle.pg_c.specs.Put.Startup.{name_and_value}
 use Rattle.pg_c.proofs.put.startup.put_settings.Given as goal
 

@@ -1,7 +1,7 @@
 use Rattle.std.proofs.Common.{◌≡◌, length, take, map}
 use Rattle.std.specs.List.{flat_map}
-use Rattle.pg_request.specs.Frame.{saturated}
-use Rattle.pg_request.specs.Startup.{setting}
+use Rattle.pg_send.specs.FrontendMessage.{saturated}
+use Rattle.pg_send.specs.Startup.{setting}
 use Rattle.pg_c.specs.Put.Startup.{name_and_value}
 use Rattle.pg_c.proofs.put.startup.settings_len.Given as goal
 

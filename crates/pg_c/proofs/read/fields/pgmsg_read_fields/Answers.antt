@@ -1,6 +1,6 @@
 use Rattle.std.proofs.Common.{arith}
 use Rattle.std.proofs.Common.{[], refl}
-use Rattle.pg_response.specs.Response.Fields.{fields_in}
+use Rattle.pg_receive.specs.Response.Fields.{fields_in}
 use Rattle.pg_c.specs.Read.Fields.{field_in}
 use Rattle.pg_c.proofs.ReadListsLemmas.{none_yet}
 use Rattle.pg_c.proofs.ReadFieldsLemmas.{one_more_field, no_more_field}

@@ -2,7 +2,7 @@ use Rattle.std.proofs.Common.{rules}
 use Rattle.std.specs.Int.{w32}
 use Rattle.std.proofs.lemmas.Int.{to_z-of_z}
 use mir.Val.{SFits}
-use Rattle.pg_relay.specs.Error.{error_words}
+use Rattle.pg_frames.specs.Relay.Error.{error_words}
 use Rattle.pg_c.proofs.RelayRefusalLemmas.{relay_below}
 use Rattle.pg_c.proofs.relay.refusal.report_relay.Goals as goal
 

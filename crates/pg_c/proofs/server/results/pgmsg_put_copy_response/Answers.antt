@@ -3,8 +3,8 @@ use Rattle.std.specs.Int.{w8}
 use Rattle.std.proofs.lemmas.Int.{to_z-of_z}
 use mir.Val.{to_z, of_z}
 use Rattle.pg_base.specs.declared.error.ProtocolFault.TheVariants.{UnknownMessageType}
-use Rattle.pg_write_backend.specs.Copy.{direction_tag}
-use Rattle.pg_write_backend.specs.Message as messages
+use Rattle.pg_server.specs.Backend.Copy.{direction_tag}
+use Rattle.pg_server.specs.Backend.Message as messages
 use Rattle.pg_c.specs.Server.{PutsServerMessage, PutsByLetter}
 use Rattle.pg_c.specs.Server.Letters.{ways}
 use Rattle.pg_c.proofs.ServerLettersLemmas.{direction_found, put_by_letter, refused_by_letter}

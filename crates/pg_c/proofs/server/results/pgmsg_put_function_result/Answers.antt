@@ -1,6 +1,6 @@
 use Rattle.std.proofs.Common.{Some, None, ap, ◌∙◌, rules}
 use Rattle.std.specs.Prelude.{option_copied, if◌then◌else◌}
-use Rattle.pg_write_backend.specs.Message as messages
+use Rattle.pg_server.specs.Backend.Message as messages
 use Rattle.pg_c.specs.Server.{PutsServerMessage}
 use Rattle.pg_c.proofs.ServerListsLemmas.{same_value}
 use Rattle.pg_c.proofs.server.results.pgmsg_put_function_result.Goals as goal

@@ -1,6 +1,6 @@
 use Rattle.std.proofs.Common.{sym, rules}
 use Rattle.pg_base.specs.declared.error.ProtocolFault.TheVariants.{UnknownMessageType}
-use Rattle.pg_write_backend.specs.Message as messages
+use Rattle.pg_server.specs.Backend.Message as messages
 use Rattle.pg_c.specs.Server.{PutsByLetter}
 use Rattle.pg_c.specs.Server.Letters.{no_body_tag, no_bodies}
 use Rattle.pg_c.proofs.ServerLettersLemmas.{no_body_found, put_by_letter, refused_by_letter}

@@ -1,5 +1,5 @@
 use Rattle.std.proofs.Common.{ℕ, map, map-id, rules}
-use Rattle.pg_write_backend.specs.Message as messages
+use Rattle.pg_server.specs.Backend.Message as messages
 use Rattle.pg_c.specs.Server.{PutsServerMessage}
 use Rattle.pg_c.proofs.server.rows.pgmsg_put_parameter_types.Goals as goal
 

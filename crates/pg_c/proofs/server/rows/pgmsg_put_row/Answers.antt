@@ -1,5 +1,5 @@
 use Rattle.std.proofs.Common.{map, rules}
-use Rattle.pg_write_backend.specs.Message as messages
+use Rattle.pg_server.specs.Backend.Message as messages
 use Rattle.pg_c.specs.Put.Lists.{value_of}
 use Rattle.pg_c.specs.Server.{PutsServerMessage}
 use Rattle.pg_c.proofs.ServerListsLemmas.{same_values}

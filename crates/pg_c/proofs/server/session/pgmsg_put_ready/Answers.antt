@@ -1,6 +1,6 @@
 use Rattle.std.proofs.Common.{sym, rules}
 use Rattle.pg_base.specs.declared.error.ProtocolFault.TheVariants.{UnknownStatus}
-use Rattle.pg_write_backend.specs.Message as messages
+use Rattle.pg_server.specs.Backend.Message as messages
 use Rattle.pg_c.specs.Server.{PutsByLetter}
 use Rattle.pg_c.specs.Server.Letters.{ready_letter, readiness}
 use Rattle.pg_c.proofs.ServerLettersLemmas.{ready_found, put_by_letter, refused_by_letter}

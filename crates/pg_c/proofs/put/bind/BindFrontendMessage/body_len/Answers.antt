@@ -1,6 +1,6 @@
 use Rattle.std.proofs.Common.{arith}
 use Rattle.std.proofs.lemmas.List.{length-map}
-use Rattle.pg_request.proofs.BindLemmas.{length-bind_body}
+use Rattle.pg_send.proofs.BindLemmas.{length-bind_body}
 use Rattle.pg_c.specs.Put.Bind.{bind_of}
 use Rattle.pg_c.specs.Put.Lists.{format_of}
 use Rattle.pg_c.proofs.put.bind.BindFrontendMessage.body_len.Goals as goal

@@ -1,7 +1,7 @@
 use Rattle.std.proofs.Common.{arith}
 use Rattle.std.proofs.lemmas.List.{length-map}
-use Rattle.pg_request.proofs.BindLemmas.{room_for_bind, few_formats}
-use Rattle.pg_request.proofs.RoomLemmas.{room_first, room_after, written_after}
+use Rattle.pg_send.proofs.BindLemmas.{room_for_bind, few_formats}
+use Rattle.pg_send.proofs.RoomLemmas.{room_first, room_after, written_after}
 use Rattle.pg_c.specs.Put.Bind.{bind_of}
 use Rattle.pg_c.specs.Put.Lists.{format_of}
 use Rattle.pg_c.proofs.PutListsLemmas.{codes_small}

@@ -1,5 +1,5 @@
 use Rattle.std.proofs.Common.{arith}
-use Rattle.pg_request.proofs.RawLemmas.{length-raw_bind_body}
+use Rattle.pg_send.proofs.RawLemmas.{length-raw_bind_body}
 use Rattle.pg_c.specs.Put.Bind.{raw_bind_of}
 use Rattle.pg_c.proofs.put.bind.RawBindFrontendMessage.body_len.Goals as goal
 

@@ -1,5 +1,5 @@
 use Rattle.std.proofs.Common.{arith}
-use Rattle.pg_request.proofs.RawLemmas.{length-function_call_body}
+use Rattle.pg_send.proofs.RawLemmas.{length-function_call_body}
 use Rattle.pg_c.specs.Put.FunctionCall.{function_call_of}
 use Rattle.pg_c.proofs.put.function_call.FunctionCallFrontendMessage.body_len.Goals as goal
 

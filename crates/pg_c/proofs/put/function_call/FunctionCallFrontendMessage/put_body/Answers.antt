@@ -1,9 +1,9 @@
 use Rattle.std.proofs.Common.{ℕ, List, ◌++◌, length, map}
 use Rattle.std.proofs.lemmas.List.{length-map}
 use Rattle.pg_base.specs.Numbers.{be16, be32}
-use Rattle.pg_request.specs.Counted.{counted16}
-use Rattle.pg_request.proofs.RawLemmas.{room_for_function_call, few_of_function_call, values_of_function_call}
-use Rattle.pg_request.proofs.RoomLemmas.{room_first, room_after, written_after}
+use Rattle.pg_send.specs.Counted.{counted16}
+use Rattle.pg_send.proofs.RawLemmas.{room_for_function_call, few_of_function_call, values_of_function_call}
+use Rattle.pg_send.proofs.RoomLemmas.{room_first, room_after, written_after}
 use Rattle.pg_c.specs.Put.FunctionCall.{function_call_of}
 use Rattle.pg_c.specs.Put.Lists.{value_of, values_spelled}
 use Rattle.pg_c.proofs.PutListsLemmas.{room_for_counted}

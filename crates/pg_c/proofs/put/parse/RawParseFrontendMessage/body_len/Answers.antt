@@ -1,5 +1,5 @@
 use Rattle.std.proofs.Common.{arith}
-use Rattle.pg_request.proofs.RawLemmas.{length-raw_parse_body}
+use Rattle.pg_send.proofs.RawLemmas.{length-raw_parse_body}
 use Rattle.pg_c.specs.Put.Parse.{raw_parse_fields}
 use Rattle.pg_c.proofs.put.parse.RawParseFrontendMessage.body_len.Goals as goal
 

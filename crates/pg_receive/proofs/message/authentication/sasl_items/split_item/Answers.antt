@@ -3,7 +3,7 @@ use Rattle.std.proofs.lemmas.Bool.{eqb-true}
 use Rattle.std.proofs.lemmas.List.{take_all, length-drop}
 use Rattle.pg_format.specs.Sasl.{items_in}
 use Rattle.pg_receive.specs.Authentication.SaslItems.{comma}
-use Rattle.pg_response.proofs.TextLemmas.{nowhere_holds_no, front_holds_no, around}
+use Rattle.pg_format.proofs.TextLemmas.{nowhere_holds_no, front_holds_no, around}
 use Rattle.pg_receive.proofs.AuthenticationSaslItemsLemmas.{items_none, items_at}
 use Rattle.pg_receive.proofs.message.authentication.sasl_items.split_item.Goals as goal
 

@@ -1,0 +1,8 @@
+use Rattle.pg_frames.proofs.FrontendPiecesLemmas.{one_stream, one_read}
+use Rattle.pg_frames.proofs.frontend.laws.a_stream_is_read_one_way.Goals as goal
+
+pub returns-clause-stream : goal.returns-clause-stream
+returns-clause-stream c = one_stream
+
+pub returns-clause-read : goal.returns-clause-read
+returns-clause-read c = one_read

@@ -1,0 +1,140 @@
+//! The message at the front of a client's stream.
+
+ghost use Rattle.std.specs.Prelude.{IfOk, IfErr, IfSome, IfNone};
+ghost use Rattle.pg_frames.specs.Frontend.Frame.{BeginsFirst, BeginsTagged, BeginsWith, Follows, IsFirstFault, IsStreamFault, IsTaggedFault, WantsMore, WantsMoreFirst, WantsMoreTagged};
+
+use crate::frontend::message::ClientMessageKind;
+use pg_base::io::{i32_at, u32_at};
+use pg_server::frontend::{FrontendFault, format_of};
+
+/// The greatest length of a first message that PostgreSQL's own servers take. Their limit is 10,000 bytes after the
+/// length field; this length, like the field, counts the field's four bytes too.
+pub const MAX_FIRST_LENGTH: usize = 10_004;
+
+// The length of the shortest first message: it counts itself and a code.
+const MIN_FIRST_LENGTH: i32 = 8;
+
+// The length of the shortest message with a tag: it counts itself.
+const MIN_LENGTH: i32 = 4;
+
+// The codes of the first messages that another first message follows.
+const SSL_REQUEST: u32 = 80877103;
+
+const GSS_ENC_REQUEST: u32 = 80877104;
+
+/// Which message comes next on a client's stream.
+#[derive(Clone, Copy, Debug, PartialEq, Eq)]
+pub enum Expects {
+    /// A message without a tag, as at the start.
+    First,
+    /// A message with a tag.
+    Tagged,
+}
+
+/// A whole message at the front of a client's stream, where it lies.
+#[derive(Clone, Copy)]
+pub struct FrontendFrame<'a> {
+    /// The kind, by the tag and by what was expected.
+    pub kind: ClientMessageKind,
+    /// The body, without tag and length.
+    pub body: &'a [u8],
+    /// What comes after the message.
+    pub rest: &'a [u8],
+    /// Which message is expected there.
+    pub next: Expects,
+}
+
+/// The message at the front of the bytes, or `None` where it isn't whole yet.
+///
+/// Of a first message the length is tested as soon as its four bytes are there: below 8 it is
+/// `BadLength`, and above the limit `FirstTooLong`. After an SSLRequest or a GSSENCRequest, which its
+/// code alone says, another first message is expected; after any other, messages with a tag. Of these
+/// it is `UnknownTag` where no message from a client has the tag, then `BadLength` where the length is
+/// below 4; each as soon as five bytes are there, and whatever comes after them. It takes no memory and
+/// copies nothing. Documentation: "Messaging Overview", "Start-up", "SSL Session Encryption".
+#[inline(always)]
+pub fn next_frontend_frame(
+    expects: Expects,
+    limit: usize,
+    stream: &[u8],
+) -> Result<Option<FrontendFrame<'_>>, FrontendFault>
+    ensures whole { IfOk result (λ some. IfSome some (λ frame. BeginsWith limit expects stream.now frame.kind frame.body.now frame.rest.now frame.next)) }
+    ensures part { IfOk result (λ some. IfNone some (WantsMore limit expects stream.now)) }
+    ensures fault { IfErr result (IsStreamFault limit expects stream.now) }
+{
+    match expects {
+        Expects::First => next_first(limit, stream),
+        Expects::Tagged => next_tagged(stream),
+    }
+}
+
+// The first message at the front.
+fn next_first(limit: usize, stream: &[u8]) -> Result<Option<FrontendFrame<'_>>, FrontendFault>
+    ensures whole { IfOk result (λ some. IfSome some (λ frame. BeginsFirst limit stream.now frame.kind frame.body.now frame.rest.now frame.next)) }
+    ensures part { IfOk result (λ some. IfNone some (WantsMoreFirst limit stream.now)) }
+    ensures fault { IfErr result (IsFirstFault limit stream.now) }
+{
+    let Ok(announced) = i32_at(stream, 0) else {
+        return Ok(None);
+    };
+    if announced < MIN_FIRST_LENGTH {
+        return Err(FrontendFault::BadLength(announced));
+    }
+    let length = announced as usize;
+    if length > limit {
+        return Err(FrontendFault::FirstTooLong { length, limit });
+    }
+    let Some((body, rest)) = stream[4..].split_at_checked(length - 4) else {
+        return Ok(None);
+    };
+    Ok(Some(FrontendFrame {
+        kind: ClientMessageKind::First,
+        body,
+        rest,
+        next: after_first(body),
+    }))
+}
+
+/// What is expected after a first message with this body: after an SSLRequest or a GSSENCRequest, which its
+/// code alone says, another one, and after any other a message with a tag.
+pub fn after_first(body: &[u8]) -> Expects
+    ensures { Follows body.now result }
+{
+    let Ok(code) = u32_at(body, 0) else {
+        return Expects::Tagged;
+    };
+    if code == SSL_REQUEST || code == GSS_ENC_REQUEST {
+        Expects::First
+    } else {
+        Expects::Tagged
+    }
+}
+
+// The message with a tag at the front.
+fn next_tagged(stream: &[u8]) -> Result<Option<FrontendFrame<'_>>, FrontendFault>
+    ensures whole { IfOk result (λ some. IfSome some (λ frame. BeginsTagged stream.now frame.kind frame.body.now frame.rest.now frame.next)) }
+    ensures part { IfOk result (λ some. IfNone some (WantsMoreTagged stream.now)) }
+    ensures fault { IfErr result (IsTaggedFault stream.now) }
+{
+    let Some((tag, after)) = stream.split_first() else {
+        return Ok(None);
+    };
+    let Ok(announced) = i32_at(after, 0) else {
+        return Ok(None);
+    };
+    let Some(format) = format_of(*tag) else {
+        return Err(FrontendFault::UnknownTag(*tag));
+    };
+    if announced < MIN_LENGTH {
+        return Err(FrontendFault::BadLength(announced));
+    }
+    let Some((body, rest)) = after[4..].split_at_checked(announced as usize - 4) else {
+        return Ok(None);
+    };
+    Ok(Some(FrontendFrame {
+        kind: ClientMessageKind::Tagged(format),
+        body,
+        rest,
+        next: Expects::Tagged,
+    }))
+}

@@ -1,0 +1,157 @@
+//! A reader of messages from a client's stream that comes in pieces.
+
+ghost use Rattle.std.specs.Prelude.{◌≡◌, ◌≢◌, ◌==◌, [], length, Some, None, Ok, Err, IsSome, IfOk, OnOk, IfErr, OnErr, IfSome, IfNone, MatchResult};
+ghost use Rattle.pg_server.specs.declared.frontend.error.FrontendFault.{FrontendFault};
+ghost use Rattle.pg_frames.specs.declared.frontend.error.FrontendError.TheVariants.{Protocol, OutOfMemory};
+ghost use Rattle.pg_frames.specs.declared.frontend.frame.Expects.TheVariants.{First};
+ghost use Rattle.pg_frames.specs.Frontend.Frame.{Whole, WantsMore, IsStreamFault};
+ghost use Rattle.pg_frames.specs.Frontend.Reader.{Takes, IsReaderError, fed, header};
+
+use crate::frontend::error::FrontendError;
+use crate::frontend::frame::{Expects, FrontendFrame, next_frontend_frame};
+use crate::frontend::message::{ClientMessage, ClientMessageKind};
+use bytes::BytesMut;
+use std::alloc::{AllocError, Global};
+use std::marker::Model;
+
+// How many bytes a length has, and how many it has with the tag before it.
+const LENGTH: usize = 4;
+
+const TAG_AND_LENGTH: usize = 5;
+
+// The most spare bytes of a block that a reader keeps when all is handed out.
+const MAX_KEPT: usize = 64 * 1024;
+
+/// Takes the bytes of a stream from a client in pieces of any length, and hands out its messages, each as
+/// soon as its last byte has come. Documentation: "Messaging Overview".
+///
+/// A body that it hands out shares the block of memory that its bytes were fed into, and keeps that block
+/// until it is dropped. The reader asks for memory as bytes are fed and never for a length that a message
+/// announces. Of a block with more than 64 KiB to spare it lets go once all is handed out.
+#[derive(Drop)]
+pub struct FrontendFrameReader {
+    alloc: Global,
+    limit: usize,
+    expects: Expects,
+    buffer: BytesMut,
+}
+
+impl Model for FrontendFrameReader {
+    ghost use Rattle.pg_frames.specs.Frontend.Reader.{Reading};
+
+    ghost Value = { Reading };
+
+    ghost view = { λ reader. record { limit = reader.limit; expects = reader.expects; bytes = reader.buffer.items } };
+}
+
+impl FrontendFrameReader {
+    /// A reader that was fed nothing, and takes first messages up to this length, which counts itself;
+    /// PostgreSQL's own servers take [`MAX_FIRST_LENGTH`](crate::frontend::MAX_FIRST_LENGTH). It takes no memory.
+    pub fn new(alloc: Global, limit: usize) -> Self
+        ensures { result ≡ record { limit = limit; expects = First; bytes = [] } }
+    {
+        FrontendFrameReader {
+            alloc,
+            limit,
+            expects: Expects::First,
+            buffer: BytesMut::new(alloc),
+        }
+    }
+
+    /// How many bytes were fed and not yet taken.
+    pub fn len(&self) -> usize
+        ensures { result ≡ length self.now.bytes }
+    {
+        self.buffer.len()
+    }
+
+    /// Whether all bytes that were fed are taken.
+    pub fn is_empty(&self) -> bool
+        ensures { result ≡ (length self.now.bytes == 0) }
+    {
+        self.buffer.is_empty()
+    }
+
+    /// Which message comes next.
+    pub fn expects(&self) -> Expects
+        ensures { result ≡ self.now.expects }
+    {
+        self.expects
+    }
+
+    /// Adds the next bytes of the stream, or is out of memory and changes nothing. No bytes need no
+    /// memory.
+    pub fn feed(&mut self, bytes: &[u8]) -> Result<(), AllocError>
+        ensures ok { OnOk result (self.new ≡ fed self.old bytes.now) }
+        ensures err { OnErr result (self.new ≡ self.old) }
+        ensures some { OnErr result (bytes.now ≢ []) }
+    {
+        self.buffer.extend_from_slice(bytes)
+    }
+
+    /// Takes the message at the front of what was fed, or gives `None` where it isn't whole yet.
+    ///
+    /// Each fault comes as [`next_frontend_frame`](crate::frontend::next_frontend_frame) gives it. A share of the
+    /// bytes of a whole message may find that memory ran out. Each error leaves the reader as it was, so
+    /// the same call may be made again: after a fault it gives the fault again, and after `OutOfMemory`
+    /// it gives the message as soon as there is memory.
+    pub fn next_message(&mut self) -> Result<Option<ClientMessage>, FrontendError>
+        ensures message { IfOk result (λ some. IfSome some (λ message. Takes self.old message self.new)) }
+        ensures partial { IfOk result (λ some. IfNone some (WantsMore self.old.limit self.old.expects self.old.bytes × (self.new ≡ self.old))) }
+        ensures error { IfErr result (IsReaderError self.old) }
+        ensures err { OnErr result (self.new ≡ self.old) }
+
+        // Each answer comes wherever it is due.
+        ensures whole_due { Whole self.old.limit self.old.expects self.old.bytes → MatchResult result IsSome (λ error. error ≡ OutOfMemory) }
+        ensures partial_due { WantsMore self.old.limit self.old.expects self.old.bytes → result ≡ Ok None }
+        ensures fault_due { (fault : FrontendFault) → IsStreamFault self.old.limit self.old.expects self.old.bytes fault → result ≡ Err (Protocol fault) }
+    {
+        self.take_next()
+    }
+
+    // The same, without that each answer comes wherever it is due.
+    fn take_next(&mut self) -> Result<Option<ClientMessage>, FrontendError>
+        ensures message { IfOk result (λ some. IfSome some (λ message. Takes self.old message self.new)) }
+        ensures partial { IfOk result (λ some. IfNone some (WantsMore self.old.limit self.old.expects self.old.bytes × (self.new ≡ self.old))) }
+        ensures error { IfErr result (IsReaderError self.old) }
+        ensures err { OnErr result (self.new ≡ self.old) }
+    {
+        let stream = self.buffer.as_slice();
+        let Some(
+            FrontendFrame {
+                kind,
+                rest,
+                next,
+                ..
+            },
+        ) = next_frontend_frame(self.expects, self.limit, stream)?
+        else {
+            return Ok(None);
+        };
+        let end = stream.len() - rest.len();
+        let mut contents = self.buffer.freeze_to(end)?;
+        contents.advance(header_of(kind));
+        self.expects = next;
+        self.give_back();
+        Ok(Some(ClientMessage { kind, contents }))
+    }
+
+    // Where all is handed out, lets go of a block that has much to spare.
+    fn give_back(&mut self)
+        ensures { self.new ≡ self.old }
+    {
+        if self.buffer.is_empty() && self.buffer.capacity() > MAX_KEPT {
+            self.buffer = BytesMut::new(self.alloc);
+        }
+    }
+}
+
+// How many bytes stand before the body of a message.
+fn header_of(kind: ClientMessageKind) -> usize
+    ensures { result ≡ header kind }
+{
+    match kind {
+        ClientMessageKind::First => LENGTH,
+        ClientMessageKind::Tagged(_) => TAG_AND_LENGTH,
+    }
+}

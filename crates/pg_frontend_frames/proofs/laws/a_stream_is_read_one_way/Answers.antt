@@ -1,8 +1,0 @@
-use Rattle.pg_frontend_frames.proofs.PiecesLemmas.{one_stream, one_read}
-use Rattle.pg_frontend_frames.proofs.laws.a_stream_is_read_one_way.Goals as goal
-
-pub returns-clause-stream : goal.returns-clause-stream
-returns-clause-stream c = one_stream
-
-pub returns-clause-read : goal.returns-clause-read
-returns-clause-read c = one_read

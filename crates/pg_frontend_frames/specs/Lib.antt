@@ -1,5 +1,0 @@
-pub mod Error
-pub mod Frame
-pub mod Message
-pub mod Pieces
-pub mod Reader

@@ -1,4 +1,0 @@
-//! Laws of messages that are written and read, of either direction.
-
-pub mod backend;
-pub mod frontend;

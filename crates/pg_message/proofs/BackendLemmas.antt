@@ -1,0 +1,106 @@
+-- A message that is written is decoded to what it says.
+use Rattle.std.proofs.Common.{◌≡◌, ℕ, ◌+◌, ◌≤◌, List, [], length, Option, Some, None, Result, refl, sym, ap, ◌∙◌, arith}
+use Rattle.std.proofs.lemmas.List.{append-nil}
+use Rattle.pg_base.specs.Cutting.{max_length}
+use Rattle.pg_base.specs.Format.{backend_tag}
+use Rattle.pg_base.specs.Numbers.{num}
+use Rattle.pg_base.specs.declared.error.Error.{Error}
+use Rattle.pg_format.specs.Format.{Means}
+use Rattle.pg_format.specs.Messages as page
+use Rattle.pg_format.specs.Notices.{Field}
+use Rattle.pg_receive.specs.Authentication.{value_of}
+use Rattle.pg_receive.specs.contracts.message.authentication.AuthenticationBackendMessage.TheImpl as authentication
+use Rattle.pg_receive.specs.contracts.message.backend_key_data.BackendKeyDataBackendMessage.TheImpl as backend_key_data
+use Rattle.pg_receive.specs.contracts.message.command_complete.CommandCompleteBackendMessage.TheImpl as command_complete
+use Rattle.pg_receive.specs.contracts.message.copy.CopyInResponseBackendMessage.TheImpl as copy_in_response
+use Rattle.pg_receive.specs.contracts.message.copy.CopyOutResponseBackendMessage.TheImpl as copy_out_response
+use Rattle.pg_receive.specs.contracts.message.data_row.DataRowBackendMessage.TheImpl as data_row
+use Rattle.pg_receive.specs.contracts.message.notification.NotificationBackendMessage.TheImpl as notification
+use Rattle.pg_receive.specs.contracts.message.parameter_description.ParameterDescriptionBackendMessage.TheImpl as parameter_description
+use Rattle.pg_receive.specs.contracts.message.parameter_status.ParameterStatusBackendMessage.TheImpl as parameter_status
+use Rattle.pg_receive.specs.contracts.message.ready_for_query.ReadyForQueryBackendMessage.TheImpl as ready_for_query
+use Rattle.pg_receive.specs.contracts.message.row_description.RowDescriptionBackendMessage.TheImpl as row_description
+use Rattle.pg_receive.specs.contracts.database_error.PgDatabaseErrorBackendMessage.TheImpl as error_response
+use Rattle.pg_format.specs.contracts.copy.CopyDataBytesBackendMessage.TheImpl as copy_data
+use Rattle.pg_format.specs.contracts.copy.CopyDoneBackendMessage.TheImpl as copy_done
+use Rattle.pg_receive.specs.contracts.message.response.NoticeBackendMessage.TheImpl as notice_response
+use Rattle.pg_format.specs.declared.received.BackendMessage.{Ghosts}
+use Rattle.pg_server.specs.Backend.Copy.{response_of}
+use Rattle.pg_server.specs.Backend.Message as message
+use Rattle.pg_server.specs.Backend.Message.{Message, law_of, tag, body, fault, IsInRange, IsReadable}
+use Rattle.pg_server.specs.declared.backend.copy.CopyDirection.{CopyDirection}
+use Rattle.pg_server.specs.declared.backend.copy.CopyDirection.TheVariants as directions
+use Rattle.pg_server.specs.declared.backend.no_body.NoBodyText.{NoBodyText}
+use Rattle.pg_server.specs.declared.backend.no_body.NoBodyText.TheVariants as bare
+use Rattle.pg_server.specs.declared.backend.notice.NoticeKind.{NoticeKind}
+use Rattle.pg_server.specs.declared.backend.notice.NoticeKind.TheVariants as kinds
+use Rattle.pg_server.proofs.BackendTextLemmas.{len_fits}
+use Rattle.pg_server.proofs.BackendMessageLemmas.{own_message}
+use Rattle.pg_message.specs.Backend.{IsDecoded, IsCopyDecoded, IsBareDecoded, IsNoticeDecoded, IsDecodedBack, noticed, numbered}
+
+small : (m : Message) → fault m ≡ None → 4 + length (body m) ≤ max_length
+small m e = len_fits (law_of m).part_fault (length (body m)) e
+
+-- what its body means
+means : (m : Message) → fault m ≡ None → IsInRange m → IsReadable m → Means (law_of m).line (body m) (law_of m).value
+means m e r h = (own_message m e r h (law_of m).value).1 refl
+
+-- what a type's line means by a body within the limits is what the type decodes
+decoded : {A : Type 0} (type : Ghosts A) (value : type.Shown) (m : Message) → fault m ≡ None → backend_tag type.FORMAT ≡ tag m → Means type.format (body m) value → IsDecoded type value m
+decoded type value m e tagged is = record {
+  tagged = tagged;
+  gives = λ received result format contents decodes.
+      decodes.only value format (omega (arith, small m e, ap length contents)) (rw contents is);
+}
+
+-- a key of four bytes is read as a number
+read_key : (key : page.Cancel) (bytes : List ℕ) → length key.secret_key ≡ 4 → Means page.backend_key bytes key → Means page.backend_key_data bytes (numbered key)
+read_key key bytes wide p =
+    let same : key.secret_key ≡ p.mid = p.second.0.0 in (
+      [],
+      record {
+        mid = p.mid;
+        first = p.first;
+        second = record { spelled = p.mid; wide = ap length (sym same) ∙ wide; is = ap num same; parts = sym (append-nil p.mid) };
+      },
+      refl,
+    )
+
+decoded_copy : (direction : CopyDirection) (m : Message) (response : page.CopyResponse) → fault m ≡ None → tag m ≡ tag (message.CopyResponse direction response.format response.format_codes) → Means page.copy_response (body m) response → IsCopyDecoded direction response m
+decoded_copy directions.In m response e t is = decoded copy_in_response.ghosts response m e (sym t) is
+decoded_copy directions.Out m response e t is = decoded copy_out_response.ghosts response m e (sym t) is
+decoded_copy directions.Both m response e t is = tt
+
+decoded_bare : (kind : NoBodyText) → fault (message.NoBody kind) ≡ None → Means page.no_body (body (message.NoBody kind)) tt → IsBareDecoded kind (message.NoBody kind)
+decoded_bare bare.CopyDone e is = decoded copy_done.ghosts tt (message.NoBody bare.CopyDone) e refl is
+decoded_bare bare.ParseComplete e is = tt
+decoded_bare bare.BindComplete e is = tt
+decoded_bare bare.CloseComplete e is = tt
+decoded_bare bare.EmptyQueryResponse e is = tt
+decoded_bare bare.NoData e is = tt
+decoded_bare bare.PortalSuspended e is = tt
+
+decoded_notice : (kind : NoticeKind) (fields : List Field) → fault (message.Notice kind fields) ≡ None → Means page.notice (body (message.Notice kind fields)) fields → IsNoticeDecoded kind (noticed fields) (message.Notice kind fields)
+decoded_notice kinds.Error fields e is = decoded error_response.ghosts (noticed fields) (message.Notice kinds.Error fields) e refl (fields, is, refl)
+decoded_notice kinds.Notice fields e is = decoded notice_response.ghosts (noticed fields) (message.Notice kinds.Notice fields) e refl (fields, is, refl)
+
+decoded_by_kind : (m : Message) → fault m ≡ None → Means (law_of m).line (body m) (law_of m).value → IsDecodedBack m
+decoded_by_kind (message.Authentication request) e is = decoded authentication.ghosts (value_of request) (message.Authentication request) e refl (request, is, refl)
+decoded_by_kind (message.BackendKeyData key) e is = λ wide. decoded backend_key_data.ghosts (numbered key) (message.BackendKeyData key) e refl (read_key key (body (message.BackendKeyData key)) wide is)
+decoded_by_kind (message.CommandComplete command) e is = decoded command_complete.ghosts _ (message.CommandComplete command) e refl is
+decoded_by_kind (message.CopyData bytes) e is = decoded copy_data.ghosts bytes (message.CopyData bytes) e refl is
+decoded_by_kind (message.CopyResponse direction format codes) e is = decoded_copy direction (message.CopyResponse direction format codes) (response_of format codes) e refl is
+decoded_by_kind (message.DataRow cells) e is = decoded data_row.ghosts cells (message.DataRow cells) e refl is
+decoded_by_kind (message.FunctionCallResponse value) e is = tt
+decoded_by_kind (message.NegotiateProtocolVersion n) e is = tt
+decoded_by_kind (message.NoBody kind) e is = decoded_bare kind e is
+decoded_by_kind (message.Notice kind fields) e is = decoded_notice kind fields e is
+decoded_by_kind (message.Notification n) e is = decoded notification.ghosts n (message.Notification n) e refl is
+decoded_by_kind (message.ParameterDescription types) e is = decoded parameter_description.ghosts types (message.ParameterDescription types) e refl is
+decoded_by_kind (message.ParameterStatus setting) e is = decoded parameter_status.ghosts setting (message.ParameterStatus setting) e refl is
+decoded_by_kind (message.Raw tag bytes) e is = tt
+decoded_by_kind (message.ReadyForQuery ready) e is = decoded ready_for_query.ghosts _ (message.ReadyForQuery ready) e refl is
+decoded_by_kind (message.RowDescription columns) e is = decoded row_description.ghosts columns (message.RowDescription columns) e refl is
+
+pub decoded_back : (m : Message) → fault m ≡ None → IsInRange m → IsReadable m → IsDecodedBack m
+decoded_back m e r h = decoded_by_kind m e (means m e r h)

@@ -1,0 +1,18 @@
+//! Laws of messages that are written and received. Each is a function whose contract is the law.
+
+ghost use Rattle.std.specs.Prelude.{◌≡◌, None};
+ghost use Rattle.pg_server.specs.Backend.Message.{Message, fault, IsInRange, IsReadable};
+ghost use Rattle.pg_message.specs.Backend.{IsDecodedBack, IsReadRaw};
+
+/// A message without a fault, of a kind that has a type, is decoded as that type by its tag and body to
+/// what it says, or memory runs out.
+pub fn own_messages_are_decoded()
+    ensures { (m : Message) → fault m ≡ None → IsInRange m → IsReadable m → IsDecodedBack m }
+{}
+
+/// Of a message without a fault the readers of texts in any encoding read what it says: fields of a notice
+/// that a decoder would refuse, settings and columns whose names aren't UTF-8, the tag of a command, and a
+/// key of any length.
+pub fn own_messages_are_read_in_any_encoding()
+    ensures { (m : Message) → fault m ≡ None → IsInRange m → IsReadRaw m }
+{}

@@ -1,7 +1,0 @@
-use Rattle.std.proofs.Common.{sym, ◌∙◌}
-use Rattle.pg_read_frontend.proofs.FormatCodesLemmas.{first_code}
-use Rattle.pg_read_frontend.proofs.MessageLemmas.{from_index}
-use Rattle.pg_read_frontend.proofs.message.format_codes.FormatCodesIterator.next.Goals as goal
-
-pub returns-clause-steps : goal.returns-clause-steps
-returns-clause-steps c = sym c.self.view_is ∙ rw (from_index 2 c.self.inside.bytes.now) (first_code _ _ _ c.in-Ok.ensures.found)

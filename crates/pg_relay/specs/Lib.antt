@@ -1,6 +1,0 @@
-pub mod Answer
-pub mod Error
-pub mod Frame
-pub mod Pass
-pub mod Passage
-pub mod Relay

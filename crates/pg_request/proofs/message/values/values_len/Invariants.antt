@@ -1,8 +1,0 @@
-use Rattle.std.proofs.Common.{◌≡◌, length, take}
-use Rattle.std.specs.List.{flat_map}
-use Rattle.pg_request.specs.Frame.{saturated}
-use Rattle.pg_request.specs.Values.{value_text, values_of}
-use Rattle.pg_request.proofs.message.values.values_len.Given as goal
-
-abbrev pub invariant-loop-value : goal.invariant-loop-value
-invariant-loop-value l = l.len ≡ saturated (length (flat_map value_text (values_of (take l.value-index l.values))))

@@ -1,8 +1,0 @@
--- A position as its number and query.
-use Rattle.pg_response.specs.declared.error.PgErrorPosition.{PgErrorPosition}
-use Rattle.pg_response.specs.declared.error.PgErrorPosition.TheVariants as positions
-use Rattle.pg_response.specs.Error.{ErrorPosition, original, internal}
-
-abbrev pub position_shown : PgErrorPosition → ErrorPosition
-position_shown (positions.Original position) = original position
-position_shown (positions.Internal position query) = internal position query.now

@@ -1,0 +1,18 @@
+-- The values of a Bind's parameters as they are collected, one after the other with their count.
+-- Documentation: "Message Formats", Bind (F).
+use Rattle.std.specs.Prelude.{◌≡◌, ℕ, ◌+◌, List, [], ◌++◌, Option}
+use Rattle.pg_send.specs.Values.{value_text}
+
+-- the capacity is how many bytes there can be before memory is asked for
+pub record HeldValues : Type 0 where
+  pub count : ℕ
+  pub bytes : List ℕ
+  pub capacity : ℕ
+
+abbrev pub no_values : ℕ → HeldValues
+no_values capacity = record { count = 0; bytes = []; capacity = capacity }
+
+-- one more value, or one more NULL
+pub record HasOneMore (value : Option (List ℕ)) (old new : HeldValues) : Type 0 where
+  pub count : new.count ≡ old.count + 1
+  pub bytes : new.bytes ≡ old.bytes ++ value_text value

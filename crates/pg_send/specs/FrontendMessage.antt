@@ -1,0 +1,87 @@
+-- What defines a message to the server, the limits on one, and its frame. Documentation: "Messaging
+-- Overview" and "Message Formats".
+use Rattle.std.specs.Prelude.{◌≡◌, ℕ, ◌+◌, ◌-◌, ◌^◌, min, List, length, Option, Some, None, Result, Ok, Err, MatchOption, Vec, nat_le, if◌then◌else◌}
+use Rattle.std.specs.declared.alloc.Global.{Global}
+use Rattle.pg_base.specs.declared.error.ProtocolFault.{ProtocolFault}
+use Rattle.pg_base.specs.declared.error.ProtocolFault.TheVariants.{MessageTooLong}
+use Rattle.pg_base.specs.declared.error.Error.{Error}
+use Rattle.pg_base.specs.declared.error.Error.TheVariants.{Protocol, OutOfMemory}
+use Rattle.pg_base.specs.declared.format.FrontendMessageFormat.{FrontendMessageFormat}
+use Rattle.pg_base.specs.Cutting.{max_length, frame}
+use Rattle.pg_base.specs.Encode.{EncodesFrame}
+use Rattle.pg_base.specs.Format.{frontend_tag}
+use Rattle.pg_send.specs.Kind.{Kind}
+
+-- a count or a sum, or the greatest that a `usize` holds where it is more
+abbrev pub saturated : ℕ → ℕ
+saturated n = min n (2 ^ 64 - 1)
+
+-- the first limit that a message breaks: one on its counts, else that on its length, which counts
+-- the four bytes of the length field
+abbrev pub first_fault : Option ProtocolFault → ℕ → Option ProtocolFault
+first_fault (Some fault) len = Some fault
+first_fault None len = if nat_le (len + 4) max_length then None else Some (MessageTooLong (saturated (len + 4)))
+
+-- the length of a body within the limits
+abbrev pub checked_len : Option ProtocolFault → ℕ → Result ℕ Error
+checked_len None len = Ok len
+checked_len (Some fault) len = Err (Protocol None fault)
+
+-- all that is said of a message: its kind and the format whose tag opens it; its body; the first limit
+-- on counts that it breaks; the room that is reserved for a body of so many bytes; that its numbers
+-- are in the ranges of their types; which bytes a reader takes apart into it; what it needs so that
+-- a reader gets it back; and the fault of one that lacks that, of a kind that can lack it
+pub record Law : Type 1 where
+  pub kind : Kind
+  pub format : FrontendMessageFormat
+  pub body : List ℕ
+  pub count_fault : Option ProtocolFault
+  pub room_for : ℕ → ℕ
+  pub IsInRange : Type 0
+  pub Reads : List ℕ → Type 0
+  pub CanRoundTrip : Type 0
+  pub round_trip_fault : Option ProtocolFault
+
+-- the first byte
+abbrev pub tag : Law → ℕ
+tag law = frontend_tag law.format
+
+-- the first limit that the message breaks
+abbrev pub fault : Law → Option ProtocolFault
+fault law = first_fault law.count_fault (length law.body)
+
+-- how much room is reserved for the body
+abbrev pub hint : Law → ℕ
+hint law = law.room_for (length law.body)
+
+-- the whole message on the stream
+abbrev pub text : Law → List ℕ
+text law = frame (tag law) law.body
+
+-- the message breaks no limit, and its body is that long
+pub record IsMeasured (law : Law) (len : ℕ) : Type 0 where
+  pub limits : fault law ≡ None
+  pub long : len ≡ length law.body
+
+-- what a call answers that encodes the message
+abbrev pub EncodesMessage : Law → Vec ℕ Global → Vec ℕ Global → Result (Unit {0}) Error → Type 0
+EncodesMessage law old new result = EncodesFrame (tag law) law.body (fault law) (hint law) old new result
+
+-- refused exactly where a reader wouldn't get it back, for this fault; memory may run out
+abbrev pub IsRoundTripAnswer : Type 0 → Option ProtocolFault → Result (Unit {0}) Error → Type 0
+IsRoundTripAnswer CanRoundTrip round_trip_fault (Ok _) = CanRoundTrip
+IsRoundTripAnswer CanRoundTrip round_trip_fault (Err (Protocol reading fault)) = (reading ≡ None) × (round_trip_fault ≡ Some fault) × ¬ CanRoundTrip
+IsRoundTripAnswer CanRoundTrip round_trip_fault (Err OutOfMemory) = CanRoundTrip
+
+-- refused exactly where it breaks a limit, for the first that it breaks, or else where a reader wouldn't
+-- get it back
+abbrev pub IsStrictAnswerOf : Option ProtocolFault → Type 0 → Option ProtocolFault → Result (Unit {0}) Error → Type 0
+IsStrictAnswerOf limit CanRoundTrip round_trip_fault answer = MatchOption limit (IsRoundTripAnswer CanRoundTrip round_trip_fault answer) (λ fault. answer ≡ Err (Protocol None fault))
+
+abbrev pub IsStrictAnswer : Law → Result (Unit {0}) Error → Type 0
+IsStrictAnswer law answer = IsStrictAnswerOf (fault law) law.CanRoundTrip law.round_trip_fault answer
+
+-- how much spare room the message asks for, or why it is refused
+abbrev pub room_or_fault : Option ProtocolFault → ℕ → Result ℕ Error
+room_or_fault None hint = Ok (saturated (hint + 5))
+room_or_fault (Some fault) hint = Err (Protocol None fault)

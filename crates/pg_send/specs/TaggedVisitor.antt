@@ -1,0 +1,30 @@
+-- What is made of a message by its law, whichever type it has.
+use Rattle.std.specs.Prelude.{◌≡◌, ℕ, ◌+◌, ◌<◌, ◌≤◌, ◌++◌, List, length, Bool, Result, Ok, None, OnOk, Option, Vec, vec_len, vec_capacity}
+use Rattle.std.specs.Bool.{OnTrue, OnFalse}
+use Rattle.std.specs.declared.alloc.Global.{Global}
+use Rattle.pg_base.specs.declared.error.Error.{Error}
+use Rattle.pg_send.specs.FrontendMessage.{Law, fault, hint, text, EncodesMessage}
+
+-- the frame is added, or the buffer stays: where a limit is broken or the spare room is short
+pub record PutsIfFits (law : Law) (old new : Vec ℕ Global) (result : Bool) : Type 0 where
+  pub encodes : OnTrue result (EncodesMessage law old new (Ok tt))
+  pub range : OnTrue result law.IsInRange
+  pub same : OnFalse result (new ≡ old)
+  pub short : OnFalse result (fault law ≡ None → vec_capacity old < vec_len old + (hint law + 5))
+
+-- the frame is added, or refused as its law says
+pub record EncodesInRange (law : Law) (old new : Vec ℕ Global) (result : Result (Unit {0}) Error) : Type 0 where
+  pub encodes : EncodesMessage law old new result
+  pub range : OnOk result law.IsInRange
+
+-- a message within the limits, and room for its frame
+pub record HasRoom {S : Type 0} (written : S → List ℕ) (capacity : S → ℕ) (law : Law) (sink : S) : Type 0 where
+  pub limits : fault law ≡ None
+  pub room : length (written sink) + (length law.body + 5) ≤ capacity sink
+
+-- the frame is added
+pub record PutsFrame {S L : Type 0} (written : S → List ℕ) (capacity : S → ℕ) (loan : S → L) (law : Law) (old new : S) : Type 0 where
+  pub written_is : written new ≡ written old ++ text law
+  pub capacity_is : capacity old ≤ capacity new
+  pub loan_is : loan new ≡ loan old
+  pub range : law.IsInRange

@@ -1,0 +1,119 @@
+-- What a message without a fault says is read back from its body.
+use Rattle.std.proofs.Common.{◌≡◌, ◌↔◌, ℕ, ◌+◌, ◌^◌, ◌<◌, ◌≤◌, ℤ, pos, Bool, List, [], ◌∷◌, ◌++◌, length, Option, Some, None, Ok, refl, arith, length-append}
+use Rattle.std.specs.Prelude.{◌||◌}
+use Rattle.std.specs.List.{flat_map, list_any}
+use Rattle.std.proofs.lemmas.List.{append-nil}
+use Rattle.pg_base.specs.Cutting.{max_length}
+use Rattle.pg_base.specs.Numbers.{be16, be32}
+use Rattle.pg_format.specs.Format.{Lawful, Means}
+use Rattle.pg_format.specs.Format.Nullable.{cell}
+use Rattle.pg_format.specs.Format.Parts.{until_nul}
+use Rattle.pg_format.specs.Messages as page
+use Rattle.pg_format.proofs.FormatLaws.FromServer as server
+use Rattle.pg_format.proofs.FormatLaws.Parts.{lawful_remaining}
+use Rattle.pg_server.specs.Backend.BackendText.{body, fault, checked_len}
+use Rattle.pg_server.specs.Backend.Item.{too_many, max_unsigned, max_signed, nul_fault, holds_nul, is_empty}
+use Rattle.pg_server.specs.Backend.Message as message
+use Rattle.pg_server.specs.Backend.Message.{Message, law_of, IsReadable, IsRead}
+use Rattle.pg_server.specs.Backend.NegotiateProtocolVersion.{negotiation_law}
+use Rattle.pg_server.specs.Backend.Notice.{breaks_fields}
+use Rattle.pg_server.specs.declared.backend.error.BackendFault.{BackendFault}
+use Rattle.pg_server.proofs.BackendFitsLemmas.{numbers_fit, codes_fit, cell_fits, cells_fit, texts_fit, no_more_texts, names_fit, fields_fit, columns_fit, key_fits}
+use Rattle.pg_server.proofs.BackendTextLemmas.{len_fits, no_part_fault}
+use Rattle.pg_server.proofs.BackendItemLemmas.{few, neither, neither_is, no_nul_fault, clean}
+
+-- no part of it has a fault, and its body is within the limit
+parts : (m : Message) → fault (law_of m) ≡ None → (law_of m).part_fault ≡ None
+parts m e = no_part_fault (law_of m).part_fault (length (body (law_of m))) e
+
+small : (m : Message) → fault (law_of m) ≡ None → 4 + length (body (law_of m)) ≤ max_length
+small m e = len_fits (law_of m).part_fault (length (body (law_of m))) e
+
+-- its options can be counted where their length can be said
+pub few_options : (n : page.Negotiation) → fault (negotiation_law n) ≡ None → length n.options < 2 ^ 32
+few_options n e =
+    let texts = flat_map until_nul.Writes n.options in
+    omega (arith, length-append (be16 n.major ++ be16 n.minor) (be32 (length n.options) ++ texts), length-append (be32 (length n.options)) texts, no_more_texts n.options, small (message.NegotiateProtocolVersion n) e)
+
+fits_request : (request : page.Authentication) → fault (law_of (message.Authentication request)) ≡ None → (law_of (message.Authentication request)).IsInRange → IsReadable (message.Authentication request) → page.authentication.Fits request []
+fits_request page.ok e r h = (((omega arith, refl), refl), refl)
+fits_request page.cleartext_password e r h = (((omega arith, refl), refl), refl)
+fits_request (page.md5_password salt) e r h = (((omega arith, (r, refl)), refl), refl)
+fits_request (page.sasl names) e r h =
+    let free = neither_is (list_any is_empty names) (list_any holds_nul names) (no_nul_fault (list_any is_empty names || list_any holds_nul names) (parts (message.Authentication (page.sasl names)) e)) in
+    (((omega arith, ((names_fit names (0 ∷ []) free.0 free.1 h, refl), refl)), refl), refl)
+fits_request (page.sasl_continue content) e r h = (((omega arith, ((refl, h), refl)), refl), refl)
+fits_request (page.sasl_final content) e r h = (((omega arith, ((refl, h), refl)), refl), refl)
+
+fits : (m : Message) → fault (law_of m) ≡ None → (law_of m).IsInRange → IsReadable m → (law_of m).line.Fits (law_of m).value []
+fits (message.Authentication request) e r h = fits_request request e r h
+fits (message.BackendKeyData key) e r h = (r, (refl, key_fits (length key.secret_key) (parts (message.BackendKeyData key) e)))
+fits (message.CommandComplete command) e r h = refl
+fits (message.CopyData bytes) e r h = refl
+fits (message.CopyResponse direction format codes) e r h =
+    let count = few max_signed (length codes) (parts (message.CopyResponse direction format codes) e) in
+    ((r.whole, (omega (arith, count), (refl, codes_fit codes [] r.columns))), refl)
+fits (message.DataRow cells) e r h =
+    let count = few max_unsigned (length cells) (parts (message.DataRow cells) e) in
+    let long = length-append (be16 (length cells)) (flat_map cell.Writes cells) in
+    (((omega (arith, count), (refl, cells_fit cells [] (omega (arith, long, small (message.DataRow cells) e)))), refl), refl)
+fits (message.FunctionCallResponse value) e r h = (cell_fits value [] (omega (arith, small (message.FunctionCallResponse value) e)), refl)
+fits (message.NegotiateProtocolVersion n) e r h =
+    let free = no_nul_fault (list_any holds_nul n.options) (parts (message.NegotiateProtocolVersion n) e) in
+    let count = few_options n e in
+    ((r, ((count, (refl, texts_fit n.options [] free)), refl)), refl)
+fits (message.NoBody kind) e r h = (refl, refl)
+fits (message.Notice kind fields) e r h =
+    ((fields_fit fields (0 ∷ []) (no_nul_fault (list_any breaks_fields fields) (parts (message.Notice kind fields) e)) r, refl), h)
+fits (message.Notification n) e r h =
+    let free = neither_is (holds_nul n.channel) (holds_nul n.payload) (no_nul_fault (holds_nul n.channel || holds_nul n.payload) (parts (message.Notification n) e)) in
+    ((r, (clean n.channel free.0, clean n.payload free.1)), refl)
+fits (message.ParameterDescription types) e r h =
+    let count = few max_unsigned (length types) (parts (message.ParameterDescription types) e) in
+    (((omega (arith, count), (refl, numbers_fit types [] r)), refl), refl)
+fits (message.ParameterStatus s) e r h =
+    let free = neither_is (holds_nul s.name) (holds_nul s.value) (no_nul_fault (holds_nul s.name || holds_nul s.value) (parts (message.ParameterStatus s) e)) in
+    (((clean s.name free.0, h.name), (clean s.value free.1, h.value)), refl)
+fits (message.Raw tag bytes) e r h = refl
+fits (message.ReadyForQuery ready) e r h = (tt, refl)
+fits (message.RowDescription columns) e r h =
+    let holds = list_any (λ (column : page.Column). holds_nul column.name) columns in
+    let both = neither (too_many max_unsigned (length columns)) (nul_fault holds) (parts (message.RowDescription columns) e) in
+    let count = few max_unsigned (length columns) both.0 in
+    (((omega (arith, count), (refl, columns_fit columns [] (no_nul_fault holds both.1) r h)), refl), refl)
+
+lawful : (m : Message) → Lawful (law_of m).line
+lawful (message.Authentication request) = server.lawful_authentication
+lawful (message.BackendKeyData key) = server.lawful_backend_key
+lawful (message.CommandComplete command) = lawful_remaining
+lawful (message.CopyData bytes) = lawful_remaining
+lawful (message.CopyResponse direction format codes) = server.lawful_copy_response
+lawful (message.DataRow cells) = server.lawful_data_row
+lawful (message.FunctionCallResponse value) = server.lawful_function_call_response
+lawful (message.NegotiateProtocolVersion n) = server.lawful_negotiation
+lawful (message.NoBody kind) = server.lawful_no_body
+lawful (message.Notice kind fields) = server.lawful_notice
+lawful (message.Notification n) = server.lawful_notification
+lawful (message.ParameterDescription types) = server.lawful_parameter_description
+lawful (message.ParameterStatus s) = server.lawful_parameter_status
+lawful (message.Raw tag bytes) = lawful_remaining
+lawful (message.ReadyForQuery ready) = server.lawful_ready_for_query
+lawful (message.RowDescription columns) = server.lawful_row_description
+
+-- what fits is read back, and nothing else is
+pub own_message : (m : Message) → fault (law_of m) ≡ None → (law_of m).IsInRange → IsRead m
+own_message m e r h read =
+    let l = law_of m in
+    let laws = lawful m in
+    let itself : Means l.line (body l) l.value = rw append-nil at (laws.written l.value [] (fits m e r h)) in (
+      (λ p. (laws.one_value (body l) [] [] read l.value p itself).0),
+      (λ e. rw e itself),
+    )
+
+no_fault : (fault : Option BackendFault) (len real : ℕ) → checked_len fault real ≡ Ok len → fault ≡ None
+no_fault None len real e = refl
+no_fault (Some f) len real e = absurd cc
+
+-- a message whose length was given has no fault
+pub accepted : (m : Message) (len : ℕ) → checked_len (fault (law_of m)) (length (body (law_of m))) ≡ Ok len → fault (law_of m) ≡ None
+accepted m len e = no_fault (fault (law_of m)) len (length (body (law_of m))) e

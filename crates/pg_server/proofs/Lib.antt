@@ -1,0 +1,13 @@
+pub mod BackendFitsLemmas
+pub mod BackendItemLemmas
+pub mod BackendMessageLemmas
+pub mod BackendNumbersLemmas
+pub mod BackendRoomLemmas
+pub mod BackendTextLemmas
+pub mod FrontendErrorLemmas
+pub mod FrontendFirstMessageRefLemmas
+pub mod FrontendFormatCodesLemmas
+pub mod FrontendMessageLemmas
+pub mod FrontendParameterTypesLemmas
+pub mod FrontendSettingsLemmas
+pub mod FrontendValuesLemmas

@@ -1,0 +1,39 @@
+//! The messages without a body.
+
+ghost use Rattle.pg_server.specs.Backend.Message as messages;
+
+use crate::backend::BackendText;
+use crate::backend::error::BackendFault;
+use pg_base::io::Sink;
+
+/// A message without a body. As a number it is the tag. Documentation: "Message Formats", the messages
+/// of these names marked (B).
+#[derive(Clone, Copy, Debug, PartialEq, Eq)]
+pub enum NoBodyText {
+    ParseComplete = b'1' as isize,
+    BindComplete = b'2' as isize,
+    CloseComplete = b'3' as isize,
+    EmptyQueryResponse = b'I' as isize,
+    CopyDone = b'c' as isize,
+    NoData = b'n' as isize,
+    PortalSuspended = b's' as isize,
+}
+
+impl BackendText for NoBodyText {
+    ghost message = { messages.NoBody };
+
+    fn tag(&self) -> u8 {
+        *self as u8
+    }
+
+    fn body_len(&self) -> usize {
+        0
+    }
+
+    fn part_fault(&self) -> Option<BackendFault> {
+        None
+    }
+
+    #[inline(always)]
+    fn put_body<S: Sink>(&self, _sink: &mut S) {}
+}

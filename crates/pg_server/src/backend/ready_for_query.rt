@@ -1,0 +1,40 @@
+//! The server's word that it is ready for the next query.
+
+ghost use Rattle.pg_server.specs.Backend.Message as messages;
+
+use crate::backend::BackendText;
+use crate::backend::error::BackendFault;
+use pg_base::io::Sink;
+
+/// The server is ready for the next query. As a number it is the letter of the message. Documentation:
+/// "Message Formats", ReadyForQuery (B).
+#[derive(Clone, Copy, Debug, PartialEq, Eq)]
+pub enum ReadyForQueryText {
+    /// No transaction is open.
+    Idle = b'I' as isize,
+    /// One is open.
+    Transaction = b'T' as isize,
+    /// One is open and has failed; until it ends the server refuses queries.
+    Error = b'E' as isize,
+}
+
+impl BackendText for ReadyForQueryText {
+    ghost message = { messages.ReadyForQuery };
+
+    fn tag(&self) -> u8 {
+        b'Z'
+    }
+
+    fn body_len(&self) -> usize {
+        1
+    }
+
+    fn part_fault(&self) -> Option<BackendFault> {
+        None
+    }
+
+    #[inline(always)]
+    fn put_body<S: Sink>(&self, sink: &mut S) {
+        sink.put_u8(*self as u8);
+    }
+}

@@ -1,2 +1,0 @@
-pub mod ServerMessage
-pub mod ServerMessageRef

@@ -1,8 +1,0 @@
-use Rattle.std.proofs.Common.{sym, ◌∙◌, arith}
-use Rattle.pg_write_backend.proofs.MessageLemmas.{own_message, accepted}
-use Rattle.pg_write_backend.proofs.message.frame.write.Goals as goal
-
-pub returns-clause-read : goal.returns-clause-read
-returns-clause-read g c = λ long.
-    let message = g.M.BackendText.message c.args.message.now in
-    own_message message (accepted message c.in_ok-len.len (sym c.checked_body_len.ensures ∙ c.in_ok-len.was)) (c.write_front.ensures.range (omega (arith, long)))
