@@ -82,13 +82,13 @@ class Change:
         file = self.crate.folder / path
         return said(self.crate, path, file.read_text() if file.exists() else "")
 
-    def concerns(self, edit):
-        """Whether a wrong body is of what changed, changed itself, or no longer applies.
+    def concerns(self, it):
+        """Whether a wrong body is of what changed, stands on a changed line of its own file, or no longer applies.
 
         What a source says outside of functions is of its own. A change of a definition alone is left to the share of all.
         """
-        is_changed = str(edit.file.relative_to(self.crate.folder)) in self.parts or not self.restated.isdisjoint(edit.changes)
-        return is_changed or bool(edit.why_not) or not edit.owners.isdisjoint(self.functions)
+        own = self.parts.get(str(it.file.relative_to(self.crate.folder)), set()) & it.places if hasattr(it, "file") else ()
+        return bool(own or it.why_not) or not self.restated.isdisjoint(it.changes) or not it.owners.isdisjoint(self.functions)
 
 
 def said(crate, path, text):

@@ -1,68 +1,54 @@
 """Which wrong bodies the merge gate tries: those of what changed since all were tried, and a share of all."""
 
-import math
 import subprocess
 
 import changes
 import crates
+import wrong_bodies
 
 # The commit as of which all were tried, and by the logic of which toolchain.
 TRIED = crates.TOP / "tests" / "tried"
 
-# How many of all wrong bodies are tried at each commit, a twelfth of them, and how many of these are of crates that stand on no
-# other: those can be tried while all else waits for the proofs of such crates.
-TURN, FIRST = 216, 33
+# At how many commits each function has its turn, with one of its mutants; so often as it has mutants, all have been tried. Of those
+# by hand, which are slower to try, a share of another size.
+TURNS, TURNS_BY_HAND = 12, 24
 
 
 class Due:
     """What is due at this commit, of the wrong bodies of each crate."""
 
-    def __init__(self, edits):
+    def __init__(self):
         since, toolchain = TRIED.read_text().splitlines()[1:]
         # A clone without its history tries all, and so does another logic.
         self.is_all = not is_ancestor(since) or logic_of(toolchain) != logic_of(printed("rt", "version"))
         if not self.is_all:
-            self.share = set(turn_of(edits, int(changes.git("rev-list", "--count", "HEAD"))))
+            self.commits = int(changes.git("rev-list", "--count", "HEAD"))
             lines = changes.changed(since)
             self.changed = {crate: changes.Change(crate, since, lines) for crate in crates.known().values()}
 
-    def of(self, crate, edits):
+    def of(self, crate, wrong):
         """Those of a crate's wrong bodies that are due.
 
         What the crates below it promise doesn't decide: a body that breaks a promise of its own crate breaks it over
         any of theirs.
         """
         if self.is_all:
-            return edits
-        return [edit for edit in edits if edit in self.share or self.changed[crate].concerns(edit)]
+            return wrong
+        share = set(self.share_of(wrong))
+        return [it for it in wrong if it in share or self.changed[crate].concerns(it)]
 
-
-def turn_of(edits, commits):
-    """The wrong bodies that are tried after so many commits, of those of each crate.
-
-    Those of the crates that are proved last can't be tried before, so each turn has others, which can: some of the crates that
-    are proved first, and of all others a run of one half, and one of the other.
-    """
-    half = (TURN - FIRST) // 2
-    first = spread([its for crate, its in edits.items() if not crate.libraries()], FIRST)
-    others = spread([its for crate, its in edits.items() if crate.libraries()], half)
-    places = commits * half, commits * half + len(others) // 2
-    return [*run_of(first, commits * FIRST, FIRST), *(edit for place in places for edit in run_of(others, place, half))]
-
-
-def spread(crates, count):
-    """The wrong bodies of some crates, crate by crate, so that neighbours come into different turns of so many: they mostly
-    change one function, which takes them a check each."""
-    found = []
-    for edits in crates:
-        turns = math.ceil(len(edits) / count)
-        found += [edit for turn in range(turns) for edit in edits[turn::turns]]
-    return found
-
-
-def run_of(edits, begun, count):
-    """So many of some, if there are any, from a place on; after the last of them the first comes again."""
-    return [edits[place % len(edits)] for place in range(begun, begun + count)] if edits else []
+    def share_of(self, wrong):
+        """A share of a crate's wrong bodies, another one at each commit."""
+        made, by_hand = {}, []
+        for it in wrong:
+            if isinstance(it, wrong_bodies.Mutant):
+                made.setdefault(it.function.name, []).append(it)
+            else:
+                by_hand.append(it)
+        for number, its in enumerate(made.values(), self.commits):
+            if number % TURNS == 0:
+                yield its[number // TURNS % len(its)]
+        yield from (it for number, it in enumerate(by_hand, self.commits) if number % TURNS_BY_HAND == 0)
 
 
 def is_ancestor(commit):

@@ -4,6 +4,7 @@ import functools
 import math
 import os
 import re
+import resource
 import shutil
 import tempfile
 import threading
@@ -13,20 +14,14 @@ from concurrent.futures import ThreadPoolExecutor
 import crates
 import report
 import wrong_bodies
+from wrong_bodies import ACCEPTED, NOT_APPLIED, OF_SHAPE, REFUSED, UNDECIDED, UNREADABLE, Mutant
 
-REFUSED, ACCEPTED, OF_SHAPE = "refused", "accepted", "refused for shape alone"
-UNREADABLE, NOT_APPLIED, UNDECIDED = "does not read", "does not apply", "no verdict"
-
-# How often an edit that waits for another's function is put beside others.
+# How often one that isn't refused is put beside others.
 TURNS = 2
 
-# How many edits are in a check: each takes some time to start, and a few long ones leave processors idle. They are fewer at
-# the end, where some are tried again.
+# How many are in a check: each takes some time to start, and a few long ones leave processors idle. They are fewer at the
+# end, where some are tried again.
 LEAST, LEAST_AGAIN, MOST = 10, 3, 40
-
-# The wrong bodies of a crate, and those by which the trials are tested, in a folder a verdict.
-FOLDERS = ("edits", "must-fail")
-SELF_TEST = crates.TOP / "tests" / "self_test"
 
 # No more checks at a time than there are processors for, which they leave to whatever else runs.
 PROCESSORS = threading.BoundedSemaphore(crates.processors())
@@ -34,7 +29,7 @@ NICE = ("nice", "-n", "19")
 
 
 class Known:
-    """What is proved of a crate, by checks before its edits and by those that try some of them."""
+    """What is proved of a crate, by checks before its wrong bodies and by those that try some of them."""
 
     def __init__(self, crate, proofs):
         self.crate, self.proofs = crate, proofs
@@ -82,93 +77,113 @@ def add_missing(source, to):
 
 
 class Trial:
-    """Some edits of a crate, tried over what is known of it: many in a check, and the checks beside each other."""
+    """Some wrong bodies of a crate, tried over what is known of it: many in a check, and the checks beside each other."""
 
-    def __init__(self, known, edits):
-        self.known, self.crate, self.edits, self.checks = known, known.crate, edits, 0
+    def __init__(self, known, wrong):
+        self.known, self.crate, self.wrong, self.checks = known, known.crate, wrong, 0
         self.passed, self.failed = 0, 0
 
-    def show(self, edit, verdict, why):
-        """Counts a verdict, and prints it."""
-        label = edit.file.relative_to(crates.TOP)
-        if verdict == due(edit):
+    def show(self, it, verdict, why):
+        """Counts a verdict, and prints it; returns what is tried in place of a mutant that shows nothing."""
+        if isinstance(it, Mutant) and verdict not in (REFUSED, ACCEPTED):
+            print(f"shows nothing: {it}: {verdict}: {why}", flush=True)
+            return [it.instead] if it.instead else []
+        if verdict == it.due:
             self.passed += 1
-            print(f"{verdict}: {label}", flush=True)
+            print(f"{verdict}: {it}", flush=True)
         else:
             self.failed += 1
-            print(f"FAILED {label}: {verdict}: {why}", flush=True)
+            print(f"FAILED {it}: {verdict}: {why}", flush=True)
+        return []
 
     def run(self):
-        """Shows a verdict for each edit, once the crates are proved that its own stands on."""
+        """Shows a verdict for each of them, once the crates are proved that its own stands on."""
         can_begin = self.known.can_begin()
         left = []
-        for edit in self.edits:
-            if edit.why_not or not can_begin:
-                self.show(edit, NOT_APPLIED, edit.why_not or "what its crate stands on is not proved")
+        for it in self.wrong:
+            if it.why_not or not can_begin:
+                self.show(it, NOT_APPLIED, it.why_not or "what its crate stands on is not proved")
             else:
-                left.append(edit)
+                left.append(it)
         while left:
             batches = batches_of(left)
             with ThreadPoolExecutor(len(batches)) as pool:
-                left = [edit for again in pool.map(self.together, batches) for edit in again]
+                left = [it for again in pool.map(self.together, batches) for it in again]
 
-    def check(self, edits, strays=True):
-        """The report of a check of the functions that these edits change, with stray answers or as they are."""
+    def check(self, batch, strays=True):
+        """The report of a check of the functions that these change, with stray answers or as they are."""
         self.checks += 1
-        texts = wrong_bodies.texts(self.crate, edits)
+        texts = wrong_bodies.texts(self.crate, batch)
         if strays:
-            texts = {**wrong_bodies.stray_answers(self.crate, edits), **texts}
-        functions = {owner.partition("::")[2] for edit in edits for owner in edit.owners - edit.laws}
-        functions = functions.union(*(edit.readers for edit in edits))
+            texts = {**wrong_bodies.stray_answers(self.crate, batch), **texts}
+        functions = {owner.partition("::")[2] for it in batch for owner in it.owners - it.laws}
+        functions = functions.union(*(it.readers for it in batch))
         # A law that no function's proof reads is checked with all that is.
         only = [] if None in functions else [word for function in sorted(functions) for word in ("--only", function)]
-        with tempfile.TemporaryDirectory(prefix="edits-") as kept, PROCESSORS:
+        with tempfile.TemporaryDirectory(prefix="wrong-") as kept, PROCESSORS:
             self.known.copy(kept)
             said = self.crate.check(texts, only, kept, before=NICE)
             self.known.keep(kept)
         return report.Report(said)
 
     def together(self, batch):
-        """Judges a batch by one check; returns what is to be tried again."""
+        """Judges a batch by one check; returns what is to be tried again, or in place of what shows nothing."""
         if len(batch) == 1:
             return self.alone(batch[0])
-        said = self.check(batch)
+        has_stray = batch[0].has_stray
+        said = self.check(batch, has_stray)
         if not said.is_judged:
             return self.divided(batch, said)
         again = []
-        for edit in batch:
-            verdict, why = verdict_of(edit, said)
-            if verdict == report.OPEN_GOAL:
-                self.show(edit, REFUSED, why)
+        for it in batch:
+            verdict, why = verdict_of(it, said)
+            is_final = verdict == report.OPEN_GOAL or isinstance(it, Mutant) and (
+                verdict == report.OF_SHAPE or verdict == report.PROVED and not has_stray)
+            if is_final:
+                again += self.show(it, NAMED[verdict], why)
                 continue
-            edit.turns = edit.turns + 1 if verdict == report.WAITS else TURNS
-            # Alone it would have no open goal either.
-            edit.has_stray = verdict == report.WAITS
-            edit.avoids |= {name for owner in edit.owners for name in said.waits_for(owner)}
-            again.append(edit)
+            it.turns += 1
+            # Only what waits could yet have an open goal beside a stray answer.
+            it.has_stray = has_stray and verdict == report.WAITS
+            it.avoids |= {name for owner in it.owners for name in said.waits_for(owner)}
+            again.append(it)
         return again
 
     def divided(self, batch, said):
-        """What is to be tried again of a batch whose text can't be read: alone what stands on the named lines."""
-        named = {(path, number - 1) for path, number, _ in said.unread()}
-        bad = [edit for edit in batch if any((path, number) in named for path in edit.changes for number in edit.changes[path])]
-        for edit in bad or batch:
-            edit.turns = TURNS
-        return batch
+        """What is to be tried again of a batch whose text can't be read: alone what a hand made and stands on the named lines."""
+        named = {(path, number - 1): words for path, number, words in said.unread()}
+        bad = {it: where[0] for it in batch if (where := [at for at in sorted(named) if is_at(it, *at)])}
+        again = []
+        for it in batch:
+            if isinstance(it, Mutant) and it in bad:
+                again += self.show(it, UNREADABLE, named[bad[it]])
+                continue
+            if it in bad or not bad:
+                it.turns = TURNS
+            again.append(it)
+        return again
 
-    def alone(self, edit):
-        """Judges an edit by a check of its own, and by one with its answers as they are where no goal of it stays open."""
-        said = self.check([edit], edit.has_stray)
-        if edit.has_stray and said.is_judged and not edit.laws and verdict_of(edit, said)[0] != report.OPEN_GOAL:
-            said = self.check([edit], strays=False)
+    def alone(self, it):
+        """Judges one by a check of its own, and by one with its answers as they are where no goal of it stays open."""
+        said = self.check([it], it.has_stray)
+        if it.has_stray and said.is_judged and not it.laws and verdict_of(it, said)[0] != report.OPEN_GOAL:
+            said = self.check([it], strays=False)
         if not said.is_judged:
             lines = [f"{path}:{number}: {words}" for path, number, words in said.unread()] or said.lines[-1:]
-            self.show(edit, UNREADABLE, "; ".join(lines[:1]))
-            return []
-        verdict, why = verdict_of(edit, said)
-        named = {report.OPEN_GOAL: REFUSED, report.PROVED: ACCEPTED, report.OF_SHAPE: OF_SHAPE}
-        self.show(edit, named.get(verdict, UNDECIDED), why)
-        return []
+            return self.show(it, UNREADABLE, "; ".join(lines[:1]))
+        verdict, why = verdict_of(it, said)
+        return self.show(it, NAMED.get(verdict, UNDECIDED), why)
+
+
+# What a check says of one, in the words of a verdict.
+NAMED = {report.OPEN_GOAL: REFUSED, report.PROVED: ACCEPTED, report.OF_SHAPE: OF_SHAPE}
+
+
+def is_at(it, path, number):
+    """Whether one stands on a line: a mutant anywhere in its function."""
+    if isinstance(it, Mutant):
+        return path in it.changes and it.function.first <= number <= max(it.function.body, it.function.last)
+    return (path, number) in it.lines
 
 
 class Proofs:
@@ -190,69 +205,59 @@ class Proofs:
         return self.log.exists() and bool(is_said.search(self.log.read_text(errors="replace")))
 
 
-def verdict_of(edit, said):
-    """The verdict on an edit: that of the first of its functions that has an open goal, else of the least decided."""
+def verdict_of(it, said):
+    """The verdict on one: that of the first of its functions that has an open goal, else of the least decided."""
     order = [report.OPEN_GOAL, report.UNKNOWN, report.OF_SHAPE, report.WAITS, report.PROVED]
-    return min((said.verdict(owner) for owner in sorted(edit.owners)), key=lambda it: order.index(it[0]))
+    return min((said.verdict(owner) for owner in sorted(it.owners)), key=lambda it: order.index(it[0]))
 
 
-def batches_of(edits):
+def batches_of(wrong):
     """All of them, for a check each: no two that touch in one, and as many checks for each processor."""
-    rounds = math.ceil(len(edits) / (MOST * crates.processors()))
-    least = LEAST_AGAIN if all(edit.turns for edit in edits) else LEAST
-    most = max(least, math.ceil(len(edits) / (rounds * crates.processors())))
-    others = {edit: sum(map(edit.touches, edits)) for edit in edits}
+    rounds = math.ceil(len(wrong) / (MOST * crates.processors()))
+    least = LEAST_AGAIN if all(it.turns for it in wrong) else LEAST
+    most = max(least, math.ceil(len(wrong) / (rounds * crates.processors())))
+    others = {it: sum(map(it.touches, wrong)) for it in wrong}
     batches = []
     # What touches most others comes first. Those of a file are together as far as can be, for a check proves also what
     # their functions call.
-    for edit in sorted(edits, key=lambda it: (is_alone(it), -others[it], min(it.changes))):
-        fitting = next((batch for batch in batches if len(batch) < most and can_join(edit, batch)), None)
+    for it in sorted(wrong, key=lambda it: (is_alone(it), it.has_stray, -others[it], min(it.changes))):
+        fitting = next((batch for batch in batches if len(batch) < most and can_join(it, batch)), None)
         if fitting:
-            fitting.append(edit)
+            fitting.append(it)
         else:
-            batches.append([edit])
+            batches.append([it])
     return batches
 
 
-def can_join(edit, batch):
-    """Whether an edit can stand beside those of a check."""
-    return not any(is_alone(it) for it in [edit, batch[0]]) and not any(map(edit.touches, batch))
+def can_join(it, batch):
+    """Whether one can stand beside those of a check."""
+    first = batch[0]
+    return not is_alone(it) and not is_alone(first) and it.has_stray == first.has_stray and not any(map(it.touches, batch))
 
 
-def is_alone(edit):
-    """Whether nothing can stand beside an edit."""
-    return edit.is_apart or edit.turns >= TURNS
+def is_alone(it):
+    """Whether nothing can stand beside one."""
+    return it.is_apart or it.turns >= TURNS
 
 
-def of(crate):
+def of(crate, each=wrong_bodies.EACH):
     """The wrong bodies of a crate that its contracts must refuse."""
-    return [edit for edit in all_of(crate) if not edit.caught_by]
+    made = [it for its in wrong_bodies.chains(crate, each).values() for it in its]
+    return made + [it for it in wrong_bodies.by_hand(crate) if not it.seen_by]
 
 
-def all_of(crate):
-    """The wrong bodies of a crate, also those that a test must catch."""
-    return [wrong_bodies.Edit(crate, file) for folder in FOLDERS for file in sorted((crate.folder / folder).glob("*.edit"))]
-
-
-def of_self_test(crate):
-    """The edits of a crate by which the trials are tested."""
-    return [wrong_bodies.Edit(crate, file) for file in sorted(SELF_TEST.glob(f"*/{crate.name}_*.edit"))]
-
-
-def due(edit):
-    """The verdict that an edit must have."""
-    return edit.file.parent.name.replace("_", " ") if SELF_TEST in edit.file.parents else REFUSED
-
-
-def run(trials, proofs=None):
-    """Runs trials beside each other, each once it has its proofs; returns whether each edit had the verdict that is due."""
-    begun = time.monotonic()
-    trials = [trial for trial in trials if trial.edits]
+def run(trials, proofs=None, failed=0):
+    """Runs trials beside each other, each once it has its proofs; returns whether each had the verdict that is due."""
+    begun, spent = time.monotonic(), resource.getrusage(resource.RUSAGE_CHILDREN)
+    trials = [trial for trial in trials if trial.wrong]
     if not proofs:
         crates.build([trial.crate for trial in trials])
     with ThreadPoolExecutor(max(1, len(trials))) as pool:
         list(pool.map(Trial.run, trials))
-    passed, failed, checks = (sum(getattr(trial, it) for trial in trials) for it in ("passed", "failed", "checks"))
-    print(f"{passed + failed} edits in {checks} checks and {time.monotonic() - begun:.0f} seconds")
+    passed, checks = sum(trial.passed for trial in trials), sum(trial.checks for trial in trials)
+    failed += sum(trial.failed for trial in trials)
+    now = resource.getrusage(resource.RUSAGE_CHILDREN)
+    seconds = now.ru_utime + now.ru_stime - spent.ru_utime - spent.ru_stime
+    print(f"{passed + failed} wrong bodies in {checks} checks, {seconds:.0f} seconds of processors and {time.monotonic() - begun:.0f} in all")
     print(f"{passed} passed, {failed} failed")
     return not failed

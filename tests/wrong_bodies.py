@@ -1,31 +1,70 @@
-"""Edits that make a body wrong, and the functions that each of them changes."""
+"""Wrong bodies: those that a crate's file has, and those that rules make of its sources; and the functions that each changes."""
 
+import functools
+import hashlib
 import re
 
+import crates
 import definitions
+import rules
 import sources
+
+REFUSED, ACCEPTED, OF_SHAPE = "refused", "accepted", "refused for shape alone"
+UNREADABLE, NOT_APPLIED, UNDECIDED = "does not read", "does not apply", "no verdict"
+
+# The wrong bodies of a crate, the one that `rt ci` tries, and those by which the trials are tested.
+BY_HAND, MUST_FAIL = "wrong.edits", "must-fail"
+SELF_TEST = crates.TOP / "tests" / "self_test"
+
+# The mutants that contracts let through, with the reason or the test that sees each.
+LET_THROUGH = crates.TOP / "tests" / "accepted.txt"
+
+# The word by which the mutants of a function are ranked, and how many of them are its own.
+WORD, EACH = "tarnwhisk", 3
 
 # A constant that only its own file, or its own item, sees.
 CONSTANT = re.compile(r" *const (\w+)\s*:")
 
+IMPL = re.compile(r"impl\b.*?(\w+)(?:<[^{]*>)? for ")
+TRAIT = re.compile(r"^(?:pub(?:\(\w+\))? )?trait (\w+).*?^\}", re.MULTILINE | re.DOTALL)
 
-class Edit:
-    """A file of lines `file: PATH`, `old: TEXT` and `new: TEXT`; other lines say what is wrong.
 
-    Each TEXT stands once in its file, on one line, or once in the bodies that a line `in: FUNCTION` names by the end of
-    their path. A line `refused by: FUNCTION` names so the function whose contract refuses an edit that stands in none, as
-    that of a number of an enum. A line `refused by law: NAME` names the proof that no longer holds of a definition, that
-    of a clause as `returns-clause-CLAUSE`. Of proofs of one name one is `FOLDER/NAME`. A line `caught by: TEST` names a test
-    that fails with an edit of what has no contract: each TEXT is then an expression, or a statement with its semicolon.
+class WrongBody:
+    """Lines in place of others in some files, and the functions whose contracts must refuse them."""
+
+    def __init__(self, crate):
+        self.crate, self.why_not, self.due, self.seen_by = crate, None, REFUSED, None
+        self.changes, self.owners, self.laws, self.refusing, self.readers = {}, set(), set(), set(), set()
+        self.lines, self.stands_on, self.avoids = set(), set(), set()
+        self.turns, self.has_stray, self.is_apart = 0, True, False
+        # The one that is tried where this shows nothing.
+        self.instead = None
+
+    def touches(self, other):
+        """Whether the two can't stand in one check: of laws, where what one changes could refuse the other."""
+        return bool((self.owners | self.avoids) & other.owners or self.owners & other.avoids
+                    or self.lines & (other.lines | other.stands_on) or self.stands_on & other.lines
+                    or bool(self.laws) != bool(other.laws))
+
+
+class Edit(WrongBody):
+    """A paragraph of a file: a sentence that says the mistake, and lines `file: PATH`, `old: TEXT` and `new: TEXT`.
+
+    A line `file:` holds for the paragraphs after it too. Each old text stands once in its file, on one line, or once in the
+    bodies that a line `in: FUNCTION` names by the end of their path. A line `refused by: FUNCTION` names so the function whose
+    contract refuses an edit that stands in none, as that of a number of an enum. A line `refused by law: NAME` names the proof
+    that no longer holds of a definition, that of a clause as `returns-clause-CLAUSE`. Of proofs of one name one is
+    `FOLDER/NAME`. A line `caught by: TEST` names a test that fails with an edit of what has no contract, and `verdict: WORDS`
+    one that is due in place of a refusal.
     """
 
-    def __init__(self, crate, file):
-        self.crate, self.file, self.name = crate, file, file.stem
-        self.why_not, self.changes, self.owners, self.avoids, self.turns = None, {}, set(), set(), 0
-        self.has_stray, self.caught_by, self.planted = True, None, []
-        self.lines, self.stands_on, self.readers = set(), set(), set()
+    def __init__(self, crate, file, number, lines, path):
+        super().__init__(crate)
+        self.file, self.number, self.places = file, number, set(range(number, number + len(lines)))
+        self.says, self.path = lines[0], path
+        self.due = next((line[9:] for line in lines if line.startswith("verdict: ")), REFUSED)
         try:
-            self.read(file.read_text())
+            self.read(lines)
             self.lines = {(path, number) for path, changed in self.changes.items() for number in changed}
             # What changes more than bodies could also refuse what stands beside it.
             self.is_apart = bool(self.refusing) and not self.is_of_bodies()
@@ -35,22 +74,24 @@ class Edit:
         except (OSError, ValueError) as why:
             self.why_not = str(why)
 
-    def read(self, text):
+    def __str__(self):
+        return f"{self.file.relative_to(crates.TOP)}:{self.number + 1}: {self.says}"
+
+    def read(self, lines):
         """Reads the changed lines, by path and number."""
-        self.refusing, self.laws, path, inside, old = set(), set(), None, None, None
-        for line in text.splitlines():
-            word, _, rest = line.partition(":")
-            rest = rest.removeprefix(" ")
+        inside, old = None, None
+        for line in lines:
+            word, _, rest = line.partition(": ")
             if word == "file":
-                path, inside = rest, None
+                self.path, inside = rest, None
             elif word == "in":
                 inside = rest
             elif word == "old":
                 old = rest
             elif word == "new":
-                self.change(path, inside, old, rest)
+                self.change(self.path, inside, old, rest)
             elif word == "caught by":
-                self.caught_by = rest
+                self.seen_by = rest
             elif word == "refused by":
                 self.refusing.add("::".join([self.crate.name, rest]))
             elif word == "refused by law":
@@ -77,16 +118,11 @@ class Edit:
         found = [number for number in searched for _ in re.finditer(re.escape(old), changed.get(number, lines[number]))]
         if len(found) != 1:
             raise ValueError(f"a text stands {len(found)} times in {inside or path} and not once: {old}")
-        self.planted.append((path, found[0], lines[found[0]].find(old), old, new))
         changed[found[0]] = changed.get(found[0], lines[found[0]]).replace(old, new)
-
-    def functions(self, path):
-        """The functions of a source."""
-        return sources.functions(self.crate.name, path, "\n".join(self.crate.lines(path)))
 
     def lines_of(self, path, function):
         """The numbers of the lines of the bodies of those functions of a file whose path ends so."""
-        for it in self.functions(path):
+        for it in functions(self.crate, path):
             if it.name.endswith("::" + function):
                 yield from range(it.body, it.last + 1)
 
@@ -97,30 +133,155 @@ class Edit:
     def bodies_at(self, path, number):
         """The functions whose bodies have a changed line."""
         old, new = self.crate.lines(path)[number], self.changes[path][number]
-        return [it.name for it in self.functions(path) if it.holds(number, old, new)]
+        return [it.name for it in functions(self.crate, path) if it.holds(number, old, new)]
 
     def changed_functions(self):
         """The functions whose bodies have the changed lines; of a private constant those that name it."""
         found = set()
         for path, changed in self.changes.items():
             lines = self.crate.lines(path)
-            functions = self.functions(path)
             for number in changed:
                 here = self.bodies_at(path, number)
                 constant = CONSTANT.match(lines[number])
                 if not here and constant:
                     name = re.compile(rf"\b{constant[1]}\b")
-                    here = [it.name for it in functions if any(map(name.search, lines[it.body : it.last + 1]))]
+                    here = [it.name for it in functions(self.crate, path) if any(map(name.search, lines[it.body : it.last + 1]))]
                 if not here:
                     raise ValueError(f"line {number + 1} of {path} is in no function, and no line says refused by:")
                 found.update(here)
         return found
 
-    def touches(self, other):
-        """Whether the two can't stand in one check: of laws, where what one changes could refuse the other."""
-        return bool((self.owners | self.avoids) & other.owners or self.owners & other.avoids
-                    or self.lines & (other.lines | other.stands_on) or self.stands_on & other.lines
-                    or bool(self.laws) != bool(other.laws))
+
+class Mutant(WrongBody):
+    """A text in place of another in a function's body, by a rule."""
+
+    def __init__(self, crate, path, function, text, rule, start, end, new):
+        super().__init__(crate)
+        self.function, self.rule, old = function, rule, text[start:end]
+        # The lines after it keep their numbers.
+        new = new.replace("\n", " ") + "\n" * old.count("\n")
+        self.says = f"{function.name.split('::')[-1]} [{rule}] {shown(old)} -> {shown(new)}"
+        first, begun = text.count("\n", 0, start), text.rfind("\n", 0, start) + 1
+        changed = text[begun:start] + new + text[end:].partition("\n")[0]
+        self.changes = {path: dict(enumerate(changed.split("\n"), first))}
+        self.lines, self.owners = {(path, number) for number in self.changes[path]}, {function.name}
+
+    def __str__(self):
+        return f"{self.function.name.rpartition('::')[0]}::{self.says}"
+
+    def rank(self):
+        """Its place among those of its function, wherever that stands."""
+        return hashlib.sha256(f"{WORD} {self.says}".encode()).digest()
+
+
+def shown(text):
+    return " ".join(text.split()) or "(nothing)"
+
+
+def paragraphs(file):
+    """The paragraphs of a file, each with the number of its first line from 0, and the file of the paragraph before it."""
+    found, path = [], None
+    lines = [*file.read_text().split("\n"), ""] if file.exists() else []
+    begun = 0
+    for number, line in enumerate(lines):
+        if not line.strip():
+            if number > begun:
+                found.append((begun, lines[begun:number], path))
+                path = next((it[6:] for it in reversed(lines[begun:number]) if it.startswith("file: ")), path)
+            begun = number + 1
+    return found
+
+
+@functools.lru_cache(maxsize=None)
+def by_hand(crate):
+    """The wrong bodies that stand in a crate's file, and the one that `rt ci` tries."""
+    files = [crate.folder / BY_HAND, *sorted((crate.folder / MUST_FAIL).glob("*.edit"))]
+    return [Edit(crate, file, *it) for file in files for it in paragraphs(file)]
+
+
+def of_self_test(crate):
+    """The edits of a crate by which the trials are tested."""
+    file = SELF_TEST / f"{crate.name}.edits"
+    return [Edit(crate, file, *it) for it in paragraphs(file)]
+
+
+@functools.lru_cache(maxsize=None)
+def functions(crate, path):
+    """The functions of a source of a crate."""
+    return sources.functions(crate.name, path, "\n".join(crate.lines(path)))
+
+
+@functools.lru_cache(maxsize=None)
+def by_rules(crate):
+    """The mutants of each function of a crate that has a contract, in the order in which they are tried."""
+    below = (file for it in [*crate.libraries(), crate] for file in sorted((it.folder / "src").rglob("*.rt")))
+    known = rules.Known(file.read_text() for file in below)
+    found = {}
+    for file in sorted((crate.folder / "src").rglob("*.rt")):
+        path = str(file.relative_to(crate.folder))
+        text = "\n".join(crate.lines(path))
+        for it in functions(crate, path):
+            lines = crate.lines(path)
+            if not lines[it.body].endswith("{}") and promises(lines, it):
+                changes = (one for one in rules.mutants_of(text, it, known) if text[one[1] : one[2]].strip() != one[3].strip())
+                made = [Mutant(crate, path, it, text, *one) for one in changes]
+                found[it.name] = in_turn(made)
+    return found
+
+
+def in_turn(mutants):
+    """Mutants of a function by their rank, a rule at a time."""
+    turns, places = {}, {}
+    for it in sorted({it.says: it for it in mutants}.values(), key=Mutant.rank):
+        places[it] = turns[it.rule] = turns.get(it.rule, -1) + 1
+    return sorted(places, key=places.get)
+
+
+def chains(crate, each=EACH):
+    """Of each function of a crate so many mutants, each with those that come in its place where it shows nothing."""
+    allowed = let_through()
+    found = {}
+    for name, mutants in by_rules(crate).items():
+        for it, after in zip(mutants, mutants[each:]):
+            it.instead = after
+        for it in mutants:
+            if str(it) in allowed:
+                it.due, it.seen_by = ACCEPTED, allowed[str(it)]
+        found[name] = mutants[:each]
+    return found
+
+
+@functools.lru_cache(maxsize=None)
+def let_through():
+    """The mutants that may be accepted, each with the test that sees it or with None."""
+    lines = LET_THROUGH.read_text().splitlines() if LET_THROUGH.exists() else []
+    said = [line.partition("  # ") for line in lines if "  # " in line]
+    return {mutant: why[8:] if why.startswith("seen by ") else None for mutant, _, why in said}
+
+
+def gone():
+    """The mutants of that list that no rule makes any more."""
+    made = {str(it) for crate in crates.known().values() for its in by_rules(crate).values() for it in its}
+    return [it for it in let_through() if it not in made]
+
+
+def promises(lines, it):
+    """Whether a function says what it gives: by a clause of its own, or by one of the trait or ghost items of its impl."""
+    if any(line.lstrip().startswith("ensures") for line in lines[it.first : it.body]):
+        return True
+    if not lines[it.first].startswith(" "):
+        return False
+    head = next(at for at in range(it.first, -1, -1) if re.match(r"\w", lines[at]))
+    impl = IMPL.match(" ".join(lines[head : head + 3]))
+    declared = impl and traits().get(impl[1], "").partition(f"fn {it.name.split('::')[-1]}")[2].partition(" fn ")[0]
+    return bool(impl) and ("ensures" in declared or any(re.match(" +ghost ", line) for line in lines[head : it.first]))
+
+
+@functools.lru_cache(maxsize=None)
+def traits():
+    """The texts of the traits of the crates, by name."""
+    texts = [file.read_text() for crate in crates.known().values() for file in (crate.folder / "src").rglob("*.rt")]
+    return {found[1]: found[0] for text in texts for found in TRAIT.finditer(text)}
 
 
 # A line of a proof that no goal asks for and that is refused. With it to report, the compiler doesn't write down the goals
@@ -128,20 +289,20 @@ class Edit:
 STRAY = "stray : no-such-goal"
 
 
-def stray_answers(crate, edits):
-    """The files of answers of the functions that the edits change, with a stray one, by path."""
+def stray_answers(crate, wrong):
+    """The files of answers of the functions that wrong bodies change, with a stray one, by path."""
     found = {}
-    for function in {owner for edit in edits for owner in edit.owners - edit.laws}:
+    for function in {owner for it in wrong for owner in it.owners - it.laws}:
         path = "/".join(["proofs", *function.split("::")[1:], "Answers.antt"])
         found[path] = "\n".join([*(crate.lines(path) if (crate.folder / path).exists() else []), STRAY, ""])
     return found
 
 
-def texts(crate, edits):
-    """The texts of the files with these edits, by path."""
+def texts(crate, wrong):
+    """The texts of the files with these wrong bodies, by path."""
     found = {}
-    for edit in edits:
-        for path, changed in edit.changes.items():
+    for it in wrong:
+        for path, changed in it.changes.items():
             lines = found.setdefault(path, list(crate.lines(path)))
             for number, line in changed.items():
                 lines[number] = line

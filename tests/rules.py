@@ -1,0 +1,509 @@
+"""The rules by which a function's body is made wrong, as a programmer might by mistake, and what they know of types."""
+
+import re
+
+TOKEN = re.compile(r"""//[^\n]*|b?"(?:\\.|[^"\\])*"|b?'(?:\\.|[^'\\])'|'\w+|\w+|::|->|=>|==|!=|<=|>=|&&|\|\||\.\.=?|[-+*/%&|^]=|<<|>>|\S""")
+STRUCT = re.compile(r"^(?:pub(?:\(\w+\))? )?struct (\w+)[^({;]*(?:\{(.*?)^\}|\(([^;]*)\);)", re.MULTILINE | re.DOTALL)
+ENUM = re.compile(r"^(?:pub(?:\(\w+\))? )?enum (\w+)[^{]*\{(.*?)^\}", re.MULTILINE | re.DOTALL)
+FIELD = re.compile(r"^    (?:pub(?:\(\w+\))? )?(\w+): (.*),$", re.MULTILINE)
+VARIANT = re.compile(r"^    ([A-Z]\w*)(\([^)]*\)| \{.*?^    \})?(?: = .*)?,$", re.MULTILINE | re.DOTALL)
+CALLED = re.compile(r"\bfn (\w+)(?:<[^(]*>)?\(([^{};]*?)\)(?: -> ([^{;]*?))?(?=\s*(?:\{|;|where\b|requires\b|ensures\b|ghost\b|//|$))", re.MULTILINE)
+NUMBERS = {"u8", "u16", "u32", "u64", "usize", "i8", "i16", "i32", "i64"}
+CONSTANT = re.compile(r"\bconst ([A-Z][A-Z_0-9]+): ([^=;]+) = ([^;]+);")
+OPEN, CLOSE = "([{", ")]}"
+# What a function of a type answers that gives up, where its name doesn't say.
+NOTHING = {"()": [""], "bool": ["false", "true"], "&[u8]": ["&[]"], "&str": ['""'], "&'static str": ['""'],
+           "Error": ["Error::OutOfMemory", "ProtocolFault::BadParams.into()"]}
+COMPARED = {"<": "<=", "<=": "<", ">": ">=", ">=": ">", "==": "!=", "!=": "=="}
+OTHER_SIGN = {"+": "-", "-": "+", "*": "+", "/": "*", "%": "/", "+=": "-=", "-=": "+=", "&&": "||", "||": "&&"}
+# What ends an operand of + and the like.
+LOOSER = {",", ";", "=>", "=", "<", ">", "<=", ">=", "==", "!=", "&&", "||", "..", "..=", "+", "-", "+=", "-=", *CLOSE, "{", "else"}
+# What is easily taken for its sibling.
+SIBLINGS = [("to_be_bytes", "to_le_bytes"), ("BigEndian", "byteorder::LittleEndian"), ("first", "last"), ("min", "max"), ("starts_with", "ends_with"),
+            ("split_first", "split_last"), ("memchr", "memrchr"), ("is_some", "is_none"), ("STANDARD", "STANDARD_NO_PAD")]
+SIBLING = {one: two for pair in SIBLINGS for one, two in (pair, pair[::-1])}
+# Methods that can be left out of a chain.
+KEEPING = {"max", "min", "saturating_add", "saturating_sub", "take", "skip", "get"}
+
+
+def split(text, sign=","):
+    """The parts of a text between signs outside of brackets."""
+    parts, depth, begun = [], 0, 0
+    for at, it in enumerate(text):
+        depth += (it in "([{<") - (it in ")]}" or it == ">" and text[at - 1] not in "-=")
+        if it == sign and not depth:
+            parts.append(text[begun:at])
+            begun = at + 1
+    return [it.strip() for it in [*parts, text[begun:]] if it.strip()]
+
+
+def plain(words):
+    """A type without lifetimes."""
+    return re.sub(r"'\w+\s*,?\s*", "", " ".join(words.split())).replace("<>", "").strip()
+
+
+class Known:
+    """The fields of structs, the variants of enums and the types of functions, by name."""
+
+    def __init__(self, texts):
+        self.fields, self.variants, self.calls, self.constants = {}, {}, {}, {}
+        for text in texts:
+            for name, of, _ in CONSTANT.findall(text):
+                self.constants.setdefault(name, plain(of))
+            for name, named, numbered in STRUCT.findall(text):
+                named = [it for it in FIELD.findall(named) if it[0] != "ghost"]
+                self.fields[name] = {field: plain(of) for field, of in named or enumerate(map(lambda it: it.removeprefix("pub "), split(numbered)))}
+            for name, inside in ENUM.findall(text):
+                self.variants[name] = {variant: plain(of) for variant, of in VARIANT.findall(re.sub(r"^ *//.*\n", "", inside, flags=re.MULTILINE))}
+            for name, parameters, result in CALLED.findall(re.sub(r"^ *//.*\n", "", text, flags=re.MULTILINE)):
+                types = [plain(it.partition(":")[2]) for it in split(parameters) if "self" not in it]
+                old = self.calls.setdefault(name, (types, plain(result)))
+                if old != (types, plain(result)):
+                    # Two functions have the name.
+                    self.calls[name] = ([], "")
+
+
+class Body:
+    """The tokens of a function's body, the brackets that they open, and the types of what it names."""
+
+    def __init__(self, text, function, known):
+        self.text, self.known = text, known
+        lines = text.split("\n")
+        starts = [0]
+        for line in lines:
+            starts.append(starts[-1] + len(line) + 1)
+        head = "\n".join(it for it in lines[function.first: function.body + 1] if not re.match(r" *(?:requires|ensures|ghost|//)", it))
+        last = max(function.body, function.last)
+        end = starts[last] + len(lines[last])
+        at = starts[function.body] + (lines[function.body].index("{") if function.body == last else lines[function.body].rindex("{"))
+        self.tokens = [(it.start(), it[0]) for it in TOKEN.finditer(text, at, end) if not it[0].startswith("//")]
+        self.words = [word for _, word in self.tokens]
+        self.pairs, stack = {}, []
+        for number, word in enumerate(self.words):
+            if word in OPEN:
+                stack.append(number)
+            elif word in CLOSE and stack:
+                self.pairs[stack.pop()] = number
+        self.opened = {close: begun for begun, close in self.pairs.items()}
+        self.implementing = re.match(r" ", lines[function.first]) and self.implemented(lines, function.first)
+        found = CALLED.search(head)
+        self.parameters = {it.partition(":")[0].removeprefix("mut ").strip(): plain(it.partition(":")[2]) for it in split(found[2]) if ":" in it} if found else {}
+        self.result = plain(found[3] or "()").replace("Self", self.implementing or "Self") if found else ""
+        # The names of what is bound, with their types and the token after which they are known.
+        self.locals = {name: (of, 0) for name, of in self.parameters.items()}
+        self.bind()
+
+    def implemented(self, lines, number):
+        """The type whose method begins on a line."""
+        head = next((at for at in range(number, -1, -1) if re.match(r"impl\b", lines[at])), None)
+        found = head is not None and re.search(r"(\w+)(?:<[^{]*>)? (?:\{|where)?$", lines[head].rstrip("{ ") + " ")
+        return found[1] if found else None
+
+    def bind(self):
+        for number, word in enumerate(self.words):
+            if word in ("let", "for"):
+                stop = next((at for at in range(number, len(self.words)) if self.words[at] in ("=", "in")), None)
+                if stop is None:
+                    continue
+                names = self.slice(number + 1, stop).removeprefix("mut ")
+                end = self.expression_end(stop + 1)
+                given = self.type_of(stop + 1, end) if word == "let" else "usize" if ".." in self.words[stop:end] else ""
+                names, _, said = names.partition(":")
+                self.bind_names(names.strip(), plain(said) or given, end)
+
+    def bind_names(self, names, of, at):
+        if some := re.fullmatch(r"(Some|Ok)\((.*)\)", names):
+            self.bind_names(some[2], inner(of), at)
+        elif names.startswith("(") and of.startswith("("):
+            for name, part in zip(split(names[1:-1]), split(of[1:-1])):
+                self.bind_names(name.removeprefix("mut "), part, at)
+        elif re.fullmatch(r"[a-z]\w*", names):
+            self.locals.setdefault(names, (of, at))
+
+    def place(self, number):
+        return self.tokens[number][0]
+
+    def end(self, number):
+        return self.tokens[number][0] + len(self.words[number])
+
+    def slice(self, first, after):
+        return self.text[self.place(first): self.end(after - 1)] if first < after else ""
+
+    def expression_end(self, at, stops=frozenset({";", ",", "=>", "else", "{", *CLOSE})):
+        """The token after an expression that begins at a token."""
+        while at < len(self.words) and self.words[at] not in stops:
+            at = self.pairs.get(at, at) + 1
+        return at
+
+    def arguments(self, opened):
+        """The parts between commas in a bracket, as spans of tokens."""
+        found, at, close = [], opened + 1, self.pairs[opened]
+        while at < close:
+            end = self.expression_end(at, {",", self.words[close]})
+            found.append((at, min(end, close)))
+            at = end + 1
+        return found
+
+    def type_of(self, first, end):
+        """The type of an expression, or an empty word where it can't be told."""
+        words = self.words[first:end]
+        if not words:
+            return ""
+        if words[-1] == "?":
+            return inner(self.type_of(first, end - 1))
+        if len(words) > 1 and words[-2] == "as":
+            return words[-1]
+        for at in range(first, end):
+            if self.words[at] in ("+", "-", "*", "/", "%") and at > first and not any(begun < at < close for begun, close in self.pairs.items() if first <= begun):
+                return self.type_of(first, at)
+        if len(words) == 1:
+            named = self.known.constants.get(words[0], "") or self.locals.get(words[0], ("", 0))[0]
+            return "number" if words[0][0].isdigit() else "&str" if words[0][0] == '"' else named
+        if words[-1] == ")":
+            called = self.words[self.opened[end - 1] - 1]
+            if called in ("len", "capacity", "saturating_add", "saturating_sub") or words[:3] == ["usize", "::", "from"]:
+                return "usize"
+            if called == "as_slice":
+                return "&[u8]"
+            return self.known.calls.get(called, ([], ""))[1]
+        if words[:2] == ["self", "."] and len(words) == 3:
+            return self.fields_of_self().get(words[2], "")
+        return "&[u8]" if words[0] == "&" and words[-1] == "]" and ".." in words else ""
+
+    def fields_of_self(self):
+        return {str(name): of for name, of in self.known.fields.get(self.implementing, {}).items()}
+
+    def in_pattern(self, number):
+        """Whether a token is of a pattern: before =>, or between let and =."""
+        for at in range(number, len(self.words)):
+            if self.words[at] == "=>" or at == number + 1 and self.words[at] == "@":
+                return True
+            if self.words[at] in (";", "{", ",", "}"):
+                if self.words[at] != "{":
+                    break
+        back = number
+        while back and self.words[back] not in (";", "{", "}", "=", "=>", "in"):
+            back -= 1
+            if self.words[back] in ("let", "for"):
+                return True
+        return False
+
+    def in_literal(self, number):
+        """Whether a token stands in the brackets of a struct's value."""
+        at = next((begun for begun in sorted(self.pairs, reverse=True) if begun < number < self.pairs[begun]), 0)
+        return self.words[at] == "{" and (self.words[at - 1] in self.known.fields or self.words[at - 1] in ("Self", ">"))
+
+    def values(self):
+        """What is answered at the end, passed to a call, kept in a field or named, as spans of tokens with their types."""
+        yield from (it for it in self.values_given() if self.words[it[0]] not in ("if", "match", "return", "for", "loop", "while"))
+        for at, word in enumerate(self.words):
+            if word == "let" and self.words[at + 1] not in ("mut", "(") and self.words[at + 2] == "=":
+                end = self.expression_end(at + 3, {";", "else"})
+                yield at + 3, end, self.type_of(at + 3, end)
+            elif word == "(" and at in self.pairs and re.match(r"\w", self.words[at - 1]) and not self.in_pattern(at):
+                yield from ((*it, self.type_of(*it)) for it in self.arguments(at) if it[0] < it[1])
+            elif word == "{" and at in self.pairs and self.words[at - 1] in self.known.fields and not self.in_pattern(at):
+                its = self.known.fields[self.words[at - 1]]
+                named = ((first, end) for first, end in self.arguments(at) if end > first + 2)
+                yield from ((first + 2, end, its.get(self.words[first], "")) for first, end in named)
+
+    def is_last(self, number):
+        """Whether an expression that begins at a token is what the function gives."""
+        return any(first == number for first, _, _ in self.values_given())
+
+    def values_given(self):
+        """What is answered at the end, as a span of tokens with its type."""
+        close = self.pairs.get(0, 0)
+        begun = max((end for first, end in self.statements() if not any(b < first < c for b, c in self.pairs.items() if b)), default=1)
+        if begun < close:
+            yield begun, close, self.result
+
+    def statements(self):
+        """The statements that end in a semicolon or are an `if`, as spans of tokens."""
+        for opened, close in self.pairs.items():
+            if self.words[opened] != "{":
+                continue
+            at = opened + 1
+            while at < close:
+                end = at
+                while end < close and self.words[end] != ";":
+                    step = self.pairs.get(end, end)
+                    if self.words[end] == "{" and self.words[at] in ("if", "for", "while", "loop", "match"):
+                        if self.words[step + 1] != "else":
+                            end = step
+                            break
+                    end = step + 1
+                if end >= close:
+                    break
+                yield at, end + 1
+                at = end + 1
+
+
+def inner(of):
+    """The type that `?` gives of a result or an option."""
+    found = re.fullmatch(r"(?:\w+::)?(?:Result|Option)<(.*)>", of)
+    return split(found[1])[0] if found else ""
+
+
+def answers(of, known):
+    """What a function of a type answers that gives up."""
+    units = [f"{of}::{name}" for name, holds in known.variants.get(of, {}).items() if not holds][:2]
+    if some := re.fullmatch(r"Option<(.*)>", of):
+        return ["None", *(f"Some({it})" for it in answers(some[1], known)[:1])]
+    if result := re.fullmatch(r"Result<(.*)>", of):
+        good, bad = (*split(result[1]), "")[:2]
+        failing = answers(bad, known)[:1] or ["std::alloc::AllocError"] * (bad == "AllocError")
+        return [f"Ok({it})" for it in (["()"] if good == "()" else answers(good, known))] + [f"Err({it})" for it in failing]
+    return NOTHING.get(of) or units or ["0"] * (of in NUMBERS)
+
+
+def mutants_of(text, function, known):
+    """The mutants of a function, as rule, place, end of what goes, and the text in its place."""
+    body = Body(text, function, known)
+    for rule in (of_numbers, of_signs, of_calls, of_variables, of_fields, of_variants, of_answers, of_statements, of_arms, of_values, of_parameters, of_errors,
+                 of_texts):
+        yield from rule(body)
+
+
+def of_numbers(body):
+    """A constant one more or less."""
+    for at, word in enumerate(body.words):
+        span = body.place(at), body.end(at)
+        if re.fullmatch(r"\d[\d_]*", word) and body.words[at - 1] != "." and not body.in_pattern(at):
+            yield "number", *span, str(int(word) + 1)
+            if int(word):
+                yield "number", *span, str(int(word) - 1)
+        elif re.fullmatch(r"[A-Z][A-Z_0-9]+", word) and body.words[at - 1] != "::" and not body.in_pattern(at) and body.words[at + 1] != "::" \
+                and body.known.constants.get(word, "usize") in NUMBERS:
+            yield "number", *span, f"({word} + 1)"
+            yield "number", *span, f"({word} - 1)"
+        elif re.fullmatch(r"b'[^\\]'", word):
+            yield "number", *span, f"b'{chr(ord(word[2]) + 1)}'"
+
+
+def of_signs(body):
+    """A comparison or an operation exchanged for its neighbour, a term left out, a condition turned round."""
+    for at, word in enumerate(body.words):
+        span = body.place(at), body.end(at)
+        spaced = body.text[span[0] - 1] == " " and body.text[span[1]: span[1] + 1] in (" ", "\n")
+        if spaced and word in COMPARED:
+            yield "comparison", *span, COMPARED[word]
+        elif spaced and word in OTHER_SIGN:
+            yield "operation", *span, OTHER_SIGN[word]
+            if word in ("+", "-", "*", "&&", "||"):
+                end = body.expression_end(at + 1, LOOSER)
+                yield "term", body.end(at - 1), body.end(end - 1), ""
+        elif word in ("if", "while") and body.words[at + 1] != "let":
+            end = body.expression_end(at + 1, {"{", "=>"})
+            yield "condition", body.place(at + 1), body.end(end - 1), f"!({body.slice(at + 1, end)})"
+            yield "condition", body.place(at + 1), body.end(end - 1), f"({body.slice(at + 1, end)}) && false"
+
+
+def of_calls(body):
+    """A method left out of a chain, arguments exchanged, an end of a range."""
+    for at, word in enumerate(body.words):
+        if word == "(" and re.fullmatch(r"\w+", body.words[at - 1]) and at in body.pairs and not body.in_pattern(at):
+            name, spans = body.words[at - 1], body.arguments(at)
+            if name in KEEPING and body.words[at - 2] == ".":
+                yield "call left out", body.place(at - 2), body.end(body.pairs[at]), ""
+            types, gives = body.known.calls.get(name, ([], ""))
+            for other, its in body.known.calls.items():
+                if other != name and types and its == (types, gives) and re.search(rf"\bfn {other}\b|\buse [^;]*\b{other}\b", body.text):
+                    yield "sibling", body.place(at - 1), body.end(at - 1), other
+            if len(types) == 1 and types[0] == gives:
+                yield "call left out", body.place(at - 1), body.end(at - 1), ""
+            for one, (first, end) in enumerate(spans):
+                of = body.type_of(first, end)
+                span, said = (body.place(first), body.end(end - 1)), body.slice(first, end)
+                for two in range(one + 1, len(spans)):
+                    if len(types) == len(spans) and types[one] == types[two] or of and of == body.type_of(*spans[two]):
+                        other = body.slice(*spans[two])
+                        yield "exchange", span[0], body.end(spans[two][1] - 1), other + body.text[span[1]: body.place(spans[two][0])] + said
+        elif word == "(" and at in body.pairs and not re.fullmatch(r"\w+|[?\])>]", body.words[at - 1]) and not body.in_pattern(at):
+            spans = body.arguments(at)
+            if len(spans) == 2 and body.type_of(*spans[0]) == body.type_of(*spans[1]) != "":
+                yield "exchange", body.place(at), body.end(body.pairs[at]), f"({body.slice(*spans[1])}, {body.slice(*spans[0])})"
+        elif word in SIBLING and not body.in_pattern(at):
+            yield "sibling", body.place(at), body.end(at), SIBLING[word]
+        elif word == "..":
+            if body.words[at + 1] not in CLOSE and not body.in_pattern(at):
+                end = body.expression_end(at + 1)
+                yield "range", body.place(at + 1), body.end(end - 1), f"({body.slice(at + 1, end)}).saturating_sub(1)"
+                if body.words[end] == "]":
+                    yield "range", body.place(at + 1), body.end(end - 1), ""
+            if body.words[at - 1] == "0" and body.words[at - 2] == "in":
+                yield "range", body.place(at - 1), body.end(at - 1), "1"
+
+
+def of_variables(body):
+    """A variable, or a field of self, in place of another of its type."""
+    fields = body.fields_of_self()
+    constants = {name: (of, said) for name, of, said in CONSTANT.findall(body.text)}
+    for at, word in enumerate(body.words):
+        if word in constants and not body.in_pattern(at):
+            yield from (("constant", body.place(at), body.end(at), other) for other, (of, said) in constants.items() if of == constants[word][0] and said != constants[word][1])
+        before, after = body.words[at - 1], body.words[at + 1] if at + 1 < len(body.words) else ""
+        if word in body.locals and before not in (".", "::", "let", "mut", "|", "for") and after not in ("(", "::", "!", ":", "=", "@", "in") and not body.in_pattern(at):
+            of, known = body.locals[word]
+            others = [name for name, (its, begun) in body.locals.items() if name != word and its == of != "" and begun < at]
+            others += [f"self.{name}" for name, its in fields.items() if its == of != "" and "self" in body.words]
+            for other in others:
+                is_short = after in (",", "}") and before in (",", "{") and re.match(r"\w", body.words[at - 2])
+                yield "variable", body.place(at), body.end(at), f"{word}: {other}" if is_short and body.in_literal(at) else other
+        if word == "self" and after == "." and body.words[at + 2] in fields and body.words[at + 3] != "=":
+            for name, of in fields.items():
+                if name != body.words[at + 2] and of == fields[body.words[at + 2]]:
+                    yield "variable", body.place(at + 2), body.end(at + 2), name
+            yield from (("variable", body.place(at), body.end(at + 2), name) for name, (of, begun) in body.locals.items()
+                        if of == fields[body.words[at + 2]] != "" and begun < at)
+
+
+def of_fields(body):
+    """Two fields of a struct of one type exchanged."""
+    for at, word in enumerate(body.words):
+        its = body.known.fields.get(body.implementing if word == "Self" else word, {})
+        if len(its) < 2 or body.words[at + 1] != "{" or at + 1 not in body.pairs or body.in_pattern(at):
+            continue
+        spans = {body.words[first]: (first, end) for first, end in body.arguments(at + 1)}
+        values = {name: body.slice(first + 2, end) or name for name, (first, end) in spans.items()}
+        for one in spans:
+            for two in spans:
+                if one < two and its.get(one) == its.get(two) is not None and values[one] != values[two]:
+                    changed = {**values, one: values[two], two: values[one]}
+                    made = ", ".join(f"{name}: {value}" for name, value in changed.items())
+                    yield "exchange", body.place(at + 1), body.end(body.pairs[at + 1]), "{ " + made + " }"
+
+
+def of_variants(body):
+    """A variant in place of another with what it holds, or OutOfMemory in place of any error."""
+    for at, word in enumerate(body.words):
+        its = body.known.variants.get(word, {})
+        if body.words[at + 1: at + 2] == ["::"] and body.words[at + 2] in its and not body.in_pattern(at):
+            names = list(its)
+            place = names.index(body.words[at + 2])
+            others = [other for other in names[place + 1:] + names[:place] if its[other] == its[names[place]]]
+            yield from (("variant", body.place(at + 2), body.end(at + 2), other) for other in others[:2])
+        if word == "Err" and body.words[at + 1] == "(" and "Error>" in body.result and not body.in_pattern(at):
+            yield "variant", body.place(at + 1), body.end(body.pairs[at + 1]), "(Error::OutOfMemory)"
+
+
+def of_answers(body):
+    """An answer that gives up at once, or for some arguments alone."""
+    place = body.end(0)
+    cases = ["if {} == 0 " if of in NUMBERS else "if {}.is_empty() " if of in ("&[u8]", "&str") else "if {} " if of == "bool" else "" for of in body.parameters.values()]
+    for said in answers(body.result, body.known):
+        if said == body.slice(1, len(body.words) - 1):
+            continue
+        yield "answer", place, place, f" return {said};".replace(" ;", ";") if len(body.words) > 2 else f" {said} "
+        for name, case in zip(body.parameters, cases):
+            if case:
+                yield "case", place, place, f" {case.format(name)}{{ return {said}; }}".replace(" ; ", "; ")
+
+
+def of_statements(body):
+    """A statement left out, or done twice, or without its error; a loop that ends after its first turn."""
+    for first, end in body.statements():
+        words = body.words[first:end]
+        if words[0] in ("if",) and "else" not in words or words[-1] == ";" and words[0] not in ("let", "return", "break", "continue", "prove", "use"):
+            yield "statement", body.place(first), body.end(end - 1), ""
+            if words[-2:] in (["?", ";"], [")", ";"]):
+                yield "statement", body.end(end - 1), body.end(end - 1), " " + body.slice(first, end)
+            if words[-2:] == ["?", ";"]:
+                yield "statement", body.place(first), body.end(end - 1), f"let _ = {body.slice(first, end - 2)};"
+        if words[0] in ("for", "while", "loop") and words[-1] == "}":
+            yield "loop", body.place(end - 1), body.place(end - 1), "break; "
+
+
+    for first, end, of in body.values_given():
+        if of.startswith("Result<()") and body.words[first] not in ("if", "match", "Ok", "Err"):
+            yield "statement", body.place(first), body.place(first), f"{body.slice(first, end)}?; "
+
+
+def of_arms(body):
+    """An arm of a match that does what the next one does."""
+    for at, word in enumerate(body.words):
+        opened = word == "match" and body.expression_end(at + 1)
+        if not opened or body.words[opened] != "{":
+            continue
+        arms, place = [], opened + 1
+        while place < body.pairs[opened]:
+            arrow = next(it for it in range(place, body.pairs[opened]) if body.words[it] == "=>")
+            is_block = body.words[arrow + 1] == "{"
+            end = body.pairs[arrow + 1] + 1 if is_block else body.expression_end(arrow + 1, {",", "}"})
+            arms.append((arrow + 1, end))
+            place = end + (body.words[end] == ",")
+        for first, end in arms if body.is_last(at) else ():
+            yield from (("arm", body.place(first), body.end(end - 1), it) for it in answers(body.result, body.known) if it)
+        for one, two in zip(arms, arms[1:] + arms[:1]):
+            if body.slice(*one) != body.slice(*two):
+                yield "arm", body.place(one[0]), body.end(one[1] - 1), body.slice(*two) + ("," if body.words[one[1]] != "," and body.words[one[1] - 1] == "}" and body.words[two[1] - 1] != "}" else "")
+
+
+def of_values(body):
+    """A number that is cut, or held to a bound; bytes that lack the first, the last or all: what is answered, passed, kept or named."""
+    for first, end, of in body.values():
+        said = body.slice(first, end)
+        span = body.place(first), body.end(end - 1)
+        if of in NUMBERS and said not in body.known.constants and not said.isdigit():
+            short = said if re.fullmatch(r"[\w.]+|[\w:]+\([^()]*\)", said) else f"({said})"
+            for bound in (".min(15)" if of in ("u8", "i8") else ".min(255)", ".max(1)", " / 2", ".saturating_sub(1)", ".saturating_add(1)"):
+                yield "number cut", *span, short + bound
+            if of[1:] in ("16", "32", "64"):
+                yield "number cut", *span, f"{short}.swap_bytes()"
+            lengths = (f"{name}.len()" for name, its in body.parameters.items() if its.startswith("&[") and of == "usize")
+            yield from (("variable", *span, it) for it in lengths if it != said)
+        yield from (("value", *span, it) for it in defaults(of, said) if it != said)
+        if of == "&str" and said != '""':
+            yield "bytes", *span, '""'
+        if of.startswith("&["):
+            bare = said.removeprefix("&")
+            yield "bytes", *span, "&[]"
+            yield "bytes", *span, f"{bare}.get(1..).unwrap_or(&[])"
+            yield "bytes", *span, f"&{bare}[..{bare}.len().saturating_sub(1)]"
+        if of == "bool" and said not in ("true", "false"):
+            yield "condition", *span, f"!({said})"
+            yield from (("condition", *span, constant) for constant in ("true", "false"))
+
+
+def defaults(of, said):
+    """What stands in place of any value of a type."""
+    if of in NUMBERS:
+        return ["0"]
+    if some := re.fullmatch(r"Option<(.*)>", of):
+        return ["None", *(f"Some({said}.unwrap_or({it}))" for it in NOTHING.get(some[1], ["0"] * (some[1] in NUMBERS)))]
+    if of.startswith("Result<(),"):
+        return ["Ok(())"]
+    return [f"&mut {said}[..0]"] if of == "&mut [u8]" else ["Bytes::new()"] if of == "Bytes" else []
+
+
+def of_parameters(body):
+    """Parameters that change as the function begins: one that is cut, or two that are exchanged."""
+    place = body.end(0)
+    for name, of in body.parameters.items():
+        cut = ([f"{name}.saturating_sub(1)", f"{name}.saturating_add(1)"] if of in NUMBERS
+               else [f"&{name}[..0]", f"{name}.get(1..).unwrap_or(&[])", f"&{name}[..{name}.len().saturating_sub(1)]"] if of.startswith("&[")
+               else [f"&mut {name}[..0]"] if of == "&mut [u8]" else [])
+        yield from (("parameter", place, place, f" let {name} = {it};") for it in cut)
+        for other in body.parameters:
+            if name < other and of == body.parameters[other]:
+                yield "exchange", place, place, f" let ({name}, {other}) = ({other}, {name});"
+
+
+def of_errors(body):
+    """An error that becomes OutOfMemory, or is passed over."""
+    for at, word in enumerate(body.words):
+        if word == "?" and body.words[at - 1] == ")" and "Error>" in body.result:
+            yield "error", body.place(at), body.end(at), ".map_err(|_| Error::OutOfMemory)?"
+        if word == "(" and body.words[at - 1] == "unwrap_or":
+            yield "error", body.place(at + 1), body.end(body.pairs[at] - 1), "1" if body.words[at + 1] == "0" else "0"
+
+
+def of_texts(body):
+    """A text without its last letter, or with two of its places exchanged."""
+    for at, word in enumerate(body.words):
+        holes = re.findall(r"\{\w+\}", word) if word[0] == '"' else []
+        if len(holes) > 1:
+            changed = word.replace(holes[0], "\0").replace(holes[1], holes[0]).replace("\0", holes[1])
+            yield "text", body.place(at), body.end(at), changed
+        if re.fullmatch(r'b?"[^"\\]*[\w ]"', word) and not body.in_pattern(at):
+            yield "text", body.place(at), body.end(at), word[:-2] + '"'
