@@ -7,7 +7,8 @@ STRUCT = re.compile(r"^(?:pub(?:\(\w+\))? )?struct (\w+)[^({;]*(?:\{(.*?)^\}|\((
 ENUM = re.compile(r"^(?:pub(?:\(\w+\))? )?enum (\w+)[^{]*\{(.*?)^\}", re.MULTILINE | re.DOTALL)
 FIELD = re.compile(r"^    (?:pub(?:\(\w+\))? )?(\w+): (.*),$", re.MULTILINE)
 VARIANT = re.compile(r"^    ([A-Z]\w*)(\([^)]*\)| \{.*?^    \})?(?: = .*)?,$", re.MULTILINE | re.DOTALL)
-CALLED = re.compile(r"\bfn (\w+)(?:<[^(]*>)?\(([^{};]*?)\)(?: -> ([^{;]*?))?(?=\s*(?:\{|;|where\b|requires\b|ensures\b|ghost\b|//|$))", re.MULTILINE)
+CALLED = re.compile(r"\bfn (\w+)(?:<[^(]*>)?\(([^{};]*?)\)(?: -> ([^{;]*?))?"
+                    r"(?=\s*(?:\{|;|where\b|requires\b|ensures\b|ghost\b|//|$))", re.MULTILINE)
 NUMBERS = {"u8", "u16", "u32", "u64", "usize", "i8", "i16", "i32", "i64"}
 CONSTANT = re.compile(r"\bconst ([A-Z][A-Z_0-9]+): ([^=;]+) = ([^;]+);")
 OPEN, CLOSE = "([{", ")]}"
@@ -19,8 +20,9 @@ OTHER_SIGN = {"+": "-", "-": "+", "*": "+", "/": "*", "%": "/", "+=": "-=", "-="
 # What ends an operand of + and the like.
 LOOSER = {",", ";", "=>", "=", "<", ">", "<=", ">=", "==", "!=", "&&", "||", "..", "..=", "+", "-", "+=", "-=", *CLOSE, "{", "else"}
 # What is easily taken for its sibling.
-SIBLINGS = [("to_be_bytes", "to_le_bytes"), ("BigEndian", "byteorder::LittleEndian"), ("first", "last"), ("min", "max"), ("starts_with", "ends_with"),
-            ("split_first", "split_last"), ("memchr", "memrchr"), ("is_some", "is_none"), ("STANDARD", "STANDARD_NO_PAD")]
+SIBLINGS = [("to_be_bytes", "to_le_bytes"), ("BigEndian", "byteorder::LittleEndian"), ("first", "last"), ("min", "max"),
+            ("starts_with", "ends_with"), ("split_first", "split_last"), ("memchr", "memrchr"), ("is_some", "is_none"),
+            ("STANDARD", "STANDARD_NO_PAD")]
 SIBLING = {one: two for pair in SIBLINGS for one, two in (pair, pair[::-1])}
 # Methods that can be left out of a chain.
 KEEPING = {"max", "min", "saturating_add", "saturating_sub", "take", "skip", "get"}
@@ -47,15 +49,16 @@ class Known:
 
     def __init__(self, texts):
         self.fields, self.variants, self.calls, self.constants = {}, {}, {}, {}
-        for text in texts:
+        for text in (re.sub(r"^ *//.*\n", "", text, flags=re.MULTILINE) for text in texts):
             for name, of, _ in CONSTANT.findall(text):
                 self.constants.setdefault(name, plain(of))
             for name, named, numbered in STRUCT.findall(text):
                 named = [it for it in FIELD.findall(named) if it[0] != "ghost"]
-                self.fields[name] = {field: plain(of) for field, of in named or enumerate(map(lambda it: it.removeprefix("pub "), split(numbered)))}
+                its = named or enumerate(it.removeprefix("pub ") for it in split(numbered))
+                self.fields[name] = {field: plain(of) for field, of in its}
             for name, inside in ENUM.findall(text):
-                self.variants[name] = {variant: plain(of) for variant, of in VARIANT.findall(re.sub(r"^ *//.*\n", "", inside, flags=re.MULTILINE))}
-            for name, parameters, result in CALLED.findall(re.sub(r"^ *//.*\n", "", text, flags=re.MULTILINE)):
+                self.variants[name] = {variant: plain(of) for variant, of in VARIANT.findall(inside)}
+            for name, parameters, result in CALLED.findall(text):
                 types = [plain(it.partition(":")[2]) for it in split(parameters) if "self" not in it]
                 old = self.calls.setdefault(name, (types, plain(result)))
                 if old != (types, plain(result)):
@@ -72,11 +75,10 @@ class Body:
         starts = [0]
         for line in lines:
             starts.append(starts[-1] + len(line) + 1)
-        head = "\n".join(it for it in lines[function.first: function.body + 1] if not re.match(r" *(?:requires|ensures|ghost|//)", it))
         last = max(function.body, function.last)
-        end = starts[last] + len(lines[last])
-        at = starts[function.body] + (lines[function.body].index("{") if function.body == last else lines[function.body].rindex("{"))
-        self.tokens = [(it.start(), it[0]) for it in TOKEN.finditer(text, at, end) if not it[0].startswith("//")]
+        opened = lines[function.body].index("{") if function.body == last else lines[function.body].rindex("{")
+        places = starts[function.body] + opened, starts[last] + len(lines[last])
+        self.tokens = [(it.start(), it[0]) for it in TOKEN.finditer(text, *places) if not it[0].startswith("//")]
         self.words = [word for _, word in self.tokens]
         self.pairs, stack = {}, []
         for number, word in enumerate(self.words):
@@ -86,8 +88,10 @@ class Body:
                 self.pairs[stack.pop()] = number
         self.opened = {close: begun for begun, close in self.pairs.items()}
         self.implementing = re.match(r" ", lines[function.first]) and self.implemented(lines, function.first)
-        found = CALLED.search(head)
-        self.parameters = {it.partition(":")[0].removeprefix("mut ").strip(): plain(it.partition(":")[2]) for it in split(found[2]) if ":" in it} if found else {}
+        head = [it for it in lines[function.first : function.body + 1] if not re.match(r" *(?:requires|ensures|ghost|//)", it)]
+        found = CALLED.search("\n".join(head))
+        named = [it.partition(":") for it in split(found[2]) if ":" in it] if found else []
+        self.parameters = {name.removeprefix("mut ").strip(): plain(of) for name, _, of in named}
         self.result = plain(found[3] or "()").replace("Self", self.implementing or "Self") if found else ""
         # The names of what is bound, with their types and the token after which they are known.
         self.locals = {name: (of, 0) for name, of in self.parameters.items()}
@@ -154,7 +158,8 @@ class Body:
         if len(words) > 1 and words[-2] == "as":
             return words[-1]
         for at in range(first, end):
-            if self.words[at] in ("+", "-", "*", "/", "%") and at > first and not any(begun < at < close for begun, close in self.pairs.items() if first <= begun):
+            is_inside = any(first <= begun < at < close for begun, close in self.pairs.items())
+            if self.words[at] in ("+", "-", "*", "/", "%") and at > first and not is_inside:
                 return self.type_of(first, at)
         if len(words) == 1:
             named = self.known.constants.get(words[0], "") or self.locals.get(words[0], ("", 0))[0]
@@ -172,6 +177,10 @@ class Body:
 
     def fields_of_self(self):
         return {str(name): of for name, of in self.known.fields.get(self.implementing, {}).items()}
+
+    def has_in_scope(self, name):
+        """Whether the file has a function of a name, or imports one."""
+        return re.search(rf"\bfn {name}\b|\buse [^;]*\b{name}\b", self.text)
 
     def in_pattern(self, number):
         """Whether a token is of a pattern: before =>, or between let and =."""
@@ -195,7 +204,8 @@ class Body:
 
     def values(self):
         """What is answered at the end, passed to a call, kept in a field or named, as spans of tokens with their types."""
-        yield from (it for it in self.values_given() if self.words[it[0]] not in ("if", "match", "return", "for", "loop", "while"))
+        blocks = ("if", "match", "return", "for", "loop", "while")
+        yield from (it for it in self.values_given() if self.words[it[0]] not in blocks)
         for at, word in enumerate(self.words):
             if word == "let" and self.words[at + 1] not in ("mut", "(") and self.words[at + 2] == "=":
                 end = self.expression_end(at + 3, {";", "else"})
@@ -214,7 +224,9 @@ class Body:
     def values_given(self):
         """What is answered at the end, as a span of tokens with its type."""
         close = self.pairs.get(0, 0)
-        begun = max((end for first, end in self.statements() if not any(b < first < c for b, c in self.pairs.items() if b)), default=1)
+        inner = [pair for pair in self.pairs.items() if pair[0]]
+        ends = (end for first, end in self.statements() if not any(begun < first < closed for begun, closed in inner))
+        begun = max(ends, default=1)
         if begun < close:
             yield begun, close, self.result
 
@@ -257,11 +269,22 @@ def answers(of, known):
     return NOTHING.get(of) or units or ["0"] * (of in NUMBERS)
 
 
+def shown(text, rule, start, end, new):
+    """A mutant in a line."""
+    old, new = (" ".join(it.split()) or "(nothing)" for it in (text[start:end], new))
+    return f"[{rule}] {old} -> {new}"
+
+
 def mutants_of(text, function, known):
-    """The mutants of a function, as rule, place, end of what goes, and the text in its place."""
+    """The mutants of a function: rule, place, end of what goes, and the text in its place; each once, and none without effect."""
+    found = {(start, end, new.strip()): (rule, start, end, new) for rule, start, end, new in made_of(text, function, known)}
+    return [it for (start, end, new), it in found.items() if text[start:end].strip() != new]
+
+
+def made_of(text, function, known):
     body = Body(text, function, known)
-    for rule in (of_numbers, of_signs, of_calls, of_variables, of_fields, of_variants, of_answers, of_statements, of_arms, of_values, of_parameters, of_errors,
-                 of_texts):
+    for rule in (of_numbers, of_signs, of_calls, of_constants, of_variables, of_fields, of_variants, of_answers, of_statements, of_arms,
+                 of_values, of_parameters, of_errors, of_texts):
         yield from rule(body)
 
 
@@ -273,8 +296,8 @@ def of_numbers(body):
             yield "number", *span, str(int(word) + 1)
             if int(word):
                 yield "number", *span, str(int(word) - 1)
-        elif re.fullmatch(r"[A-Z][A-Z_0-9]+", word) and body.words[at - 1] != "::" and not body.in_pattern(at) and body.words[at + 1] != "::" \
-                and body.known.constants.get(word, "usize") in NUMBERS:
+        elif re.fullmatch(r"[A-Z][A-Z_0-9]+", word) and "::" not in (body.words[at - 1], body.words[at + 1]) \
+                and not body.in_pattern(at) and body.known.constants.get(word, "usize") in NUMBERS:
             yield "number", *span, f"({word} + 1)"
             yield "number", *span, f"({word} - 1)"
         elif re.fullmatch(r"b'[^\\]'", word):
@@ -308,17 +331,11 @@ def of_calls(body):
                 yield "call left out", body.place(at - 2), body.end(body.pairs[at]), ""
             types, gives = body.known.calls.get(name, ([], ""))
             for other, its in body.known.calls.items():
-                if other != name and types and its == (types, gives) and re.search(rf"\bfn {other}\b|\buse [^;]*\b{other}\b", body.text):
+                if other != name and types and its == (types, gives) and body.has_in_scope(other):
                     yield "sibling", body.place(at - 1), body.end(at - 1), other
             if len(types) == 1 and types[0] == gives:
                 yield "call left out", body.place(at - 1), body.end(at - 1), ""
-            for one, (first, end) in enumerate(spans):
-                of = body.type_of(first, end)
-                span, said = (body.place(first), body.end(end - 1)), body.slice(first, end)
-                for two in range(one + 1, len(spans)):
-                    if len(types) == len(spans) and types[one] == types[two] or of and of == body.type_of(*spans[two]):
-                        other = body.slice(*spans[two])
-                        yield "exchange", span[0], body.end(spans[two][1] - 1), other + body.text[span[1]: body.place(spans[two][0])] + said
+            yield from of_arguments(body, spans, types)
         elif word == "(" and at in body.pairs and not re.fullmatch(r"\w+|[?\])>]", body.words[at - 1]) and not body.in_pattern(at):
             spans = body.arguments(at)
             if len(spans) == 2 and body.type_of(*spans[0]) == body.type_of(*spans[1]) != "":
@@ -335,15 +352,33 @@ def of_calls(body):
                 yield "range", body.place(at - 1), body.end(at - 1), "1"
 
 
-def of_variables(body):
-    """A variable, or a field of self, in place of another of its type."""
-    fields = body.fields_of_self()
+def of_arguments(body, spans, types):
+    """Two arguments of one type exchanged."""
+    for one, (first, end) in enumerate(spans):
+        of, said = body.type_of(first, end), body.slice(first, end)
+        for two, (other, last) in enumerate(spans[one + 1 :], one + 1):
+            if len(types) == len(spans) and types[one] == types[two] or of and of == body.type_of(other, last):
+                between = body.text[body.end(end - 1) : body.place(other)]
+                yield "exchange", body.place(first), body.end(last - 1), body.slice(other, last) + between + said
+
+
+def of_constants(body):
+    """A constant of the file in place of another of its type."""
     constants = {name: (of, said) for name, of, said in CONSTANT.findall(body.text)}
     for at, word in enumerate(body.words):
         if word in constants and not body.in_pattern(at):
-            yield from (("constant", body.place(at), body.end(at), other) for other, (of, said) in constants.items() if of == constants[word][0] and said != constants[word][1])
+            mine = constants[word]
+            others = (name for name, (of, said) in constants.items() if of == mine[0] and said != mine[1])
+            yield from (("constant", body.place(at), body.end(at), name) for name in others)
+
+
+def of_variables(body):
+    """A variable, or a field of self, in place of another of its type."""
+    fields = body.fields_of_self()
+    for at, word in enumerate(body.words):
         before, after = body.words[at - 1], body.words[at + 1] if at + 1 < len(body.words) else ""
-        if word in body.locals and before not in (".", "::", "let", "mut", "|", "for") and after not in ("(", "::", "!", ":", "=", "@", "in") and not body.in_pattern(at):
+        is_bound = before in ("let", "mut", "|", "for") or after in (":", "=", "@", "in") or body.in_pattern(at)
+        if word in body.locals and not is_bound and before not in (".", "::") and after not in ("(", "::", "!"):
             of, known = body.locals[word]
             others = [name for name, (its, begun) in body.locals.items() if name != word and its == of != "" and begun < at]
             others += [f"self.{name}" for name, its in fields.items() if its == of != "" and "self" in body.words]
@@ -390,21 +425,22 @@ def of_variants(body):
 def of_answers(body):
     """An answer that gives up at once, or for some arguments alone."""
     place = body.end(0)
-    cases = ["if {} == 0 " if of in NUMBERS else "if {}.is_empty() " if of in ("&[u8]", "&str") else "if {} " if of == "bool" else "" for of in body.parameters.values()]
+    cases = {**dict.fromkeys(NUMBERS, "if {} == 0 "), "&[u8]": "if {}.is_empty() ", "&str": "if {}.is_empty() ", "bool": "if {} "}
     for said in answers(body.result, body.known):
         if said == body.slice(1, len(body.words) - 1):
             continue
         yield "answer", place, place, f" return {said};".replace(" ;", ";") if len(body.words) > 2 else f" {said} "
-        for name, case in zip(body.parameters, cases):
-            if case:
-                yield "case", place, place, f" {case.format(name)}{{ return {said}; }}".replace(" ; ", "; ")
+        for name, of in body.parameters.items():
+            if of in cases:
+                yield "case", place, place, f" {cases[of].format(name)}{{ return {said}; }}".replace(" ; ", "; ")
 
 
 def of_statements(body):
     """A statement left out, or done twice, or without its error; a loop that ends after its first turn."""
     for first, end in body.statements():
         words = body.words[first:end]
-        if words[0] in ("if",) and "else" not in words or words[-1] == ";" and words[0] not in ("let", "return", "break", "continue", "prove", "use"):
+        is_left = words[-1] == ";" and words[0] not in ("let", "return", "break", "continue", "prove", "use")
+        if is_left or words[0] == "if" and "else" not in words:
             yield "statement", body.place(first), body.end(end - 1), ""
             if words[-2:] in (["?", ";"], [")", ";"]):
                 yield "statement", body.end(end - 1), body.end(end - 1), " " + body.slice(first, end)
@@ -436,17 +472,19 @@ def of_arms(body):
             yield from (("arm", body.place(first), body.end(end - 1), it) for it in answers(body.result, body.known) if it)
         for one, two in zip(arms, arms[1:] + arms[:1]):
             if body.slice(*one) != body.slice(*two):
-                yield "arm", body.place(one[0]), body.end(one[1] - 1), body.slice(*two) + ("," if body.words[one[1]] != "," and body.words[one[1] - 1] == "}" and body.words[two[1] - 1] != "}" else "")
+                has_comma = body.words[one[1]] == "," or body.words[one[1] - 1] != "}" or body.words[two[1] - 1] == "}"
+                yield "arm", body.place(one[0]), body.end(one[1] - 1), body.slice(*two) + "," * (not has_comma)
 
 
 def of_values(body):
-    """A number that is cut, or held to a bound; bytes that lack the first, the last or all: what is answered, passed, kept or named."""
+    """What is answered, passed, kept or named: a number that is cut, or held to a bound; bytes without the first, the last or all."""
     for first, end, of in body.values():
         said = body.slice(first, end)
         span = body.place(first), body.end(end - 1)
         if of in NUMBERS and said not in body.known.constants and not said.isdigit():
             short = said if re.fullmatch(r"[\w.]+|[\w:]+\([^()]*\)", said) else f"({said})"
-            for bound in (".min(15)" if of in ("u8", "i8") else ".min(255)", ".max(1)", " / 2", ".saturating_sub(1)", ".saturating_add(1)"):
+            most = ".min(15)" if of in ("u8", "i8") else ".min(255)"
+            for bound in (most, ".max(1)", " / 2", ".saturating_sub(1)", ".saturating_add(1)"):
                 yield "number cut", *span, short + bound
             if of[1:] in ("16", "32", "64"):
                 yield "number cut", *span, f"{short}.swap_bytes()"
@@ -480,10 +518,10 @@ def of_parameters(body):
     """Parameters that change as the function begins: one that is cut, or two that are exchanged."""
     place = body.end(0)
     for name, of in body.parameters.items():
-        cut = ([f"{name}.saturating_sub(1)", f"{name}.saturating_add(1)"] if of in NUMBERS
-               else [f"&{name}[..0]", f"{name}.get(1..).unwrap_or(&[])", f"&{name}[..{name}.len().saturating_sub(1)]"] if of.startswith("&[")
-               else [f"&mut {name}[..0]"] if of == "&mut [u8]" else [])
-        yield from (("parameter", place, place, f" let {name} = {it};") for it in cut)
+        cut = ["{0}.saturating_sub(1)", "{0}.saturating_add(1)"] * (of in NUMBERS) + ["&mut {0}[..0]"] * (of == "&mut [u8]")
+        if of.startswith("&["):
+            cut = ["&{0}[..0]", "{0}.get(1..).unwrap_or(&[])", "&{0}[..{0}.len().saturating_sub(1)]"]
+        yield from (("parameter", place, place, f" let {name} = {it.format(name)};") for it in cut)
         for other in body.parameters:
             if name < other and of == body.parameters[other]:
                 yield "exchange", place, place, f" let ({name}, {other}) = ({other}, {name});"

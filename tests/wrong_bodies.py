@@ -1,5 +1,6 @@
 """Wrong bodies: those that a crate's file has, and those that rules make of its sources; and the functions that each changes."""
 
+import collections
 import functools
 import hashlib
 import re
@@ -160,7 +161,7 @@ class Mutant(WrongBody):
         self.function, self.rule, old = function, rule, text[start:end]
         # The lines after it keep their numbers.
         new = new.replace("\n", " ") + "\n" * old.count("\n")
-        self.says = f"{function.name.split('::')[-1]} [{rule}] {shown(old)} -> {shown(new)}"
+        self.says = f"{function.name.split('::')[-1]} {rules.shown(text, rule, start, end, new)}"
         first, begun = text.count("\n", 0, start), text.rfind("\n", 0, start) + 1
         changed = text[begun:start] + new + text[end:].partition("\n")[0]
         self.changes = {path: dict(enumerate(changed.split("\n"), first))}
@@ -172,10 +173,6 @@ class Mutant(WrongBody):
     def rank(self):
         """Its place among those of its function, wherever that stands."""
         return hashlib.sha256(f"{WORD} {self.says}".encode()).digest()
-
-
-def shown(text):
-    return " ".join(text.split()) or "(nothing)"
 
 
 def paragraphs(file):
@@ -223,16 +220,17 @@ def by_rules(crate):
         for it in functions(crate, path):
             lines = crate.lines(path)
             if not lines[it.body].endswith("{}") and promises(lines, it):
-                changes = (one for one in rules.mutants_of(text, it, known) if text[one[1] : one[2]].strip() != one[3].strip())
-                made = [Mutant(crate, path, it, text, *one) for one in changes]
-                found[it.name] = in_turn(made)
+                found[it.name] = in_turn([Mutant(crate, path, it, text, *one) for one in rules.mutants_of(text, it, known)])
     return found
 
 
 def in_turn(mutants):
-    """Mutants of a function by their rank, a rule at a time."""
-    turns, places = {}, {}
-    for it in sorted({it.says: it for it in mutants}.values(), key=Mutant.rank):
+    """Mutants of a function by their rank, a rule at a time; of those that say the same each later one by its number."""
+    turns, places, alike = {}, {}, collections.Counter()
+    for it in mutants:
+        alike[it.says] += 1
+        it.says += f" ({alike[it.says]})" if alike[it.says] > 1 else ""
+    for it in sorted(mutants, key=Mutant.rank):
         places[it] = turns[it.rule] = turns.get(it.rule, -1) + 1
     return sorted(places, key=places.get)
 
@@ -262,7 +260,15 @@ def let_through():
 def gone():
     """The mutants of that list that no rule makes any more."""
     made = {str(it) for crate in crates.known().values() for its in by_rules(crate).values() for it in its}
-    return [it for it in let_through() if it not in made]
+    return [f"{it}: tests/accepted.txt has it, and no rule makes it" for it in let_through() if it not in made]
+
+
+def of_rules():
+    """The mutants in which the rules differ from those that stand below an example."""
+    text, _, below = (SELF_TEST / "rules.txt").read_text().partition("\n\n\n")
+    [example] = sources.functions("example", "src/lib.rt", text)
+    made = [rules.shown(text, *it) for it in rules.mutants_of(text, example, rules.Known([text]))]
+    return [f"tests/self_test/rules.txt: {it}" for it in set(made).symmetric_difference(below.splitlines())]
 
 
 def promises(lines, it):
