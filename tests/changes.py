@@ -87,7 +87,7 @@ class Change:
 
         What a source says outside of functions is of its own. A change of a definition alone is left to the share of all.
         """
-        own = self.parts.get(str(it.file.relative_to(self.crate.folder)), set()) & it.places if hasattr(it, "file") else ()
+        own = it.file and self.parts.get(str(it.file.relative_to(self.crate.folder)), set()) & it.places
         return bool(own or it.why_not) or not self.restated.isdisjoint(it.changes) or not it.owners.isdisjoint(self.functions)
 
 

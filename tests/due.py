@@ -9,8 +9,8 @@ import wrong_bodies
 # The commit as of which all were tried, and by the logic of which toolchain.
 TRIED = crates.TOP / "tests" / "tried"
 
-# At how many commits each function has its turn, with one of its mutants; so often as it has mutants, all have been tried. Of those
-# by hand, which are slower to try, a share of another size.
+# Each function has its turn at one of so many commits, with the next of its mutants, and those by hand at one of so many: no more
+# than what a gate has processors for.
 TURNS, TURNS_BY_HAND = 12, 24
 
 

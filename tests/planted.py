@@ -92,7 +92,8 @@ def show_seen(log):
     found = [it for crate in crates.known().values() for its in wrong_bodies.by_rules(crate).values() for it in its if str(it) in said]
     for it in found:
         it.seen_by = EACH_TEST
-    tested = [crate for crate in crates.known().values() if crate.has_tests()]
+    changed = {it.crate for it in found}
+    tested = [crate for crate in crates.known().values() if crate.has_tests() and changed & {crate, *crate.libraries()}]
     with tempfile.TemporaryDirectory() as folder:
         made, names = unproved.lay_out_tests(tested, pathlib.Path(folder), False, found)
         passed, failed, said = unproved.run(made, names)

@@ -25,7 +25,7 @@ SIBLINGS = [("to_be_bytes", "to_le_bytes"), ("BigEndian", "byteorder::LittleEndi
             ("STANDARD", "STANDARD_NO_PAD")]
 SIBLING = {one: two for pair in SIBLINGS for one, two in (pair, pair[::-1])}
 # Methods that can be left out of a chain.
-KEEPING = {"max", "min", "saturating_add", "saturating_sub", "take", "skip", "get"}
+KEEPING = {"max", "min", "saturating_add", "saturating_sub", "take", "skip"}
 
 
 def split(text, sign=","):
@@ -455,23 +455,30 @@ def of_statements(body):
             yield "statement", body.place(first), body.place(first), f"{body.slice(first, end)}?; "
 
 
+def arms_of(body, opened):
+    """The arms of a match, as spans of tokens, each with the words of its pattern."""
+    place = opened + 1
+    while place < body.pairs[opened]:
+        arrow = next(it for it in range(place, body.pairs[opened]) if body.words[it] == "=>")
+        is_block = body.words[arrow + 1] == "{"
+        end = body.pairs[arrow + 1] + 1 if is_block else body.expression_end(arrow + 1, {",", "}"})
+        yield arrow + 1, end, set(body.words[place:arrow])
+        place = end + (body.words[end] == ",")
+
+
 def of_arms(body):
-    """An arm of a match that does what the next one does."""
+    """An arm of a match that gives up, or does what the next one does."""
     for at, word in enumerate(body.words):
         opened = word == "match" and body.expression_end(at + 1)
         if not opened or body.words[opened] != "{":
             continue
-        arms, place = [], opened + 1
-        while place < body.pairs[opened]:
-            arrow = next(it for it in range(place, body.pairs[opened]) if body.words[it] == "=>")
-            is_block = body.words[arrow + 1] == "{"
-            end = body.pairs[arrow + 1] + 1 if is_block else body.expression_end(arrow + 1, {",", "}"})
-            arms.append((arrow + 1, end))
-            place = end + (body.words[end] == ",")
-        for first, end in arms if body.is_last(at) else ():
+        arms = list(arms_of(body, opened))
+        for first, end, _ in arms if body.is_last(at) else ():
             yield from (("arm", body.place(first), body.end(end - 1), it) for it in answers(body.result, body.known) if it)
-        for one, two in zip(arms, arms[1:] + arms[:1]):
-            if body.slice(*one) != body.slice(*two):
+        for (*one, bound), (*two, others) in zip(arms, arms[1:] + arms[:1]):
+            # Names that only the other pattern binds mean nothing here.
+            is_told = {it for it in others - bound if it.islower()}.isdisjoint(body.words[two[0] : two[1]])
+            if body.slice(*one) != body.slice(*two) and is_told:
                 has_comma = body.words[one[1]] == "," or body.words[one[1] - 1] != "}" or body.words[two[1] - 1] == "}"
                 yield "arm", body.place(one[0]), body.end(one[1] - 1), body.slice(*two) + "," * (not has_comma)
 

@@ -35,6 +35,8 @@ class WrongBody:
 
     def __init__(self, crate):
         self.crate, self.why_not, self.due, self.seen_by = crate, None, REFUSED, None
+        # Its own file and lines, of one by hand.
+        self.file, self.places = None, set()
         self.changes, self.owners, self.laws, self.refusing, self.readers = {}, set(), set(), set(), set()
         self.lines, self.stands_on, self.avoids = set(), set(), set()
         self.turns, self.has_stray, self.is_apart = 0, True, False
