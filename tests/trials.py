@@ -86,7 +86,7 @@ class Trial:
     def show(self, it, verdict, why):
         """Counts a verdict, and prints it; returns what is tried in place of a mutant that shows nothing."""
         if isinstance(it, Mutant) and verdict not in (REFUSED, ACCEPTED):
-            print(f"shows nothing: {it}: {verdict}: {why}", flush=True)
+            print(f"shows nothing{'' if it.instead else ', and no other is left'}: {it}: {verdict}: {why}", flush=True)
             return [it.instead] if it.instead else []
         if verdict == it.due:
             self.passed += 1
