@@ -178,6 +178,11 @@ class Body:
     def fields_of_self(self):
         return {str(name): of for name, of in self.known.fields.get(self.implementing, {}).items()}
 
+    def without_memory(self):
+        """The error of missing memory that the function can give, or None."""
+        found = re.fullmatch(r"Result<.*\b(\w+)>", self.result)
+        return f"{found[1]}::OutOfMemory" if found and "OutOfMemory" in self.known.variants.get(found[1], {}) else None
+
     def has_in_scope(self, name):
         """Whether the file has a function of a name, or imports one."""
         return re.search(rf"\bfn {name}\b|\buse [^;]*\b{name}\b", self.text)
@@ -418,8 +423,8 @@ def of_variants(body):
             place = names.index(body.words[at + 2])
             others = [other for other in names[place + 1:] + names[:place] if its[other] == its[names[place]]]
             yield from (("variant", body.place(at + 2), body.end(at + 2), other) for other in others[:2])
-        if word == "Err" and body.words[at + 1] == "(" and "Error>" in body.result and not body.in_pattern(at):
-            yield "variant", body.place(at + 1), body.end(body.pairs[at + 1]), "(Error::OutOfMemory)"
+        if word == "Err" and body.words[at + 1] == "(" and body.without_memory() and not body.in_pattern(at):
+            yield "variant", body.place(at + 1), body.end(body.pairs[at + 1]), f"({body.without_memory()})"
 
 
 def of_answers(body):
@@ -537,8 +542,8 @@ def of_parameters(body):
 def of_errors(body):
     """An error that becomes OutOfMemory, or is passed over."""
     for at, word in enumerate(body.words):
-        if word == "?" and body.words[at - 1] == ")" and "Error>" in body.result:
-            yield "error", body.place(at), body.end(at), ".map_err(|_| Error::OutOfMemory)?"
+        if word == "?" and body.words[at - 1] == ")" and body.without_memory():
+            yield "error", body.place(at), body.end(at), f".map_err(|_| {body.without_memory()})?"
         if word == "(" and body.words[at - 1] == "unwrap_or":
             yield "error", body.place(at + 1), body.end(body.pairs[at] - 1), "1" if body.words[at + 1] == "0" else "0"
 

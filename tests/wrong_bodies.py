@@ -255,7 +255,7 @@ def chains(crate, each=EACH):
 def let_through():
     """The mutants that may be accepted, each with the test that sees it or with None."""
     lines = LET_THROUGH.read_text().splitlines() if LET_THROUGH.exists() else []
-    said = [line.partition("  # ") for line in lines if "  # " in line]
+    said = [line.partition("  # ") for line in lines if not line.startswith("#")]
     return {mutant: why[8:] if why.startswith("seen by ") else None for mutant, _, why in said}
 
 
