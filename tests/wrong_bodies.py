@@ -20,8 +20,9 @@ SELF_TEST = crates.TOP / "tests" / "self_test"
 # The mutants that contracts let through, with the reason or the test that sees each.
 LET_THROUGH = crates.TOP / "tests" / "accepted.txt"
 
-# The word by which the mutants of a function are ranked, and how many of them are its own.
-WORD, EACH = "tarnwhisk", 3
+# The word by which the mutants of a function are ranked, how many of them are its own, and how many are tried for each of these
+# until one shows something.
+WORD, EACH, TRIES = "tarnwhisk", 3, 4
 
 # A constant that only its own file, or its own item, sees.
 CONSTANT = re.compile(r" *const (\w+)\s*:")
@@ -243,7 +244,7 @@ def chains(crate, each=EACH):
     allowed = let_through()
     found = {}
     for name, mutants in by_rules(crate).items():
-        for it, after in zip(mutants, mutants[each:]):
+        for it, after in zip(mutants, mutants[each : each * TRIES]):
             it.instead = after
         for it in mutants:
             if str(it) in allowed:
