@@ -188,19 +188,25 @@ class Body:
         return re.search(rf"\bfn {name}\b|\buse [^;]*\b{name}\b", self.text)
 
     def in_pattern(self, number):
-        """Whether a token is of a pattern: before =>, or between let and =."""
-        for at in range(number, len(self.words)):
-            if self.words[at] == "=>" or at == number + 1 and self.words[at] == "@":
-                return True
-            if self.words[at] in (";", "{", ",", "}"):
-                if self.words[at] != "{":
-                    break
+        """Whether a token is of a pattern: it or brackets around it before =>, or between let and =."""
+        around = [begun for begun, close in self.pairs.items() if begun < number < close]
+        closes = [self.pairs[begun] + 1 for begun in around if self.words[begun] != "{" or self.words[begun - 1][0].isupper()]
+        if any(map(self.before_arrow, [number, *closes])) or self.words[number + 1 : number + 2] == ["@"]:
+            return True
         back = number
         while back and self.words[back] not in (";", "{", "}", "=", "=>", "in"):
             back -= 1
             if self.words[back] in ("let", "for"):
                 return True
         return False
+
+    def before_arrow(self, at):
+        """Whether the arrow of an arm follows a token, before whatever ends an expression."""
+        while at < len(self.words) and self.words[at] not in (";", ",", *CLOSE, "=>"):
+            if self.words[at] == "{" and not self.words[at - 1][0].isupper():
+                return False
+            at = self.pairs.get(at, at) + 1
+        return self.words[at : at + 1] == ["=>"]
 
     def in_literal(self, number):
         """Whether a token stands in the brackets of a struct's value."""
@@ -345,7 +351,7 @@ def of_calls(body):
             spans = body.arguments(at)
             if len(spans) == 2 and body.type_of(*spans[0]) == body.type_of(*spans[1]) != "":
                 yield "exchange", body.place(at), body.end(body.pairs[at]), f"({body.slice(*spans[1])}, {body.slice(*spans[0])})"
-        elif word in SIBLING and not body.in_pattern(at):
+        elif word in SIBLING and body.words[at + 1] in ("(", "::", ".") and not body.in_pattern(at):
             yield "sibling", body.place(at), body.end(at), SIBLING[word]
         elif word == "..":
             if body.words[at + 1] not in CLOSE and not body.in_pattern(at):
