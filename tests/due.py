@@ -11,7 +11,7 @@ TRIED = crates.TOP / "tests" / "tried"
 
 # Each function has its turn at one of so many commits, with the next of its mutants, and those by hand at one of so many: no more
 # than what a gate has processors for.
-TURNS, TURNS_BY_HAND = 12, 24
+TURNS, TURNS_BY_HAND = 16, 32
 
 
 class Due:

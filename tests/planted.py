@@ -99,7 +99,8 @@ def show_seen(log):
         passed, failed, said = unproved.run(made, names)
         if failed or not passed:
             raise SystemExit(f"{said[-3000:]}the tests themselves fail, or can't be built")
-        seen = dict(reversed(line.split(" ", 1)) for line in (made / "seen").read_text().splitlines())
+        (made / "c/seen").touch()
+        seen = dict(reversed(line.split(" ", 1)) for line in (made / "c/seen").read_text().splitlines())
     for it in found:
         print(f"{it}  # seen by {seen[str(it)]}" if str(it) in seen else f"NOT SEEN: {it}")
     return len(seen) < len(found)

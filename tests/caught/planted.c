@@ -3,7 +3,6 @@
 #include <signal.h>
 #include <stdbool.h>
 #include <stdio.h>
-#include <stdlib.h>
 #include <string.h>
 #include <sys/wait.h>
 #include <unistd.h>
@@ -28,12 +27,9 @@ int is_planted(unsigned number) {
     return number == planted;
 }
 
-// Keeps which test has seen a wrong body, in a file of the folder that is for temporary ones.
+// Keeps which test has seen a wrong body, in a file that the compiler is told.
 static void keep(const char *test, const char *name) {
-    char path[4096];
-    const char *folder = getenv("TMPDIR");
-    snprintf(path, sizeof path, "%s/seen", folder ? folder : ".");
-    FILE *file = fopen(path, "a");
+    FILE *file = fopen(SEEN, "a");
     if (!file) _exit(2);
     fprintf(file, "%s %s\n", test, name);
     fclose(file);
