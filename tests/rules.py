@@ -549,9 +549,11 @@ def of_errors(body):
     """An error that becomes OutOfMemory, or is passed over."""
     for at, word in enumerate(body.words):
         if word == "?" and body.words[at - 1] == ")" and body.without_memory():
-            given = body.known.calls.get(body.words[body.opened[at - 1] - 1], ([], ""))[1]
-            # Of missing memory alone it would be the same.
-            if given.startswith("Result<") and not given.endswith("AllocError>"):
+            name = body.opened[at - 1] - 1
+            given = body.known.calls.get(body.words[name], ([], ""))[1]
+            # Of missing memory alone it would be the same, and so it is of most methods of others.
+            is_own = body.words[name - 1] != "." or body.words[name - 2] == "self"
+            if is_own and given.startswith("Result<") and not given.endswith("AllocError>"):
                 yield "error", body.place(at), body.end(at), f".map_err(|_| {body.without_memory()})?"
         if word == "(" and body.words[at - 1] == "unwrap_or":
             yield "error", body.place(at + 1), body.end(body.pairs[at] - 1), "1" if body.words[at + 1] == "0" else "0"
