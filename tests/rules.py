@@ -7,9 +7,9 @@ STRUCT = re.compile(r"^(?:pub(?:\(\w+\))? )?struct (\w+)[^({;]*(?:\{(.*?)^\}|\((
 ENUM = re.compile(r"^(?:pub(?:\(\w+\))? )?enum (\w+)[^{]*\{(.*?)^\}", re.MULTILINE | re.DOTALL)
 FIELD = re.compile(r"^    (?:pub(?:\(\w+\))? )?(\w+): (.*),$", re.MULTILINE)
 VARIANT = re.compile(r"^    ([A-Z]\w*)(\([^)]*\)| \{.*?^    \})?(?: = .*)?,$", re.MULTILINE | re.DOTALL)
-CALLED = re.compile(r"\bfn (\w+)(?:<[^(]*>)?\(([^{};]*?)\)(?: -> ([^{;]*?))?"
+CALLED = re.compile(r"\bfn (\w+)(?:<[^(]*>)?\(((?:[^{};\[]|\[[^\]]*\])*?)\)(?: -> ([^{;]*?))?"
                     r"(?=\s*(?:\{|;|where\b|requires\b|ensures\b|ghost\b|//|$))", re.MULTILINE)
-NUMBERS = {"u8", "u16", "u32", "u64", "usize", "i8", "i16", "i32", "i64"}
+NUMBERS = {"u8", "u16", "u32", "u64", "usize", "i8", "i16", "i32", "i64", "isize"}
 CONSTANT = re.compile(r"\bconst ([A-Z][A-Z_0-9]+): ([^=;]+) = ([^;]+);")
 OPEN, CLOSE = "([{", ")]}"
 # What a function of a type answers that gives up, where its name doesn't say.
