@@ -17,10 +17,21 @@ start_tape() {
     if [ -z "$tape_port" ]; then
         bad 'start of a recording of both sides' "$(cat "$work/errors.tape")"
     fi
+    tape_sockets=$(sockets_of "$taping")
+}
+
+# How many sockets a process has.
+sockets_of() {
+    find "/proc/$1/fd" -lname 'socket:*' 2> /dev/null | wc -l
+}
+
+# Whether the recorded sessions are over, with the end of each recorded.
+has_no_session() {
+    [ "$(sockets_of "$taping")" -le "$tape_sockets" ]
 }
 
 stop_tape() {
-    sleep 0.1
+    await has_no_session
     kill "$taping"
     reap "$taping"
 }
