@@ -1,4 +1,4 @@
-"""Which wrong bodies the merge gate tries: those of what changed since all were tried, and a share of all."""
+"""Which wrong bodies the merge gate tries: those of what changed since a commit, and a share of all."""
 
 import subprocess
 
@@ -6,7 +6,7 @@ import changes
 import crates
 import wrong_bodies
 
-# The commit as of which all were tried, and by the logic of which toolchain.
+# The commit from which on changes count, and the toolchain: by another logic all are tried again.
 TRIED = crates.TOP / "tests" / "tried"
 
 # Each function has its turn at one of so many commits, with the next of its mutants, and those by hand at one of so many: no more
