@@ -1,5 +1,1 @@
 pub mod CopyLoadLemmas
-pub mod RecordingLemmas
-pub mod RecordingReaderLemmas
-pub mod RecordingStartLemmas
-pub mod RecordingWriterLemmas

@@ -1,2 +1,1 @@
 pub mod CopyLoad
-pub mod Recording

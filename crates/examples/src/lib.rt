@@ -4,6 +4,3 @@
 pub mod copy_load;
 pub mod listen;
 pub mod record;
-pub mod recording;
-pub mod replay;
-pub mod trace;

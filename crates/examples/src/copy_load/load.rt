@@ -7,7 +7,8 @@ ghost use Rattle.examples.specs.CopyLoad.{AddsCopyOf, AddsFrontOf};
 use super::error::LoadError;
 use pg_message::error::Error;
 use pg_message::message::{
-    CopyData, CopyDone, FrameReader, Query, ReceivedMessage, ServerMessage, encode_frame,
+    CopyData, CopyDone, FrameReader, FrontendMessage, Query, ReceivedMessage, ServerMessage,
+    encode_frame,
 };
 use std::alloc::Global;
 
