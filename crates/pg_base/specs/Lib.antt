@@ -2,11 +2,14 @@ pub mod Atoi
 pub mod BufMut
 pub mod Cutting
 pub mod Decode
+pub mod Either
 pub mod Encode
 pub mod Error
 pub mod Format
 pub mod Id
+pub mod Naming
 pub mod Numbers
+pub mod Part
 pub mod Reading
 pub mod Sink
 pub mod Text

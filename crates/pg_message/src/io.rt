@@ -3,10 +3,11 @@
 
 pub use bytes::Bytes;
 pub use pg_base::io::{
-    Cursor, DisplayId, LendBytes, MAX_BODY, MAX_LENGTH, Oid, PgBufMutExt, PgValueFormat, PortalId,
-    ProtocolDecode, ProtocolEncode, Sink, StatementId, Text, atoi_u32, atoi_u64, atoi_usize,
-    bytes_at, i8_at, i16_at, i32_at, u16_at, u32_at, write_text,
+    Cursor, DisplayId, Ended, LendBytes, MAX_BODY, MAX_LENGTH, Name, Oid, PgBufMutExt,
+    PgValueFormat, PortalId, ProtocolDecode, ProtocolEncode, Sink, StatementId, Text, atoi_u32,
+    atoi_u64, atoi_usize, bytes_at, i8_at, i16_at, i32_at, part, u16_at, u32_at, write_text,
 };
+pub use pg_format::items;
 pub use pg_receive::message::{
     body_end, check_exact, leading_u32, leading_u64, leading_usize, split_raw_name, split_text,
     str_at, text_at, utf8_text,

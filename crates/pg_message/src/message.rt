@@ -4,7 +4,8 @@ pub use crate::run::{encode_all, encode_strict};
 pub use pg_base::io::{CopyData, CopyDone};
 pub use pg_base::{BackendMessageFormat, FrontendMessageFormat};
 pub use pg_frames::{
-    Frame, FrameReader, RawFrame, StreamEnd, next_frame, next_raw_frame, read_pieces,
+    Frame, FrameHead, FrameReader, RawFrame, StreamEnd, first_length, next_frame, next_raw_frame,
+    read_pieces,
 };
 pub use pg_receive::message::{
     Authentication, AuthenticationMd5Password, AuthenticationSasl, AuthenticationSaslContinue,
@@ -17,11 +18,17 @@ pub use pg_receive::message::{
     command_tag, raw_column_at, rows_affected, severity_in, split_field, split_name,
 };
 pub use pg_send::message::{
-    Bind, BindValues, CODE_LENGTH, CancelRequest, Close, CopyFail, Describe, EncodeMessage,
-    Execute, Flush, Framed, FrontendMessage, FunctionCall, GssEncRequest, PROTOCOL_VERSION, Parse,
-    Password, Query, RawBind, RawClose, RawDescribe, RawExecute, RawParse, SaslInitial,
-    SaslInitialResponse, SaslResponse, SslRequest, Startup, Sync, TaggedMessage, Terminate,
-    counted, encode_frame, parts, put_if_fits, round_trip, values, write_frame,
+    Bind, BindValues, CODE_LENGTH, CancelRequest, Close, CopyFail, CopyFailRef, Describe,
+    EncodeMessage, Execute, Flush, Framed, FrontendMessage, FunctionCall, GssEncRequest,
+    PROTOCOL_VERSION, Parse, Password, Query, RawBind, RawClose, RawDescribe, RawExecute, RawParse,
+    SaslInitial, SaslInitialResponse, SaslResponse, SslRequest, Startup, Sync, TaggedMessage,
+    Terminate, encode_frame, put_if_fits, write_frame,
+};
+
+// What a message to the server is made of.
+pub use pg_send::message::{
+    BindParts, ParseParts, RawTargetOf, TargetOf, composed, counted, round_trip, settings,
+    untagged, values,
 };
 
 // Requests for authentication, borrowed.

@@ -1,49 +1,15 @@
--- A Bind: how long its body is, and that it makes the round trip.
-use Rattle.std.proofs.Common.{◌≡◌, ℕ, ◌+◌, ◌*◌, ◌^◌, ◌<◌, ◌≤◌, None, All, List, [], ◌∷◌, ◌++◌, length, refl, sym, ap, ◌∙◌, arith, append_assoc, length-append}
+-- A Bind makes the round trip.
+use Rattle.std.proofs.Common.{◌≡◌, ℕ, ◌^◌, ◌<◌, All, List, [], ◌++◌, length, refl, sym, ap, ◌∙◌, arith, length-append}
 use Rattle.std.proofs.lemmas.List.{append-nil}
 use Rattle.pg_base.specs.Id.{name, named, statement_prefix, portal_prefix}
-use Rattle.pg_base.specs.declared.error.ProtocolFault.TheVariants.{TooManyParamFormats, TooManyResultFormats}
-use Rattle.pg_base.specs.Numbers.{be16, max_count}
+use Rattle.pg_base.specs.Numbers.{be16}
 use Rattle.pg_base.specs.Reading.{Values}
 use Rattle.pg_base.proofs.CuttingLemmas.{parts_at}
 use Rattle.pg_base.proofs.ReadingLemmas.{one_number, one_text}
 use Rattle.pg_base.proofs.RoundTripLemmas.{id_of_name, text_of_name, one_id, statement_prefix_holds_no_0, portal_prefix_holds_no_0, number_of_be16, one_counted, one_values, values_before}
-use Rattle.pg_send.specs.Counted.{too_many, counted16}
-use Rattle.pg_send.specs.Bind.{BindFields, bind_body, bind_count_fault, bind_law, IsBindInRange, ReadsBind}
-use Rattle.pg_send.specs.FrontendMessage.{fault}
-use Rattle.pg_send.proofs.CountedLemmas.{few, neither, length-counted16, read_counted16}
-use Rattle.pg_send.proofs.FrontendMessageLemmas.{no_count_fault}
-
-length-named : (prefix : List ℕ) (id : ℕ) → length (named prefix id) ≡ length (name prefix id) + 1
-length-named prefix id = length-append (name prefix id) (0 ∷ [])
-
--- the parts of a Bind before its parameters
-bind_front : BindFields → List ℕ
-bind_front b = named portal_prefix b.portal ++ named statement_prefix b.statement ++ counted16 b.formats ++ be16 b.num_params
-
-length-bind_front : (b : BindFields) → length (bind_front b) ≡ length (name portal_prefix b.portal) + length (name statement_prefix b.statement) + length b.formats * 2 + 6
-unfolding bind_front
-length-bind_front b =
-    let portal = named portal_prefix b.portal in
-    let statement = named statement_prefix b.statement in
-    omega (arith, length-append (portal ++ statement ++ counted16 b.formats) (be16 b.num_params), length-append (portal ++ statement) (counted16 b.formats), length-append portal statement, length-counted16 b.formats, length-named portal_prefix b.portal, length-named statement_prefix b.statement)
-
-pub length-bind_body : (b : BindFields) → length (bind_body b) ≡ length (name portal_prefix b.portal) + length (name statement_prefix b.statement) + length b.formats * 2 + length b.params + length b.result_formats * 2 + 8
-unfolding bind_front
-length-bind_body b =
-    omega (arith, length-bind_front b, length-append (bind_front b ++ b.params) (counted16 b.result_formats), length-append (bind_front b) b.params, length-counted16 b.result_formats)
-
--- there is room for its parts where there is for all of it
-pub room_for_bind : (b : BindFields) (old : List ℕ) (capacity : ℕ) → length old + length (bind_body b) ≤ capacity
-    → length old + (length (named portal_prefix b.portal) + (length (named statement_prefix b.statement) + (length (counted16 b.formats) + (2 + (length b.params + length (counted16 b.result_formats)))))) ≤ capacity
-room_for_bind b old capacity room =
-    omega (arith, length-bind_body b, length-named portal_prefix b.portal, length-named statement_prefix b.statement, length-counted16 b.formats, length-counted16 b.result_formats)
-
--- its formats can be counted where it breaks no limit
-pub few_formats : (b : BindFields) → fault (bind_law b) ≡ None → (length b.formats ≤ max_count) × (length b.result_formats ≤ max_count)
-few_formats b limits =
-    let none = neither (too_many TooManyParamFormats (length b.formats)) (too_many TooManyResultFormats (length b.result_formats)) (no_count_fault (bind_count_fault b) (length (bind_body b)) limits) in
-    (omega (arith, few TooManyParamFormats (length b.formats) none.0), omega (arith, few TooManyResultFormats (length b.result_formats) none.1))
+use Rattle.pg_send.specs.Counted.{counted16}
+use Rattle.pg_send.specs.Bind.{BindFields, bind_body, IsBindInRange, ReadsBind}
+use Rattle.pg_send.proofs.CountedLemmas.{read_counted16}
 
 codes_fit : (codes : List ℕ) → All (λ code. code < 2) codes → All (λ n. n < 2 ^ 16) codes
 codes_fit codes h k d lt = omega (arith, h k d lt)
@@ -53,9 +19,8 @@ read_bind b h few few_results values =
     let results : List ℕ = counted16 b.result_formats in
     let params : List ℕ = b.params ++ results in
     let count : List ℕ = be16 b.num_params ++ params in
-    let formats : List ℕ = counted16 b.formats ++ count in
+    let formats : List ℕ = counted16 b.formats ++ ((be16 b.num_params ++ b.params) ++ results) in
     let statement : List ℕ = named statement_prefix b.statement ++ formats in
-    let regrouped : bind_body b ≡ named portal_prefix b.portal ++ statement = simp append_assoc in
     record {
       portal_name = name portal_prefix b.portal;
       statement_name = name statement_prefix b.statement;
@@ -64,7 +29,7 @@ read_bind b h few few_results values =
       after_formats = count;
       after_count = params;
       after_params = results;
-      first = rw regrouped (text_of_name portal_prefix b.portal statement portal_prefix_holds_no_0 h.portal);
+      first = text_of_name portal_prefix b.portal statement portal_prefix_holds_no_0 h.portal;
       portal = id_of_name portal_prefix b.portal h.portal;
       second = text_of_name statement_prefix b.statement formats statement_prefix_holds_no_0 h.statement;
       statement = id_of_name statement_prefix b.statement h.statement;

@@ -1,5 +1,5 @@
 -- A cancel request is read back.
-use Rattle.std.proofs.Common.{◌≡◌, ◌↔◌, ℕ, ◌^◌, ◌<◌, [], length, None, refl, arith}
+use Rattle.std.proofs.Common.{◌≡◌, ◌↔◌, ◌^◌, ◌<◌, [], length, None, refl, arith}
 use Rattle.std.proofs.lemmas.List.{append-nil}
 use Rattle.pg_format.specs.Format.{Means}
 use Rattle.pg_format.specs.Messages.{Cancel, First, cancelling, first_message, key_fault}

@@ -4,8 +4,6 @@ use Rattle.std.proofs.Common.{◌≡◌, ℕ, ◌+◌, ◌*◌, ◌^◌, ◌<◌
 use Rattle.std.specs.List.{flat_map}
 use Rattle.std.specs.Option.{option_or}
 use Rattle.pg_base.specs.Numbers.{be16, be32}
-use Rattle.pg_base.specs.declared.io.PgValueFormat.{PgValueFormat}
-use Rattle.pg_base.specs.declared.io.PgValueFormat.TheVariants.{Text, Binary}
 use Rattle.pg_base.specs.declared.error.ProtocolFault.{ProtocolFault}
 use Rattle.pg_base.specs.Numbers.{max_count}
 use Rattle.pg_base.specs.Reading.{Number, Numbers, Counted}
@@ -13,9 +11,8 @@ use Rattle.pg_base.proofs.RoundTripLemmas.{number_of_be16, number_of_be32}
 use Rattle.std.proofs.lemmas.Bool.{leb-true}
 use Rattle.pg_send.specs.Counted.{counted16, counted32, too_many}
 use Rattle.pg_send.proofs.FrontendMessageLemmas.{passed}
-use Rattle.pg_base.specs.Format.{format_code, format_codes}
 use Rattle.std.proofs.lemmas.List.{take_more, map_push, flat_map_more}
-use Rattle.std.proofs.lemmas.List.Elements.{All-cons, All-push, All-head, All-tail}
+use Rattle.std.proofs.lemmas.List.Elements.{All-push, All-head, All-tail}
 use Rattle.std.proofs.lemmas.List.Folds.{flat_map-map, length-flat_map-take}
 
 module _ {X N : Type 0} (spell : N → List ℕ) (value : X → N) (xs : List X) (i : ℕ) (d : X) (before : i < length xs) where
@@ -43,21 +40,6 @@ module _ {X N : Type 0} (spell : N → List ℕ) (value : X → N) (xs : List X)
   all_more P all one =
       rw (take_more xs i d before, map_push value (take i xs) (get_or xs i d)) (All-push P (map value (take i xs)) (value (get_or xs i d)) all one)
 
--- the same of a list that is written as it is
-module _ {N : Type 0} (spell : N → List ℕ) (ns : List N) (i : ℕ) (d : N) (before : i < length ns) where
-  pub one_more_number : (old count mid new : List ℕ) → mid ≡ old ++ (count ++ flat_map spell (take i ns)) → new ≡ mid ++ spell (get_or ns i d)
-      → new ≡ old ++ (count ++ flat_map spell (take (i + 1) ns))
-  one_more_number old count mid new is adds =
-      let there = is ∙ sym (append_assoc old count (flat_map spell (take i ns))) in
-      rw (take_more ns i d before)
-      (adds ∙ ap (λ (l : List ℕ). l ++ spell (get_or ns i d)) there ∙ flat_map_more spell (old ++ count) (take i ns) (get_or ns i d)
-      ∙ append_assoc old count (flat_map spell (take i ns ++ get_or ns i d ∷ [])))
-
-  pub room_for_one_number : (old count mid : List ℕ) (capacity : ℕ) → mid ≡ old ++ (count ++ flat_map spell (take i ns)) → length old + length (count ++ flat_map spell ns) ≤ capacity
-      → length mid + length (spell (get_or ns i d)) ≤ capacity
-  room_for_one_number old count mid capacity is room =
-      omega (arith, length-flat_map-take spell ns i d before, ap length is, length-append old (count ++ flat_map spell (take i ns)), length-append count (flat_map spell (take i ns)), length-append count (flat_map spell ns), room)
-
 -- the length of a list after its count
 each_long : (spell : ℕ → List ℕ) (width : ℕ) → ((n : ℕ) → length (spell n) ≡ width) → (ns : List ℕ) → length (flat_map spell ns) ≡ length ns * width
 each_long spell width long [] = omega arith
@@ -70,15 +52,6 @@ length-counted16 ns = omega (arith, each_long be16 2 (λ _. refl) ns, length-app
 
 pub length-counted32 : (ns : List ℕ) → length (counted32 ns) ≡ 2 + length ns * 4
 length-counted32 ns = omega (arith, each_long be32 4 (λ _. refl) ns, length-append (be16 (length ns)) (flat_map be32 ns))
-
--- a format has one of two codes
-code_small : (format : PgValueFormat) → format_code format < 2
-code_small Text = omega arith
-code_small Binary = omega arith
-
-pub codes_small : (formats : List PgValueFormat) → All (λ code. code < 2) (format_codes formats)
-codes_small [] = λ k d lt. absurd (omega arith)
-codes_small (format ∷ formats) = All-cons (λ code. code < 2) (format_code format) (format_codes formats) (code_small format) (codes_small formats)
 
 -- ---- round trip
 

@@ -7,7 +7,8 @@ use Rattle.pg_base.specs.declared.error.ProtocolFault.TheVariants.{MessageTooLon
 use Rattle.pg_base.specs.Encode.{IsAnswer, EncodesFrame}
 use Rattle.pg_base.specs.Cutting.{max_length, frame, IsCutInto}
 use Rattle.pg_base.proofs.CuttingLemmas.{cut_frame, is_cut_into}
-use Rattle.pg_send.specs.FrontendMessage.{saturated, first_fault, checked_len}
+use Rattle.pg_base.specs.Part.{saturated}
+use Rattle.pg_send.specs.FrontendMessage.{first_fault, checked_len}
 
 -- a test that let a length pass
 pub passed : (b : Bool) (fault : ProtocolFault) → cond b None (Some fault) ≡ None → b ≡ true

@@ -7,13 +7,13 @@ pub mod MessageLemmas
 pub mod PageLemmas
 pub mod PagePartsLemmas
 pub mod ParseLemmas
+pub mod PartLemmas
 pub mod PasswordLemmas
 pub mod PowerLemmas
 pub mod RawLemmas
-pub mod RoomLemmas
 pub mod RoundTripLemmas
 pub mod RunLemmas
 pub mod SaslInitialResponseLemmas
-pub mod StartupLemmas
+pub mod SettingsLemmas
 pub mod TargetLemmas
 pub mod ValuesLemmas

@@ -2,7 +2,7 @@
 use Rattle.std.proofs.Common.{◌≡◌, ◌↔◌, ℕ, ◌^◌, ◌<◌, Bool, true, false, pos, List, [], ◌∷◌, ◌++◌, length, Some, None, refl, sym, ap, ◌∙◌, arith, append_assoc}
 use Rattle.std.specs.List.{flat_map}
 use Rattle.std.proofs.lemmas.List.{append-nil}
-use Rattle.pg_base.specs.Id.{name, named, statement_prefix, portal_prefix}
+use Rattle.pg_base.specs.Id.{name, statement_prefix, portal_prefix}
 use Rattle.pg_base.specs.Numbers.{be16}
 use Rattle.pg_base.specs.Reading.{Text}
 use Rattle.pg_base.specs.Text.{ended}
@@ -100,8 +100,7 @@ regroup p s c n v d =
 pub bind_written : (b : BindFields) (v : page.Bind) → MeantByBind b v → bind_body b ≡ page.bind.Writes v
 bind_written b v p =
     let count : b.num_params ≡ length v.values = sym p.values.fits.0 in
-    regroup (named portal_prefix b.portal) (named statement_prefix b.statement) (counted16 b.formats) (be16 b.num_params) b.params (counted16 b.result_formats)
-    ∙ (λ i. ended (sym p.portal i) ++ (ended (sym p.statement i) ++ (counted16 (sym p.formats i) ++ ((be16 (count i) ++ p.values.is i) ++ counted16 (sym p.result_formats i)))))
+    λ i. ended (sym p.portal i) ++ (ended (sym p.statement i) ++ (counted16 (sym p.formats i) ++ ((be16 (count i) ++ p.values.is i) ++ counted16 (sym p.result_formats i))))
 
 bind_reads : (b : BindFields) (v : page.Bind) → MeantByBind b v → page.bind.Fits v [] → IsBindInRange b → ReadsBind (bind_body b) b
 bind_reads b v p fits r =

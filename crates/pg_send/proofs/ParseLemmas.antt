@@ -1,25 +1,13 @@
--- A Parse: how long its body is, and that it makes the round trip.
-use Rattle.std.proofs.Common.{◌≡◌, ℕ, ◌+◌, ◌*◌, ◌^◌, ◌<◌, ◌≤◌, List, [], ◌∷◌, ◌++◌, length, refl, arith, append_assoc, length-append}
+-- A Parse makes the round trip.
+use Rattle.std.proofs.Common.{◌≡◌, ℕ, ◌^◌, ◌<◌, List, [], ◌∷◌, ◌++◌, length, refl, append_assoc}
 use Rattle.std.proofs.lemmas.List.{append-nil}
 use Rattle.pg_base.specs.Id.{name, named, statement_prefix}
 use Rattle.pg_base.specs.Reading.{HoldsNo}
-use Rattle.pg_base.specs.Text.{ended}
 use Rattle.pg_base.proofs.ReadingLemmas.{one_text}
 use Rattle.pg_base.proofs.RoundTripLemmas.{id_of_name, text_of_name, one_id, statement_prefix_holds_no_0, one_counted}
 use Rattle.pg_send.specs.Counted.{counted32}
 use Rattle.pg_send.specs.Parse.{ParseFields, parse_body, IsParseInRange, ReadsParse}
-use Rattle.pg_send.proofs.CountedLemmas.{length-counted32, read_counted32}
-use Rattle.pg_send.proofs.RoomLemmas.{room_parts}
-
-pub length-parse_body : (p : ParseFields) → length (parse_body p) ≡ length (name statement_prefix p.statement) + length p.query + length p.param_types * 4 + 4
-length-parse_body p =
-    let statement = named statement_prefix p.statement in
-    omega (arith, length-append statement (p.query ++ 0 ∷ [] ++ counted32 p.param_types), length-append (p.query ++ 0 ∷ []) (counted32 p.param_types), length-append p.query (0 ∷ []), length-append (name statement_prefix p.statement) (0 ∷ []), length-counted32 p.param_types)
-
--- its parts have the room that it has
-pub room_for_parse : (p : ParseFields) (old : List ℕ) (capacity : ℕ) → length old + length (parse_body p) ≤ capacity
-    → length old + (length (named statement_prefix p.statement) + length (ended p.query ++ counted32 p.param_types)) ≤ capacity
-room_for_parse p old capacity room = room_parts old (named statement_prefix p.statement) (ended p.query ++ counted32 p.param_types) capacity room
+use Rattle.pg_send.proofs.CountedLemmas.{read_counted32}
 
 pub read_parse : (p : ParseFields) → IsParseInRange p → length p.param_types < 2 ^ 16 → HoldsNo 0 p.query → ReadsParse (parse_body p) p
 read_parse p h few clean =

@@ -4,13 +4,13 @@ use Rattle.std.specs.List.{flat_map}
 use Rattle.std.specs.Option.{option_or}
 use Rattle.pg_base.specs.declared.error.ProtocolFault.TheVariants.{TooManyParamFormats, TooManyResultFormats, TooManyParamTypes, BadParams}
 use Rattle.pg_base.specs.Cutting.{max_length}
-use Rattle.pg_base.specs.Numbers.{be16, be32, max_count}
+use Rattle.pg_base.specs.Numbers.{be16, be32}
 use Rattle.pg_base.specs.Reading.{HoldsNo}
 use Rattle.pg_base.specs.Text.{ended}
 use Rattle.pg_format.specs.Format.{Means}
 use Rattle.pg_format.specs.Messages as page
 use Rattle.pg_format.proofs.FormatLaws.FromClient as client
-use Rattle.pg_send.specs.Counted.{too_many, counted16, counted32}
+use Rattle.pg_send.specs.Counted.{too_many, counted16}
 use Rattle.pg_send.specs.FrontendMessage.{fault}
 use Rattle.pg_send.specs.FunctionCall.{function_call_body, function_call_count_fault, function_call_law, IsFunctionCallInRange}
 use Rattle.pg_send.specs.RawBind.{raw_bind_body, raw_bind_count_fault, raw_bind_law, IsRawBindInRange, CanBindRoundTrip}
@@ -18,7 +18,7 @@ use Rattle.pg_send.specs.RawExecute.{raw_execute_body}
 use Rattle.pg_send.specs.RawParse.{raw_parse_body, raw_parse_count_fault, raw_parse_law, CanParseRoundTrip}
 use Rattle.pg_send.specs.SaslInitial.{any_sasl_body, any_sasl_law}
 use Rattle.pg_send.specs.Values.{value_text, counted_values}
-use Rattle.pg_send.proofs.CountedLemmas.{few, neither, length-counted16, length-counted32}
+use Rattle.pg_send.proofs.CountedLemmas.{few, neither, length-counted16}
 use Rattle.pg_send.proofs.FrontendMessageLemmas.{len_fits, no_count_fault}
 use Rattle.pg_send.proofs.ValuesLemmas.{itself, codes_fit, types_fit, value_fits, values_fit, length-counted_values}
 
@@ -26,10 +26,6 @@ length-ended : (text : List ℕ) → length (ended text) ≡ length text + 1
 length-ended text = length-append text (0 ∷ [])
 
 -- ---- a Parse
-
-pub length-raw_parse_body : (p : page.Parse) → length (raw_parse_body p) ≡ length p.statement + length p.query + length p.types * 4 + 4
-length-raw_parse_body p =
-    omega (arith, length-append (ended p.statement) (ended p.query ++ counted32 p.types), length-append (ended p.query) (counted32 p.types), length-ended p.statement, length-ended p.query, length-counted32 p.types)
 
 pub read_raw_parse : (p : page.Parse) → fault (raw_parse_law p) ≡ None → All (λ n. n < 2 ^ 32) p.types → CanParseRoundTrip p → Means page.parse (raw_parse_body p) p
 read_raw_parse p f r k =
@@ -56,32 +52,6 @@ length-raw_bind_body b =
       length-counted16 b.result_formats,
     )
 
--- there is room for its parts where there is for all of it
-pub room_for_raw_bind : (b : page.Bind) (old : List ℕ) (capacity : ℕ) → length old + length (raw_bind_body b) ≤ capacity
-    → length old + (length (ended b.portal) + (length (ended b.statement) + (length (counted16 b.formats) + (length (counted_values b.values) + length (counted16 b.result_formats))))) ≤ capacity
-room_for_raw_bind b old capacity room =
-    omega (
-      arith,
-      length-raw_bind_body b,
-      length-ended b.portal,
-      length-ended b.statement,
-      length-counted16 b.formats,
-      length-counted_values b.values,
-      length-counted16 b.result_formats,
-    )
-
--- its lists can be counted where it breaks no limit
-pub few_of_raw_bind : (b : page.Bind) → fault (raw_bind_law b) ≡ None → (length b.formats ≤ max_count) × (length b.values ≤ max_count) × (length b.result_formats ≤ max_count)
-few_of_raw_bind b limits =
-    let formats_fault = too_many TooManyParamFormats (length b.formats) in
-    let results_fault = too_many TooManyResultFormats (length b.result_formats) in
-    let counts = neither (option_or formats_fault results_fault) (too_many (λ _. BadParams) (length b.values)) (no_count_fault (raw_bind_count_fault b) (length (raw_bind_body b)) limits) in
-    let codes = neither formats_fault results_fault counts.0 in (
-      omega (arith, few TooManyParamFormats (length b.formats) codes.0),
-      omega (arith, few (λ _. BadParams) (length b.values) counts.1),
-      omega (arith, few TooManyResultFormats (length b.result_formats) codes.1),
-    )
-
 -- its values are within the limit on the whole
 pub values_of_raw_bind : (b : page.Bind) → fault (raw_bind_law b) ≡ None → length (flat_map value_text b.values) ≤ max_length
 values_of_raw_bind b f = omega (arith, length-raw_bind_body b, len_fits (raw_bind_count_fault b) (length (raw_bind_body b)) f)
@@ -90,11 +60,12 @@ pub read_raw_bind : (b : page.Bind) → fault (raw_bind_law b) ≡ None → IsRa
 read_raw_bind b f r k =
     let formats_fault = too_many TooManyParamFormats (length b.formats) in
     let results_fault = too_many TooManyResultFormats (length b.result_formats) in
-    let counts = neither (option_or formats_fault results_fault) (too_many (λ _. BadParams) (length b.values)) (no_count_fault (raw_bind_count_fault b) (length (raw_bind_body b)) f) in
-    let codes = neither formats_fault results_fault counts.0 in
-    let formats = few TooManyParamFormats (length b.formats) codes.0 in
-    let results = few TooManyResultFormats (length b.result_formats) codes.1 in
-    let values = few (λ _. BadParams) (length b.values) counts.1 in
+    let values_fault = too_many (λ _. BadParams) (length b.values) in
+    let counts = neither formats_fault (option_or results_fault values_fault) (no_count_fault (raw_bind_count_fault b) (length (raw_bind_body b)) f) in
+    let later = neither results_fault values_fault counts.1 in
+    let formats = few TooManyParamFormats (length b.formats) counts.0 in
+    let results = few TooManyResultFormats (length b.result_formats) later.0 in
+    let values = few (λ _. BadParams) (length b.values) later.1 in
     itself client.lawful_bind b (
       (
         k.portal,
@@ -117,17 +88,6 @@ length-function_call_body f =
     let arguments : List ℕ = counted_values f.arguments in
     let formats : List ℕ = counted16 f.formats in
     omega (arith, length-append (be32 f.object_id) (formats ++ (arguments ++ result)), length-append formats (arguments ++ result), length-append arguments result, length-counted16 f.formats, length-counted_values f.arguments)
-
--- there is room for its parts where there is for all of it
-pub room_for_function_call : (f : page.FunctionCall) (old : List ℕ) (capacity : ℕ) → length old + length (function_call_body f) ≤ capacity
-    → length old + (4 + (length (counted16 f.formats) + (length (counted_values f.arguments) + 2))) ≤ capacity
-room_for_function_call f old capacity room = omega (arith, length-function_call_body f, length-counted16 f.formats, length-counted_values f.arguments)
-
--- its lists can be counted where it breaks no limit
-pub few_of_function_call : (f : page.FunctionCall) → fault (function_call_law f) ≡ None → (length f.formats ≤ max_count) × (length f.arguments ≤ max_count)
-few_of_function_call f limits =
-    let counts = neither (too_many TooManyParamFormats (length f.formats)) (too_many (λ _. BadParams) (length f.arguments)) (no_count_fault (function_call_count_fault f) (length (function_call_body f)) limits) in
-    (omega (arith, few TooManyParamFormats (length f.formats) counts.0), omega (arith, few (λ _. BadParams) (length f.arguments) counts.1))
 
 pub values_of_function_call : (f : page.FunctionCall) → fault (function_call_law f) ≡ None → length (flat_map value_text f.arguments) ≤ max_length
 values_of_function_call f e = omega (arith, length-function_call_body f, len_fits (function_call_count_fault f) (length (function_call_body f)) e)

@@ -11,7 +11,8 @@ use Rattle.pg_base.specs.Numbers.{be16}
 use Rattle.pg_base.specs.Reading.{Text, StatementName, PortalName, Number, Counted, Values}
 use Rattle.pg_send.specs.declared.message.bind.Bind.{Bind}
 use Rattle.pg_send.specs.Counted.{too_many, counted16}
-use Rattle.pg_send.specs.FrontendMessage.{Law, saturated}
+use Rattle.pg_base.specs.Part.{saturated}
+use Rattle.pg_send.specs.FrontendMessage.{Law}
 use Rattle.pg_send.specs.Kind as kinds
 
 -- the formats are their codes, and the values of the parameters are as the caller spelled them
@@ -32,7 +33,7 @@ bind_count_fault b =
 -- parameters after theirs, and the formats of the results after theirs
 abbrev pub bind_body : BindFields → List ℕ
 bind_body b =
-    named portal_prefix b.portal ++ named statement_prefix b.statement ++ counted16 b.formats ++ be16 b.num_params ++ b.params ++ counted16 b.result_formats
+    named portal_prefix b.portal ++ (named statement_prefix b.statement ++ (counted16 b.formats ++ ((be16 b.num_params ++ b.params) ++ counted16 b.result_formats)))
 
 -- its numbers are in their ranges
 pub record IsBindInRange (b : BindFields) : Type 0 where

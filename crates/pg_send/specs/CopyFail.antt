@@ -1,7 +1,8 @@
 -- CopyFail: gives up a COPY, and says why. Documentation: "Message Formats", CopyFail (F).
 use Rattle.std.specs.Prelude.{ℕ, List}
 use Rattle.pg_base.specs.declared.format.FrontendMessageFormat.TheVariants as formats
-use Rattle.pg_send.specs.FrontendMessage.{Law, saturated}
+use Rattle.pg_base.specs.Part.{saturated}
+use Rattle.pg_send.specs.FrontendMessage.{Law}
 use Rattle.pg_send.specs.Kind as kinds
 use Rattle.pg_send.specs.Shapes.{text_law}
 

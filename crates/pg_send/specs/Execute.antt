@@ -5,7 +5,8 @@ use Rattle.pg_base.specs.Id.{name, portal_prefix, max_id}
 use Rattle.pg_base.specs.Reading.{Text, PortalName, Number}
 use Rattle.pg_format.specs.Messages as page
 use Rattle.pg_send.specs.declared.message.execute.Execute.{Execute}
-use Rattle.pg_send.specs.FrontendMessage.{Law, saturated}
+use Rattle.pg_base.specs.Part.{saturated}
+use Rattle.pg_send.specs.FrontendMessage.{Law}
 use Rattle.pg_send.specs.Kind as kinds
 
 pub record ExecuteFields : Type 0 where

@@ -1,6 +1,6 @@
 -- What defines a message to the server, the limits on one, and its frame. Documentation: "Messaging
 -- Overview" and "Message Formats".
-use Rattle.std.specs.Prelude.{◌≡◌, ℕ, ◌+◌, ◌-◌, ◌^◌, min, List, length, Option, Some, None, Result, Ok, Err, MatchOption, Vec, nat_le, if◌then◌else◌}
+use Rattle.std.specs.Prelude.{◌≡◌, ℕ, ◌+◌, List, length, Option, Some, None, Result, Ok, Err, MatchOption, Vec, nat_le, if◌then◌else◌}
 use Rattle.std.specs.declared.alloc.Global.{Global}
 use Rattle.pg_base.specs.declared.error.ProtocolFault.{ProtocolFault}
 use Rattle.pg_base.specs.declared.error.ProtocolFault.TheVariants.{MessageTooLong}
@@ -10,11 +10,8 @@ use Rattle.pg_base.specs.declared.format.FrontendMessageFormat.{FrontendMessageF
 use Rattle.pg_base.specs.Cutting.{max_length, frame}
 use Rattle.pg_base.specs.Encode.{EncodesFrame}
 use Rattle.pg_base.specs.Format.{frontend_tag}
+use Rattle.pg_base.specs.Part.{saturated}
 use Rattle.pg_send.specs.Kind.{Kind}
-
--- a count or a sum, or the greatest that a `usize` holds where it is more
-abbrev pub saturated : ℕ → ℕ
-saturated n = min n (2 ^ 64 - 1)
 
 -- the first limit that a message breaks: one on its counts, else that on its length, which counts
 -- the four bytes of the length field
@@ -66,6 +63,10 @@ pub record IsMeasured (law : Law) (len : ℕ) : Type 0 where
 -- what a call answers that encodes the message
 abbrev pub EncodesMessage : Law → Vec ℕ Global → Vec ℕ Global → Result (Unit {0}) Error → Type 0
 EncodesMessage law old new result = EncodesFrame (tag law) law.body (fault law) (hint law) old new result
+
+-- a reader wouldn't get the message back, for this fault
+abbrev pub CannotRoundTrip : Law → ProtocolFault → Type 0
+CannotRoundTrip law fault = (law.round_trip_fault ≡ Some fault) × ¬ law.CanRoundTrip
 
 -- refused exactly where a reader wouldn't get it back, for this fault; memory may run out
 abbrev pub IsRoundTripAnswer : Type 0 → Option ProtocolFault → Result (Unit {0}) Error → Type 0

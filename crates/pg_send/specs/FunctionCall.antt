@@ -1,5 +1,5 @@
 -- FunctionCall: calls a function by its object id. Documentation: "Message Formats", FunctionCall (F).
-use Rattle.std.specs.Prelude.{ℕ, ◌^◌, ◌<◌, List, length, All, Option, None}
+use Rattle.std.specs.Prelude.{ℕ, ◌^◌, ◌<◌, List, length, map, All, Option, None}
 use Rattle.std.specs.Option.{option_or}
 use Rattle.pg_base.specs.declared.format.FrontendMessageFormat.TheVariants as formats
 use Rattle.pg_base.specs.declared.error.ProtocolFault.{ProtocolFault}
@@ -8,9 +8,9 @@ use Rattle.pg_format.specs.Format.{Means}
 use Rattle.pg_format.specs.Messages as page
 use Rattle.pg_send.specs.declared.message.function_call.FunctionCall.{FunctionCall}
 use Rattle.pg_send.specs.Counted.{too_many}
-use Rattle.pg_send.specs.FrontendMessage.{Law, saturated}
+use Rattle.pg_base.specs.Part.{saturated}
+use Rattle.pg_send.specs.FrontendMessage.{Law}
 use Rattle.pg_send.specs.Kind as kinds
-use Rattle.pg_send.specs.Values.{values_of}
 
 -- it may have more formats than it can count, or more arguments
 abbrev pub function_call_count_fault : page.FunctionCall → Option ProtocolFault
@@ -40,5 +40,6 @@ function_call_law f = record {
   round_trip_fault = None;
 }
 
-abbrev pub function_call_fields : FunctionCall → page.FunctionCall
-function_call_fields f = record { object_id = f.object_id.0; formats = f.formats.now; arguments = values_of f.arguments.now; result_format = f.result_format }
+-- of arguments that are in the caller's form
+abbrev pub function_call_fields : {V : Type 0} → (V → Option (List ℕ)) → FunctionCall V → page.FunctionCall
+function_call_fields value f = record { object_id = f.object_id.0; formats = f.formats.now; arguments = map value f.arguments.now; result_format = f.result_format }

@@ -1,12 +1,11 @@
 pub mod Bind
 pub mod BindValues
 pub mod CancelRequest
-pub mod Close
+pub mod Composed
 pub mod CopyData
 pub mod CopyDone
 pub mod CopyFail
 pub mod Counted
-pub mod Describe
 pub mod Execute
 pub mod Flush
 pub mod FrontendMessage
@@ -19,8 +18,6 @@ pub mod Parse
 pub mod Password
 pub mod Query
 pub mod RawBind
-pub mod RawClose
-pub mod RawDescribe
 pub mod RawExecute
 pub mod RawParse
 pub mod RawTarget
@@ -36,4 +33,5 @@ pub mod TaggedMessage
 pub mod TaggedVisitor
 pub mod Target
 pub mod Terminate
+pub mod Untagged
 pub mod Values

@@ -9,7 +9,8 @@ use Rattle.pg_base.specs.Numbers.{numbers_of}
 use Rattle.pg_format.specs.Messages as page
 use Rattle.pg_send.specs.declared.message.parse.Parse.{Parse}
 use Rattle.pg_send.specs.Counted.{too_many}
-use Rattle.pg_send.specs.FrontendMessage.{Law, saturated}
+use Rattle.pg_base.specs.Part.{saturated}
+use Rattle.pg_send.specs.FrontendMessage.{Law}
 use Rattle.pg_send.specs.Kind as kinds
 
 pub record ParseFields : Type 0 where

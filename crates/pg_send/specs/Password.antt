@@ -4,7 +4,8 @@ use Rattle.std.specs.Prelude.{◌≤◌, ◌*◌, ◌⊎◌, ◌≡◌, ℕ, zer
 use Rattle.hex.specs.Hex.{encode_lower}
 use Rattle.pg_base.specs.declared.format.FrontendMessageFormat.TheVariants as formats
 use Rattle.pg_format.specs.Messages as page
-use Rattle.pg_send.specs.FrontendMessage.{Law, saturated}
+use Rattle.pg_base.specs.Part.{saturated}
+use Rattle.pg_send.specs.FrontendMessage.{Law}
 use Rattle.pg_send.specs.Kind as kinds
 use Rattle.pg_send.specs.Shapes.{text_law}
 pub mod Laws

@@ -1,5 +1,5 @@
 -- RawBind: makes a portal of any name. Documentation: "Message Formats", Bind (F).
-use Rattle.std.specs.Prelude.{ℕ, ◌^◌, ◌<◌, List, length, All, Option, Some}
+use Rattle.std.specs.Prelude.{ℕ, ◌^◌, ◌<◌, List, length, map, All, Option, Some}
 use Rattle.std.specs.Option.{option_or}
 use Rattle.pg_base.specs.declared.format.FrontendMessageFormat.TheVariants as formats
 use Rattle.pg_base.specs.declared.error.ProtocolFault.{ProtocolFault}
@@ -9,15 +9,15 @@ use Rattle.pg_format.specs.Format.{Means}
 use Rattle.pg_format.specs.Messages as page
 use Rattle.pg_send.specs.declared.message.raw_bind.RawBind.{RawBind}
 use Rattle.pg_send.specs.Counted.{too_many}
-use Rattle.pg_send.specs.FrontendMessage.{Law, saturated}
+use Rattle.pg_base.specs.Part.{saturated}
+use Rattle.pg_send.specs.FrontendMessage.{Law}
 use Rattle.pg_send.specs.Kind as kinds
-use Rattle.pg_send.specs.Values.{values_of}
 
 -- it may have more formats than it can count, first of the parameters and then of the results, or more
 -- values
 abbrev pub raw_bind_count_fault : page.Bind → Option ProtocolFault
 raw_bind_count_fault b =
-    option_or (option_or (too_many TooManyParamFormats (length b.formats)) (too_many TooManyResultFormats (length b.result_formats))) (too_many (λ _. BadParams) (length b.values))
+    option_or (too_many TooManyParamFormats (length b.formats)) (option_or (too_many TooManyResultFormats (length b.result_formats)) (too_many (λ _. BadParams) (length b.values)))
 
 -- the two names, each with a NUL, the formats of the parameters after their count, the values after theirs,
 -- and the formats of the results after theirs
@@ -47,11 +47,12 @@ raw_bind_law b = record {
   round_trip_fault = Some TextHoldsNul;
 }
 
-abbrev pub raw_bind_fields : RawBind → page.Bind
-raw_bind_fields b = record {
+-- of values that are in the caller's form
+abbrev pub raw_bind_fields : {V : Type 0} → (V → Option (List ℕ)) → RawBind V → page.Bind
+raw_bind_fields value b = record {
   portal = b.portal.now;
   statement = b.statement.now;
   formats = b.formats.now;
-  values = values_of b.values.now;
+  values = map value b.values.now;
   result_formats = b.result_formats.now;
 }

@@ -6,7 +6,8 @@ use Rattle.pg_base.specs.Reading.{HoldsNo}
 use Rattle.pg_format.specs.Format.{Means}
 use Rattle.pg_format.specs.Messages as page
 use Rattle.pg_send.specs.declared.message.raw_execute.RawExecute.{RawExecute}
-use Rattle.pg_send.specs.FrontendMessage.{Law, saturated}
+use Rattle.pg_base.specs.Part.{saturated}
+use Rattle.pg_send.specs.FrontendMessage.{Law}
 use Rattle.pg_send.specs.Kind as kinds
 
 -- the name and a NUL, and the limit

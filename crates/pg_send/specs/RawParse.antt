@@ -1,15 +1,15 @@
 -- RawParse: prepares a statement of any name. Documentation: "Message Formats", Parse (F).
-use Rattle.std.specs.Prelude.{ℕ, ◌^◌, ◌<◌, List, length, All, Option, Some}
+use Rattle.std.specs.Prelude.{ℕ, ◌^◌, ◌<◌, List, length, map, All, Option, Some}
 use Rattle.pg_base.specs.declared.format.FrontendMessageFormat.TheVariants as formats
 use Rattle.pg_base.specs.declared.error.ProtocolFault.{ProtocolFault}
 use Rattle.pg_base.specs.declared.error.ProtocolFault.TheVariants.{TooManyParamTypes, TextHoldsNul}
-use Rattle.pg_base.specs.Numbers.{numbers_of}
 use Rattle.pg_base.specs.Reading.{HoldsNo}
 use Rattle.pg_format.specs.Format.{Means}
 use Rattle.pg_format.specs.Messages as page
 use Rattle.pg_send.specs.declared.message.raw_parse.RawParse.{RawParse}
 use Rattle.pg_send.specs.Counted.{too_many}
-use Rattle.pg_send.specs.FrontendMessage.{Law, saturated}
+use Rattle.pg_base.specs.Part.{saturated}
+use Rattle.pg_send.specs.FrontendMessage.{Law}
 use Rattle.pg_send.specs.Kind as kinds
 
 -- it may have more types than it can count
@@ -39,5 +39,6 @@ raw_parse_law p = record {
   round_trip_fault = Some TextHoldsNul;
 }
 
-abbrev pub raw_parse_fields : RawParse → page.Parse
-raw_parse_fields p = record { statement = p.statement.now; query = p.query.now; types = numbers_of p.param_types.now }
+-- of types that are in the caller's form
+abbrev pub raw_parse_fields : {T : Type 0} → (T → ℕ) → RawParse T → page.Parse
+raw_parse_fields number p = record { statement = p.statement.now; query = p.query.now; types = map number p.param_types.now }

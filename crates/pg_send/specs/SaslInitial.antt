@@ -7,7 +7,8 @@ use Rattle.pg_base.specs.Reading.{HoldsNo}
 use Rattle.pg_format.specs.Format.{Means}
 use Rattle.pg_format.specs.Messages as page
 use Rattle.pg_send.specs.declared.message.sasl_initial.SaslInitial.{SaslInitial}
-use Rattle.pg_send.specs.FrontendMessage.{Law, saturated}
+use Rattle.pg_base.specs.Part.{saturated}
+use Rattle.pg_send.specs.FrontendMessage.{Law}
 use Rattle.pg_send.specs.Kind as kinds
 
 -- the mechanism and a NUL, and the response after its length, which is -1 where there is none

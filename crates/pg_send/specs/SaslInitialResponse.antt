@@ -5,7 +5,8 @@ use Rattle.pg_base.specs.declared.format.FrontendMessageFormat.TheVariants as fo
 use Rattle.pg_base.specs.Reading.{Text, Signed}
 use Rattle.pg_format.specs.Messages as page
 use Rattle.pg_send.specs.declared.message.sasl.SaslInitialResponse.{SaslInitialResponse}
-use Rattle.pg_send.specs.FrontendMessage.{Law, saturated}
+use Rattle.pg_base.specs.Part.{saturated}
+use Rattle.pg_send.specs.FrontendMessage.{Law}
 use Rattle.pg_send.specs.Kind as kinds
 
 pub record SaslInitialFields : Type 0 where

@@ -5,7 +5,8 @@ use Rattle.pg_base.specs.declared.error.ProtocolFault.TheVariants.{TextHoldsNul}
 use Rattle.pg_base.specs.Reading.{HoldsNo, Text}
 use Rattle.pg_format.specs.Format.Parts.{remaining}
 use Rattle.pg_format.specs.Messages as page
-use Rattle.pg_send.specs.FrontendMessage.{Law, saturated}
+use Rattle.pg_base.specs.Part.{saturated}
+use Rattle.pg_send.specs.FrontendMessage.{Law}
 use Rattle.pg_send.specs.Kind.{Kind}
 
 -- a message without a body

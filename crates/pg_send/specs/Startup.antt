@@ -27,7 +27,7 @@ setting_where_there name None = []
 -- the version; the user, the database and each parameter; and a NUL
 abbrev pub startup_body : StartupFields → List ℕ
 startup_body s =
-    be32 protocol_version ++ setting_where_there (codes "user") s.username ++ setting_where_there (codes "database") s.database ++ flat_map setting s.params ++ 0 ∷ []
+    be32 protocol_version ++ (setting_where_there (codes "user") s.username ++ (setting_where_there (codes "database") s.database ++ (flat_map setting s.params ++ 0 ∷ [])))
 
 -- the whole, after its length
 abbrev pub startup_text : StartupFields → List ℕ

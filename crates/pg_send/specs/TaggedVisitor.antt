@@ -1,9 +1,10 @@
 -- What is made of a message by its law, whichever type it has.
-use Rattle.std.specs.Prelude.{◌≡◌, ℕ, ◌+◌, ◌<◌, ◌≤◌, ◌++◌, List, length, Bool, Result, Ok, None, OnOk, Option, Vec, vec_len, vec_capacity}
+use Rattle.std.specs.Prelude.{◌≡◌, ℕ, ◌+◌, ◌<◌, ◌≤◌, ◌++◌, List, length, Bool, Result, Ok, None, OnOk, IfErr, Vec, vec_len, vec_capacity}
 use Rattle.std.specs.Bool.{OnTrue, OnFalse}
 use Rattle.std.specs.declared.alloc.Global.{Global}
 use Rattle.pg_base.specs.declared.error.Error.{Error}
-use Rattle.pg_send.specs.FrontendMessage.{Law, fault, hint, text, EncodesMessage}
+use Rattle.pg_base.specs.declared.error.ProtocolFault.{ProtocolFault}
+use Rattle.pg_send.specs.FrontendMessage.{Law, CannotRoundTrip, fault, hint, text, EncodesMessage}
 
 -- the frame is added, or the buffer stays: where a limit is broken or the spare room is short
 pub record PutsIfFits (law : Law) (old new : Vec ℕ Global) (result : Bool) : Type 0 where
@@ -11,6 +12,19 @@ pub record PutsIfFits (law : Law) (old new : Vec ℕ Global) (result : Bool) : T
   pub range : OnTrue result law.IsInRange
   pub same : OnFalse result (new ≡ old)
   pub short : OnFalse result (fault law ≡ None → vec_capacity old < vec_len old + (hint law + 5))
+
+-- the same of a message that can make the round trip
+pub record PutsIfReadBack (law : Law) (old new : Vec ℕ Global) (result : Bool) : Type 0 where
+  pub encodes : OnTrue result (EncodesMessage law old new (Ok tt))
+  pub range : OnTrue result law.IsInRange
+  pub can : OnTrue result law.CanRoundTrip
+  pub same : OnFalse result (new ≡ old)
+  pub short : OnFalse result (fault law ≡ None → law.CanRoundTrip → vec_capacity old < vec_len old + (hint law + 5))
+
+-- Ok where it can, else why not
+pub record IsRoundTripCheck (law : Law) (result : Result (Unit {0}) ProtocolFault) : Type 0 where
+  pub ok : OnOk result law.CanRoundTrip
+  pub fault_is : IfErr result (CannotRoundTrip law)
 
 -- the frame is added, or refused as its law says
 pub record EncodesInRange (law : Law) (old new : Vec ℕ Global) (result : Result (Unit {0}) Error) : Type 0 where

@@ -1,10 +1,15 @@
 -- What a Describe or a Close names: a prepared statement or a portal.
 use Rattle.std.specs.Prelude.{◌≡◌, ◌≤◌, ℕ, List, [], ◌∷◌, None}
 use Rattle.pg_base.specs.declared.format.FrontendMessageFormat.{FrontendMessageFormat}
+use Rattle.pg_base.specs.declared.format.FrontendMessageFormat.TheVariants as formats
 use Rattle.pg_base.specs.Id.{name, statement_prefix, portal_prefix, max_id}
 use Rattle.pg_base.specs.Reading.{Text, StatementName, PortalName}
 use Rattle.pg_format.specs.Messages as page
-use Rattle.pg_send.specs.FrontendMessage.{Law, saturated}
+use Rattle.pg_base.specs.Part.{saturated}
+use Rattle.pg_send.specs.declared.message.target.TargetOf.{TargetOf}
+use Rattle.pg_send.specs.declared.message.target.TargetOf.TheVariants as message
+use Rattle.pg_send.specs.FrontendMessage.{Law}
+use Rattle.pg_send.specs.Kind as kinds
 use Rattle.pg_send.specs.Kind.{Kind}
 
 pub data Target : Type 0 where
@@ -51,3 +56,13 @@ target_law kind format target = record {
   CanRoundTrip = Unit {0};
   round_trip_fault = None;
 }
+
+abbrev pub close_law : Target → Law
+close_law target = target_law kinds.Close formats.Close target
+
+abbrev pub describe_law : Target → Law
+describe_law target = target_law kinds.Describe formats.Describe target
+
+abbrev pub target_of : {closes : ℕ} → TargetOf closes → Target
+target_of (message.Statement id) = Statement id
+target_of (message.Portal id) = Portal id

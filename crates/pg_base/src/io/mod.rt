@@ -7,7 +7,9 @@ mod decimal;
 mod decode;
 mod encode;
 mod id;
+mod name;
 mod numbers;
+pub mod part;
 mod sink;
 
 pub use atoi::{atoi_u32, atoi_u64, atoi_usize};
@@ -16,6 +18,7 @@ pub use copy::{CopyData, CopyDone, LendBytes};
 pub use decode::ProtocolDecode;
 pub use encode::ProtocolEncode;
 pub use id::{DisplayId, PortalId, StatementId};
+pub use name::{Ended, Name};
 pub use numbers::{bytes_at, i8_at, i16_at, i32_at, u16_at, u32_at};
 pub use sink::{Cursor, Sink, Text, write_text};
 

@@ -2,6 +2,7 @@
 
 ghost use Rattle.std.specs.Prelude.{◌≡◌, ℕ, ◌+◌, ◌^◌, ◌<◌, ◌≤◌, List, [], ◌∷◌, ◌++◌, length, take, Option, None, Some, vec_capacity};
 ghost use Rattle.std.specs.Borrow.{GName};
+ghost use Rattle.pg_base.specs.Cutting.{max_length};
 ghost use Rattle.pg_base.specs.Numbers.{be16, be32};
 ghost use Rattle.pg_base.specs.Sink.{IsGiven};
 ghost use Rattle.pg_base.specs.Text.{ended};
@@ -59,6 +60,20 @@ pub trait Sink {
         self.put_u8(higher);
         self.put_u8(lower);
         self.put_u8(lowest);
+    }
+
+    /// Adds a tag, and the length field of a body of `len` bytes. The length is one number, so that it is
+    /// written at once.
+    #[inline(always)]
+    final fn put_head(&mut self, tag: u8, len: usize)
+        requires small { len + 4 ≤ max_length }
+        requires room { length (written self.old) + 5 ≤ capacity self.old }
+        ensures written { written self.new ≡ written self.old ++ tag ∷ be32 (len + 4) }
+        ensures capacity { capacity self.old ≤ capacity self.new }
+        ensures loan { loan self.new ≡ loan self.old }
+    {
+        self.put_u8(tag);
+        self.put_slice(&(len as u32 + 4).to_be_bytes());
     }
 
     /// Adds a text and a NUL.
@@ -132,9 +147,35 @@ impl Sink for Cursor<'_> {
     #[inline(always)]
     fn put_slice(&mut self, bytes: &[u8]) {
         let end = self.at + bytes.len();
-        self.out[self.at..end].copy_from_slice(bytes);
+        copy(&mut self.out[self.at..end], bytes);
         self.at = end;
     }
+}
+
+// Copies bytes over as many others. A number of four or eight is moved without a call.
+#[inline(always)]
+fn copy(to: &mut [u8], from: &[u8])
+    requires { length to.old ≡ length from.now }
+    ensures { to.new ≡ from.now }
+{
+    if from.len() > 8 {
+        copy_all(to, from);
+    } else if let Ok(number) = <[u8; 8]>::try_from(from) {
+        to.copy_from_slice(&number);
+    } else if let Ok(number) = <[u8; 4]>::try_from(from) {
+        to.copy_from_slice(&number);
+    } else if !from.is_empty() {
+        copy_all(to, from);
+    }
+}
+
+// Out of line, since a copy is compiled to a test and a loop beside the call.
+#[inline(never)]
+fn copy_all(to: &mut [u8], from: &[u8])
+    requires { length to.old ≡ length from.now }
+    ensures { to.new ≡ from.now }
+{
+    to.copy_from_slice(from);
 }
 
 /// A text of the protocol, which is written as a whole.

@@ -2,8 +2,9 @@
 use Rattle.std.specs.Prelude.{ℕ, List, map, length}
 use Rattle.pg_format.specs.Messages as page
 use Rattle.pg_send.specs.Bind.{BindFields}
+use Rattle.pg_send.specs.Counted.{format_of}
 use Rattle.pg_c.specs.declared.put.prepared.PgmsgValue.{PgmsgValue}
-use Rattle.pg_c.specs.Put.Lists.{format_of, value_of, values_spelled}
+use Rattle.pg_c.specs.Put.Lists.{value_of, values_spelled}
 
 -- the Bind of these
 abbrev pub bind_of : ℕ → ℕ → List ℕ → List PgmsgValue → List ℕ → BindFields

@@ -1,16 +1,13 @@
 -- Values and formats, as a C program passes them.
-use Rattle.std.specs.Prelude.{◌||◌, ◌+◌, ℕ, ℤ, ◌==◌, Bool, List, map, length, Option, Some, None, nat_le, if◌then◌else◌}
+use Rattle.std.specs.Prelude.{◌||◌, ◌+◌, ◌++◌, ℕ, ℤ, Bool, List, map, length, Option, Some, None, nat_le, if◌then◌else◌}
 use Rattle.std.specs.List.{flat_map, list_all}
 use Rattle.pg_base.specs.Cutting.{max_length}
-use Rattle.pg_base.specs.Numbers.{max_count}
+use Rattle.pg_base.specs.Numbers.{be16, max_count}
+use Rattle.pg_base.specs.Part.{PartLaw, bytes}
 use Rattle.pg_base.specs.declared.error.ProtocolFault.TheVariants.{BadParams}
 use Rattle.pg_send.specs.Values.{value_text}
 use Rattle.pg_c.specs.Refusal.{fault_number, too_long_number}
 use Rattle.pg_c.specs.declared.put.prepared.PgmsgValue.{PgmsgValue}
-
--- 0 is text, and anything else binary
-abbrev pub format_of : ℕ → ℕ
-format_of number = if number == 0 then 0 else 1
 
 -- NULL, or a value
 abbrev pub value_of : PgmsgValue → Option (List ℕ)
@@ -19,6 +16,10 @@ value_of value = if value.is_null then None else Some value.bytes.now
 -- one after the other, each after its length, as a Bind has them
 abbrev pub values_spelled : List PgmsgValue → List ℕ
 values_spelled values = flat_map value_text (map value_of values)
+
+-- the same after their count
+abbrev pub counted_spelled : List PgmsgValue → PartLaw
+counted_spelled values = bytes (be16 (length values) ++ values_spelled values)
 
 -- NULL, or a value that isn't too long for any message
 abbrev pub fits : PgmsgValue → Bool

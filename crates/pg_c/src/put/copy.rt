@@ -1,10 +1,9 @@
 //! The client's part of a COPY.
 
-ghost use Rattle.std.specs.Prelude.{◌≡◌, ◌≢◌, ◌+◌, ◌<◌, ◌≤◌, ◌≤ℤ◌, ◌++◌, ℕ, List, pos, length, true, false, Some, OnOk, IfErr};
+ghost use Rattle.std.specs.Prelude.{◌≡◌, ◌≢◌, ◌+◌, ◌<◌, ◌≤◌, ◌≤ℤ◌, ◌++◌, ℕ, List, pos, length, true, false};
 ghost use Rattle.std.specs.Str.{is_utf8};
 ghost use Rattle.pg_base.specs.declared.error.ProtocolFault.TheVariants.{NotUtf8};
 ghost use Rattle.pg_base.specs.Cutting.{max_length};
-ghost use Rattle.pg_send.specs.CopyFail.{copy_fail_law};
 ghost use Rattle.pg_send.specs.Message as message;
 ghost use Rattle.pg_send.specs.Message.{text, fault};
 ghost use Rattle.pg_c.specs.Put.{PutsMessage, IsRefused};
@@ -12,18 +11,15 @@ ghost use Rattle.pg_c.specs.Refusal.{too_long_number};
 
 use crate::put::{put, text_of};
 use crate::refusal::{MESSAGE_TOO_LONG, number_of};
-use pg_base::io::{MAX_BODY, Sink};
-use pg_base::{FrontendMessageFormat, ProtocolFault};
-use pg_send::message::parts::text_len;
-use pg_send::message::round_trip::check_text;
-use pg_send::message::{CopyData, CopyDone, FrontendMessage};
+use pg_base::io::MAX_BODY;
+use pg_send::message::{CopyData, CopyDone, CopyFailRef};
 
 /// A part of the data of a COPY.
 #[unsafe(no_mangle)]
 pub extern "C" fn pgmsg_put_copy_data(data: &[u8], out: &mut [u8]) -> isize
     ensures { PutsMessage (message.CopyData «data».now) out.old out.new result }
 {
-    put(&CopyData(data), Ok(()), out)
+    put(&CopyData(data), out)
 }
 
 /// The five bytes before `len` bytes of the data of a COPY, which the caller sends after them. 0, or
@@ -50,7 +46,7 @@ pub extern "C" fn pgmsg_put_copy_head(len: usize, head: &mut [u8; 5]) -> i32
 pub extern "C" fn pgmsg_put_copy_done(out: &mut [u8]) -> isize
     ensures { PutsMessage message.CopyDone out.old out.new result }
 {
-    put(&CopyDone, Ok(()), out)
+    put(&CopyDone, out)
 }
 
 /// Fails a COPY, and says why, in UTF-8.
@@ -62,53 +58,9 @@ pub extern "C" fn pgmsg_put_copy_fail(reason: &[u8], out: &mut [u8]) -> isize
 {
     match text_of(reason) {
         Ok(text) => {
-            let fail = CopyFail(text);
-            put(&fail, fail.check_round_trip(), out)
+            let fail = CopyFailRef(text);
+            put(&fail, out)
         }
         Err(fault) => number_of(fault.into()) as isize,
     }
-}
-
-// As `pg_send::message::CopyFail`, with the text where the caller has it.
-#[derive(Drop)]
-struct CopyFail<'a>(&'a str);
-
-impl CopyFail<'_> {
-    fn check_round_trip(&self) -> Result<(), ProtocolFault>
-        ensures ok { OnOk result (copy_fail_law self.now.0.now).CanRoundTrip }
-        ensures fault { IfErr result (λ fault. ((copy_fail_law self.now.0.now).round_trip_fault ≡ Some fault) × ¬ (copy_fail_law self.now.0.now).CanRoundTrip) }
-    {
-        check_text(self.0)
-    }
-}
-
-impl FrontendMessage for CopyFail<'_> {
-    const FORMAT: FrontendMessageFormat = FrontendMessageFormat::CopyFail;
-
-    ghost law = { λ fail. copy_fail_law fail.0.now };
-
-    fn tag(&self) -> u8 {
-        Self::FORMAT as u8
-    }
-
-    fn body_len(&self) -> usize {
-        text_len(self.0)
-    }
-
-    fn count_fault(&self) -> Option<ProtocolFault> {
-        None
-    }
-
-    fn room_for(&self, len: usize) -> usize {
-        len
-    }
-
-    #[inline(always)]
-    fn put_body<S: Sink>(&self, sink: &mut S) {
-        sink.put_text(self.0.as_bytes());
-    }
-
-    ghost use Rattle.std.proofs.Common.{arith};
-
-    ghost enough = { λ fail h. Prim.grind (arith) };
 }

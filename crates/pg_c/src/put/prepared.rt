@@ -1,22 +1,20 @@
 //! Prepared statements and their values.
 
-ghost use Rattle.std.specs.Prelude.{◌≡◌, ◌<◌, true, false, length, IfOk, []};
+ghost use Rattle.std.specs.Prelude.{◌≡◌, ◌<◌, true, false, IfOk};
 ghost use Rattle.std.specs.Str.{is_utf8};
 ghost use Rattle.pg_base.specs.declared.error.ProtocolFault.TheVariants.{NotUtf8};
-ghost use Rattle.pg_base.specs.Reading.{Values};
 ghost use Rattle.pg_send.specs.Message as message;
 ghost use Rattle.pg_c.specs.Put.{PutsMessage, PutsBatch, IsBatchWritten, IsRefused};
 ghost use Rattle.pg_c.specs.Put.Bind.{bind_of};
-ghost use Rattle.pg_c.specs.Put.Lists.{values_spelled};
 ghost use Rattle.pg_c.specs.Put.Prepared.{parse_of, batch_of, UnlessRefused};
 
 use crate::put::bind::Bind;
 use crate::put::lists::check_values;
 use crate::put::parse::Parse;
-use crate::put::then::Then;
 use crate::put::{HEADER, put, sound_len, text_of};
 use crate::refusal::number_of;
 use pg_base::Error;
+use pg_base::io::part::Then;
 use pg_base::io::{PortalId, StatementId, write_text};
 use pg_send::message::{Describe, Execute, Framed, Sync};
 
@@ -49,7 +47,7 @@ pub extern "C" fn pgmsg_put_parse(
                 query,
                 types,
             };
-            put(&parse, parse.check_round_trip(), out)
+            put(&parse, out)
         }
         Err(fault) => number_of(fault.into()) as isize,
     }
@@ -81,7 +79,7 @@ pub extern "C" fn pgmsg_put_bind(
                 values,
                 result_formats,
             };
-            put(&bind, Ok(()), out)
+            put(&bind, out)
         }
         Err(fault) => number_of(fault.into()) as isize,
     }
@@ -123,7 +121,6 @@ pub extern "C" fn pgmsg_put_batch(
 }
 
 fn put_batch(query: &str, bind: &Bind<'_>, out: &mut [u8]) -> isize
-    requires { Values (length bind.now.values.now) (values_spelled bind.now.values.now) [] }
     ensures { PutsBatch
         (batch_of query.now (bind_of bind.now.portal bind.now.statement bind.now.formats.now bind.now.values.now bind.now.result_formats.now))
         out.old out.new result }
@@ -135,7 +132,6 @@ fn put_batch(query: &str, bind: &Bind<'_>, out: &mut [u8]) -> isize
 }
 
 fn write_batch(query: &str, bind: &Bind<'_>, out: &mut [u8]) -> Result<usize, Error>
-    requires { Values (length bind.now.values.now) (values_spelled bind.now.values.now) [] }
     ensures written { IsBatchWritten
         (batch_of query.now (bind_of bind.now.portal bind.now.statement bind.now.formats.now bind.now.values.now bind.now.result_formats.now))
         result out.old out.new }
@@ -151,41 +147,41 @@ fn write_batch(query: &str, bind: &Bind<'_>, out: &mut [u8]) -> Result<usize, Er
         portal: PortalId::UNNAMED,
         limit: 0,
     };
-    let parse_len = sound_len(&parse, parse.check_round_trip())?;
-    let bind_len = sound_len(bind, Ok(()))?;
-    let describe_len = sound_len(&describe, Ok(()))?;
-    let execute_len = sound_len(&execute, Ok(()))?;
-    let sync_len = sound_len(&Sync, Ok(()))?;
+    let parse_len = sound_len(&parse)?;
+    let bind_len = sound_len(bind)?;
+    let describe_len = sound_len(&describe)?;
+    let execute_len = sound_len(&execute)?;
+    let sync_len = sound_len(&Sync)?;
     let bodies_len = parse_len + bind_len + describe_len + execute_len + sync_len;
     let len = bodies_len + 5 * HEADER;
-    let batch = Then {
-        first: Framed {
+    let batch = Then(
+        Framed {
             message: &parse,
             len: parse_len,
         },
-        second: Then {
-            first: Framed {
+        Then(
+            Framed {
                 message: bind,
                 len: bind_len,
             },
-            second: Then {
-                first: Framed {
+            Then(
+                Framed {
                     message: &describe,
                     len: describe_len,
                 },
-                second: Then {
-                    first: Framed {
+                Then(
+                    Framed {
                         message: &execute,
                         len: execute_len,
                     },
-                    second: Framed {
+                    Framed {
                         message: &Sync,
                         len: sync_len,
                     },
-                },
-            },
-        },
-    };
+                ),
+            ),
+        ),
+    );
     write_text(&batch, len, out);
     Ok(len)
 }

@@ -22,7 +22,7 @@ pub extern "C" fn pgmsg_put_query(query: &[u8], out: &mut [u8]) -> isize
     match text_of(query) {
         Ok(text) => {
             let query = Query(text);
-            put(&query, query.check_round_trip(), out)
+            put(&query, out)
         }
         Err(fault) => number_of(fault.into()) as isize,
     }
@@ -34,7 +34,7 @@ pub extern "C" fn pgmsg_put_describe_statement(statement: u32, out: &mut [u8]) -
     ensures { PutsMessage (message.Describe (Statement statement)) out.old out.new result }
 {
     let describe = Describe::Statement(StatementId::from_number(statement));
-    put(&describe, Ok(()), out)
+    put(&describe, out)
 }
 
 /// Describes the portal `sqlx_p_N`, by its number N; 0 is the unnamed one.
@@ -43,7 +43,7 @@ pub extern "C" fn pgmsg_put_describe_portal(portal: u32, out: &mut [u8]) -> isiz
     ensures { PutsMessage (message.Describe (Portal portal)) out.old out.new result }
 {
     let describe = Describe::Portal(PortalId::from_number(portal));
-    put(&describe, Ok(()), out)
+    put(&describe, out)
 }
 
 /// Closes the prepared statement `sqlx_s_N`, by its number N; 0 is the unnamed one.
@@ -52,7 +52,7 @@ pub extern "C" fn pgmsg_put_close_statement(statement: u32, out: &mut [u8]) -> i
     ensures { PutsMessage (message.Close (Statement statement)) out.old out.new result }
 {
     let close = Close::Statement(StatementId::from_number(statement));
-    put(&close, Ok(()), out)
+    put(&close, out)
 }
 
 /// Closes the portal `sqlx_p_N`, by its number N; 0 is the unnamed one.
@@ -61,7 +61,7 @@ pub extern "C" fn pgmsg_put_close_portal(portal: u32, out: &mut [u8]) -> isize
     ensures { PutsMessage (message.Close (Portal portal)) out.old out.new result }
 {
     let close = Close::Portal(PortalId::from_number(portal));
-    put(&close, Ok(()), out)
+    put(&close, out)
 }
 
 /// Runs the portal `sqlx_p_N`, by its number N; 0 is the unnamed one. `limit` is the most rows to send
@@ -75,7 +75,7 @@ pub extern "C" fn pgmsg_put_execute(portal: u32, limit: u32, out: &mut [u8]) -> 
         portal: PortalId::from_number(portal),
         limit,
     };
-    put(&execute, Ok(()), out)
+    put(&execute, out)
 }
 
 /// Asks for the answers that the server still has to send.
@@ -83,7 +83,7 @@ pub extern "C" fn pgmsg_put_execute(portal: u32, limit: u32, out: &mut [u8]) -> 
 pub extern "C" fn pgmsg_put_flush(out: &mut [u8]) -> isize
     ensures { PutsMessage message.Flush out.old out.new result }
 {
-    put(&Flush, Ok(()), out)
+    put(&Flush, out)
 }
 
 /// Ends a run of messages: the server answers that it is ready.
@@ -91,5 +91,5 @@ pub extern "C" fn pgmsg_put_flush(out: &mut [u8]) -> isize
 pub extern "C" fn pgmsg_put_sync(out: &mut [u8]) -> isize
     ensures { PutsMessage message.Sync out.old out.new result }
 {
-    put(&Sync, Ok(()), out)
+    put(&Sync, out)
 }

@@ -9,15 +9,13 @@ ghost use Rattle.pg_c.specs.Put.Bind.{raw_bind_of};
 ghost use Rattle.pg_c.specs.Put.FunctionCall.{function_call_of};
 ghost use Rattle.pg_c.specs.Put.{PutsMessage, PutsText};
 
-use crate::put::bind::RawBind;
-use crate::put::function_call::FunctionCall;
-use crate::put::parse::RawParse;
 use crate::put::prepared::PgmsgValue;
-use crate::put::{check_name, put, put_text};
+use crate::put::{put, put_text};
 use crate::refusal::number_of;
+use pg_base::io::Oid;
 use pg_send::message::{
-    CODE_LENGTH, CancelRequest, GssEncRequest, Password, RawClose, RawDescribe, RawExecute,
-    SaslInitial,
+    CODE_LENGTH, CancelRequest, FunctionCall, GssEncRequest, Password, RawBind, RawClose,
+    RawDescribe, RawExecute, RawParse, SaslInitial,
 };
 
 /// Asks the server to stop what a session does, by the two numbers of its BackendKeyData. It goes
@@ -54,7 +52,7 @@ pub extern "C" fn pgmsg_put_password_bytes(password: &[u8], out: &mut [u8]) -> i
     ensures { PutsMessage (message.CleartextPassword password.now) out.old out.new result }
 {
     let password = Password::Bytes(password);
-    put(&password, password.check_round_trip(), out)
+    put(&password, out)
 }
 
 /// Chooses any mechanism of SASL. Where not `has_response`, the server begins.
@@ -71,7 +69,7 @@ pub extern "C" fn pgmsg_put_sasl_mechanism(
         mechanism,
         response: given(has_response, response),
     };
-    put(&sasl, sasl.check_round_trip(), out)
+    put(&sasl, out)
 }
 
 fn given(is_given: bool, bytes: &[u8]) -> Option<&[u8]>
@@ -94,9 +92,9 @@ pub extern "C" fn pgmsg_put_raw_parse(
     let parse = RawParse {
         statement,
         query,
-        types,
+        param_types: types,
     };
-    put(&parse, parse.check_round_trip(), out)
+    put(&parse, out)
 }
 
 /// Makes a portal of any name of a prepared statement of any name and the values of its parameters.
@@ -119,7 +117,7 @@ pub extern "C" fn pgmsg_put_raw_bind(
         values,
         result_formats,
     };
-    put(&bind, bind.check_round_trip(), out)
+    put(&bind, out)
 }
 
 /// Describes the prepared statement of any name.
@@ -128,7 +126,7 @@ pub extern "C" fn pgmsg_put_raw_describe_statement(statement: &[u8], out: &mut [
     ensures { PutsMessage (message.RawDescribe (record { target = page.statement; name = statement.now })) out.old out.new result }
 {
     let describe = RawDescribe::Statement(statement);
-    put(&describe, describe.check_round_trip(), out)
+    put(&describe, out)
 }
 
 /// Describes the portal of any name.
@@ -137,7 +135,7 @@ pub extern "C" fn pgmsg_put_raw_describe_portal(portal: &[u8], out: &mut [u8]) -
     ensures { PutsMessage (message.RawDescribe (record { target = page.portal; name = portal.now })) out.old out.new result }
 {
     let describe = RawDescribe::Portal(portal);
-    put(&describe, describe.check_round_trip(), out)
+    put(&describe, out)
 }
 
 /// Closes the prepared statement of any name.
@@ -146,7 +144,7 @@ pub extern "C" fn pgmsg_put_raw_close_statement(statement: &[u8], out: &mut [u8]
     ensures { PutsMessage (message.RawClose (record { target = page.statement; name = statement.now })) out.old out.new result }
 {
     let close = RawClose::Statement(statement);
-    put(&close, close.check_round_trip(), out)
+    put(&close, out)
 }
 
 /// Closes the portal of any name.
@@ -155,7 +153,7 @@ pub extern "C" fn pgmsg_put_raw_close_portal(portal: &[u8], out: &mut [u8]) -> i
     ensures { PutsMessage (message.RawClose (record { target = page.portal; name = portal.now })) out.old out.new result }
 {
     let close = RawClose::Portal(portal);
-    put(&close, close.check_round_trip(), out)
+    put(&close, out)
 }
 
 /// Runs the portal of any name. `limit` is the most rows to send back, 0 for all of them.
@@ -164,7 +162,7 @@ pub extern "C" fn pgmsg_put_raw_execute(portal: &[u8], limit: u32, out: &mut [u8
     ensures { PutsMessage (message.RawExecute (record { portal = portal.now; limit = limit })) out.old out.new result }
 {
     let execute = RawExecute { portal, limit };
-    put(&execute, check_name(portal), out)
+    put(&execute, out)
 }
 
 /// Calls a function by its object id. Formats are as in `pgmsg_put_raw_bind`. The answer is a
@@ -180,10 +178,10 @@ pub extern "C" fn pgmsg_put_function_call(
     ensures { PutsMessage (message.FunctionCall (function_call_of object_id formats.now arguments.now result_format)) out.old out.new result }
 {
     let call = FunctionCall {
-        object_id,
+        object_id: Oid(object_id),
         formats,
         arguments,
         result_format,
     };
-    put(&call, Ok(()), out)
+    put(&call, out)
 }

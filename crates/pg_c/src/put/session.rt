@@ -62,7 +62,7 @@ pub extern "C" fn pgmsg_put_password(password: &[u8], out: &mut [u8]) -> isize
     match text_of(password) {
         Ok(text) => {
             let password = Password::Cleartext(text);
-            put(&password, password.check_round_trip(), out)
+            put(&password, out)
         }
         Err(fault) => number_of(fault.into()) as isize,
     }
@@ -75,7 +75,7 @@ pub extern "C" fn pgmsg_put_md5_password(digest: &[u8; 16], out: &mut [u8]) -> i
     ensures { PutsMessage (message.Md5Password digest.now) out.old out.new result }
 {
     let password = Password::Md5 { digest: *digest };
-    put(&password, Ok(()), out)
+    put(&password, out)
 }
 
 /// Chooses SCRAM-SHA-256, or SCRAM-SHA-256-PLUS where `plus`, and begins it with `response`, in UTF-8.
@@ -90,7 +90,7 @@ pub extern "C" fn pgmsg_put_sasl_initial(response: &[u8], plus: bool, out: &mut 
     match text_of(response) {
         Ok(response) => {
             let sasl = SaslInitialResponse { response, plus };
-            put(&sasl, Ok(()), out)
+            put(&sasl, out)
         }
         Err(fault) => number_of(fault.into()) as isize,
     }
@@ -104,7 +104,7 @@ pub extern "C" fn pgmsg_put_sasl_response(response: &[u8], out: &mut [u8]) -> is
     ensures not_utf8 { is_utf8 response.now ≡ false → IsRefused NotUtf8 out.old out.new result }
 {
     match text_of(response) {
-        Ok(text) => put(&SaslResponse(text), Ok(()), out),
+        Ok(text) => put(&SaslResponse(text), out),
         Err(fault) => number_of(fault.into()) as isize,
     }
 }
@@ -114,5 +114,5 @@ pub extern "C" fn pgmsg_put_sasl_response(response: &[u8], out: &mut [u8]) -> is
 pub extern "C" fn pgmsg_put_terminate(out: &mut [u8]) -> isize
     ensures { PutsMessage message.Terminate out.old out.new result }
 {
-    put(&Terminate, Ok(()), out)
+    put(&Terminate, out)
 }

@@ -1,13 +1,23 @@
 //! A portal that is made of a prepared statement.
 
-ghost use Rattle.std.specs.Prelude.{◌≡◌, Some, OnOk, IfErr};
 ghost use Rattle.pg_send.specs.Bind.{bind_law, bind_fields};
 
-use crate::message::FrontendMessage;
-use crate::message::counted::{put_formats, too_many};
+use crate::message::composed::Composed;
+use crate::message::counted::{Codes, ParamFormats, ResultFormats};
 use crate::message::round_trip::check_values;
-use pg_base::io::{PgValueFormat, PortalId, Sink, StatementId};
+use pg_base::io::part::{Number16, Slice, Then};
+use pg_base::io::{Ended, PgValueFormat, PortalId, StatementId};
 use pg_base::{FrontendMessageFormat, ProtocolFault};
+
+/// The parts of a Bind: two names, the formats of the parameters, and the rest: their values, and
+/// the formats of the results.
+pub type BindParts<'a, P, S, C, R> = Then<
+    Ended<P>,
+    Then<Ended<S>, Then<Codes<'a, ParamFormats, C>, R>>,
+>;
+
+/// Values as they are spelled, after their count.
+pub type Spelled<'a> = Then<Number16, Slice<'a>>;
 
 /// Asks the server to make a portal of a prepared statement and the values of its parameters.
 /// Documentation: "Message Formats", Bind (F).
@@ -30,64 +40,47 @@ pub struct Bind<'a> {
     pub result_formats: &'a [PgValueFormat],
 }
 
-impl Bind<'_> {
-    /// Whether a reader would get the message back: refused with `BadParams` where `params` is not
-    /// `num_params` values.
-    #[inline(always)]
-    pub fn check_round_trip(&self) -> Result<(), ProtocolFault>
-        ensures ok { OnOk result (bind_law (bind_fields self.now)).CanRoundTrip }
-        ensures fault { IfErr result (λ fault. ((bind_law (bind_fields self.now)).round_trip_fault ≡ Some fault) × ¬ (bind_law (bind_fields self.now)).CanRoundTrip) }
-    {
-        check_values(self.num_params, self.params)
-    }
-}
+impl<'a> Composed for Bind<'a> {
+    type Body = BindParts<
+        'a,
+        PortalId,
+        StatementId,
+        PgValueFormat,
+        Then<Spelled<'a>, Codes<'a, ResultFormats, PgValueFormat>>,
+    >;
 
-impl FrontendMessage for Bind<'_> {
     const FORMAT: FrontendMessageFormat = FrontendMessageFormat::Bind;
 
     ghost law = { λ bind. bind_law (bind_fields bind) };
 
-    fn tag(&self) -> u8 {
-        Self::FORMAT as u8
+    ghost use Rattle.std.specs.Prelude.{refl};
+
+    ghost snug = { λ _. refl };
+
+    fn letter(&self) -> u8 {
+        FrontendMessageFormat::Bind as u8
     }
 
-    fn body_len(&self) -> usize {
-        let portal = self.portal.name_len();
-        let statement = self.statement.name_len();
-        let formats = self.formats.len().saturating_mul(2);
-        let result_formats = self.result_formats.len().saturating_mul(2);
-        portal
-            .saturating_add(statement)
-            .saturating_add(formats)
-            .saturating_add(self.params.len())
-            .saturating_add(result_formats)
-            .saturating_add(6)
-    }
-
-    fn count_fault(&self) -> Option<ProtocolFault> {
-        let formats = self.formats.len();
-        let result_formats = self.result_formats.len();
-        too_many(formats, ProtocolFault::TooManyParamFormats(formats)).or(too_many(
-            result_formats,
-            ProtocolFault::TooManyResultFormats(result_formats),
-        ))
-    }
-
-    fn room_for(&self, len: usize) -> usize {
-        len
+    // Refused with `BadParams` where `params` is not `num_params` values.
+    #[inline(always)]
+    fn check(&self) -> Result<(), ProtocolFault> {
+        check_values(self.num_params, self.params)
     }
 
     #[inline(always)]
-    fn put_body<S: Sink>(&self, sink: &mut S) {
-        self.portal.put_name(sink);
-        self.statement.put_name(sink);
-        put_formats(self.formats, sink);
-        sink.put_u16(self.num_params);
-        sink.put_slice(self.params);
-        put_formats(self.result_formats, sink);
+    fn parts(&self) -> Self::Body {
+        Then(
+            Ended(self.portal),
+            Then(
+                Ended(self.statement),
+                Then(
+                    Codes(ParamFormats, self.formats),
+                    Then(
+                        Then(Number16(self.num_params), Slice(self.params)),
+                        Codes(ResultFormats, self.result_formats),
+                    ),
+                ),
+            ),
+        )
     }
-
-    ghost use Rattle.std.proofs.Common.{arith};
-
-    ghost enough = { λ bind h. Prim.grind (arith) };
 }

@@ -4,6 +4,8 @@ ghost use Rattle.std.specs.Prelude.{◌≡◌, ◌+◌, ◌≤◌, Some, None, l
 ghost use Rattle.pg_format.specs.Messages.{key_fault};
 ghost use Rattle.pg_send.specs.CancelRequest.{cancel_request_text, cancel_request_fields};
 
+use crate::message::untagged::Untagged;
+use pg_base::io::part::{Number32, Slice, Then};
 use pg_base::io::{ProtocolEncode, Sink, Text};
 use pg_base::{Error, ProtocolFault};
 
@@ -66,11 +68,12 @@ impl Text for CancelRequest<'_> {
 
     #[inline(always)]
     fn put<S: Sink>(&self, sink: &mut S) {
+        let parts = Then(
+            Number32(CANCEL_REQUEST),
+            Then(Number32(self.process_id), Slice(self.secret_key)),
+        );
         let len = self.secret_key.len() + LENGTH;
-        sink.put_u32(len as u32);
-        sink.put_u32(CANCEL_REQUEST);
-        sink.put_u32(self.process_id);
-        sink.put_slice(self.secret_key);
+        Untagged { parts, len }.put(sink);
     }
 }
 

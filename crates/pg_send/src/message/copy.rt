@@ -1,14 +1,15 @@
 //! The client's part of a COPY.
 
-ghost use Rattle.std.specs.Prelude.{◌≡◌, Some, OnOk, IfErr, string_bytes};
+ghost use Rattle.std.specs.Prelude.{◌≡◌, string_bytes};
 ghost use Rattle.pg_send.specs.CopyData.{copy_data_law};
 ghost use Rattle.pg_send.specs.CopyDone.{copy_done_law};
 ghost use Rattle.pg_send.specs.CopyFail.{copy_fail_law};
 
 use crate::message::FrontendMessage;
-use crate::message::parts::text_len;
+use crate::message::composed::Composed;
 use crate::message::round_trip::check_text;
-use pg_base::io::{CopyData, CopyDone, LendBytes, Sink};
+use pg_base::io::part::{Nothing, Part};
+use pg_base::io::{CopyData, CopyDone, Ended, LendBytes, Sink};
 use pg_base::{FrontendMessageFormat, ProtocolFault};
 
 /// Fails a COPY, and says why. Documentation: "Message Formats", CopyFail (F).
@@ -27,17 +28,6 @@ impl CopyFail {
     }
 }
 
-impl CopyFail {
-    /// Whether a reader would get the message back: refused with `TextHoldsNul` where it holds a NUL.
-    #[inline(always)]
-    pub fn check_round_trip(&self) -> Result<(), ProtocolFault>
-        ensures ok { OnOk result (copy_fail_law (string_bytes self.now.message)).CanRoundTrip }
-        ensures fault { IfErr result (λ fault. ((copy_fail_law (string_bytes self.now.message)).round_trip_fault ≡ Some fault) × ¬ (copy_fail_law (string_bytes self.now.message)).CanRoundTrip) }
-    {
-        check_text(self.message.as_str())
-    }
-}
-
 impl<B: LendBytes> FrontendMessage for CopyData<B> {
     const FORMAT: FrontendMessageFormat = FrontendMessageFormat::CopyData;
 
@@ -53,6 +43,11 @@ impl<B: LendBytes> FrontendMessage for CopyData<B> {
 
     fn count_fault(&self) -> Option<ProtocolFault> {
         None
+    }
+
+    #[inline(always)]
+    fn check_round_trip(&self) -> Result<(), ProtocolFault> {
+        Ok(())
     }
 
     fn room_for(&self, len: usize) -> usize {
@@ -79,11 +74,16 @@ impl FrontendMessage for CopyFail {
     }
 
     fn body_len(&self) -> usize {
-        text_len(self.message.as_str())
+        Ended(self.message.as_str()).len()
     }
 
     fn count_fault(&self) -> Option<ProtocolFault> {
         None
+    }
+
+    #[inline(always)]
+    fn check_round_trip(&self) -> Result<(), ProtocolFault> {
+        check_text(self.message.as_str())
     }
 
     fn room_for(&self, len: usize) -> usize {
@@ -92,7 +92,7 @@ impl FrontendMessage for CopyFail {
 
     #[inline(always)]
     fn put_body<S: Sink>(&self, sink: &mut S) {
-        sink.put_text(self.message.as_str().as_bytes());
+        Ended(self.message.as_str()).put(sink);
     }
 
     ghost use Rattle.std.proofs.Common.{arith};
@@ -100,31 +100,59 @@ impl FrontendMessage for CopyFail {
     ghost enough = { λ copy h. Prim.grind (arith) };
 }
 
-impl FrontendMessage for CopyDone {
+/// As [`CopyFail`], with the text where the caller has it.
+#[derive(Debug, Drop)]
+pub struct CopyFailRef<'a>(pub &'a str);
+
+impl<'a> Composed for CopyFailRef<'a> {
+    type Body = Ended<&'a str>;
+
+    const FORMAT: FrontendMessageFormat = FrontendMessageFormat::CopyFail;
+
+    ghost law = { λ fail. copy_fail_law fail.0.now };
+
+    ghost use Rattle.std.specs.Prelude.{refl};
+
+    ghost snug = { λ _. refl };
+
+    fn letter(&self) -> u8 {
+        FrontendMessageFormat::CopyFail as u8
+    }
+
+    // Refused with `TextHoldsNul` where it holds a NUL.
+    #[inline(always)]
+    fn check(&self) -> Result<(), ProtocolFault> {
+        check_text(self.0)
+    }
+
+    #[inline(always)]
+    fn parts(&self) -> Self::Body {
+        Ended(self.0)
+    }
+}
+
+impl Composed for CopyDone {
+    type Body = Nothing;
+
     const FORMAT: FrontendMessageFormat = FrontendMessageFormat::CopyDone;
 
     ghost law = { λ _. copy_done_law };
 
-    fn tag(&self) -> u8 {
-        Self::FORMAT as u8
-    }
+    ghost use Rattle.std.specs.Prelude.{refl};
 
-    fn body_len(&self) -> usize {
-        0
-    }
+    ghost snug = { λ _. refl };
 
-    fn count_fault(&self) -> Option<ProtocolFault> {
-        None
-    }
-
-    fn room_for(&self, len: usize) -> usize {
-        len
+    fn letter(&self) -> u8 {
+        FrontendMessageFormat::CopyDone as u8
     }
 
     #[inline(always)]
-    fn put_body<S: Sink>(&self, _sink: &mut S) {}
+    fn check(&self) -> Result<(), ProtocolFault> {
+        Ok(())
+    }
 
-    ghost use Rattle.std.proofs.Common.{arith};
-
-    ghost enough = { λ _ h. Prim.omega arith };
+    #[inline(always)]
+    fn parts(&self) -> Self::Body {
+        Nothing
+    }
 }

@@ -2,8 +2,9 @@
 
 ghost use Rattle.pg_send.specs.Execute.{execute_law, execute_fields};
 
-use crate::message::FrontendMessage;
-use pg_base::io::{PortalId, Sink};
+use crate::message::composed::Composed;
+use pg_base::io::part::{Number32, Then};
+use pg_base::io::{Ended, PortalId};
 use pg_base::{FrontendMessageFormat, ProtocolFault};
 
 /// Asks the server to run a portal. Documentation: "Message Formats", Execute (F).
@@ -16,34 +17,28 @@ pub struct Execute {
     pub limit: u32,
 }
 
-impl FrontendMessage for Execute {
+impl Composed for Execute {
+    type Body = Then<Ended<PortalId>, Number32>;
+
     const FORMAT: FrontendMessageFormat = FrontendMessageFormat::Execute;
 
     ghost law = { λ execute. execute_law (execute_fields execute) };
 
-    fn tag(&self) -> u8 {
-        Self::FORMAT as u8
-    }
+    ghost use Rattle.std.specs.Prelude.{refl};
 
-    fn body_len(&self) -> usize {
-        self.portal.name_len().saturating_add(4)
-    }
+    ghost snug = { λ _. refl };
 
-    fn count_fault(&self) -> Option<ProtocolFault> {
-        None
-    }
-
-    fn room_for(&self, len: usize) -> usize {
-        len
+    fn letter(&self) -> u8 {
+        FrontendMessageFormat::Execute as u8
     }
 
     #[inline(always)]
-    fn put_body<S: Sink>(&self, sink: &mut S) {
-        self.portal.put_name(sink);
-        sink.put_u32(self.limit);
+    fn check(&self) -> Result<(), ProtocolFault> {
+        Ok(())
     }
 
-    ghost use Rattle.std.proofs.Common.{arith};
-
-    ghost enough = { λ execute h. Prim.grind (arith) };
+    #[inline(always)]
+    fn parts(&self) -> Self::Body {
+        Then(Ended(self.portal), Number32(self.limit))
+    }
 }

@@ -2,39 +2,36 @@
 
 ghost use Rattle.pg_send.specs.Flush.{flush_law};
 
-use crate::message::FrontendMessage;
-use pg_base::io::Sink;
+use crate::message::composed::Composed;
+use pg_base::io::part::Nothing;
 use pg_base::{FrontendMessageFormat, ProtocolFault};
 
 /// Asks the server to send what it holds back. Documentation: "Message Formats", Flush (F).
 #[derive(Debug, Drop)]
 pub struct Flush;
 
-impl FrontendMessage for Flush {
+impl Composed for Flush {
+    type Body = Nothing;
+
     const FORMAT: FrontendMessageFormat = FrontendMessageFormat::Flush;
 
     ghost law = { λ _. flush_law };
 
-    fn tag(&self) -> u8 {
-        Self::FORMAT as u8
-    }
+    ghost use Rattle.std.specs.Prelude.{refl};
 
-    fn body_len(&self) -> usize {
-        0
-    }
+    ghost snug = { λ _. refl };
 
-    fn count_fault(&self) -> Option<ProtocolFault> {
-        None
-    }
-
-    fn room_for(&self, len: usize) -> usize {
-        len
+    fn letter(&self) -> u8 {
+        FrontendMessageFormat::Flush as u8
     }
 
     #[inline(always)]
-    fn put_body<S: Sink>(&self, _sink: &mut S) {}
+    fn check(&self) -> Result<(), ProtocolFault> {
+        Ok(())
+    }
 
-    ghost use Rattle.std.proofs.Common.{arith};
-
-    ghost enough = { λ _ h. Prim.omega arith };
+    #[inline(always)]
+    fn parts(&self) -> Self::Body {
+        Nothing
+    }
 }

@@ -1,12 +1,13 @@
 //! The law of a message that is sent, and the frame round each.
 
-ghost use Rattle.std.specs.Prelude.{◌≡◌, ◌+◌, ◌≤◌, ◌<◌, ◌++◌, length, None, Ok, OnOk, OnErr, IsOkUnless, vec_len, vec_capacity};
+ghost use Rattle.std.specs.Prelude.{◌≡◌, ◌+◌, ◌≤◌, ◌<◌, ◌++◌, length, None, Ok, OnOk, OnErr, IfErr, IsOkUnless, vec_len, vec_capacity};
 ghost use Rattle.std.specs.Bool.{OnTrue, OnFalse};
 ghost use Rattle.pg_base.specs.declared.error.Error.TheVariants.{OutOfMemory};
 ghost use Rattle.pg_base.specs.declared.error.ProtocolFault.{ProtocolFault};
 ghost use Rattle.pg_base.specs.Sink.{IsGiven};
 ghost use Rattle.pg_base.specs.Cutting.{IsCutInto};
-ghost use Rattle.pg_send.specs.FrontendMessage.{Law, tag, fault, hint, text, checked_len, room_or_fault, saturated, EncodesMessage};
+ghost use Rattle.pg_base.specs.Part.{saturated};
+ghost use Rattle.pg_send.specs.FrontendMessage.{Law, CannotRoundTrip, tag, fault, hint, text, checked_len, room_or_fault, EncodesMessage};
 
 use pg_base::io::{MAX_BODY, ProtocolEncode, Sink, Text, write_text};
 use pg_base::{Error, FrontendMessageFormat, ProtocolFault};
@@ -16,7 +17,7 @@ const HEADER: usize = 5;
 
 /// A message that a client sends, after a tag and a length.
 ///
-/// A type says what defines it by `law`, and implements the five functions without a body here; the
+/// A type says what defines it by `law`, and implements the six functions without a body here; the
 /// others are written once over them.
 pub trait FrontendMessage: Sized + Drop {
     /// The kind of message, by its tag.
@@ -37,6 +38,13 @@ pub trait FrontendMessage: Sized + Drop {
     /// parameter types.
     fn count_fault(&self) -> Option<ProtocolFault>
         ensures { result ≡ (law self.now).count_fault };
+
+    /// Whether a reader would get the message back from its bytes: refused with `TextHoldsNul` where a
+    /// text or a name that the protocol ends with a NUL holds one, and with `BadParams` for a Bind whose
+    /// parameters are not as many values as it says.
+    fn check_round_trip(&self) -> Result<(), ProtocolFault>
+        ensures ok { OnOk result (law self.now).CanRoundTrip }
+        ensures fault { IfErr result (CannotRoundTrip (law self.now)) };
 
     /// How much room to reserve for a body of `len` bytes, as `body_len` gives it.
     fn room_for(&self, len: usize) -> usize
@@ -116,8 +124,7 @@ pub trait FrontendMessage: Sized + Drop {
         ensures loan { S.loan sink.new ≡ S.loan sink.old }
         ensures range { (law self.now).IsInRange }
     {
-        let [first, second, third, fourth] = (len as u32 + 4).to_be_bytes();
-        sink.put_slice(&[self.tag(), first, second, third, fourth]);
+        sink.put_head(self.tag(), len);
         self.put_body(sink);
     }
 

@@ -1,13 +1,13 @@
 //! A password, in clear or as a digest.
 
-ghost use Rattle.std.specs.Prelude.{◌≡◌, Some, OnOk, IfErr, length};
+ghost use Rattle.std.specs.Prelude.{◌≡◌, length};
 ghost use Rattle.hex.specs.Hex.{encode_lower};
 ghost use Rattle.pg_send.specs.Password.{md5_body, power_over, IsDigest};
 
 use crate::message::FrontendMessage;
-use crate::message::parts::{ended_len, text_len};
 use crate::message::round_trip::{check_ended, check_text};
-use pg_base::io::Sink;
+use pg_base::io::part::Part;
+use pg_base::io::{Ended, Sink};
 use pg_base::{FrontendMessageFormat, ProtocolFault};
 
 const MD5_PREFIX: &str = "md5";
@@ -24,24 +24,6 @@ pub enum Password<'a> {
     Md5 { digest: [u8; 16] },
 }
 
-impl Password<'_> {
-    ghost use Rattle.pg_send.specs.Message.{law_of, password_message};
-
-    /// Whether a reader would get the message back: refused with `TextHoldsNul` where the
-    /// password holds a NUL.
-    #[inline(always)]
-    pub fn check_round_trip(&self) -> Result<(), ProtocolFault>
-        ensures ok { OnOk result (law_of (password_message self.now)).CanRoundTrip }
-        ensures fault { IfErr result (λ fault. ((law_of (password_message self.now)).round_trip_fault ≡ Some fault) × ¬ (law_of (password_message self.now)).CanRoundTrip) }
-    {
-        match self {
-            Password::Cleartext(password) => check_text(password),
-            Password::Bytes(password) => check_ended(password),
-            Password::Md5 { .. } => Ok(()),
-        }
-    }
-}
-
 impl FrontendMessage for Password<'_> {
     ghost use Rattle.pg_send.specs.Message.{law_of, password_message};
 
@@ -55,14 +37,23 @@ impl FrontendMessage for Password<'_> {
 
     fn body_len(&self) -> usize {
         match self {
-            Password::Cleartext(password) => text_len(password),
-            Password::Bytes(password) => ended_len(password),
+            Password::Cleartext(password) => Ended(*password).len(),
+            Password::Bytes(password) => Ended(*password).len(),
             Password::Md5 { digest } => md5_body_len(digest),
         }
     }
 
     fn count_fault(&self) -> Option<ProtocolFault> {
         None
+    }
+
+    #[inline(always)]
+    fn check_round_trip(&self) -> Result<(), ProtocolFault> {
+        match self {
+            Password::Cleartext(password) => check_text(password),
+            Password::Bytes(password) => check_ended(password),
+            Password::Md5 { .. } => Ok(()),
+        }
     }
 
     fn room_for(&self, len: usize) -> usize {

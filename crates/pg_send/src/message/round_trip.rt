@@ -20,12 +20,15 @@ pub fn check_text(text: &str) -> Result<(), ProtocolFault>
     check_ended(text.as_bytes())
 }
 
-/// Refuses bytes that are to end at a NUL, and hold one, with `TextHoldsNul`.
+/// Refuses bytes that are to end at a NUL, and hold one, with `TextHoldsNul`. No bytes aren't searched.
 #[inline(always)]
 pub fn check_ended(bytes: &[u8]) -> Result<(), ProtocolFault>
     ensures ok { OnOk result (HoldsNo 0 bytes.now) }
     ensures fault { IfErr result (λ fault. (fault ≡ TextHoldsNul) × ¬ (HoldsNo 0 bytes.now)) }
 {
+    if bytes.is_empty() {
+        return Ok(());
+    }
     match memchr(0, bytes) {
         Some(_) => Err(ProtocolFault::TextHoldsNul),
         None => Ok(()),

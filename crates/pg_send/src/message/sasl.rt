@@ -4,8 +4,10 @@ ghost use Rattle.std.specs.Prelude.{◌≡◌};
 ghost use Rattle.pg_send.specs.SaslInitialResponse.{mechanism, sasl_initial_law, sasl_initial_fields};
 ghost use Rattle.pg_send.specs.SaslResponse.{sasl_response_law};
 
-use crate::message::FrontendMessage;
-use pg_base::io::Sink;
+use crate::message::composed::Composed;
+use crate::message::values::Value;
+use pg_base::io::Ended;
+use pg_base::io::part::{Slice, Then};
 use pg_base::{FrontendMessageFormat, ProtocolFault};
 
 /// Chooses SCRAM with SHA-256, and begins it. Documentation: "Message Formats",
@@ -30,71 +32,61 @@ impl SaslInitialResponse<'_> {
     }
 }
 
-impl FrontendMessage for SaslInitialResponse<'_> {
+impl<'a> Composed for SaslInitialResponse<'a> {
+    type Body = Then<Ended<&'a str>, Value<'a>>;
+
     const FORMAT: FrontendMessageFormat = FrontendMessageFormat::PasswordPolymorphic;
 
     ghost law = { λ sasl. sasl_initial_law (sasl_initial_fields sasl) };
 
-    fn tag(&self) -> u8 {
-        Self::FORMAT as u8
+    ghost use Rattle.std.specs.Prelude.{refl};
+
+    ghost snug = { λ _. refl };
+
+    fn letter(&self) -> u8 {
+        FrontendMessageFormat::PasswordPolymorphic as u8
     }
 
-    fn body_len(&self) -> usize {
-        let mechanism = self.selected_mechanism().len();
-        mechanism
-            .saturating_add(5)
-            .saturating_add(self.response.len())
+    #[inline(always)]
+    fn check(&self) -> Result<(), ProtocolFault> {
+        Ok(())
     }
 
-    fn count_fault(&self) -> Option<ProtocolFault> {
-        None
+    #[inline(always)]
+    fn parts(&self) -> Self::Body {
+        Then(
+            Ended(self.selected_mechanism()),
+            Value(Some(self.response.as_bytes())),
+        )
     }
-
-    fn room_for(&self, len: usize) -> usize {
-        len
-    }
-
-    fn put_body<S: Sink>(&self, sink: &mut S) {
-        sink.put_text(self.selected_mechanism().as_bytes());
-        sink.put_u32(self.response.len() as u32);
-        sink.put_slice(self.response.as_bytes());
-    }
-
-    ghost use Rattle.std.proofs.Common.{arith};
-
-    ghost enough = { λ sasl h. Prim.grind (arith) };
 }
 
 /// Answers a challenge of the mechanism. Documentation: "Message Formats", SASLResponse (F).
 #[derive(Drop)]
 pub struct SaslResponse<'a>(pub &'a str);
 
-impl FrontendMessage for SaslResponse<'_> {
+impl<'a> Composed for SaslResponse<'a> {
+    type Body = Slice<'a>;
+
     const FORMAT: FrontendMessageFormat = FrontendMessageFormat::PasswordPolymorphic;
 
     ghost law = { λ sasl. sasl_response_law sasl.0.now };
 
-    fn tag(&self) -> u8 {
-        Self::FORMAT as u8
+    ghost use Rattle.std.specs.Prelude.{refl};
+
+    ghost snug = { λ _. refl };
+
+    fn letter(&self) -> u8 {
+        FrontendMessageFormat::PasswordPolymorphic as u8
     }
 
-    fn body_len(&self) -> usize {
-        self.0.len()
+    #[inline(always)]
+    fn check(&self) -> Result<(), ProtocolFault> {
+        Ok(())
     }
 
-    fn count_fault(&self) -> Option<ProtocolFault> {
-        None
+    #[inline(always)]
+    fn parts(&self) -> Self::Body {
+        Slice(self.0.as_bytes())
     }
-
-    fn room_for(&self, len: usize) -> usize {
-        len
-    }
-
-    fn put_body<S: Sink>(&self, sink: &mut S) {
-        sink.put_slice(self.0.as_bytes());
-    }
-
-    ghost use Rattle.std.proofs.Common.{arith};
-
-    ghost enough = { λ sasl h. Prim.grind (arith) };
 }

@@ -1,13 +1,12 @@
 //! The choice of any mechanism of authentication.
 
-ghost use Rattle.std.specs.Prelude.{◌≡◌, Some, OnOk, IfErr};
 ghost use Rattle.pg_send.specs.SaslInitial.{any_sasl_law, any_sasl_fields};
 
-use crate::message::FrontendMessage;
-use crate::message::parts::ended_len;
+use crate::message::composed::Composed;
 use crate::message::round_trip::check_ended;
-use crate::message::values::{put_value, value_len};
-use pg_base::io::Sink;
+use crate::message::values::Value;
+use pg_base::io::Ended;
+use pg_base::io::part::Then;
 use pg_base::{FrontendMessageFormat, ProtocolFault};
 
 /// Chooses any mechanism of SASL, and may begin it. With a NUL in the name the message doesn't make
@@ -20,46 +19,29 @@ pub struct SaslInitial<'a> {
     pub response: Option<&'a [u8]>,
 }
 
-impl SaslInitial<'_> {
-    /// Whether a reader would get the message back: refused with `TextHoldsNul` where the name holds a
-    /// NUL.
-    #[inline(always)]
-    pub fn check_round_trip(&self) -> Result<(), ProtocolFault>
-        ensures ok { OnOk result (any_sasl_law (any_sasl_fields self.now)).CanRoundTrip }
-        ensures fault { IfErr result (λ fault. ((any_sasl_law (any_sasl_fields self.now)).round_trip_fault ≡ Some fault) × ¬ (any_sasl_law (any_sasl_fields self.now)).CanRoundTrip) }
-    {
-        check_ended(self.mechanism)
-    }
-}
+impl<'a> Composed for SaslInitial<'a> {
+    type Body = Then<Ended<&'a [u8]>, Value<'a>>;
 
-impl FrontendMessage for SaslInitial<'_> {
     const FORMAT: FrontendMessageFormat = FrontendMessageFormat::PasswordPolymorphic;
 
     ghost law = { λ sasl. any_sasl_law (any_sasl_fields sasl) };
 
-    fn tag(&self) -> u8 {
-        Self::FORMAT as u8
+    ghost use Rattle.std.specs.Prelude.{refl};
+
+    ghost snug = { λ _. refl };
+
+    fn letter(&self) -> u8 {
+        FrontendMessageFormat::PasswordPolymorphic as u8
     }
 
-    fn body_len(&self) -> usize {
-        ended_len(self.mechanism).saturating_add(value_len(self.response))
-    }
-
-    fn count_fault(&self) -> Option<ProtocolFault> {
-        None
-    }
-
-    fn room_for(&self, len: usize) -> usize {
-        len
+    // Refused with `TextHoldsNul` where the name holds a NUL.
+    #[inline(always)]
+    fn check(&self) -> Result<(), ProtocolFault> {
+        check_ended(self.mechanism)
     }
 
     #[inline(always)]
-    fn put_body<S: Sink>(&self, sink: &mut S) {
-        sink.put_text(self.mechanism);
-        put_value(self.response, sink);
+    fn parts(&self) -> Self::Body {
+        Then(Ended(self.mechanism), Value(self.response))
     }
-
-    ghost use Rattle.std.proofs.Common.{arith};
-
-    ghost enough = { λ sasl h. Prim.grind (arith) };
 }

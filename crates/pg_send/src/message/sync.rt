@@ -2,8 +2,8 @@
 
 ghost use Rattle.pg_send.specs.Sync.{sync_law};
 
-use crate::message::FrontendMessage;
-use pg_base::io::Sink;
+use crate::message::composed::Composed;
+use pg_base::io::part::Nothing;
 use pg_base::{FrontendMessageFormat, ProtocolFault};
 
 /// Asks the server to end the extended query and to say that it is ready. Documentation: "Message
@@ -11,31 +11,28 @@ use pg_base::{FrontendMessageFormat, ProtocolFault};
 #[derive(Debug, Drop)]
 pub struct Sync;
 
-impl FrontendMessage for Sync {
+impl Composed for Sync {
+    type Body = Nothing;
+
     const FORMAT: FrontendMessageFormat = FrontendMessageFormat::Sync;
 
     ghost law = { λ _. sync_law };
 
-    fn tag(&self) -> u8 {
-        Self::FORMAT as u8
-    }
+    ghost use Rattle.std.specs.Prelude.{refl};
 
-    fn body_len(&self) -> usize {
-        0
-    }
+    ghost snug = { λ _. refl };
 
-    fn count_fault(&self) -> Option<ProtocolFault> {
-        None
-    }
-
-    fn room_for(&self, len: usize) -> usize {
-        len
+    fn letter(&self) -> u8 {
+        FrontendMessageFormat::Sync as u8
     }
 
     #[inline(always)]
-    fn put_body<S: Sink>(&self, _sink: &mut S) {}
+    fn check(&self) -> Result<(), ProtocolFault> {
+        Ok(())
+    }
 
-    ghost use Rattle.std.proofs.Common.{arith};
-
-    ghost enough = { λ _ h. Prim.omega arith };
+    #[inline(always)]
+    fn parts(&self) -> Self::Body {
+        Nothing
+    }
 }

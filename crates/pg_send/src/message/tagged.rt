@@ -1,17 +1,19 @@
 //! Any message that has a tag.
 
-ghost use Rattle.std.specs.Prelude.{◌≡◌, ◌+◌, ◌<◌, ◌≤◌, [], ◌∷◌, ◌++◌, length, drop, Some, None, Ok, OnOk, IfErr, vec_len, vec_capacity};
+ghost use Rattle.std.specs.Prelude.{◌≡◌, ◌+◌, ◌<◌, ◌≤◌, [], ◌∷◌, ◌++◌, length, drop, None, Ok, OnOk, IfErr, vec_len, vec_capacity};
 ghost use Rattle.std.specs.Bool.{OnTrue, OnFalse};
-ghost use Rattle.pg_send.specs.FrontendMessage.{EncodesMessage, room_or_fault};
-ghost use Rattle.pg_send.specs.Message.{law_of, body, fault, hint, text, IsInRange, CanRoundTrip, round_trip_fault, RoundTrips};
+ghost use Rattle.pg_send.specs.FrontendMessage.{CannotRoundTrip, EncodesMessage, room_or_fault};
+ghost use Rattle.pg_send.specs.Message.{law_of, body, fault, hint, text, IsInRange, CanRoundTrip, RoundTrips};
 ghost use Rattle.pg_send.specs.Run.{IsMeantIfItCan, AreReadByTag};
 ghost use Rattle.pg_send.specs.TaggedMessage.{message_of};
 
-use crate::message::tagged_visitor::{EncodeFrame, FrameRoom, PutFrame, PutIfFits, TaggedVisitor};
+use crate::message::tagged_visitor::{
+    CheckRoundTrip, EncodeFrame, FrameRoom, PutFrame, PutIfFits, PutIfReadBack, TaggedVisitor,
+};
 use crate::message::{
-    Bind, Close, CopyData, CopyDone, CopyFail, Describe, Execute, Flush, FrontendMessage,
-    FunctionCall, Parse, Password, Query, RawBind, RawClose, RawDescribe, RawExecute, RawParse,
-    SaslInitial, SaslInitialResponse, SaslResponse, Sync, Terminate, put_if_fits,
+    Bind, Close, CopyData, CopyDone, CopyFail, Describe, Execute, Flush, FunctionCall, Parse,
+    Password, Query, RawBind, RawClose, RawDescribe, RawExecute, RawParse, SaslInitial,
+    SaslInitialResponse, SaslResponse, Sync, Terminate,
 };
 use pg_base::io::Sink;
 use pg_base::{Error, ProtocolFault};
@@ -83,7 +85,7 @@ impl TaggedMessage<'_> {
         self.visit::<Vec<u8>, PutIfFits>(buf)
     }
 
-    // The same of a message that a reader would get back. One match checks and adds it.
+    // The same of a message that a reader would get back.
     #[inline(always)]
     pub(crate) fn put_if_read_back(&self, buf: &mut Vec<u8>) -> bool
         ensures encodes { OnTrue result (EncodesMessage (law_of (message_of self.now)) buf.old buf.new (Ok tt)) }
@@ -92,53 +94,7 @@ impl TaggedMessage<'_> {
         ensures same { OnFalse result (buf.new ≡ buf.old) }
         ensures short { OnFalse result (fault (message_of self.now) ≡ None → CanRoundTrip (message_of self.now) → vec_capacity buf.old < vec_len buf.old + (hint (message_of self.now) + 5)) }
     {
-        match self {
-            TaggedMessage::Bind(message) => {
-                message.check_round_trip().is_ok() && put_if_fits(message, buf)
-            }
-            TaggedMessage::Close(message) => put_if_fits(message, buf),
-            TaggedMessage::CopyData(message) => put_if_fits(message, buf),
-            TaggedMessage::CopyDone(message) => put_if_fits(message, buf),
-            TaggedMessage::CopyFail(message) => {
-                let message: &CopyFail = message;
-                message.check_round_trip().is_ok() && put_if_fits(message, buf)
-            }
-            TaggedMessage::Describe(message) => put_if_fits(message, buf),
-            TaggedMessage::Execute(message) => put_if_fits(message, buf),
-            TaggedMessage::Flush(message) => put_if_fits(message, buf),
-            TaggedMessage::FunctionCall(message) => put_if_fits(message, buf),
-            TaggedMessage::Parse(message) => {
-                message.check_round_trip().is_ok() && put_if_fits(message, buf)
-            }
-            TaggedMessage::Password(message) => {
-                message.check_round_trip().is_ok() && put_if_fits(message, buf)
-            }
-            TaggedMessage::Query(message) => {
-                message.check_round_trip().is_ok() && put_if_fits(message, buf)
-            }
-            TaggedMessage::RawBind(message) => {
-                message.check_round_trip().is_ok() && put_if_fits(message, buf)
-            }
-            TaggedMessage::RawClose(message) => {
-                message.check_round_trip().is_ok() && put_if_fits(message, buf)
-            }
-            TaggedMessage::RawDescribe(message) => {
-                message.check_round_trip().is_ok() && put_if_fits(message, buf)
-            }
-            TaggedMessage::RawExecute(message) => {
-                message.check_round_trip().is_ok() && put_if_fits(message, buf)
-            }
-            TaggedMessage::RawParse(message) => {
-                message.check_round_trip().is_ok() && put_if_fits(message, buf)
-            }
-            TaggedMessage::SaslInitial(message) => {
-                message.check_round_trip().is_ok() && put_if_fits(message, buf)
-            }
-            TaggedMessage::SaslInitialResponse(message) => put_if_fits(message, buf),
-            TaggedMessage::SaslResponse(message) => put_if_fits(message, buf),
-            TaggedMessage::Sync(message) => put_if_fits(message, buf),
-            TaggedMessage::Terminate(message) => put_if_fits(message, buf),
-        }
+        self.visit::<Vec<u8>, PutIfReadBack>(buf)
     }
 
     // The frame of what it holds.
@@ -167,32 +123,9 @@ impl TaggedMessage<'_> {
     #[inline(always)]
     pub fn check_round_trip(&self) -> Result<(), ProtocolFault>
         ensures ok { OnOk result (CanRoundTrip (message_of self.now)) }
-        ensures fault { IfErr result (λ fault. (round_trip_fault (message_of self.now) ≡ Some fault) × ¬ (CanRoundTrip (message_of self.now))) }
+        ensures fault { IfErr result (CannotRoundTrip (law_of (message_of self.now))) }
     {
-        match self {
-            TaggedMessage::Bind(message) => message.check_round_trip(),
-            TaggedMessage::CopyFail(message) => message.check_round_trip(),
-            TaggedMessage::Parse(message) => message.check_round_trip(),
-            TaggedMessage::Password(message) => message.check_round_trip(),
-            TaggedMessage::Query(message) => message.check_round_trip(),
-            TaggedMessage::RawBind(message) => message.check_round_trip(),
-            TaggedMessage::RawClose(message) => message.check_round_trip(),
-            TaggedMessage::RawDescribe(message) => message.check_round_trip(),
-            TaggedMessage::RawExecute(message) => message.check_round_trip(),
-            TaggedMessage::RawParse(message) => message.check_round_trip(),
-            TaggedMessage::SaslInitial(message) => message.check_round_trip(),
-            TaggedMessage::Close(_)
-            | TaggedMessage::CopyData(_)
-            | TaggedMessage::CopyDone(_)
-            | TaggedMessage::Describe(_)
-            | TaggedMessage::Execute(_)
-            | TaggedMessage::Flush(_)
-            | TaggedMessage::FunctionCall(_)
-            | TaggedMessage::SaslInitialResponse(_)
-            | TaggedMessage::SaslResponse(_)
-            | TaggedMessage::Sync(_)
-            | TaggedMessage::Terminate(_) => Ok(()),
-        }
+        self.visit::<(), CheckRoundTrip>(&mut ())
     }
 
     /// Adds a message within the limits, in room that is there.

@@ -2,11 +2,11 @@
 
 ghost use Rattle.std.specs.Prelude.{◌≡◌};
 ghost use Rattle.pg_send.specs.FrontendMessage.{Law, fault, hint, room_or_fault};
-ghost use Rattle.pg_send.specs.TaggedVisitor.{PutsIfFits, EncodesInRange, HasRoom, PutsFrame};
+ghost use Rattle.pg_send.specs.TaggedVisitor.{PutsIfFits, PutsIfReadBack, IsRoundTripCheck, EncodesInRange, HasRoom, PutsFrame};
 
 use crate::message::{FrontendMessage, encode_frame, put_if_fits};
-use pg_base::Error;
 use pg_base::io::Sink;
+use pg_base::{Error, ProtocolFault};
 
 /// Takes a message of any type and what it works on, for [`TaggedMessage::visit`].
 ///
@@ -40,6 +40,38 @@ impl TaggedVisitor<Vec<u8>> for PutIfFits {
     #[inline(always)]
     fn visit<M: FrontendMessage>(message: &M, buf: &mut Vec<u8>) -> bool {
         put_if_fits(message, buf)
+    }
+}
+
+/// The same of a message that a reader would get back.
+pub struct PutIfReadBack;
+
+impl TaggedVisitor<Vec<u8>> for PutIfReadBack {
+    type Output = bool;
+
+    ghost asks = { λ law buf. Unit {0} };
+
+    ghost gives = { PutsIfReadBack };
+
+    #[inline(always)]
+    fn visit<M: FrontendMessage>(message: &M, buf: &mut Vec<u8>) -> bool {
+        message.check_round_trip().is_ok() && put_if_fits(message, buf)
+    }
+}
+
+/// Whether a reader would get the message back.
+pub struct CheckRoundTrip;
+
+impl TaggedVisitor<()> for CheckRoundTrip {
+    type Output = Result<(), ProtocolFault>;
+
+    ghost asks = { λ law none. Unit {0} };
+
+    ghost gives = { λ law old new result. IsRoundTripCheck law result };
+
+    #[inline(always)]
+    fn visit<M: FrontendMessage>(message: &M, _none: &mut ()) -> Result<(), ProtocolFault> {
+        message.check_round_trip()
     }
 }
 

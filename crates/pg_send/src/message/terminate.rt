@@ -2,39 +2,36 @@
 
 ghost use Rattle.pg_send.specs.Terminate.{terminate_law};
 
-use crate::message::FrontendMessage;
-use pg_base::io::Sink;
+use crate::message::composed::Composed;
+use pg_base::io::part::Nothing;
 use pg_base::{FrontendMessageFormat, ProtocolFault};
 
 /// Tells the server that the session ends. Documentation: "Message Formats", Terminate (F).
 #[derive(Drop)]
 pub struct Terminate;
 
-impl FrontendMessage for Terminate {
+impl Composed for Terminate {
+    type Body = Nothing;
+
     const FORMAT: FrontendMessageFormat = FrontendMessageFormat::Terminate;
 
     ghost law = { λ _. terminate_law };
 
-    fn tag(&self) -> u8 {
-        Self::FORMAT as u8
-    }
+    ghost use Rattle.std.specs.Prelude.{refl};
 
-    fn body_len(&self) -> usize {
-        0
-    }
+    ghost snug = { λ _. refl };
 
-    fn count_fault(&self) -> Option<ProtocolFault> {
-        None
-    }
-
-    fn room_for(&self, len: usize) -> usize {
-        len
+    fn letter(&self) -> u8 {
+        FrontendMessageFormat::Terminate as u8
     }
 
     #[inline(always)]
-    fn put_body<S: Sink>(&self, _sink: &mut S) {}
+    fn check(&self) -> Result<(), ProtocolFault> {
+        Ok(())
+    }
 
-    ghost use Rattle.std.proofs.Common.{arith};
-
-    ghost enough = { λ _ h. Prim.omega arith };
+    #[inline(always)]
+    fn parts(&self) -> Self::Body {
+        Nothing
+    }
 }

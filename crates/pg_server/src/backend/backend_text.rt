@@ -1,6 +1,7 @@
 //! The law of a message to a client, and the frame round each.
 
 ghost use Rattle.std.specs.Prelude.{◌≡◌, ◌+◌, ◌≤◌, ◌++◌, length, None, OnOk, IfOk};
+ghost use Rattle.pg_base.specs.Cutting.{max_length};
 ghost use Rattle.pg_base.specs.Sink.{IsGiven};
 ghost use Rattle.pg_server.specs.Backend.BackendText.{checked_len, saturated, Encodes, IsWritten};
 ghost use Rattle.pg_server.specs.Backend.Message.{Message, law_of, tag, body, part_fault, fault, text, IsInRange, IsRead};
@@ -76,8 +77,7 @@ pub trait BackendText: Sized + Drop {
         ensures loan { S.loan sink.new ≡ S.loan sink.old }
         ensures range { IsInRange (message self.now) }
     {
-        let [first, second, third, fourth] = (len as u32 + 4).to_be_bytes();
-        sink.put_slice(&[self.tag(), first, second, third, fourth]);
+        sink.put_head(self.tag(), len);
         self.put_body(sink);
     }
 
@@ -118,6 +118,7 @@ pub fn encode<M: BackendText>(message: &M, buf: &mut Vec<u8>) -> Result<(), Back
 pub fn write<M: BackendText>(message: &M, out: &mut [u8]) -> Result<usize, BackendFault>
     ensures written { IsWritten (law_of (M.message message.now)) out.old out.new result }
     ensures read { IfOk result (λ len. len ≤ length out.old → IsRead (M.message message.now)) }
+    ensures small { IfOk result (λ len. len ≤ max_length + 1) }
 {
     let len = message.checked_body_len()?;
     write_front(message, len, out);

@@ -1,4 +1,4 @@
-use Rattle.std.proofs.Common.{◌≡◌, pos, negsuc, length, drop, arith, rules, ap, suc, zero}
+use Rattle.std.proofs.Common.{◌≡◌, pos, negsuc, length, drop, arith, rules, ap, suc}
 use Rattle.std.specs.Int.{w32}
 use Rattle.std.proofs.lemmas.Int.{to_z-of_z, ints}
 use mir.Val.{SFits}

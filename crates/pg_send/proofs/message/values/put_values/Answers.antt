@@ -1,21 +1,17 @@
-use Rattle.std.proofs.Common.{ℕ, Option, None, List, [], Bor, length, arith, option_copied, refl, rules}
+use Rattle.std.proofs.Common.{ℕ, Option, List, [], length, ap, ◌∙◌, arith, refl}
 use Rattle.pg_base.specs.Cutting.{max_length}
-use Rattle.pg_base.specs.Numbers.{be16}
 use Rattle.pg_send.specs.Values.{value_text}
 use Rattle.pg_send.proofs.CountedLemmas.{room_for_one}
 use Rattle.pg_send.proofs.message.values.put_values.Goals as goal
 
 pub put_value-requires-clause-small : goal.put_value-requires-clause-small
 put_value-requires-clause-small g c =
-    let values = c.args.values.now in
-    let one = room_for_one value_text (λ (v : Option (Bor (List ℕ))). option_copied v) values c.loop-value.value-index None c.loop-value-test.true [] [] _ max_length refl (omega (arith, c.requires.small)) in
-    omega (arith, one)
+    let is = c.as_value.ensures ∙ ap g.V.AsValue.value c.value-item.is in
+    let one = room_for_one value_text g.V.AsValue.value c.args.values.now c.loop-value.value-index c.value-item.result c.loop-value-test.true [] [] _ max_length refl (omega (arith, c.requires.small)) in
+    omega (arith, one, ap (λ (v : Option (List ℕ)). length (value_text v)) is)
 
 pub put_value-requires-clause-room : goal.put_value-requires-clause-room
 put_value-requires-clause-room g c =
-    let values = c.args.values.now in
-    let room = room_for_one value_text (λ (v : Option (Bor (List ℕ))). option_copied v) values c.loop-value.value-index None c.loop-value-test.true (g.S.Sink.written c.args.sink.now) (be16 (length values)) _ (g.S.Sink.capacity c.args.sink.now) c.loop-value.invariant.adds (omega (arith, c.requires.room)) in
-    omega (arith, room, c.loop-value.invariant.capacity)
-
-pub loop-value-init : goal.loop-value-init
-loop-value-init g c = search rules
+    let is = c.as_value.ensures ∙ ap g.V.AsValue.value c.value-item.is in
+    let room = room_for_one value_text g.V.AsValue.value c.args.values.now c.loop-value.value-index c.value-item.result c.loop-value-test.true (g.S.Sink.written c.args.sink.now) [] _ (g.S.Sink.capacity c.args.sink.now) c.loop-value.invariant.adds (omega (arith, c.requires.room)) in
+    omega (arith, room, ap (λ (v : Option (List ℕ)). length (value_text v)) is, c.loop-value.invariant.capacity)

@@ -1,5 +1,0 @@
-use Rattle.std.proofs.Common.{rules}
-use Rattle.pg_c.proofs.put.lists.values_len.Goals as goal
-
-pub loop-value-init : goal.loop-value-init
-loop-value-init c = search rules
