@@ -3,10 +3,7 @@ use Rattle.std.proofs.Common.{inl, inr, ◌≡◌, ℕ, ◌+◌, ◌≤◌, ℤ,
 use Rattle.std.proofs.lemmas.List.{drop_at}
 use Rattle.pg_base.specs.Cutting.{Begins}
 use Rattle.pg_base.specs.Format.{frontend_tag}
-use Rattle.pg_base.specs.Reading.{Signed}
 use Rattle.pg_base.specs.declared.format.FrontendMessageFormat.{FrontendMessageFormat}
-use Rattle.pg_base.proofs.ReadingLemmas.{signed_fits}
-use Rattle.pg_frames.specs.Stream.{Announces}
 use Rattle.pg_frames.specs.Frontend.Frame.{BeginsFirst, BeginsTagged, StandsFirst, WantsMoreTagged}
 use Rattle.pg_frames.specs.declared.frontend.frame.Expects.{Expects}
 use Rattle.pg_frames.specs.declared.frontend.message.ClientMessageKind.{ClientMessageKind}
@@ -15,7 +12,7 @@ use Rattle.pg_c.specs.Client.Frames.{Needs}
 use Rattle.pg_c.specs.Place.{bytes_in}
 use Rattle.pg_c.specs.Read.RawFrame as read
 use Rattle.pg_c.proofs.PlaceLemmas.{bytes_are}
-use Rattle.pg_c.proofs.ReadFrameLemmas.{announced_is}
+use Rattle.pg_frames.proofs.StreamLemmas.{one_announced, announces_fits}
 
 -- ---- a first message
 
@@ -39,16 +36,11 @@ begins_tagged bytes (kinds.Tagged format) body rest next p = (format, p.0)
 pub tag_is : (bytes : List ℕ) (tag : ℕ) (body rest : List ℕ) → Begins bytes tag body rest → get_or bytes 0 0 ≡ tag
 tag_is bytes tag body rest p = rw p.parts refl
 
-header_is_there : (bytes : List ℕ) (tag : ℕ) (announced : ℤ) → Announces bytes tag announced → 5 ≤ length bytes
-header_is_there bytes tag announced p = omega (arith, ap length p.parts, signed_fits 4 p.after announced p.rest p.counted)
-
 -- it needs as many bytes as one of any tag
 pub needs_tagged : (bytes : List ℕ) (needed : ℕ) → WantsMoreTagged bytes → read.Needs bytes needed → Needs bytes needed
 needs_tagged bytes needed wants (inl header) = inl header
-needs_tagged bytes needed (inl short) (inr b) = absurd (omega (arith, short, header_is_there bytes b.tag (pos b.announced) b.announces))
+needs_tagged bytes needed (inl short) (inr b) = absurd (omega (arith, short, announces_fits bytes b.tag (pos b.announced) b.announces))
 needs_tagged bytes needed (inr g) (inr b) =
-    let after : drop 1 bytes ≡ b.announces.after = ap (drop 1) b.announces.parts in
-    let counted : Signed 4 (drop 1 bytes) (pos b.announced) b.announces.rest = rw after b.announces.counted in
-    let same : pos b.announced ≡ pos g.announced = announced_is bytes (frontend_tag g.format) (pos g.announced) (pos b.announced) b.announces.rest g.announces counted in
+    let same : pos b.announced ≡ pos g.announced = (one_announced bytes b.tag (frontend_tag g.format) (pos b.announced) (pos g.announced) b.announces g.announces).1 in
     let count : b.announced ≡ g.announced = cc same in
     inr (record { format = g.format; announced = g.announced; announces = g.announces; least = g.least; short = g.short; all = omega (arith, b.all, count) })

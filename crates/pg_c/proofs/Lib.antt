@@ -5,7 +5,6 @@ pub mod ClientStartupLemmas
 pub mod ClientValuesLemmas
 pub mod PlaceLemmas
 pub mod PutListsLemmas
-pub mod PutStartupLemmas
 pub mod ReadAuthenticationLemmas
 pub mod ReadColumnsLemmas
 pub mod ReadFieldsLemmas

@@ -2,9 +2,7 @@
 use Rattle.std.proofs.Common.{inl, inr, ◌≡◌, ℕ, ◌+◌, ℤ, Some, List, ◌∷◌, ◌++◌, length, drop, sym, ap, ◌∙◌, arith, append_assoc, length-append}
 use Rattle.std.proofs.lemmas.List.{drop_at}
 use Rattle.pg_base.specs.Cutting.{Begins}
-use Rattle.pg_base.specs.Reading.{Signed}
-use Rattle.pg_base.proofs.ReadingLemmas.{one_signed}
-use Rattle.pg_frames.specs.Stream.{Announces, WantsMore}
+use Rattle.pg_frames.specs.Stream.{WantsMore}
 use Rattle.pg_frames.specs.Stream.Raw as raw
 use Rattle.pg_c.specs.Place.{bytes_in}
 use Rattle.pg_c.proofs.PlaceLemmas.{bytes_are}
@@ -17,11 +15,6 @@ message_at bytes tag body rest p =
     let parts : bytes ≡ head ++ (body ++ rest) = p.parts ∙ ap (λ (l : List ℕ). tag ∷ l) (append_assoc p.field body rest) in
     let whole : bytes ≡ (head ++ body) ++ rest = parts ∙ sym (append_assoc head body rest) in
     (bytes_are bytes head body rest 5 parts five, rw whole (drop_at (head ++ body) rest (5 + length body) (omega (arith, five, length-append head body))))
-
-pub announced_is : (bytes : List ℕ) (tag : ℕ) (announced z : ℤ) (rest : List ℕ) → Announces bytes tag announced → Signed 4 (drop 1 bytes) z rest → z ≡ announced
-announced_is bytes tag announced z rest p q =
-    let after : drop 1 bytes ≡ p.after = ap (drop 1) p.parts in
-    (one_signed 4 p.after z announced rest p.rest (rw after at q) p.counted).0
 
 -- a message of a tag that is known wants no less than one of any tag
 pub wants_of_any : (bytes : List ℕ) → WantsMore bytes → raw.WantsMore bytes

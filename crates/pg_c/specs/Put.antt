@@ -10,17 +10,13 @@ use Rattle.pg_base.specs.Sink.{IsGiven}
 use Rattle.pg_base.specs.declared.error.Error.{Error}
 use Rattle.pg_base.specs.declared.error.Error.TheVariants.{Protocol, OutOfMemory}
 use Rattle.pg_base.specs.declared.error.ProtocolFault.{ProtocolFault}
-use Rattle.pg_send.specs.FrontendMessage.{Law, fault, text}
+use Rattle.pg_send.specs.FrontendMessage.{Law, CannotRoundTrip, fault, text}
 use Rattle.pg_send.specs.Message.{Message, law_of}
 use Rattle.pg_c.specs.Refusal.{fault_number, refusal_number}
 
 -- the message breaks no limit, and a reader gets it back
 abbrev pub IsSound : Law → Type 0
 IsSound law = (fault law ≡ None) × law.CanRoundTrip
-
--- a reader wouldn't get the message of a law back, for this fault
-abbrev pub CannotRoundTrip : Law → ProtocolFault → Type 0
-CannotRoundTrip law fault = (law.round_trip_fault ≡ Some fault) × ¬ law.CanRoundTrip
 
 -- it breaks this limit first; or it breaks none, and a reader wouldn't get it back
 abbrev pub IsDue : Law → Error → Type 0

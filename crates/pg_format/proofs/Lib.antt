@@ -1,4 +1,5 @@
 pub mod EndedTextsLemmas
 pub mod ExamplesLemmas
 pub mod FormatLaws
+pub mod ItemsLemmas
 pub mod TextLemmas

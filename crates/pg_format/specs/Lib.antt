@@ -1,5 +1,6 @@
 pub mod EndedTexts
 pub mod Format
+pub mod Items
 pub mod Keyed
 pub mod Lawful
 pub mod Messages

@@ -1,9 +1,10 @@
 //! What the bytes of messages mean: formats for reading and for writing, the page of all messages, and
-//! the laws of both, which the crates of messages cite in their contracts; the texts within a body; and
-//! what a message from a server is (`BackendMessage`), whose decoding answers what its format means.
+//! the laws of both, which the crates of messages cite in their contracts; the texts and the lists within a
+//! body; and what a message from a server is (`BackendMessage`), whose decoding answers what its format means.
 #![tactic(auto)]
 
 mod copy;
+pub mod items;
 pub mod laws;
 mod received;
 pub mod text;

@@ -8,7 +8,7 @@ use Rattle.pg_base.specs.Reading.{Number}
 use Rattle.pg_base.specs.declared.format.FrontendMessageFormat.{FrontendMessageFormat}
 use Rattle.pg_base.proofs.CuttingLemmas.{parts_at, one_first}
 use Rattle.pg_base.proofs.ReadingLemmas.{one_number, one_signed, signed_fits}
-use Rattle.pg_frames.proofs.StreamLemmas.{one_announced, begins_announces, begins_fits, announces_fits, announces_stays}
+use Rattle.pg_frames.proofs.StreamLemmas.{one_announced, begins_announces, begins_fits, announces_fits, announces_stays, signed_stays}
 use Rattle.pg_server.specs.declared.frontend.error.FrontendFault.{FrontendFault}
 use Rattle.pg_server.specs.declared.frontend.error.FrontendFault.TheVariants.{UnknownTag, BadLength, FirstTooLong}
 use Rattle.pg_frames.specs.declared.frontend.frame.Expects.{Expects}
@@ -22,7 +22,7 @@ pub one_tag : (a b : FrontendMessageFormat) → frontend_tag a ≡ frontend_tag 
 one_tag a b = search rules
 
 -- first messages: the first four bytes announce one length
-one_length : (bytes : List ℕ) (x y : ℤ) → AnnouncesFirst bytes x → AnnouncesFirst bytes y → x ≡ y
+pub one_length : (bytes : List ℕ) (x y : ℤ) → AnnouncesFirst bytes x → AnnouncesFirst bytes y → x ≡ y
 one_length bytes x y p q = (one_signed 4 bytes x y p.rest q.rest p.counted q.counted).0
 
 first_announces : (limit : ℕ) (bytes body rest : List ℕ) → StandsFirst limit bytes body rest → AnnouncesFirst bytes (pos (4 + length body))
@@ -166,16 +166,8 @@ one_message limit expects.Tagged bytes (kinds.Tagged f) (kinds.Tagged g) a b x y
     (ap kinds.Tagged (one_tag f g one.0), one.1, one.2, p.1 ∙ sym q.1)
 
 -- what comes next changes nothing of what is announced
-first_announces_stays : (bytes more : List ℕ) (announced : ℤ) → AnnouncesFirst bytes announced → AnnouncesFirst (bytes ++ more) announced
-first_announces_stays bytes more announced p = record {
-  rest = p.rest ++ more;
-  counted = record {
-    spelled = p.counted.spelled;
-    wide = p.counted.wide;
-    is = p.counted.is;
-    parts = ap (λ (l : List ℕ). l ++ more) p.counted.parts ∙ append_assoc p.counted.spelled p.rest more;
-  };
-}
+pub first_announces_stays : (bytes more : List ℕ) (announced : ℤ) → AnnouncesFirst bytes announced → AnnouncesFirst (bytes ++ more) announced
+first_announces_stays bytes more announced p = record { rest = p.rest ++ more; counted = signed_stays 4 bytes more announced p.rest p.counted }
 
 pub fault_stays : (limit : ℕ) (state : Expects) (bytes more : List ℕ) (fault : FrontendFault) → IsStreamFault limit state bytes fault → IsStreamFault limit state (bytes ++ more) fault
 fault_stays limit expects.First bytes more fault (inl f) = inl (record { announced = f.announced; announces = first_announces_stays bytes more f.announced f.announces; low = f.low; is = f.is })

@@ -1,12 +1,13 @@
 -- How a frame begins is known by the bytes of its head alone, and in one way.
-use Rattle.std.proofs.Common.{◌≡◌, ◌+◌, ◌<◌, ◌≤◌, ℕ, ℤ, pos, List, [], ◌∷◌, ◌++◌, length, take, drop, Option, None, Some, refl, sym, ap, ◌∙◌, append_assoc, arith}
+use Rattle.std.proofs.Common.{◌≡◌, ◌+◌, ◌<◌, ◌≤◌, ℕ, ℤ, pos, List, [], ◌∷◌, ◌++◌, length, take, drop, Option, None, Some, refl, sym, ap, ◌∙◌, arith}
 use Rattle.std.proofs.lemmas.Int.{ints}
 use Rattle.std.proofs.lemmas.List.{take-append-le, take-append-drop}
 use Rattle.std.proofs.Math.Seq.{take-append_seam}
 use Rattle.pg_base.specs.Reading.{Signed}
-use Rattle.pg_base.proofs.ReadingLemmas.{one_signed, signed_fits}
+use Rattle.pg_base.proofs.ReadingLemmas.{signed_fits}
 use Rattle.pg_frames.specs.Stream.{Announces}
-use Rattle.pg_frames.proofs.StreamLemmas.{one_announced, announces_fits}
+use Rattle.pg_frames.proofs.StreamLemmas.{one_announced, announces_fits, announces_stays}
+use Rattle.pg_frames.proofs.FrontendFrameLemmas.{one_length, first_announces_stays}
 use Rattle.pg_frames.specs.Frontend.Frame.{AnnouncesFirst}
 use Rattle.pg_frames.specs.declared.frontend.frame.Expects.{Expects}
 use Rattle.pg_frames.specs.declared.frontend.frame.Expects.TheVariants as expects
@@ -28,14 +29,6 @@ signed_front width x y z rest p le =
       parts = sym (take-append-drop width x) ∙ ap (λ (l : List ℕ). l ++ drop width x) front;
     }
 
-signed_stays : (width : ℕ) (x y : List ℕ) (z : ℤ) (rest : List ℕ) → Signed width x z rest → Signed width (x ++ y) z (rest ++ y)
-signed_stays width x y z rest p = record {
-  spelled = p.spelled;
-  wide = p.wide;
-  is = p.is;
-  parts = ap (λ (l : List ℕ). l ++ y) p.parts ∙ append_assoc p.spelled rest y;
-}
-
 announces_front : (x y : List ℕ) (tag : ℕ) (z : ℤ) → 5 ≤ length x → Announces (x ++ y) tag z → Announces x tag z
 announces_front [] y tag z le p = absurd (omega (arith, le))
 announces_front (b ∷ bs) y tag z le p =
@@ -45,19 +38,8 @@ announces_front (b ∷ bs) y tag z le p =
     let counted : Signed 4 (bs ++ y) z p.rest = rw afters p.counted in
     record { after = bs; rest = drop 4 bs; counted = signed_front 4 bs y z p.rest counted (omega (arith, le)); parts = ap (λ (byte : ℕ). byte ∷ bs) tags }
 
-announces_stays : (x y : List ℕ) (tag : ℕ) (z : ℤ) → Announces x tag z → Announces (x ++ y) tag z
-announces_stays x y tag z p = record {
-  after = p.after ++ y;
-  rest = p.rest ++ y;
-  counted = signed_stays 4 p.after y z p.rest p.counted;
-  parts = ap (λ (l : List ℕ). l ++ y) p.parts;
-}
-
 first_announces_front : (x y : List ℕ) (z : ℤ) → 4 ≤ length x → AnnouncesFirst (x ++ y) z → AnnouncesFirst x z
 first_announces_front x y z le p = record { rest = drop 4 x; counted = signed_front 4 x y z p.rest p.counted le }
-
-first_announces_stays : (x y : List ℕ) (z : ℤ) → AnnouncesFirst x z → AnnouncesFirst (x ++ y) z
-first_announces_stays x y z p = record { rest = p.rest ++ y; counted = signed_stays 4 x y z p.rest p.counted }
 
 -- how a frame begins stands in the bytes of its head
 pub head_front : (state : Expects) (x y : List ℕ) (tag : Option ℕ) (count : ℕ) → head_length state ≤ length x → HasHead state (x ++ y) tag count → HasHead state x tag count
@@ -73,13 +55,10 @@ head_stays expects.First x y (Some t) count p = p
 head_stays expects.Tagged x y None count p = p
 head_stays expects.Tagged x y (Some t) count p = record { announced = p.announced; announces = announces_stays x y t (pos p.announced) p.announces; least = p.least; most = p.most; is = p.is }
 
-one_first_announced : (bytes : List ℕ) (x y : ℤ) → AnnouncesFirst bytes x → AnnouncesFirst bytes y → x ≡ y
-one_first_announced bytes x y p q = (one_signed 4 bytes x y p.rest q.rest p.counted q.counted).0
-
 -- a frame begins in one way
 pub one_head : (state : Expects) (bytes : List ℕ) (s t : Option ℕ) (m n : ℕ) → HasHead state bytes s m → HasHead state bytes t n → (s ≡ t) × (m ≡ n)
 one_head expects.First bytes None None m n p q =
-    let counts : pos m ≡ pos n = one_first_announced bytes (pos m) (pos n) p.announces q.announces in
+    let counts : pos m ≡ pos n = one_length bytes (pos m) (pos n) p.announces q.announces in
     let same : m ≡ n = cc in
     (refl, same)
 one_head expects.First bytes None (Some t) m n p q = absurd q
@@ -110,7 +89,7 @@ low_stays expects.Tagged x y announced p = record { tag = p.tag; announces = ann
 
 pub low_has_no_head : (state : Expects) (bytes : List ℕ) (announced : ℤ) (tag : Option ℕ) (count : ℕ) → HasLowLength state bytes announced → HasHead state bytes tag count → ⊥
 low_has_no_head expects.First bytes announced None count p q =
-    let one : announced ≡ pos count = one_first_announced bytes announced (pos count) p.announces q.announces in
+    let one : announced ≡ pos count = one_length bytes announced (pos count) p.announces q.announces in
     omega (arith, ints, one, p.low, q.least)
 low_has_no_head expects.First bytes announced (Some t) count p q = q
 low_has_no_head expects.Tagged bytes announced None count p q = q

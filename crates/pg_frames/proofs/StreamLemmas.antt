@@ -1,9 +1,11 @@
 -- The front of a stream is one of three: a whole message, one that goes on, or a fault.
-use Rattle.std.proofs.Common.{◌≡◌, ◌+◌, ◌-◌, ◌≤◌, ℕ, ℤ, pos, List, [], ◌∷◌, ◌++◌, length, take, drop, inl, inr, refl, sym, ap, ◌∙◌, append_assoc, append-nil, arith, length-append}
+use Rattle.std.proofs.Common.{◌≡◌, ◌+◌, ◌-◌, ◌≤◌, ℕ, ℤ, pos, List, [], ◌∷◌, ◌++◌, length, take, drop, inl, inr, refl, sym, ap, ◌∙◌, append_assoc, append-nil, arith, length-append, length-drop, Option, Some, None, Bor, IfSome}
+use Rattle.std.specs.List.{IsSplitAt}
+use Rattle.std.specs.Option.{MatchOption}
 use Rattle.std.proofs.lemmas.Int.{ints}
-use Rattle.std.proofs.lemmas.List.{drop-take}
+use Rattle.std.proofs.lemmas.List.{drop-take, drop_at, take_all, take-append-drop}
 use Rattle.std.proofs.Math.Seq.{drop-append-add, drop-append_seam, take-append_seam}
-use Rattle.pg_base.specs.Cutting.{Begins}
+use Rattle.pg_base.specs.Cutting.{max_length, Begins}
 use Rattle.pg_base.specs.Reading.{Signed}
 use Rattle.pg_base.specs.Format.{backend_tag}
 use Rattle.pg_base.specs.declared.format.BackendMessageFormat.{BackendMessageFormat}
@@ -80,17 +82,45 @@ one_fault bytes f g (inl p) (inr q) = absurd (p.unknown (rw (one_announced bytes
 one_fault bytes f g (inr p) (inl q) = absurd (q.unknown (rw (one_announced bytes q.tag p.tag q.announced p.announced q.announces p.announces).0 p.known))
 one_fault bytes f g (inr p) (inr q) = p.is ∙ ap BadLength (one_announced bytes p.tag q.tag p.announced q.announced p.announces q.announces).1 ∙ sym q.is
 
--- what comes next changes nothing of what is announced
+-- what is announced stands in the first five bytes
+announced_at : (bytes : List ℕ) (tag : ℕ) (z : ℤ) → Announces bytes tag z → (bytes ≡ tag ∷ drop 1 bytes) × Signed 4 (drop 1 bytes) z (drop 5 bytes)
+announced_at bytes tag z p =
+    let after : drop 1 bytes ≡ p.after = ap (drop 1) p.parts in
+    let rest : drop 5 bytes ≡ p.rest = ap (drop 5) p.parts ∙ ap (drop 4) p.counted.parts ∙ drop_at p.counted.spelled p.rest 4 p.counted.wide in
+    (p.parts ∙ ap (λ (l : List ℕ). tag ∷ l) (sym after), rw (after, rest) p.counted)
+
+-- the bytes after them are split into the body and what comes after the message
+pub body_there : (N : Type 0) (bytes : List ℕ) (tag : ℕ) (z : ℤ) (mid : ℕ) (found : Option (Bor (List ℕ) × Bor (List ℕ))) → Announces bytes tag z → z ≡ pos (4 + mid) → 4 + mid ≤ max_length
+    → MatchOption found N (λ p. IsSplitAt (take (length bytes - 5) (drop 5 bytes)) mid p.0.now p.1.now) → IfSome found (λ parts. Begins bytes tag parts.0.now parts.1.now)
+body_there N bytes tag z mid None a e fits s = tt
+body_there N bytes tag z mid (Some p) a e fits s =
+    let all : take (length bytes - 5) (drop 5 bytes) ≡ drop 5 bytes = take_all (length bytes - 5) (drop 5 bytes) (omega (arith, length-drop 5 bytes)) in
+    let at = announced_at bytes tag z a in
+    let field = at.1.spelled in
+    let split : IsSplitAt (drop 5 bytes) mid p.0.now p.1.now = rw all at s in
+    let both : drop 5 bytes ≡ p.0.now ++ p.1.now = rw (split.1, split.2) (sym (take-append-drop mid (drop 5 bytes))) in
+    record {
+      field = field;
+      wide = at.1.wide;
+      counts = sym at.1.is ∙ e ∙ ap (λ (n : ℕ). pos (4 + n)) (sym split.3);
+      fits = omega (arith, split.3, fits);
+      parts = at.0 ∙ ap (λ (l : List ℕ). tag ∷ l) (at.1.parts ∙ ap (λ (l : List ℕ). field ++ l) both ∙ sym (append_assoc field p.0.now p.1.now));
+    }
+
+-- what comes next changes nothing of a number at the front, nor of what is announced
+pub signed_stays : (width : ℕ) (x y : List ℕ) (z : ℤ) (rest : List ℕ) → Signed width x z rest → Signed width (x ++ y) z (rest ++ y)
+signed_stays width x y z rest p = record {
+  spelled = p.spelled;
+  wide = p.wide;
+  is = p.is;
+  parts = ap (λ (l : List ℕ). l ++ y) p.parts ∙ append_assoc p.spelled rest y;
+}
+
 pub announces_stays : (bytes more : List ℕ) (tag : ℕ) (announced : ℤ) → Announces bytes tag announced → Announces (bytes ++ more) tag announced
 announces_stays bytes more tag announced p = record {
   after = p.after ++ more;
   rest = p.rest ++ more;
-  counted = record {
-    spelled = p.counted.spelled;
-    wide = p.counted.wide;
-    is = p.counted.is;
-    parts = ap (λ (l : List ℕ). l ++ more) p.counted.parts ∙ append_assoc p.counted.spelled p.rest more;
-  };
+  counted = signed_stays 4 p.after more announced p.rest p.counted;
   parts = ap (λ (l : List ℕ). l ++ more) p.parts;
 }
 

@@ -38,6 +38,13 @@ pub record Announces (bytes : List ℕ) (tag : ℕ) (announced : ℤ) : Type 0 w
   pub counted : Signed 4 after announced rest
   pub parts : bytes ≡ tag ∷ after
 
+-- a message with this tag stands at the front, of which not all bytes have come
+pub record IsPart (bytes : List ℕ) (tag : ℕ) : Type 0 where
+  pub announced : ℕ
+  pub announces : Announces bytes tag (pos announced)
+  pub least : 4 ≤ announced
+  pub short : length bytes < 1 + announced
+
 -- the message goes on after the bytes that have come
 pub record GoesOn (bytes : List ℕ) : Type 0 where
   pub tag : ℕ

@@ -5,11 +5,8 @@ ghost use Rattle.pg_base.specs.Cutting.{Begins};
 ghost use Rattle.pg_base.specs.Format.{backend_tag};
 ghost use Rattle.pg_frames.specs.Stream.{WantsMore, IsStreamFault};
 
-use pg_base::io::i32_at;
+use crate::head::{FrameHead, MIN_LENGTH};
 use pg_base::{BackendMessageFormat, ProtocolFault};
-
-/// The length of the shortest message: the length field counts itself.
-pub(crate) const MIN_LENGTH: i32 = 4;
 
 /// A whole message at the front of some bytes, where it lies.
 #[derive(Clone, Copy)]
@@ -29,23 +26,21 @@ pub struct Frame<'a> {
 // Inlined, so that the frame isn't written to memory and read again.
 #[inline(always)]
 pub fn next_frame(stream: &[u8]) -> Result<Option<Frame<'_>>, ProtocolFault>
-    ensures whole { IfOk result (λ some. IfSome some (λ frame. Begins stream.now (backend_tag frame.format) frame.body.now frame.rest.now)) }
+    ensures whole { IfOk result (λ some. IfSome some
+        (λ frame. Begins stream.now (backend_tag frame.format) frame.body.now frame.rest.now)) }
     ensures part { IfOk result (λ some. IfNone some (WantsMore stream.now)) }
     ensures fault { IfErr result (IsStreamFault stream.now) }
 {
-    let Some((tag, after)) = stream.split_first() else {
+    let Some(head) = FrameHead::of(stream) else {
         return Ok(None);
     };
-    let Ok(announced) = i32_at(after, 0) else {
-        return Ok(None);
+    let Ok(format) = BackendMessageFormat::try_from_u8(head.tag) else {
+        return Err(ProtocolFault::UnknownMessageType(head.tag));
     };
-    let Ok(format) = BackendMessageFormat::try_from_u8(*tag) else {
-        return Err(ProtocolFault::UnknownMessageType(*tag));
-    };
-    if announced < MIN_LENGTH {
-        return Err(ProtocolFault::BadLength(announced));
+    if head.announced < MIN_LENGTH {
+        return Err(ProtocolFault::BadLength(head.announced));
     }
-    let Some((body, rest)) = after[4..].split_at_checked(announced as usize - 4) else {
+    let Some((body, rest)) = head.body_and_rest(stream) else {
         return Ok(None);
     };
     Ok(Some(Frame { format, body, rest }))

@@ -4,6 +4,7 @@
 
 mod frame;
 pub mod frontend;
+mod head;
 pub mod laws;
 mod pieces;
 mod raw_frame;
@@ -11,6 +12,7 @@ mod reader;
 pub mod relay;
 
 pub use frame::{Frame, next_frame};
+pub use head::{FrameHead, first_length};
 pub use pieces::{StreamEnd, read_pieces};
 pub use raw_frame::{RawFrame, next_raw_frame};
 pub use reader::FrameReader;

@@ -25,7 +25,8 @@ pub fn read_pieces(
     alloc: Global,
     pieces: &[&[u8]],
 ) -> Result<(Vec<ReceivedMessage>, StreamEnd), Error>
-    ensures read { IfOk result (λ read. IsRead (joined pieces.now) (tags_and_bodies read.0.items) read.1) }
+    ensures read { IfOk result (λ read. IsRead (joined pieces.now)
+        (tags_and_bodies read.0.items) read.1) }
     ensures memory { IsOkUnless result OutOfMemory }
 {
     let mut reader = FrameReader::new(alloc);
@@ -45,8 +46,11 @@ fn take_all(
     messages: &mut Vec<ReceivedMessage>,
 ) -> Result<Option<ProtocolFault>, Error>
     // The messages and what is left are the stream that they were before.
-    ensures stream { OnOk result ((bytes : List ℕ) → Stream bytes (tags_and_bodies messages.old.items) reader.old → Stream bytes (tags_and_bodies messages.new.items) reader.new) }
-    ensures end { IfOk result (λ some. MatchOption some (WantsMore reader.new) (IsStreamFault reader.new)) }
+    ensures stream { OnOk result ((bytes : List ℕ)
+        → Stream bytes (tags_and_bodies messages.old.items) reader.old
+        → Stream bytes (tags_and_bodies messages.new.items) reader.new) }
+    ensures end { IfOk result (λ some. MatchOption some (WantsMore reader.new)
+        (IsStreamFault reader.new)) }
     ensures memory { IsOkUnless result OutOfMemory }
 {
     loop {

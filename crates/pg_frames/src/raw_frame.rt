@@ -4,9 +4,8 @@ ghost use Rattle.std.specs.Prelude.{IfOk, IfErr, IfSome, IfNone};
 ghost use Rattle.pg_base.specs.Cutting.{Begins};
 ghost use Rattle.pg_frames.specs.Stream.Raw.{WantsMore, HasBadLength};
 
-use crate::frame::MIN_LENGTH;
+use crate::head::{FrameHead, MIN_LENGTH};
 use pg_base::ProtocolFault;
-use pg_base::io::i32_at;
 
 /// A whole message of any tag at the front of some bytes, where it lies.
 #[derive(Drop)]
@@ -23,24 +22,22 @@ pub struct RawFrame<'a> {
 /// [`next_frame`](crate::next_frame) but of any tag, also one that no server is known to send. It is
 /// `BadLength` where the length is below 4. Documentation: "Messaging Overview".
 pub fn next_raw_frame(stream: &[u8]) -> Result<Option<RawFrame<'_>>, ProtocolFault>
-    ensures whole { IfOk result (λ some. IfSome some (λ frame. Begins stream.now frame.tag frame.body.now frame.rest.now)) }
+    ensures whole { IfOk result (λ some. IfSome some
+        (λ frame. Begins stream.now frame.tag frame.body.now frame.rest.now)) }
     ensures part { IfOk result (λ some. IfNone some (WantsMore stream.now)) }
     ensures fault { IfErr result (HasBadLength stream.now) }
 {
-    let Some((tag, after)) = stream.split_first() else {
+    let Some(head) = FrameHead::of(stream) else {
         return Ok(None);
     };
-    let Ok(announced) = i32_at(after, 0) else {
-        return Ok(None);
-    };
-    if announced < MIN_LENGTH {
-        return Err(ProtocolFault::BadLength(announced));
+    if head.announced < MIN_LENGTH {
+        return Err(ProtocolFault::BadLength(head.announced));
     }
-    let Some((body, rest)) = after[4..].split_at_checked(announced as usize - 4) else {
+    let Some((body, rest)) = head.body_and_rest(stream) else {
         return Ok(None);
     };
     Ok(Some(RawFrame {
-        tag: *tag,
+        tag: head.tag,
         body,
         rest,
     }))

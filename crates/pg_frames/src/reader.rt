@@ -8,14 +8,12 @@ ghost use Rattle.pg_base.specs.Format.{backend_tag};
 ghost use Rattle.pg_frames.specs.Stream.{Whole, WantsMore, IsStreamFault, IsReaderError};
 
 use crate::frame::{Frame, next_frame};
+use crate::head::HEADER;
 use bytes::{Bytes, BytesMut};
 use pg_base::Error;
 use pg_format::ReceivedMessage;
 use std::alloc::{AllocError, Global};
 use std::marker::Model;
-
-/// The length of a tag and a length field, in bytes.
-const HEADER: usize = 5;
 
 /// The most bytes of a block that a reader keeps whether it needs them or not.
 const MAX_KEPT: usize = 64 * 1024;
@@ -70,10 +68,18 @@ impl FrameReader {
     pub fn len(&self) -> usize
         ensures { result ≡ length self.now }
     {
+        self.bytes().len()
+    }
+
+    // The bytes that were fed and not yet taken.
+    #[inline(always)]
+    fn bytes(&self) -> &[u8]
+        ensures { result.now ≡ self.now }
+    {
         if self.shared.is_empty() {
-            self.buffer.len()
+            self.buffer.as_slice()
         } else {
-            self.shared.len()
+            self.shared.as_slice()
         }
     }
 
@@ -114,15 +120,19 @@ impl FrameReader {
     /// again: after a fault it gives the fault again, and after `OutOfMemory` it gives the message
     /// as soon as there is memory.
     pub fn next_message(&mut self) -> Result<Option<ReceivedMessage>, Error>
-        ensures message { IfOk result (λ some. IfSome some (λ message. Begins self.old (backend_tag message.format) message.contents self.new)) }
-        ensures partial { IfOk result (λ some. IfNone some (WantsMore self.old × (self.new ≡ self.old))) }
+        ensures message { IfOk result (λ some. IfSome some
+            (λ message. Begins self.old (backend_tag message.format) message.contents self.new)) }
+        ensures partial { IfOk result (λ some. IfNone some (WantsMore self.old
+            × (self.new ≡ self.old))) }
         ensures error { IfErr result (IsReaderError self.old) }
         ensures err { OnErr result (self.new ≡ self.old) }
 
         // Each answer comes wherever it is due.
-        ensures whole_due { Whole self.old → MatchResult result IsSome (λ error. error ≡ OutOfMemory) }
+        ensures whole_due { Whole self.old → MatchResult result IsSome
+            (λ error. error ≡ OutOfMemory) }
         ensures partial_due { WantsMore self.old → result ≡ Ok None }
-        ensures fault_due { (fault : ProtocolFault) → IsStreamFault self.old fault → result ≡ Err (Protocol None fault) }
+        ensures fault_due { (fault : ProtocolFault) → IsStreamFault self.old fault
+            → result ≡ Err (Protocol None fault) }
     {
         self.take_next()
     }
@@ -131,19 +141,19 @@ impl FrameReader {
     #[inline(always)]
     #[tactic(auto, using(crate::proofs::StreamLemmas::taken))]
     fn take_next(&mut self) -> Result<Option<ReceivedMessage>, Error>
-        ensures message { IfOk result (λ some. IfSome some (λ message. Begins self.old (backend_tag message.format) message.contents self.new)) }
-        ensures partial { IfOk result (λ some. IfNone some (WantsMore self.old × (self.new ≡ self.old))) }
+        ensures message { IfOk result (λ some. IfSome some
+            (λ message. Begins self.old (backend_tag message.format) message.contents self.new)) }
+        ensures partial { IfOk result (λ some. IfNone some (WantsMore self.old
+            × (self.new ≡ self.old))) }
         ensures error { IfErr result (IsReaderError self.old) }
         ensures err { OnErr result (self.new ≡ self.old) }
     {
-        if !share(&mut self.shared, &mut self.buffer)? {
-            return Ok(None);
-        }
-        let stream = self.shared.as_slice();
+        let stream = self.bytes();
         let Some(Frame { format, rest, .. }) = next_frame(stream)? else {
             return Ok(None);
         };
         let end = stream.len() - rest.len();
+        share(&mut self.shared, &mut self.buffer)?;
         let contents = take_body(&mut self.shared, end)?;
         self.give_back();
         Ok(Some(ReceivedMessage { format, contents }))
@@ -166,23 +176,18 @@ impl FrameReader {
     }
 }
 
-// Moves all bytes to the shared ones, unless some are there already, or more bytes are wanted; then
-// the answer is false.
-fn share(shared: &mut Bytes, buffer: &mut BytesMut) -> Result<bool, Error>
+// Moves all bytes to the shared ones, unless some are there already.
+#[inline(always)]
+fn share(shared: &mut Bytes, buffer: &mut BytesMut) -> Result<(), AllocError>
     requires { 0 < length shared.old → buffer.old.items ≡ [] }
-    ensures all { IfOk result (λ is_shared. IsTrue is_shared → (shared.new ≡ shared.old ++ buffer.old.items) × (buffer.new.items ≡ [])) }
-    ensures partial { IfOk result (λ is_shared. IsTrue is_shared ⊎ (WantsMore (shared.old ++ buffer.old.items) × (shared.new ≡ shared.old) × (buffer.new ≡ buffer.old))) }
-    ensures error { IfErr result (IsReaderError (shared.old ++ buffer.old.items)) }
+    ensures all { OnOk result ((shared.new ≡ shared.old ++ buffer.old.items)
+        × (buffer.new.items ≡ [])) }
     ensures err { OnErr result ((shared.new ≡ shared.old) × (buffer.new ≡ buffer.old)) }
 {
-    if !shared.is_empty() {
-        return Ok(true);
+    if shared.is_empty() {
+        *shared = buffer.freeze_to(buffer.len())?;
     }
-    if next_frame(buffer.as_slice())?.is_none() {
-        return Ok(false);
-    }
-    *shared = buffer.freeze_to(buffer.len())?;
-    Ok(true)
+    Ok(())
 }
 
 // Takes the bytes up to there, which are a header and a body, and gives the body.

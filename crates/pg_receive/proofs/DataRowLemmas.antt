@@ -10,14 +10,16 @@ use Rattle.pg_base.specs.Reading.{Signed}
 use Rattle.pg_base.proofs.ReadingLemmas.{number_fits}
 use Rattle.pg_format.specs.Format.{Means}
 use Rattle.pg_format.specs.Format.Parts.{be_i32}
-use Rattle.pg_format.specs.Format.Lists.{AreRead}
+use Rattle.pg_format.specs.Format.Lists.{AreRead, times}
 use Rattle.pg_format.specs.Format.Nullable.{cell_after, cell}
 use Rattle.pg_format.specs.Format.Places.{IsReadAt, BreaksAt}
 use Rattle.pg_format.specs.Messages.{data_row}
 use Rattle.pg_format.proofs.FormatLaws.Lists.{times_take}
 use Rattle.pg_format.proofs.FormatLaws.Places.{lacks_at, stands_at}
 use Rattle.pg_format.proofs.FormatLaws.Takes.{takes_signed, takes_cell}
-use Rattle.pg_receive.specs.DataRow.CellEnd.{null_bit, is_null, end_of, cell_to, cells_from, last_end, start_of, EndsRise}
+use Rattle.pg_format.specs.Items.{Reading, Begins}
+use Rattle.pg_format.proofs.ItemsLemmas.{all_meant}
+use Rattle.pg_receive.specs.DataRow.CellEnd.{null_bit, is_null, end_of, cell_to, cells_from, last_end, start_of, EndsRise, KeepsEnds}
 use Rattle.pg_receive.specs.DataRow.{IsAfter}
 
 pub length-cells_from : (body : List ℕ) (start : ℕ) (ends : List ℕ) → length (cells_from body start ends) ≡ length ends
@@ -168,3 +170,31 @@ not_some false some e = rw e refl
 pub is_none-copied : (cell : Option (Bor (List ℕ))) → is_none (option_copied cell) ≡ is_none cell
 is_none-copied None = refl
 is_none-copied (Some value) = refl
+
+-- ---- ends that are kept
+
+pub keeps_none : (body : List ℕ) (first : ℕ) → first ≤ length body → KeepsEnds body first [] [] first
+keeps_none body first within = record { within = within; last = refl; rise = within; cells_are = refl }
+
+pub keeps_one_more : (body : List ℕ) (first at end entry : ℕ) (ends : List ℕ) (cells : List (Option (List ℕ))) (found : Option (List ℕ)) → KeepsEnds body first ends cells at → IsReadAt cell body at found end
+    → end_of entry ≡ end → is_null entry ≡ is_none found → KeepsEnds body first (ends ++ entry ∷ []) (cells ++ found ∷ []) end
+keeps_one_more body first at end entry ends cells found kept read ends_there null =
+    let gives : cell_to body at entry ≡ found = entry_gives body found at end entry read ends_there null in
+    let rises : last_end first ends + 4 ≤ end_of entry = omega (arith, kept.last, ends_there, cell_is_wide body at end found read) in
+    record {
+      within = read.within;
+      last = sym ends_there ∙ sym (last_end-push first ends entry);
+      rise = ends_rise_push first ends entry (length body) kept.rise rises (omega (arith, ends_there, read.within));
+      cells_are = rw (cells_from-push body first ends entry, ← kept.last, gives, kept.cells_are) refl;
+    }
+
+kept_there : (body bytes : List ℕ) (at end : ℕ) (ends : List ℕ) (cells : List (Option (List ℕ))) → bytes ≡ body → at ≡ 2 → KeepsEnds bytes at ends cells end → KeepsEnds body 2 ends cells end
+kept_there body bytes at end ends cells e f p = rw (e, f) at p
+
+-- where the cells of a row end, once all are read into a list without any
+pub ends_read : (body : List ℕ) (reading : Reading) (old new : List ℕ) (cells : List (Option (List ℕ))) (end : ℕ) → Begins 4 body reading → old ≡ [] → IsReadAt (times reading.left cell) reading.body reading.at cells end
+    → (KeepsEnds reading.body reading.at old [] reading.at → KeepsEnds reading.body reading.at new cells end) → Means data_row body (cells_from body 2 new) × EndsRise 2 new (length body)
+ends_read body reading old new cells end begins none read keeps =
+    let within : reading.at ≤ length reading.body = omega (arith, begins.first, begins.holds, ap length begins.whole) in
+    let kept = kept_there body reading.body reading.at end new cells begins.whole begins.first (keeps (rw none (keeps_none reading.body reading.at within))) in
+    (rw kept.cells_are (all_meant cell 4 body reading cells end begins read), kept.rise)

@@ -1,82 +1,38 @@
 -- The laws of the layouts of bodies: one end, or one fault, never both.
-use Rattle.std.proofs.Common.{◌≡◌, ◌≢◌, ℕ, ◌*◌, ◌==◌, List, [], ◌∷◌, ◌++◌, Some, length, refl, sym, ◌∙◌, append_assoc, arith}
-use Rattle.std.specs.List.{flat_map}
-use Rattle.pg_base.specs.declared.error.ProtocolFault.{ProtocolFault}
+use Rattle.std.proofs.Common.{◌≡◌, ◌≢◌, ℕ, ◌*◌, ◌==◌, List, [], ◌∷◌, ◌++◌, Some, length, refl, arith}
 use Rattle.pg_base.specs.declared.error.ProtocolFault.TheVariants.{UnknownStatus}
 use Rattle.pg_base.specs.declared.format.BackendMessageFormat.{BackendMessageFormat}
 use Rattle.pg_base.specs.declared.format.BackendMessageFormat.TheVariants as backend
 use Rattle.pg_base.specs.Numbers.{num}
+use Rattle.pg_base.specs.Reading.{BeginsWith}
 use Rattle.pg_format.specs.Format.{Format, Lawful}
-use Rattle.pg_format.specs.Format.Lists.{AreRead, AllFit}
-use Rattle.pg_format.specs.Format.Parts.{until_nul, be_i8, be_i16, one_of}
+use Rattle.pg_format.specs.Format.Lists.{until_zero}
+use Rattle.pg_format.specs.Format.Parts.{be_i8, be_i16, one_of}
 use Rattle.pg_format.specs.Format.Sequences.{dep_pair, ◌⨾◌}
 use Rattle.pg_format.specs.Messages.{columns_of, column_codes, field, Status, idle, transaction, error, status_of, status_letter, key_fault}
 use Rattle.pg_format.specs.Notices.{Field}
 use Rattle.pg_format.proofs.FormatLaws.Parts.{lawful_until_nul, lawful_unsigned, lawful_signed, lawful_bytes_of, lawful_remaining, lawful_one_of, lawful_success}
 use Rattle.pg_format.proofs.FormatLaws.FromServer.{u32, i16}
-use Rattle.pg_format.proofs.FormatLaws.Lists.{lawful_times, lawful_counted_least, times_take}
+use Rattle.pg_format.proofs.FormatLaws.Lists.{lawful_times, lawful_counted_least, lawful_until_zero, times_take}
 use Rattle.pg_format.proofs.FormatLaws.Nullable.{lawful_cell}
 use Rattle.pg_format.proofs.FormatLaws.Sequences.{◌l⨾◌, lawful_dep_pair, lawful_record_of, lawful_viewed, lawful_choose}
 use Rattle.pg_format.proofs.FormatLaws.Takes.{takes_unsigned, takes_signed, takes_cell}
 use Rattle.pg_format.proofs.FormatLaws.Tests.{lawful_checked, lawful_only, lawful_with_room}
 use Rattle.pg_receive.specs.BackendKeyData.{raw_key_data}
-use Rattle.pg_receive.specs.Layout.{GoesOn, ended, name, alone, asked, layout}
-use Rattle.pg_receive.specs.RowDescription.Raw.{raw_column}
+use Rattle.pg_receive.specs.Layout.{name, alone, asked, layout}
 use Rattle.pg_receive.proofs.RowDescriptionRawLemmas.{lawful_raw_column, raw_column_takes}
 
 -- no item begins at a byte 0
-module _ {A : Type 0} {g : Format A} (eg : Lawful g) (none : (rest : List ℕ) (a : A) (more : List ℕ) → ¬ (g.Reads (0 ∷ rest) a more)) where
-  one_list : (v w : List A) (bytes x y : List ℕ) → AreRead g bytes v (0 ∷ x) → AreRead g bytes w (0 ∷ y) → (v ≡ w) × (x ≡ y)
-  one_list [] [] bytes x y p q = let same : 0 ∷ x ≡ 0 ∷ y = p ∙ sym q in (refl, cc)
-  one_list [] (b ∷ bs) bytes x y p q = absurd (none x b q.0 (rw p q.1))
-  one_list (a ∷ as') [] bytes x y p q = absurd (none y a p.0 (rw q p.1))
-  one_list (a ∷ as') (b ∷ bs) bytes x y p q =
-      let first = eg.one_value bytes p.0 q.0 a b p.1 q.1 in
-      let more = one_list as' bs q.0 x y (rw first.1 at p.2) q.2 in
-      (λ i. first.0 i ∷ more.0 i, more.1)
-
-  one_break : (v w : List A) (len : ℕ) (bytes m n : List ℕ) (e f : ProtocolFault) → AreRead g bytes v m → AreRead g bytes w n → g.Breaks len m e → g.Breaks len n f → e ≡ f
-  one_break [] [] len bytes m n e f p q b c = eg.one_fault len bytes e f (rw p at b) (rw q at c)
-  one_break [] (x ∷ xs) len bytes m n e f p q b c = absurd (eg.never_both len bytes q.0 x e q.1 (rw p at b))
-  one_break (x ∷ xs) [] len bytes m n e f p q b c = absurd (eg.never_both len bytes p.0 x f p.1 (rw q at c))
-  one_break (x ∷ xs) (y ∷ ys) len bytes m n e f p q b c =
-      let first = eg.one_value bytes p.0 q.0 x y p.1 q.1 in
-      one_break xs ys len q.0 m n e f (rw first.1 at p.2) q.2 b c
-
-  not_zero : (bytes rest : List ℕ) → 0 ∷ rest ≡ bytes → GoesOn bytes → ⊥
-  not_zero [] rest e on = let no : 0 ∷ rest ≡ [] = e in cc
-  not_zero (b ∷ bs) rest e on = let zero_is : 0 ≡ b = cc e in on (sym zero_is)
-
-  list_or_break : (v w : List A) (len : ℕ) (bytes rest n : List ℕ) (f : ProtocolFault) → AreRead g bytes v (0 ∷ rest) → AreRead g bytes w n → GoesOn n → g.Breaks len n f → ⊥
-  list_or_break [] [] len bytes rest n f p q on b = not_zero n rest (p ∙ sym q) on
-  list_or_break [] (y ∷ ys) len bytes rest n f p q on b = none rest y q.0 (rw p q.1)
-  list_or_break (x ∷ xs) [] len bytes rest n f p q on b = eg.never_both len bytes p.0 x f p.1 (rw q at b)
-  list_or_break (x ∷ xs) (y ∷ ys) len bytes rest n f p q on b =
-      let first = eg.one_value bytes p.0 q.0 x y p.1 q.1 in
-      list_or_break xs ys len q.0 rest n f (rw first.1 at p.2) q.2 on b
-
-  list_written : (v : List A) (rest : List ℕ) → AllFit g v rest → AreRead g (flat_map g.Writes v ++ rest) v rest
-  list_written [] rest fits = refl
-  list_written (a ∷ more) rest fits = (
-    flat_map g.Writes more ++ rest,
-    rw append_assoc (eg.written a (flat_map g.Writes more ++ rest) fits.0),
-    list_written more rest fits.1,
-  )
-
-  pub lawful_ended : Lawful (ended g)
-  lawful_ended = record {
-    one_value = λ bytes x y a b p q. one_list a b bytes x y p q;
-    one_fault = λ len bytes e f p q. one_break p.items q.items len bytes p.mid q.mid e f p.read q.read p.breaks q.breaks;
-    never_both = λ len bytes rest a f p q. list_or_break a q.items len bytes rest q.mid f p q.read q.goes_on q.breaks;
-    written = λ a rest fits. rw append_assoc (list_written a (0 ∷ rest) fits);
-  }
+goes_on : {A : Type 0} (g : Format A) → ((rest : List ℕ) (a : A) (more : List ℕ) → ¬ (g.Reads (0 ∷ rest) a more)) → (bytes rest : List ℕ) (a : A) → g.Reads bytes a rest → ¬ (BeginsWith 0 bytes)
+goes_on g none [] rest a p e = e
+goes_on g none (b ∷ bs) rest a p e = none bs a rest (rw e at p)
 
 no_name : (rest text more : List ℕ) → ¬ (name.Reads (0 ∷ rest) text more)
 no_name rest [] more p = p.1 refl
 no_name rest (b ∷ bs) more p = p.0.clean.0 (let same : b ≡ 0 = cc (p.0.parts) in same)
 
-lawful_names : Lawful (ended name)
-lawful_names = lawful_ended (lawful_only (λ text. text ≢ []) lawful_until_nul) no_name
+lawful_names : Lawful (until_zero name)
+lawful_names = lawful_until_zero (lawful_only (λ text. text ≢ []) lawful_until_nul) (goes_on name no_name)
 
 zero_first : (spelled mid rest : List ℕ) (n : ℕ) → length spelled ≡ 1 → n ≡ num spelled → 0 ∷ rest ≡ spelled ++ mid → n ≡ 0
 zero_first [] mid rest n wide is parts = absurd (omega (arith, wide))
@@ -88,8 +44,8 @@ no_field rest f more p =
     let letter = p.0.first in
     p.1 (zero_first letter.spelled p.0.mid rest f.0 letter.wide letter.is letter.parts)
 
-lawful_fields : Lawful (ended field)
-lawful_fields = lawful_ended (lawful_only (λ f. f.0 ≢ 0) (lawful_unsigned 1 tt l⨾ lawful_until_nul)) no_field
+lawful_fields : Lawful (until_zero field)
+lawful_fields = lawful_until_zero (lawful_only (λ f. f.0 ≢ 0) (lawful_unsigned 1 tt l⨾ lawful_until_nul)) (goes_on field no_field)
 
 lawful_asked : (method : ℕ) → Lawful (asked method)
 lawful_asked method =

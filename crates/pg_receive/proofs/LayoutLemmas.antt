@@ -6,16 +6,16 @@ use Rattle.std.proofs.Math.Seq.{drop-length}
 use Rattle.pg_base.specs.declared.error.ProtocolFault.{ProtocolFault}
 use Rattle.pg_base.specs.Error.{IsShort}
 use Rattle.pg_base.specs.Numbers.{num, int}
-use Rattle.pg_base.specs.Reading.{HoldsNo}
+use Rattle.pg_base.specs.Reading.{HoldsNo, BeginsWith}
 use Rattle.pg_base.proofs.NumbersLemmas.{number_at, signed_at, wide_enough}
 use Rattle.pg_format.specs.Format.{Format, IsFaultOf}
-use Rattle.pg_format.specs.Format.Lists.{times, counted_least}
+use Rattle.pg_format.specs.Format.Lists.{times, counted_least, until_zero}
 use Rattle.pg_format.specs.Format.Parts.{until_nul, be_u8, be_u16, be_u32, unsigned, signed}
-use Rattle.pg_format.specs.Format.Places.{IsReadAt, BreaksAt}
+use Rattle.pg_format.specs.Format.Places.{IsReadAt, BreaksAt, EndsAt}
 use Rattle.pg_format.specs.Format.Sequences.{dep_pair}
 use Rattle.pg_format.specs.Messages.{field}
 use Rattle.pg_format.proofs.FormatLaws.Places.{lacks_at, none_at, one_more_at}
-use Rattle.pg_receive.specs.Layout.{EndsAt, GoesOn, ended, name, asked, nothing}
+use Rattle.pg_receive.specs.Layout.{name, asked, nothing}
 
 -- ---- items after their count
 
@@ -69,18 +69,18 @@ none_passed g body at within = (0, [], none_at g body at within)
 pub one_passed : {A : Type 0} (g : Format A) (body : List ℕ) (first at end : ℕ) (item : A) → Passed g body first at → IsReadAt g body at item end → Passed g body first end
 one_passed g body first at end item p q = (p.0 + 1, p.1 ++ item ∷ [], one_more_at g body p.0 first at end p.1 item p.2 q)
 
-pub list_ends : {A : Type 0} (g : Format A) (body : List ℕ) (first at end : ℕ) → Passed g body first at → drop at body ≡ 0 ∷ drop end body → end ≤ length body → EndsAt (ended g) body first end
-list_ends g body first at end p stop within = record { value = p.1; read = record { within = within; reads = rw stop at p.2.reads.1 } }
+pub list_ends : {A : Type 0} (g : Format A) (body : List ℕ) (first at end : ℕ) → Passed g body first at → drop at body ≡ 0 ∷ drop end body → end ≤ length body → EndsAt (until_zero g) body first end
+list_ends g body first at end p stop within = record { value = p.1; read = record { within = within; reads = record { mid = drop at body; are_read = p.2.reads.1; ends = stop } } }
 
-pub list_breaks : {A : Type 0} (g : Format A) (body : List ℕ) (first at : ℕ) (fault : ProtocolFault) → Passed g body first at → GoesOn (drop at body) → BreaksAt g body at fault → BreaksAt (ended g) body first fault
-list_breaks g body first at fault p goes_on breaks = record { items = p.1; mid = drop at body; read = p.2.reads.1; goes_on = goes_on; breaks = breaks }
+pub list_breaks : {A : Type 0} (g : Format A) (body : List ℕ) (first at : ℕ) (fault : ProtocolFault) → Passed g body first at → ¬ (BeginsWith 0 (drop at body)) → BreaksAt g body at fault → BreaksAt (until_zero g) body first fault
+list_breaks g body first at fault p goes_on breaks = record { some = p.1; mid = drop at body; are_read = p.2.reads.1; goes_on = goes_on; breaks = breaks }
 
-none_goes_on : (bytes : List ℕ) → length bytes < 1 → GoesOn bytes
-none_goes_on [] few = tt
+none_goes_on : (bytes : List ℕ) → length bytes < 1 → ¬ (BeginsWith 0 bytes)
+none_goes_on [] few = λ e. e
 none_goes_on (byte ∷ bytes) few = absurd (omega (arith, few))
 
-pub clean_goes_on : (bytes : List ℕ) → HoldsNo 0 bytes → GoesOn bytes
-clean_goes_on [] clean = tt
+pub clean_goes_on : (bytes : List ℕ) → HoldsNo 0 bytes → ¬ (BeginsWith 0 bytes)
+clean_goes_on [] clean = λ e. e
 clean_goes_on (byte ∷ bytes) clean = clean.0
 
 -- ---- fields
@@ -100,11 +100,11 @@ module _ (body : List ℕ) (at letter : ℕ) (is : drop at body ≡ letter ∷ d
   pub field_at : (value : List ℕ) (end : ℕ) → until_nul.Reads (drop (at + 1) body) value (drop end body) → end ≤ length body → IsReadAt field body at (letter, value) end
   field_at value end p within = record { within = within; reads = (record { mid = drop (at + 1) body; first = letter_read; second = p }, some) }
 
-  pub field_breaks : (first : ℕ) (fault : ProtocolFault) → Passed field body first at → until_nul.Breaks (length body) (drop (at + 1) body) fault → BreaksAt (ended field) body first fault
+  pub field_breaks : (first : ℕ) (fault : ProtocolFault) → Passed field body first at → until_nul.Breaks (length body) (drop (at + 1) body) fault → BreaksAt (until_zero field) body first fault
   field_breaks first fault p breaks =
       list_breaks field body first at fault p (rw is some) (inr (record { value = letter; mid = drop (at + 1) body; reads = letter_read; breaks = breaks }))
 
-pub no_letter : (body : List ℕ) (first at : ℕ) (fault : ProtocolFault) → at ≤ length body → Passed field body first at → IsShort body at 1 fault → BreaksAt (ended field) body first fault
+pub no_letter : (body : List ℕ) (first at : ℕ) (fault : ProtocolFault) → at ≤ length body → Passed field body first at → IsShort body at 1 fault → BreaksAt (until_zero field) body first fault
 no_letter body first at fault within p short =
     let lacks = lacks_at body at 1 fault within short in
     list_breaks field body first at fault p (none_goes_on (drop at body) lacks.few) (inl lacks)
@@ -123,11 +123,11 @@ salt_there body fits =
     let parts : drop 4 body ≡ salt ++ drop 8 body = sym (take-append-drop 4 (drop 4 body)) ∙ ap (λ (l : List ℕ). take 4 (drop 4 body) ++ l) (drop-drop 4 4 body) in
     (salt ∷ [], (salt, (wide_enough body 4 4 fits, parts), refl))
 
-pub names_end_there : (body : List ℕ) (method : ℕ) (result : Result ℕ ProtocolFault) → be_u32.Reads body method (drop 4 body) → method ≡ 10 → IfOk result (EndsAt (ended name) body 4) → IfOk result (EndsAt (dep_pair be_u32 asked) body 0)
+pub names_end_there : (body : List ℕ) (method : ℕ) (result : Result ℕ ProtocolFault) → be_u32.Reads body method (drop 4 body) → method ≡ 10 → IfOk result (EndsAt (until_zero name) body 4) → IfOk result (EndsAt (dep_pair be_u32 asked) body 0)
 names_end_there body method (Ok end) found is p = after_method body method end p.value found p.read.within (rw is p.read.reads)
 names_end_there body method (Err fault) found is p = tt
 
-pub names_break_there : (body : List ℕ) (method : ℕ) (result : Result ℕ ProtocolFault) → be_u32.Reads body method (drop 4 body) → method ≡ 10 → IfErr result (BreaksAt (ended name) body 4) → IfErr result (IsFaultOf (dep_pair be_u32 asked) body)
+pub names_break_there : (body : List ℕ) (method : ℕ) (result : Result ℕ ProtocolFault) → be_u32.Reads body method (drop 4 body) → method ≡ 10 → IfErr result (BreaksAt (until_zero name) body 4) → IfErr result (IsFaultOf (dep_pair be_u32 asked) body)
 names_break_there body method (Ok end) found is p = tt
 names_break_there body method (Err fault) found is p = fault_after_method body method fault found (rw is p)
 

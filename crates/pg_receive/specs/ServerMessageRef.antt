@@ -7,7 +7,7 @@ use Rattle.pg_base.specs.declared.format.BackendMessageFormat.TheVariants as for
 use Rattle.pg_receive.specs.Response.Fields.{fields_in}
 use Rattle.pg_format.specs.Format.{Format, ReadsAs}
 use Rattle.pg_format.specs.Messages.{backend_key_data, notification, parameter_status, ready_for_query}
-use Rattle.pg_receive.specs.CountedItems.{Reading, IsCountFault, Begins}
+use Rattle.pg_format.specs.Items.{Reading, IsCountFault, Begins}
 use Rattle.pg_receive.specs.ReadyForQuery.{shown_status}
 use Rattle.pg_receive.specs.declared.message.server_message_ref.ServerMessageRef.{ServerMessageRef}
 use Rattle.pg_receive.specs.declared.message.server_message_ref.ServerMessageRef.TheVariants as messages

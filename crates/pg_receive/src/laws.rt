@@ -12,7 +12,7 @@ ghost use Rattle.pg_base.specs.declared.format.BackendMessageFormat.{BackendMess
 ghost use Rattle.pg_format.specs.Format.{Means, Lawful};
 ghost use Rattle.pg_format.specs.Format.Nullable.{cell};
 ghost use Rattle.pg_format.specs.Messages.{Column, column, data_row, row_description};
-ghost use Rattle.pg_receive.specs.CountedItems.{Reading, Begins, Steps, ReadsBody};
+ghost use Rattle.pg_format.specs.Items.{Reading, Begins, Steps, ReadsBody};
 ghost use Rattle.pg_receive.specs.DataRow.{IsAfter};
 ghost use Rattle.pg_receive.specs.Layout.{layout};
 ghost use Rattle.pg_receive.specs.RowDescription.Raw.{raw_column, raw_row_description};

@@ -5,7 +5,8 @@ use Rattle.pg_base.specs.declared.error.ProtocolFault.TheVariants.{UnknownMessag
 use Rattle.pg_base.specs.declared.format.BackendMessageFormat.{BackendMessageFormat}
 use Rattle.pg_base.specs.Format.{backend_tag, IsBackendTag}
 use Rattle.pg_format.specs.Format.{IsFaultOf}
-use Rattle.pg_receive.specs.Layout.{EndsAt, layout}
+use Rattle.pg_format.specs.Format.Places.{EndsAt}
+use Rattle.pg_receive.specs.Layout.{layout}
 use Rattle.pg_c.specs.Read.{IsBodyFault}
 
 -- the parts that a body of this tag has end at the offset that is the result

@@ -8,7 +8,7 @@ ghost use Rattle.pg_c.specs.Refusal.{RefusesClient};
 use crate::place::PgmsgSpan;
 use crate::read::frame::{HEADER, PgmsgFrame, needed};
 use crate::refusal::{PgmsgFault, report_client};
-use pg_base::io::i32_at;
+use pg_frames::first_length;
 use pg_frames::frontend::{Expects, FrontendFrame, next_frontend_frame};
 use std::alloc::Global;
 
@@ -73,9 +73,9 @@ fn first_place_of(frame: &FrontendFrame<'_>) -> PgmsgFrame
 fn needed_first(stream: &[u8]) -> usize
     ensures { (limit : ℕ) → WantsMoreFirst limit stream.now → NeedsFirst limit stream.now result }
 {
-    match i32_at(stream, 0) {
-        Ok(announced) => announced.unsigned_abs() as usize,
-        Err(_) => LENGTH,
+    match first_length(stream) {
+        Some(announced) => announced.unsigned_abs() as usize,
+        None => LENGTH,
     }
 }
 

@@ -3,7 +3,8 @@
 ghost use Rattle.std.specs.Prelude.{◌≡◌, ◌≤◌, ◌<ℤ◌, ◌≤ℤ◌, pos, length, OnOk, IfOk, IfErr};
 ghost use Rattle.pg_base.specs.declared.error.Error.TheVariants.{Protocol};
 ghost use Rattle.pg_format.specs.Format.{IsFaultOf};
-ghost use Rattle.pg_receive.specs.Layout.{EndsAt, layout};
+ghost use Rattle.pg_format.specs.Format.Places.{EndsAt};
+ghost use Rattle.pg_receive.specs.Layout.{layout};
 ghost use Rattle.pg_format.specs.Received.{max_body};
 ghost use Rattle.pg_c.specs.Read.End.{GivesEnd, IsEndFault};
 ghost use Rattle.pg_c.specs.Read.{IsBodyFault};

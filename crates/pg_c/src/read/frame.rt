@@ -11,8 +11,7 @@ ghost use Rattle.pg_c.specs.Refusal.{Refuses};
 
 use crate::place::PgmsgSpan;
 use crate::refusal::{PgmsgFault, report};
-use pg_base::io::i32_at;
-use pg_frames::{Frame, next_frame};
+use pg_frames::{Frame, FrameHead, next_frame};
 use std::alloc::Global;
 
 /// The bytes before a body: the tag and the length.
@@ -82,11 +81,8 @@ pub(crate) fn needed(stream: &[u8]) -> usize
     ensures any { raw_read.Needs stream.now result }
     ensures known { WantsMore stream.now → Needs stream.now result }
 {
-    if stream.len() < HEADER {
-        return HEADER;
-    }
-    match i32_at(stream, 1) {
-        Ok(announced) => 1 + announced.unsigned_abs() as usize,
-        Err(_) => HEADER,
+    match FrameHead::of(stream) {
+        Some(head) => 1 + head.announced.unsigned_abs() as usize,
+        None => HEADER,
     }
 }

@@ -8,6 +8,11 @@ pub record IsReadAt {A : Type 0} (g : Format A) (body : List ℕ) (at : ℕ) (a 
   pub within : end ≤ length body
   pub reads : g.Reads (drop at body) a (drop end body)
 
+-- some value is read from one offset to another
+pub record EndsAt {A : Type 0} (g : Format A) (body : List ℕ) (at end : ℕ) : Type 0 where
+  pub value : A
+  pub read : IsReadAt g body at value end
+
 -- what stands at an offset can't be read
 abbrev pub BreaksAt : {A : Type 0} → Format A → List ℕ → ℕ → ProtocolFault → Type 0
 BreaksAt g body at fault = g.Breaks (length body) (drop at body) fault

@@ -4,18 +4,13 @@ ghost use Rattle.std.specs.Prelude.{IfOk, IfErr, IfSome, IfNone};
 ghost use Rattle.pg_frames.specs.Frontend.Frame.{BeginsFirst, BeginsTagged, BeginsWith, Follows, IsFirstFault, IsStreamFault, IsTaggedFault, WantsMore, WantsMoreFirst, WantsMoreTagged};
 
 use crate::frontend::message::ClientMessageKind;
-use pg_base::io::{i32_at, u32_at};
+use crate::head::{FrameHead, MIN_FIRST_LENGTH, MIN_LENGTH, first_length};
+use pg_base::io::u32_at;
 use pg_server::frontend::{FrontendFault, format_of};
 
 /// The greatest length of a first message that PostgreSQL's own servers take. Their limit is 10,000 bytes after the
 /// length field; this length, like the field, counts the field's four bytes too.
 pub const MAX_FIRST_LENGTH: usize = 10_004;
-
-// The length of the shortest first message: it counts itself and a code.
-const MIN_FIRST_LENGTH: i32 = 8;
-
-// The length of the shortest message with a tag: it counts itself.
-const MIN_LENGTH: i32 = 4;
 
 // The codes of the first messages that another first message follows.
 const SSL_REQUEST: u32 = 80877103;
@@ -58,7 +53,9 @@ pub fn next_frontend_frame(
     limit: usize,
     stream: &[u8],
 ) -> Result<Option<FrontendFrame<'_>>, FrontendFault>
-    ensures whole { IfOk result (λ some. IfSome some (λ frame. BeginsWith limit expects stream.now frame.kind frame.body.now frame.rest.now frame.next)) }
+    ensures whole { IfOk result (λ some. IfSome some
+        (λ frame. BeginsWith limit expects stream.now frame.kind frame.body.now frame.rest.now
+        frame.next)) }
     ensures part { IfOk result (λ some. IfNone some (WantsMore limit expects stream.now)) }
     ensures fault { IfErr result (IsStreamFault limit expects stream.now) }
 {
@@ -70,11 +67,12 @@ pub fn next_frontend_frame(
 
 // The first message at the front.
 fn next_first(limit: usize, stream: &[u8]) -> Result<Option<FrontendFrame<'_>>, FrontendFault>
-    ensures whole { IfOk result (λ some. IfSome some (λ frame. BeginsFirst limit stream.now frame.kind frame.body.now frame.rest.now frame.next)) }
+    ensures whole { IfOk result (λ some. IfSome some
+        (λ frame. BeginsFirst limit stream.now frame.kind frame.body.now frame.rest.now frame.next)) }
     ensures part { IfOk result (λ some. IfNone some (WantsMoreFirst limit stream.now)) }
     ensures fault { IfErr result (IsFirstFault limit stream.now) }
 {
-    let Ok(announced) = i32_at(stream, 0) else {
+    let Some(announced) = first_length(stream) else {
         return Ok(None);
     };
     if announced < MIN_FIRST_LENGTH {
@@ -112,23 +110,21 @@ pub fn after_first(body: &[u8]) -> Expects
 
 // The message with a tag at the front.
 fn next_tagged(stream: &[u8]) -> Result<Option<FrontendFrame<'_>>, FrontendFault>
-    ensures whole { IfOk result (λ some. IfSome some (λ frame. BeginsTagged stream.now frame.kind frame.body.now frame.rest.now frame.next)) }
+    ensures whole { IfOk result (λ some. IfSome some
+        (λ frame. BeginsTagged stream.now frame.kind frame.body.now frame.rest.now frame.next)) }
     ensures part { IfOk result (λ some. IfNone some (WantsMoreTagged stream.now)) }
     ensures fault { IfErr result (IsTaggedFault stream.now) }
 {
-    let Some((tag, after)) = stream.split_first() else {
+    let Some(head) = FrameHead::of(stream) else {
         return Ok(None);
     };
-    let Ok(announced) = i32_at(after, 0) else {
-        return Ok(None);
+    let Some(format) = format_of(head.tag) else {
+        return Err(FrontendFault::UnknownTag(head.tag));
     };
-    let Some(format) = format_of(*tag) else {
-        return Err(FrontendFault::UnknownTag(*tag));
-    };
-    if announced < MIN_LENGTH {
-        return Err(FrontendFault::BadLength(announced));
+    if head.announced < MIN_LENGTH {
+        return Err(FrontendFault::BadLength(head.announced));
     }
-    let Some((body, rest)) = after[4..].split_at_checked(announced as usize - 4) else {
+    let Some((body, rest)) = head.body_and_rest(stream) else {
         return Ok(None);
     };
     Ok(Some(FrontendFrame {

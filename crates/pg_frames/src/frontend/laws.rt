@@ -18,38 +18,54 @@ use crate::frontend::pieces::ClientStreamEnd;
 /// A stream is one list of messages and one rest that isn't whole. So it is read into one list with one
 /// end, however it was cut.
 pub fn a_stream_is_read_one_way()
-    ensures stream { (limit : ℕ) (state : Expects) (bytes : List ℕ) (xs ys : List (ClientMessageKind × List ℕ)) (a b : Expects) (r s : List ℕ) → Stream limit state bytes xs a r → ¬ (Whole limit a r) → Stream limit state bytes ys b s → ¬ (Whole limit b s) → (xs ≡ ys) × (a ≡ b) × (r ≡ s) }
-    ensures read { (limit : ℕ) (bytes : List ℕ) (xs ys : List (ClientMessageKind × List ℕ)) (d e : ClientStreamEnd) → IsRead limit bytes xs d → IsRead limit bytes ys e → (xs ≡ ys) × (d ≡ e) }
+    ensures stream { (limit : ℕ) (state : Expects) (bytes : List ℕ)
+        (xs ys : List (ClientMessageKind × List ℕ)) (a b : Expects) (r s : List ℕ)
+        → Stream limit state bytes xs a r → ¬ (Whole limit a r) → Stream limit state bytes ys b s
+        → ¬ (Whole limit b s) → (xs ≡ ys) × (a ≡ b) × (r ≡ s) }
+    ensures read { (limit : ℕ) (bytes : List ℕ) (xs ys : List (ClientMessageKind × List ℕ))
+        (d e : ClientStreamEnd) → IsRead limit bytes xs d → IsRead limit bytes ys e → (xs ≡ ys)
+        × (d ≡ e) }
 {}
 
 /// What was left of a stream, with the bytes that come next, goes on with the stream.
 pub fn streams_compose()
-    ensures { (limit : ℕ) (a b c : Expects) (x y : List ℕ) (xs ys : List (ClientMessageKind × List ℕ)) (r s : List ℕ) → Stream limit a x xs b r → Stream limit b (r ++ y) ys c s → Stream limit a (x ++ y) (xs ++ ys) c s }
+    ensures { (limit : ℕ) (a b c : Expects) (x y : List ℕ)
+        (xs ys : List (ClientMessageKind × List ℕ)) (r s : List ℕ) → Stream limit a x xs b r
+        → Stream limit b (r ++ y) ys c s → Stream limit a (x ++ y) (xs ++ ys) c s }
 {}
 
 /// Bytes begin with a whole message, or want more, or have one fault, and never two of these.
 pub fn one_answer_is_due()
-    ensures whole { (limit : ℕ) (state : Expects) (bytes : List ℕ) → Whole limit state bytes → ¬ (WantsMore limit state bytes) }
-    ensures fault { (limit : ℕ) (state : Expects) (bytes : List ℕ) (fault : FrontendFault) → IsStreamFault limit state bytes fault → (¬ (Whole limit state bytes)) × (¬ (WantsMore limit state bytes)) }
-    ensures one { (limit : ℕ) (state : Expects) (bytes : List ℕ) (f g : FrontendFault) → IsStreamFault limit state bytes f → IsStreamFault limit state bytes g → f ≡ g }
+    ensures whole { (limit : ℕ) (state : Expects) (bytes : List ℕ) → Whole limit state bytes
+        → ¬ (WantsMore limit state bytes) }
+    ensures fault { (limit : ℕ) (state : Expects) (bytes : List ℕ) (fault : FrontendFault)
+        → IsStreamFault limit state bytes fault → (¬ (Whole limit state bytes))
+        × (¬ (WantsMore limit state bytes)) }
+    ensures one { (limit : ℕ) (state : Expects) (bytes : List ℕ) (f g : FrontendFault)
+        → IsStreamFault limit state bytes f → IsStreamFault limit state bytes g → f ≡ g }
 {}
 
 /// A fault stays, whatever comes next.
 pub fn a_fault_stays()
-    ensures { (limit : ℕ) (state : Expects) (bytes more : List ℕ) (fault : FrontendFault) → IsStreamFault limit state bytes fault → IsStreamFault limit state (bytes ++ more) fault }
+    ensures { (limit : ℕ) (state : Expects) (bytes more : List ℕ) (fault : FrontendFault)
+        → IsStreamFault limit state bytes fault → IsStreamFault limit state (bytes ++ more) fault }
 {}
 
 /// Values are equal where they are the same.
 pub fn values_are_equal_where_they_are_the_same()
-    ensures kinds { (a b : ClientMessageKind) → Decides (⟦<ClientMessageKind as PartialEq>⟧.eq a b) (a ≡ b) }
+    ensures kinds { (a b : ClientMessageKind) → Decides (⟦<ClientMessageKind as PartialEq>⟧.eq a b)
+        (a ≡ b) }
     ensures expected { (a b : Expects) → Decides (⟦<Expects as PartialEq>⟧.eq a b) (a ≡ b) }
-    ensures errors { (a b : FrontendError) → Decides (⟦<FrontendError as PartialEq>⟧.eq a b) (a ≡ b) }
-    ensures ends { (a b : ClientStreamEnd) → Decides (⟦<ClientStreamEnd as PartialEq>⟧.eq a b) (a ≡ b) }
+    ensures errors { (a b : FrontendError) → Decides (⟦<FrontendError as PartialEq>⟧.eq a b)
+        (a ≡ b) }
+    ensures ends { (a b : ClientStreamEnd) → Decides (⟦<ClientStreamEnd as PartialEq>⟧.eq a b)
+        (a ≡ b) }
 {}
 
 /// A clone is the value that was cloned.
 pub fn clones_are_equal()
-    ensures kinds { (a b : ClientMessageKind) → ⟦<ClientMessageKind as Clone>⟧.is_clone a b → b ≡ a }
+    ensures kinds { (a b : ClientMessageKind) → ⟦<ClientMessageKind as Clone>⟧.is_clone a b
+        → b ≡ a }
     ensures expected { (a b : Expects) → ⟦<Expects as Clone>⟧.is_clone a b → b ≡ a }
     ensures errors { (a b : FrontendError) → ⟦<FrontendError as Clone>⟧.is_clone a b → b ≡ a }
     ensures ends { (a b : ClientStreamEnd) → ⟦<ClientStreamEnd as Clone>⟧.is_clone a b → b ≡ a }

@@ -28,7 +28,8 @@ pub fn read_client_pieces(
     limit: usize,
     pieces: &[&[u8]],
 ) -> Result<(Vec<ClientMessage>, ClientStreamEnd), AllocError>
-    ensures { IfOk result (λ read. IsRead limit (joined pieces.now) (kinds_and_bodies read.0.items) read.1) }
+    ensures { IfOk result (λ read. IsRead limit (joined pieces.now)
+        (kinds_and_bodies read.0.items) read.1) }
 {
     let mut reader = FrontendFrameReader::new(alloc, limit);
     let mut messages = Vec::new(alloc);
@@ -47,9 +48,14 @@ fn take_all(
     messages: &mut Vec<ClientMessage>,
 ) -> Result<Option<FrontendFault>, AllocError>
     // The messages and what is left are the stream that they were before.
-    ensures stream { OnOk result ((state : Expects) (bytes : List ℕ) → Stream reader.old.limit state bytes (kinds_and_bodies messages.old.items) reader.old.expects reader.old.bytes → Stream reader.old.limit state bytes (kinds_and_bodies messages.new.items) reader.new.expects reader.new.bytes) }
+    ensures stream { OnOk result ((state : Expects) (bytes : List ℕ)
+        → Stream reader.old.limit state bytes (kinds_and_bodies messages.old.items)
+        reader.old.expects reader.old.bytes → Stream reader.old.limit state bytes
+        (kinds_and_bodies messages.new.items) reader.new.expects reader.new.bytes) }
     ensures limit { OnOk result (reader.new.limit ≡ reader.old.limit) }
-    ensures end { IfOk result (λ some. MatchOption some (WantsMore reader.new.limit reader.new.expects reader.new.bytes) (IsStreamFault reader.new.limit reader.new.expects reader.new.bytes)) }
+    ensures end { IfOk result (λ some. MatchOption some
+        (WantsMore reader.new.limit reader.new.expects reader.new.bytes)
+        (IsStreamFault reader.new.limit reader.new.expects reader.new.bytes)) }
 {
     loop {
         match reader.next_message() {

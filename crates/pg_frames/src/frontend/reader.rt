@@ -10,14 +10,10 @@ ghost use Rattle.pg_frames.specs.Frontend.Reader.{Takes, IsReaderError, fed, hea
 use crate::frontend::error::FrontendError;
 use crate::frontend::frame::{Expects, FrontendFrame, next_frontend_frame};
 use crate::frontend::message::{ClientMessage, ClientMessageKind};
+use crate::head::{HEADER, LENGTH};
 use bytes::BytesMut;
 use std::alloc::{AllocError, Global};
 use std::marker::Model;
-
-// How many bytes a length has, and how many it has with the tag before it.
-const LENGTH: usize = 4;
-
-const TAG_AND_LENGTH: usize = 5;
 
 // The most spare bytes of a block that a reader keeps when all is handed out.
 const MAX_KEPT: usize = 64 * 1024;
@@ -96,23 +92,31 @@ impl FrontendFrameReader {
     /// the same call may be made again: after a fault it gives the fault again, and after `OutOfMemory`
     /// it gives the message as soon as there is memory.
     pub fn next_message(&mut self) -> Result<Option<ClientMessage>, FrontendError>
-        ensures message { IfOk result (λ some. IfSome some (λ message. Takes self.old message self.new)) }
-        ensures partial { IfOk result (λ some. IfNone some (WantsMore self.old.limit self.old.expects self.old.bytes × (self.new ≡ self.old))) }
+        ensures message { IfOk result (λ some. IfSome some
+            (λ message. Takes self.old message self.new)) }
+        ensures partial { IfOk result (λ some. IfNone some
+            (WantsMore self.old.limit self.old.expects self.old.bytes × (self.new ≡ self.old))) }
         ensures error { IfErr result (IsReaderError self.old) }
         ensures err { OnErr result (self.new ≡ self.old) }
 
         // Each answer comes wherever it is due.
-        ensures whole_due { Whole self.old.limit self.old.expects self.old.bytes → MatchResult result IsSome (λ error. error ≡ OutOfMemory) }
-        ensures partial_due { WantsMore self.old.limit self.old.expects self.old.bytes → result ≡ Ok None }
-        ensures fault_due { (fault : FrontendFault) → IsStreamFault self.old.limit self.old.expects self.old.bytes fault → result ≡ Err (Protocol fault) }
+        ensures whole_due { Whole self.old.limit self.old.expects self.old.bytes
+            → MatchResult result IsSome (λ error. error ≡ OutOfMemory) }
+        ensures partial_due { WantsMore self.old.limit self.old.expects self.old.bytes
+            → result ≡ Ok None }
+        ensures fault_due { (fault : FrontendFault)
+            → IsStreamFault self.old.limit self.old.expects self.old.bytes fault
+            → result ≡ Err (Protocol fault) }
     {
         self.take_next()
     }
 
     // The same, without that each answer comes wherever it is due.
     fn take_next(&mut self) -> Result<Option<ClientMessage>, FrontendError>
-        ensures message { IfOk result (λ some. IfSome some (λ message. Takes self.old message self.new)) }
-        ensures partial { IfOk result (λ some. IfNone some (WantsMore self.old.limit self.old.expects self.old.bytes × (self.new ≡ self.old))) }
+        ensures message { IfOk result (λ some. IfSome some
+            (λ message. Takes self.old message self.new)) }
+        ensures partial { IfOk result (λ some. IfNone some
+            (WantsMore self.old.limit self.old.expects self.old.bytes × (self.new ≡ self.old))) }
         ensures error { IfErr result (IsReaderError self.old) }
         ensures err { OnErr result (self.new ≡ self.old) }
     {
@@ -152,6 +156,6 @@ fn header_of(kind: ClientMessageKind) -> usize
 {
     match kind {
         ClientMessageKind::First => LENGTH,
-        ClientMessageKind::Tagged(_) => TAG_AND_LENGTH,
+        ClientMessageKind::Tagged(_) => HEADER,
     }
 }

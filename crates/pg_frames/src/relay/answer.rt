@@ -36,9 +36,11 @@ impl Answer {
         next: Expects,
         added: &'a [u8],
     ) -> Result<(&'a [u8], &'a [u8]), RelayError>
-        ensures placed { IfOk result (λ out. out.0.now ++ out.1.now ≡ placed self frame.now added.now) }
+        ensures placed { IfOk result (λ out. out.0.now ++ out.1.now ≡ placed self frame.now
+            added.now) }
         ensures fits { IfOk result (λ _. Fits self expects added.now next) }
-        ensures refused { IfErr result (λ error. (error ≡ NotFrames) × (¬ (Fits self expects added.now next))) }
+        ensures refused { IfErr result (λ error. (error ≡ NotFrames)
+            × (¬ (Fits self expects added.now next))) }
     {
         if !fits(self, expects, added, next) {
             return Err(RelayError::NotFrames);

@@ -6,16 +6,8 @@ ghost use Rattle.pg_frames.specs.Relay.Head.{HasHead, IsNext, head_length};
 ghost use Rattle.pg_frames.specs.Relay.{IsHeadFault};
 
 use crate::frontend::{Expects, after_first};
+use crate::head::{FrameHead, HEADER, LENGTH, MIN_FIRST_LENGTH, MIN_LENGTH, first_length};
 use crate::relay::error::RelayError;
-use pg_base::io::i32_at;
-
-// The lengths of the shortest messages: a length counts itself, and that of a first message a code.
-const MIN_LENGTH: i32 = 4;
-
-const MIN_FIRST_LENGTH: i32 = 8;
-
-// How many bytes a length has.
-const LENGTH: usize = 4;
 
 /// How a frame begins.
 #[derive(Clone, Copy)]
@@ -29,7 +21,8 @@ pub(crate) struct Head {
 /// How the frame at the front of the bytes begins, or `None` where too few bytes are there to tell.
 #[inline(always)]
 pub(crate) fn head_of(expects: Expects, bytes: &[u8]) -> Result<Option<Head>, RelayError>
-    ensures known { IfOk result (λ some. IfSome some (λ head. HasHead expects bytes.now head.tag head.count)) }
+    ensures known { IfOk result (λ some. IfSome some
+        (λ head. HasHead expects bytes.now head.tag head.count)) }
     ensures unknown { IfOk result (λ some. IfNone some (length bytes.now < head_length expects)) }
     ensures fault { IfErr result (IsHeadFault expects bytes.now) }
 {
@@ -41,11 +34,12 @@ pub(crate) fn head_of(expects: Expects, bytes: &[u8]) -> Result<Option<Head>, Re
 
 // The head of a first message.
 fn first_head(bytes: &[u8]) -> Result<Option<Head>, RelayError>
-    ensures known { IfOk result (λ some. IfSome some (λ head. HasHead First bytes.now head.tag head.count)) }
+    ensures known { IfOk result (λ some. IfSome some
+        (λ head. HasHead First bytes.now head.tag head.count)) }
     ensures unknown { IfOk result (λ some. IfNone some (length bytes.now < 4)) }
     ensures fault { IfErr result (IsHeadFault First bytes.now) }
 {
-    let Ok(announced) = i32_at(bytes, 0) else {
+    let Some(announced) = first_length(bytes) else {
         return Ok(None);
     };
     if announced < MIN_FIRST_LENGTH {
@@ -60,21 +54,19 @@ fn first_head(bytes: &[u8]) -> Result<Option<Head>, RelayError>
 // The head of a message with a tag.
 #[inline(always)]
 fn tagged_head(bytes: &[u8]) -> Result<Option<Head>, RelayError>
-    ensures known { IfOk result (λ some. IfSome some (λ head. HasHead Tagged bytes.now head.tag head.count)) }
+    ensures known { IfOk result (λ some. IfSome some
+        (λ head. HasHead Tagged bytes.now head.tag head.count)) }
     ensures unknown { IfOk result (λ some. IfNone some (length bytes.now < 5)) }
     ensures fault { IfErr result (IsHeadFault Tagged bytes.now) }
 {
-    let Some((tag, after)) = bytes.split_first() else {
-        return Ok(None);
-    };
-    let Ok(announced) = i32_at(after, 0) else {
+    let Some(FrameHead { tag, announced }) = FrameHead::of(bytes) else {
         return Ok(None);
     };
     if announced < MIN_LENGTH {
         return Err(RelayError::BadLength(announced));
     }
     Ok(Some(Head {
-        tag: Some(*tag),
+        tag: Some(tag),
         count: announced as usize + 1,
     }))
 }
@@ -85,7 +77,7 @@ pub(crate) fn length_of_head(expects: Expects) -> usize
 {
     match expects {
         Expects::First => LENGTH,
-        Expects::Tagged => LENGTH + 1,
+        Expects::Tagged => HEADER,
     }
 }
 

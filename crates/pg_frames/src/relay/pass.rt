@@ -33,7 +33,8 @@ pub trait Answers: Wants {
         added: &mut Vec<u8>,
     ) -> Result<Answer, AllocError>
         requires { added.old.items ≡ [] }
-        ensures answers { IfOk result (λ answer. answers self.old tag frame.now answer added.new.items self.new) }
+        ensures answers { IfOk result (λ answer. answers self.old tag frame.now answer
+            added.new.items self.new) }
         ensures exhausts { OnErr result (exhausts self.old tag frame.now self.new) };
 }
 
@@ -94,7 +95,8 @@ pub fn pass_pieces<U: Answers>(
 ) -> Result<(), RelayError>
     ensures passed { OnOk result (HasAdded out.old.items out.new.items
         (PassesOn U.wanted U.answers user.old relay.old (joined pieces.now) user.new relay.new)) }
-    ensures stops { IfErr result (StopsIn U.wanted U.answers U.exhausts user.old relay.old pieces.now
+    ensures stops { IfErr result (StopsIn U.wanted U.answers U.exhausts user.old relay.old
+        pieces.now
         (vec_capacity out.new) out.old.items out.new.items user.new relay.new) }
 {
     for piece in pieces {
@@ -164,7 +166,8 @@ fn put_answer<U: Answers>(
 fn add_both(out: &mut Vec<u8>, first: &[u8], second: &[u8]) -> Result<(), AllocError>
     ensures added { OnOk result (out.new.items ≡ out.old.items ++ (first.now ++ second.now)) }
     ensures same { OnErr result (out.new.items ≡ out.old.items) }
-    ensures full { OnErr result (vec_capacity out.new < length (out.old.items ++ (first.now ++ second.now))) }
+    ensures full { OnErr result (vec_capacity out.new < length
+        (out.old.items ++ (first.now ++ second.now))) }
 {
     out.reserve(first.len() + second.len())?;
     out.put_slice(first);

@@ -1,11 +1,9 @@
 -- The columns that stand one after the other in a body.
-use Rattle.std.specs.Prelude.{ℕ, zero, suc, ◌+◌, ◌==◌, ◌≤◌, List, [], ◌∷◌, length, take, drop, option_map, if◌then◌else◌}
+use Rattle.std.specs.Prelude.{ℕ, ◌+◌, ◌==◌, List, [], ◌∷◌, length, take, drop, option_map, if◌then◌else◌}
 use Rattle.pg_base.specs.declared.io.Oid.{Oid}
 use Rattle.pg_base.specs.Numbers.{num, int}
-use Rattle.pg_format.specs.Received.{max_body}
 use Rattle.pg_receive.specs.declared.message.row_description.columns.FieldRef.{FieldRef}
-use Rattle.pg_format.specs.Format.Lists.{times}
-use Rattle.pg_format.specs.Format.Places.{IsReadAt}
+use Rattle.pg_format.specs.Items.{Reading, items_in, HoldsItems}
 use Rattle.pg_format.specs.Messages.{Column, table, attribute, column}
 
 abbrev pub column_of_ref : FieldRef → Column
@@ -36,27 +34,20 @@ column_with name numbers = record {
   format = int (take 2 (drop 4 (drop 2 (drop 4 (drop 2 (drop 4 numbers))))));
 }
 
--- the column at the front of some bytes
+-- what follows the name at the front of some bytes
+abbrev pub after_name : List ℕ → List ℕ
+after_name bytes = drop (length (first_text bytes) + 1) bytes
+
+-- the column at the front of some bytes, and what follows its numbers
 abbrev pub first_column : List ℕ → Column
-first_column bytes = column_with (first_text bytes) (drop (length (first_text bytes) + 1) bytes)
+first_column bytes = column_with (first_text bytes) (after_name bytes)
 
--- how many bytes it has
-abbrev pub first_length : List ℕ → ℕ
-first_length bytes = length (first_text bytes) + 1 + 18
+abbrev pub after_column : List ℕ → List ℕ
+after_column bytes = drop 2 (drop 4 (drop 2 (drop 4 (drop 2 (drop 4 (after_name bytes))))))
 
--- so many columns of a body, from an offset on
-abbrev pub columns_from : List ℕ → ℕ → ℕ → List Column
-columns_from body at zero = []
-columns_from body at (suc n) = first_column (drop at body) ∷ columns_from body (at + first_length (drop at body)) n
+-- the columns that are left, and that the body has them all
+abbrev pub columns_left : Reading → List Column
+columns_left reading = items_in first_column after_column reading.left (drop reading.at reading.body)
 
--- where they end
-abbrev pub end_from : List ℕ → ℕ → ℕ → ℕ
-end_from body at zero = at
-end_from body at (suc n) = end_from body (at + first_length (drop at body)) n
-
--- the body has them all
-pub record AreColumns (body : List ℕ) (at n : ℕ) : Type 0 where
-  pub end : ℕ
-  pub starts : at ≤ length body
-  pub short : length body ≤ max_body
-  pub read : IsReadAt (times n column) body at (columns_from body at n) end
+abbrev pub HasColumns : Reading → Type 0
+HasColumns reading = HoldsItems column first_column after_column reading.left (drop reading.at reading.body)

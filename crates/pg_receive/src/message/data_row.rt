@@ -2,6 +2,7 @@
 
 mod cell;
 mod cell_end;
+mod ends;
 mod row;
 mod row_index;
 mod row_reader;
@@ -17,10 +18,12 @@ ghost use Rattle.pg_receive.specs.DataRow.CellEnd.{cells_from, first_cell, EndsR
 
 use crate::message::BackendMessage;
 use bytes::Bytes;
-pub use cell::cell_at;
+pub use cell::{Cell, cell_at};
 use cell_end::CellEnd;
-use pg_base::io::{MAX_BODY, bytes_at, u16_at};
+use pg_base::io::MAX_BODY;
 use pg_base::{BackendMessageFormat, Error};
+use pg_format::items::Items;
+use row::cell_in;
 pub use row::{Cells, Row};
 pub use row_index::RowIndex;
 use row_index::read_ends;
@@ -75,7 +78,7 @@ impl DataRow {
         requires { index < length self.now }
         ensures { slice_get self.now index ≡ Some (option_copied result) }
     {
-        self.as_row().get(index)
+        cell_in(self.storage.as_slice(), self.ends.as_slice(), index)
     }
 
     /// The row, borrowed: for what takes rows however they were read.
@@ -119,19 +122,13 @@ fn ends_of(alloc: Global, body: &[u8]) -> Result<SmallVec<CellEnd, 8>, Error>
     ensures answer { Decodes (Means data_row) (IsFaultOf data_row) RowNeedsNoMemory (λ ends. cells_from body.now first_cell ends.items) None body.now result }
     ensures rise { IfOk result (λ ends. EndsRise first_cell ends.items (length body.now)) }
 {
-    let count = usize::from(u16_at(body, 0)?);
-    if count > 8 {
+    let cells = Items::begin(body, CELL_LENGTH)?;
+    if cells.len() > 8 {
         let mut many = Vec::new(alloc);
         read_ends(body, &mut many)?;
         return Ok(SmallVec::from_vec(many));
     }
-    bytes_at(body, FIRST_CELL, CELL_LENGTH * count)?;
     let mut ends = SmallVec::new(alloc);
-    let mut at = FIRST_CELL;
-    for _index in 0..count {
-        let (cell, end) = cell_at(body, at)?;
-        ends.push_reserved(CellEnd::new(end, cell.is_none()));
-        at = end;
-    }
+    cells.read_all_quickly::<Cell<'_>, SmallVec<CellEnd, 8>>(CELL_LENGTH, &mut ends)?;
     Ok(ends)
 }

@@ -4,26 +4,22 @@ mod column_reader;
 mod columns;
 mod raw_columns;
 
-ghost use Rattle.std.specs.Prelude.{◌≡◌, ◌+◌, ◌*◌, ◌≤◌, List, length, drop, map, None};
+ghost use Rattle.std.specs.Prelude.{◌≡◌, ◌≤◌, [], length, map, None};
 ghost use Rattle.pg_base.specs.Decode.{Decodes};
 ghost use Rattle.pg_base.specs.declared.format.BackendMessageFormat.TheVariants as formats;
-ghost use Rattle.pg_format.specs.Format.{Means, IsFaultOf, IsBroken};
-ghost use Rattle.pg_format.specs.Format.Places.{IsReadAt, BreaksAt};
-ghost use Rattle.pg_format.specs.Messages.{column, row_description};
-ghost use Rattle.pg_receive.specs.CountedItems.{ItemsNeedNoMemory};
-ghost use Rattle.pg_receive.specs.RowDescription.{column_of, ColumnsNeedsNoMemory};
+ghost use Rattle.pg_format.specs.Format.{Means, IsFaultOf};
+ghost use Rattle.pg_format.specs.Messages.{row_description};
+ghost use Rattle.pg_receive.specs.RowDescription.{column_of, ColumnsNeedsNoMemory, HasRoomFor};
 
 use crate::message::BackendMessage;
 use bytes::Bytes;
 pub use column_reader::ColumnReader;
 pub use columns::{Columns, FieldRef, column_at};
-use pg_base::io::{MAX_BODY, Oid, bytes_at, u16_at};
+use pg_base::io::{MAX_BODY, Oid};
 use pg_base::{BackendMessageFormat, Error};
+use pg_format::items::{Items, Keeper};
 pub use raw_columns::{RawFieldRef, raw_column_at};
 use std::alloc::Global;
-
-// The offset of the first column, after the count.
-const FIRST_COLUMN: usize = 2;
 
 // The bytes of a column's numbers, which follow its name.
 const NUMBERS_LENGTH: usize = 18;
@@ -83,42 +79,66 @@ impl BackendMessage for RowDescription {
     ghost lawful = { lawful_row_description };
 }
 
-// A body with a fault has that answer, also where memory runs out before the fault is found.
+// The columns as they are read, with names of their own. Where memory runs out for one, the others are read all the
+// same: a body with a fault has that answer.
+#[derive(Drop)]
+struct OwnFields {
+    alloc: Global,
+    fields: Vec<Field>,
+    lacks_memory: bool,
+}
+
+impl OwnFields {
+    // None yet, and room for so many.
+    fn with_room(alloc: Global, count: usize) -> OwnFields
+        ensures none { result.fields.items ≡ [] }
+        ensures room { HasRoomFor result.lacks_memory result.fields count }
+    {
+        match Vec::with_capacity(alloc, count) {
+            Ok(fields) => OwnFields {
+                alloc,
+                fields,
+                lacks_memory: false,
+            },
+            Err(_) => OwnFields {
+                alloc,
+                fields: Vec::new(alloc),
+                lacks_memory: true,
+            },
+        }
+    }
+}
+
+impl<'a> Keeper<'a, FieldRef<'a>> for OwnFields {
+    ghost use Rattle.pg_receive.specs.RowDescription.{AreOwned, HasRoomFor};
+
+    ghost keeps = { λ now body first columns at. AreOwned now.lacks_memory now.fields.items columns };
+
+    ghost has_room = { λ now more. HasRoomFor now.lacks_memory now.fields more };
+
+    fn keep(&mut self, _at: usize, column: FieldRef<'a>, _end: usize) {
+        if self.lacks_memory {
+            return;
+        }
+        match column.to_field(self.alloc) {
+            Ok(field) => self.fields.push_reserved(field),
+            Err(_) => self.lacks_memory = true,
+        }
+    }
+}
+
 fn fields_of(alloc: Global, body: &[u8]) -> Result<Vec<Field>, Error>
     requires { length body.now ≤ MAX_BODY }
     ensures { Decodes (Means row_description) (IsFaultOf row_description) ColumnsNeedsNoMemory (λ fields. map column_of fields.items) None body.now result }
 {
-    match copied_fields(alloc, body) {
-        Err(Error::OutOfMemory) => {
-            Columns::read(body)?;
-            Err(Error::OutOfMemory)
-        }
-        answer => answer,
+    let columns = Items::begin(body, LEAST_COLUMN)?;
+    if columns.is_empty() {
+        return Ok(Vec::new(alloc));
     }
-}
-
-fn copied_fields(alloc: Global, body: &[u8]) -> Result<Vec<Field>, Error>
-    requires { length body.now ≤ MAX_BODY }
-    ensures { Decodes (Means row_description) (IsFaultOf row_description) (ItemsNeedNoMemory 19 0) (λ fields. map column_of fields.items) None body.now result }
-{
-    let count = usize::from(u16_at(body, 0)?);
-    bytes_at(body, FIRST_COLUMN, LEAST_COLUMN * count)?;
-    let mut fields = Vec::with_capacity(alloc, count)?;
-    let mut at = FIRST_COLUMN;
-    for _index in 0..count {
-        let (field, end) = field_at(alloc, body, at)?;
-        fields.push_reserved(field);
-        at = end;
+    let mut own = OwnFields::with_room(alloc, columns.len());
+    columns.read_all::<FieldRef<'_>, OwnFields>(&mut own)?;
+    if own.lacks_memory {
+        return Err(Error::OutOfMemory);
     }
-    Ok(fields)
-}
-
-// The column at an offset, and the offset after it.
-fn field_at(alloc: Global, body: &[u8], at: usize) -> Result<(Field, usize), Error>
-    requires within { at ≤ length body.now }
-    requires short { length body.now ≤ MAX_BODY }
-    ensures { Decodes (λ body found. IsReadAt column body at (column_of found.0) found.1) (λ body. BreaksAt column body at) (λ body. IsBroken column (length body) (drop at body)) (λ found. found) None body.now result }
-{
-    let (column, end) = column_at(body, at)?;
-    Ok((column.to_field(alloc)?, end))
+    Ok(own.fields)
 }

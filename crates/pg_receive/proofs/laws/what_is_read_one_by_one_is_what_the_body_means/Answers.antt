@@ -1,6 +1,6 @@
 use Rattle.pg_format.proofs.FormatLaws.FromServer.{lawful_column}
 use Rattle.pg_format.proofs.FormatLaws.Nullable.{lawful_cell}
-use Rattle.pg_receive.proofs.CountedItemsLemmas.{reads_body}
+use Rattle.pg_format.proofs.ItemsLemmas.{reads_body}
 use Rattle.pg_receive.proofs.RowDescriptionRawLemmas.{lawful_raw_column}
 use Rattle.pg_receive.proofs.laws.what_is_read_one_by_one_is_what_the_body_means.Goals as goal
 

@@ -9,11 +9,12 @@ ghost use Rattle.pg_format.specs.Format.Parts.{be_u16};
 ghost use Rattle.pg_format.specs.Messages.{data_row};
 ghost use Rattle.pg_receive.specs.CountedItems.{ItemsNeedNoMemory};
 
-use crate::message::data_row::cell::cell_at;
+use crate::message::data_row::cell::Cell;
 use crate::message::data_row::cell_end::CellEnd;
-use crate::message::data_row::{CELL_LENGTH, FIRST_CELL, Row};
+use crate::message::data_row::{CELL_LENGTH, Row};
 use pg_base::Error;
-use pg_base::io::{MAX_BODY, bytes_at, u16_at};
+use pg_base::io::MAX_BODY;
+use pg_format::items::Items;
 use std::alloc::Global;
 use std::marker::Model;
 
@@ -64,15 +65,9 @@ pub(super) fn read_ends(body: &[u8], ends: &mut Vec<CellEnd>) -> Result<(), Erro
     ensures rise { OnOk result (EndsRise first_cell ends.new.items (length body.now)) }
     ensures memory { IsErrOf result OutOfMemory → (count : ℕ) (rest : List ℕ) → be_u16.Reads body.now count rest → vec_capacity ends.old < count }
 {
-    let count = usize::from(u16_at(body, 0)?);
-    bytes_at(body, FIRST_CELL, CELL_LENGTH * count)?;
+    let cells = Items::begin(body, CELL_LENGTH)?;
     ends.clear();
-    ends.reserve_exact(count)?;
-    let mut at = FIRST_CELL;
-    for _index in 0..count {
-        let (cell, end) = cell_at(body, at)?;
-        ends.push_reserved(CellEnd::new(end, cell.is_none()));
-        at = end;
-    }
+    ends.reserve_exact(cells.len())?;
+    cells.read_all_quickly::<Cell<'_>, Vec<CellEnd>>(CELL_LENGTH, ends)?;
     Ok(())
 }

@@ -2,12 +2,13 @@
 
 ghost use Rattle.std.specs.Prelude.{◌≡◌, ◌==◌, ◌≤◌, length, drop, option_copied, IfOk, IfErr, MatchOption};
 ghost use Rattle.pg_format.specs.Format.Nullable.{cell};
-ghost use Rattle.pg_receive.specs.CountedItems.{IsCountFault, Begins, IsRead, NoneIsLeft, NextBreaks};
+ghost use Rattle.pg_format.specs.Items.{IsCountFault, Begins, IsRead, NoneIsLeft, NextBreaks};
 
-use crate::message::data_row::cell::cell_at;
-use crate::message::data_row::{CELL_LENGTH, FIRST_CELL};
+use crate::message::data_row::CELL_LENGTH;
+use crate::message::data_row::cell::Cell;
 use pg_base::ProtocolFault;
-use pg_base::io::{MAX_BODY, bytes_at, u16_at};
+use pg_base::io::MAX_BODY;
+use pg_format::items::Items;
 use std::marker::Model;
 
 /// Reads the cells of a row from its body, each when it is asked for: it goes over the body once, and
@@ -18,22 +19,15 @@ use std::marker::Model;
 /// Documentation: "Message Formats", DataRow (B).
 #[derive(Drop)]
 pub struct RowReader<'a> {
-    body: &'a [u8],
-    // Where the next cell begins.
-    at: usize,
-    left: usize,
+    cells: Items<'a>,
 }
 
 impl<'a> Model for RowReader<'a> {
-    ghost use Rattle.std.specs.Prelude.{◌≤◌, length};
-    ghost use Rattle.pg_format.specs.Received.{max_body};
-    ghost use Rattle.pg_receive.specs.CountedItems.{Reading};
+    ghost use Rattle.pg_format.specs.Items.{Reading};
 
     ghost Value = { Reading };
 
-    ghost view = { λ reader. record { body = reader.body.now; at = reader.at; left = reader.left } };
-
-    ghost invariant = { λ reader. (reader.at ≤ length reader.body.now) × (length reader.body.now ≤ max_body) };
+    ghost view = { λ reader. reader.cells };
 }
 
 impl<'a> RowReader<'a> {
@@ -44,20 +38,15 @@ impl<'a> RowReader<'a> {
         ensures row { IfOk result (Begins 4 body.now) }
         ensures fault { IfErr result (IsCountFault 4 body.now) }
     {
-        let left = usize::from(u16_at(body, 0)?);
-        bytes_at(body, FIRST_CELL, CELL_LENGTH * left)?;
-        Ok(RowReader {
-            body,
-            at: FIRST_CELL,
-            left,
-        })
+        let cells = Items::begin(body, CELL_LENGTH)?;
+        Ok(RowReader { cells })
     }
 
     /// How many cells are left.
     pub fn len(&self) -> usize
         ensures { result ≡ self.now.left }
     {
-        self.left
+        self.cells.len()
     }
 
     /// Whether no cells are left.
@@ -73,19 +62,17 @@ impl<'a> RowReader<'a> {
         ensures cell { IfOk result (λ found. MatchOption found (NoneIsLeft self.old self.new) (λ value. IsRead cell self.old self.new (option_copied value))) }
         ensures fault { IfErr result (NextBreaks cell self.old self.new) }
     {
-        if self.left == 0 {
-            return Ok(None);
+        match self.cells.next::<Cell<'a>>()? {
+            Some(Cell(value)) => Ok(Some(value)),
+            None => Ok(None),
         }
-        let (cell, end) = cell_at(self.body, self.at)?;
-        self.at = end;
-        self.left -= 1;
-        Ok(Some(cell))
     }
+
     /// What follows the cells that were read: nothing at the end, where no cell is left and the server
     /// sent what it counted.
     pub fn rest(&self) -> &'a [u8]
         ensures { result.now ≡ drop self.now.at self.now.body }
     {
-        &self.body[self.at..]
+        self.cells.rest()
     }
 }

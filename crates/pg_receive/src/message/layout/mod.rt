@@ -6,7 +6,8 @@ mod parts;
 ghost use Rattle.std.specs.Prelude.{◌≤◌, length, IfOk, IfErr};
 ghost use Rattle.pg_format.specs.Format.{IsFaultOf};
 ghost use Rattle.pg_format.specs.Format.Ends.{exactly};
-ghost use Rattle.pg_receive.specs.Layout.{EndsAt, layout};
+ghost use Rattle.pg_format.specs.Format.Places.{EndsAt};
+ghost use Rattle.pg_receive.specs.Layout.{layout};
 
 use lists::{columns_end, fields_end, row_end};
 use parts::{

@@ -8,7 +8,8 @@ ghost use Rattle.pg_format.specs.Format.Parts.{until_nul, be_u32, be_i8, be_i16,
 ghost use Rattle.pg_format.specs.Format.Sequences.{dep_pair, ◌⨾◌};
 ghost use Rattle.pg_format.specs.Messages.{column_codes, status_of, status_letter};
 ghost use Rattle.pg_receive.specs.BackendKeyData.{raw_key_data};
-ghost use Rattle.pg_receive.specs.Layout.{EndsAt, asked};
+ghost use Rattle.pg_format.specs.Format.Places.{EndsAt};
+ghost use Rattle.pg_receive.specs.Layout.{asked};
 
 use super::lists::names_end;
 use crate::message::copy::code_count;

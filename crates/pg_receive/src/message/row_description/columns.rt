@@ -8,10 +8,11 @@ ghost use Rattle.pg_format.specs.Messages.{numbers_of, numbers, column, row_desc
 ghost use Rattle.pg_receive.specs.RowDescription.Columns.{column_of_ref};
 ghost use Rattle.pg_receive.specs.RowDescription.{column_of};
 
-use crate::message::row_description::{FIRST_COLUMN, Field, LEAST_COLUMN, NUMBERS_LENGTH};
+use crate::message::row_description::{Field, LEAST_COLUMN, NUMBERS_LENGTH};
 use crate::message::str_at;
 use pg_base::ProtocolFault;
-use pg_base::io::{MAX_BODY, Oid, bytes_at, i16_at, i32_at, u16_at, u32_at};
+use pg_base::io::{MAX_BODY, Oid, bytes_at, i16_at, i32_at, u32_at};
+use pg_format::items::{Item, Items, Nothing};
 use std::alloc::{AllocError, Global};
 use std::marker::Model;
 
@@ -53,26 +54,39 @@ impl FieldRef<'_> {
     }
 }
 
+impl<'a> Item<'a> for FieldRef<'a> {
+    ghost use Rattle.pg_format.specs.Messages.{Column, column};
+    ghost use Rattle.pg_receive.specs.RowDescription.Columns.{column_of_ref};
+
+    ghost Shown = { Column };
+
+    ghost shown = { column_of_ref };
+
+    ghost format = { column };
+
+    #[inline(always)]
+    fn item_at(body: &'a [u8], at: usize) -> Result<(FieldRef<'a>, usize), ProtocolFault> {
+        column_at(body, at)
+    }
+}
+
 /// The columns of a result in order, borrowed from the body of their message: the iterator makes no
 /// String. Documentation: "Message Formats", RowDescription (B).
 #[derive(Drop)]
 pub struct Columns<'a> {
-    body: &'a [u8],
-    // Where the next column begins.
-    at: usize,
-    left: usize,
+    columns: Items<'a>,
 }
 
 impl<'a> Model for Columns<'a> {
     ghost use Rattle.std.specs.Prelude.{List};
     ghost use Rattle.pg_format.specs.Messages.{Column};
-    ghost use Rattle.pg_receive.specs.RowDescription.Columns.{columns_from, AreColumns};
+    ghost use Rattle.pg_receive.specs.RowDescription.Columns.{columns_left, HasColumns};
 
     ghost Value = { List Column };
 
-    ghost view = { λ columns. columns_from columns.body.now columns.at columns.left };
+    ghost view = { λ columns. columns_left columns.columns };
 
-    ghost invariant = { λ columns. AreColumns columns.body.now columns.at columns.left };
+    ghost invariant = { λ columns. HasColumns columns.columns };
 }
 
 impl<'a> Columns<'a> {
@@ -82,25 +96,16 @@ impl<'a> Columns<'a> {
         requires { length body.now ≤ MAX_BODY }
         ensures { ReadsAs row_description (λ columns. columns) body.now result }
     {
-        let count = usize::from(u16_at(body, 0)?);
-        bytes_at(body, FIRST_COLUMN, LEAST_COLUMN * count)?;
-        let mut at = FIRST_COLUMN;
-        for _index in 0..count {
-            let (_column, end) = column_at(body, at)?;
-            at = end;
-        }
-        Ok(Columns {
-            body,
-            at: FIRST_COLUMN,
-            left: count,
-        })
+        let columns = Items::begin(body, LEAST_COLUMN)?;
+        columns.read_all::<FieldRef<'a>, Nothing>(&mut Nothing)?;
+        Ok(Columns { columns })
     }
 
     /// How many columns are left.
     pub fn len(&self) -> usize
         ensures { result ≡ length self.now }
     {
-        self.left
+        self.columns.len()
     }
 
     /// Whether no columns are left.
@@ -116,9 +121,7 @@ impl<'a> Columns<'a> {
         ensures { option_map column_of_ref result ≡ slice_get self.now index }
     {
         let mut columns = Columns {
-            body: self.body,
-            at: self.at,
-            left: self.left,
+            columns: self.columns.again(),
         };
         columns.nth(index)
     }
@@ -134,14 +137,10 @@ impl<'a> Iterator for Columns<'a> {
     ghost remaining = { item_count (λ columns. columns) };
 
     fn next(&mut self) -> Option<FieldRef<'a>> {
-        if self.left == 0 {
-            return None;
-        }
-        let Ok((column, end)) = column_at(self.body, self.at) else {
+        let Ok(next) = self.columns.next::<FieldRef<'a>>() else {
             return None;
         };
-        self.at = end;
-        self.left -= 1;
+        let column = next?;
         Some(column)
     }
 }

@@ -10,6 +10,7 @@ use crate::message::row_description::columns::field_of;
 use crate::message::text_at;
 use pg_base::ProtocolFault;
 use pg_base::io::{MAX_BODY, Oid, bytes_at};
+use pg_format::items::Item;
 
 /// A [`FieldRef`](crate::message::FieldRef) whose name is in the server's encoding, which need not be
 /// UTF-8.
@@ -29,6 +30,22 @@ pub struct RawFieldRef<'a> {
     pub type_modifier: i32,
     /// The format code of the values: 0 means text, and 1 means binary.
     pub format: i16,
+}
+
+impl<'a> Item<'a> for RawFieldRef<'a> {
+    ghost use Rattle.pg_format.specs.Messages.{Column};
+    ghost use Rattle.pg_receive.specs.RowDescription.Raw.{column_of_raw, raw_column};
+
+    ghost Shown = { Column };
+
+    ghost shown = { column_of_raw };
+
+    ghost format = { raw_column };
+
+    #[inline(always)]
+    fn item_at(body: &'a [u8], at: usize) -> Result<(RawFieldRef<'a>, usize), ProtocolFault> {
+        raw_column_at(body, at)
+    }
 }
 
 /// The column that begins at an offset of the body of a RowDescription, and the offset after it, as

@@ -3,31 +3,33 @@ use Rattle.std.specs.Prelude.{unsigned_abs}
 use Rattle.std.specs.Int.{w32}
 use Rattle.std.proofs.lemmas.Int.{to_z-of_z}
 use mir.Val.{SFits}
-use Rattle.pg_c.proofs.ReadFrameLemmas.{announced_is}
+use Rattle.pg_frames.proofs.StreamLemmas.{one_announced, announces_fits}
 use Rattle.pg_c.proofs.read.frame.needed.Goals as goal
 
-pub returns-in-Ok-clause-any : goal.returns-in-Ok-clause-any
-returns-in-Ok-clause-any c =
+pub returns-in-Some-clause-any : goal.returns-in-Some-clause-any
+returns-in-Some-clause-any c =
     let stream = c.args.stream.now in
-    let z = c.in-Ok.announced in
+    let head = c.in-Some.head in
+    let z = head.announced in
     let in_range : SFits w32 z = search rules in
     elim c.requires [
-      | inl short ↦ absurd (omega (arith, short, c.if-stream-lt-HEADER.false))
+      | inl short ↦ absurd (omega (arith, short, announces_fits stream head.tag z c.in-Some.ensures.known))
       | inr g ↦ inr (
-          let is : z ≡ pos g.announced = announced_is stream g.tag (pos g.announced) z (drop 5 stream) g.announces c.in-Ok.ensures.found in
+          let is : z ≡ pos g.announced = (one_announced stream head.tag g.tag z (pos g.announced) c.in-Some.ensures.known g.announces).1 in
           let count : c.unsigned_abs.result ≡ g.announced = c.unsigned_abs.ensures.value ∙ ap unsigned_abs (to_z-of_z w32 z in_range ∙ is) in
           record { tag = g.tag; announced = g.announced; announces = g.announces; least = g.least; short = g.short; all = omega (arith, count) })
     ]
 
-pub returns-in-Ok-clause-known : goal.returns-in-Ok-clause-known
-returns-in-Ok-clause-known c = λ wants.
+pub returns-in-Some-clause-known : goal.returns-in-Some-clause-known
+returns-in-Some-clause-known c = λ wants.
     let stream = c.args.stream.now in
-    let z = c.in-Ok.announced in
+    let head = c.in-Some.head in
+    let z = head.announced in
     let in_range : SFits w32 z = search rules in
     elim wants [
-      | inl short ↦ absurd (omega (arith, short, c.if-stream-lt-HEADER.false))
+      | inl short ↦ absurd (omega (arith, short, announces_fits stream head.tag z c.in-Some.ensures.known))
       | inr g ↦ inr (
-          let is : z ≡ pos g.announced = announced_is stream g.tag (pos g.announced) z (drop 5 stream) g.announces c.in-Ok.ensures.found in
+          let is : z ≡ pos g.announced = (one_announced stream head.tag g.tag z (pos g.announced) c.in-Some.ensures.known g.announces).1 in
           let count : c.unsigned_abs.result ≡ g.announced = c.unsigned_abs.ensures.value ∙ ap unsigned_abs (to_z-of_z w32 z in_range ∙ is) in
           record { tag = g.tag; announced = g.announced; announces = g.announces; known = g.known; least = g.least; short = g.short; all = omega (arith, count) })
     ]

@@ -1,7 +1,7 @@
 use Rattle.std.proofs.Common.{◌<◌, [], length, inl, inr, refl}
 use Rattle.std.proofs.lemmas.Result.{err_from_is_err_and}
 use Rattle.pg_frames.proofs.RelayPassStopsLemmas.{ends_on, stops_here}
-use Rattle.pg_frames.proofs.RelayPassedLemmas.{added_first, added_step, added_all}
+use Rattle.pg_frames.proofs.RelayPassedLemmas.{added_first, added_step}
 use Rattle.pg_frames.proofs.RelayRunLemmas.{some_bytes}
 use Rattle.pg_frames.proofs.relay.pass.pass_piece.Goals as goal
 

@@ -1,88 +1,42 @@
-use Rattle.std.specs.Option.{is_none, is_some}
-use Rattle.std.proofs.Common.{◌≡◌, ◌+◌, ◌*◌, ◌<◌, ◌≤◌, length, drop, refl, sym, ap, ◌∙◌, option_copied, arith, rules}
+use Rattle.std.proofs.Common.{◌≡◌, ◌<◌, map, option_copied, drop, [], refl, ◌∙◌, arith}
 use Rattle.std.proofs.lemmas.Bool.{false≢true}
 use Rattle.std.proofs.lemmas.Result.{err_from_is_err_and}
 use Rattle.pg_base.proofs.ReadingLemmas.{one_number}
-use Rattle.pg_receive.specs.DataRow.CellEnd.{end_of, cell_to, cells_from, last_end}
 use Rattle.pg_format.specs.Format.Nullable.{cell}
-use Rattle.pg_format.proofs.FormatLaws.Places.{none_at, one_more_at, counted_at, broken_at}
-use Rattle.pg_receive.proofs.DataRowLemmas.{cells_from-push, last_end-push, ends_rise_push, entry_gives, cell_is_wide, not_some, is_none-copied}
+use Rattle.pg_format.proofs.ItemsLemmas.{fault_read}
+use Rattle.pg_receive.specs.declared.message.data_row.cell.Cell.{Cell}
 use Rattle.pg_receive.proofs.CountedItemsLemmas.{asks_for_memory}
+use Rattle.pg_receive.proofs.DataRowLemmas.{ends_read}
 use Rattle.pg_receive.proofs.message.data_row.row_index.read_ends.Goals as goal
 
 pub returns-in_err-reserve_exact-clause-answer : goal.returns-in_err-reserve_exact-clause-answer
 returns-in_err-reserve_exact-clause-answer c =
     let p = err_from_is_err_and c.from_residual-in_err-reserve_exact.result c.from_residual-in_err-reserve_exact.ensures.1 in
-    let n = c.in_ok-u16_at.field-0 in
-    let not_none : c.from-count.result ≡ 0 → ⊥ = λ e. absurd (false≢true (c.in_err-reserve_exact.ensures.succeeds (omega (arith, e, c.clear.ensures.len)))) in
-    let some_are_there : 0 < n = omega (arith, c.from-count.ensures) in
-    rw (p.1, p.2) (asks_for_memory 4 0 c.args.body.now n c.in_ok-u16_at.ensures.found (omega (arith, c.from-count.ensures, c.in_ok-bytes_at.ensures.found.0)) some_are_there)
+    let begun = c.in_ok-cells.ensures.begun in
+    let n = c.in_ok-cells.cells.left in
+    let not_none : n ≡ 0 → ⊥ = λ e. absurd (false≢true (c.in_err-reserve_exact.ensures.succeeds (omega (arith, e, c.len.ensures, c.clear.ensures.len)))) in
+    let some_are_there : 0 < n = omega arith in
+    rw (p.1, p.2) (asks_for_memory 4 0 c.args.body.now n begun.count begun.holds some_are_there)
 
 pub returns-in_err-reserve_exact-clause-memory : goal.returns-in_err-reserve_exact-clause-memory
 returns-in_err-reserve_exact-clause-memory c = λ ran_out count rest read.
-    let counts = one_number 2 c.args.body.now c.in_ok-u16_at.field-0 count (drop 2 c.args.body.now) rest c.in_ok-u16_at.ensures.found read in
-    omega (arith, counts.0, c.in_err-reserve_exact.ensures.full, c.clear.ensures.capacity, c.clear.ensures.len, c.from-count.ensures)
-
-pub loop-index-init : goal.loop-index-init
-loop-index-init c =
-    let reserved = c.in_ok-reserve_exact.ensures in
-    let none = reserved.items ∙ c.clear.ensures.items in
-    let within : 2 ≤ length c.args.body.now = omega (arith, c.in_ok-bytes_at.ensures.found.0) in
-    record {
-      within = within;
-      last = rw none refl;
-      counted = reserved.len ∙ c.clear.ensures.len;
-      room = omega (arith, reserved.ok);
-      rise = rw none within;
-      read = rw none (none_at cell c.args.body.now 2 within);
-    }
-
-pub returns-in_err-cell-clause-answer : goal.returns-in_err-cell-clause-answer
-returns-in_err-cell-clause-answer c =
-    let p = err_from_is_err_and c.from_residual-in_err-cell.result c.from_residual-in_err-cell.ensures.1 in
-    let body = c.args.body.now in
-    let n = c.in_ok-u16_at.field-0 in
-    let row = c.loop-index in
-    let cells = cells_from body 2 row.ends.items in
-    let holds : 2 + 4 * n ≤ length body = omega (arith, c.from-count.ensures, c.in_ok-bytes_at.ensures.found.0) in
-    let fewer : row._index < n = omega (arith, c.from-count.ensures, c.loop-index-test.true) in
-    rw (p.1, p.2) (refl, broken_at cell 4 body n row._index row.at cells c.in_err-cell.field-0.0 c.in_ok-u16_at.ensures.found holds row.invariant.read fewer c.in_err-cell.ensures.broken)
-
-pub loop-index-preserved : goal.loop-index-preserved
-loop-index-preserved c =
-    let body = c.args.body.now in
-    let found = option_copied c.in_ok-cell.cell in
-    let end = c.in_ok-cell.end in
-    let entry = c.new.result in
-    let row = c.loop-index in
-    let ends = row.ends.items in
-    let read = c.in_ok-cell.ensures.cell in
-    let made = c.new.ensures in
-    let pushed = c.push_reserved.ensures in
-    let said : c.is_none.result ≡ is_none c.in_ok-cell.cell = not_some c.is_none.result (is_some c.in_ok-cell.cell) c.is_none.ensures in
-    let gives : cell_to body row.at entry ≡ found = entry_gives body found row.at end entry read made.end (rw (is_none-copied c.in_ok-cell.cell) (made.null ∙ said)) in
-    let rises : last_end 2 ends + 4 ≤ end_of entry = omega (arith, row.invariant.last, made.end, cell_is_wide body row.at end found read) in
-    record {
-      within = read.within;
-      last = sym made.end ∙ sym (last_end-push 2 ends entry) ∙ ap (last_end 2) (sym pushed.items);
-      counted = omega (arith, pushed.len, row.invariant.counted);
-      room = omega (arith, pushed.capacity, row.invariant.room);
-      rise = rw pushed.items (ends_rise_push 2 ends entry (length body) row.invariant.rise rises (omega (arith, made.end, read.within)));
-      read = rw (pushed.items, cells_from-push body 2 ends entry, ← row.invariant.last, gives)
-          (one_more_at cell body row._index 2 row.at end (cells_from body 2 ends) found row.invariant.read read);
-    }
+    let n = c.in_ok-cells.cells.left in
+    let counts = one_number 2 c.args.body.now n count (drop 2 c.args.body.now) rest c.in_ok-cells.ensures.begun.count read in
+    omega (arith, counts.0, c.in_err-reserve_exact.ensures.full, c.clear.ensures.capacity, c.clear.ensures.len, c.len.ensures)
 
 pub returns-clause-answer : goal.returns-clause-answer
 returns-clause-answer c =
-    let body = c.args.body.now in
-    let n = c.in_ok-u16_at.field-0 in
-    let row = c.loop-index in
-    let cells = cells_from body 2 row.ends.items in
-    let all : row._index ≡ n = omega (arith, c.from-count.ensures, c.loop-index-test.false, row.auto._index-end) in
-    counted_at cell 4 body n row.at cells c.in_ok-u16_at.ensures.found (rw all at row.invariant.read)
+    let all = c.in_ok-read_all_quickly.ensures in
+    let none = c.in_ok-reserve_exact.ensures.items ∙ c.clear.ensures.items in
+    (ends_read c.args.body.now c.in_ok-cells.cells c.reserve_exact.new.self.items c.read_all_quickly.new.keeper.items (map (λ (x : Cell). option_copied x.0) all.items) c.in_ok-read_all_quickly.field-0 c.in_ok-cells.ensures.begun none all.read (all.kept c.in_ok-cells.cells.at [])).0
 
-pub returns-in_err-u16_at-clause-answer : goal.returns-in_err-u16_at-clause-answer
-returns-in_err-u16_at-clause-answer c = search rules
+pub returns-clause-rise : goal.returns-clause-rise
+returns-clause-rise c =
+    let all = c.in_ok-read_all_quickly.ensures in
+    let none = c.in_ok-reserve_exact.ensures.items ∙ c.clear.ensures.items in
+    (ends_read c.args.body.now c.in_ok-cells.cells c.reserve_exact.new.self.items c.read_all_quickly.new.keeper.items (map (λ (x : Cell). option_copied x.0) all.items) c.in_ok-read_all_quickly.field-0 c.in_ok-cells.ensures.begun none all.read (all.kept c.in_ok-cells.cells.at [])).1
 
-pub returns-in_err-bytes_at-clause-answer : goal.returns-in_err-bytes_at-clause-answer
-returns-in_err-bytes_at-clause-answer c = search rules
+pub returns-in_err-read_all_quickly-clause-answer : goal.returns-in_err-read_all_quickly-clause-answer
+returns-in_err-read_all_quickly-clause-answer c =
+    let p = err_from_is_err_and c.from_residual-in_err-read_all_quickly.result c.from_residual-in_err-read_all_quickly.ensures.1 in
+    rw (p.1, p.2) (refl, fault_read cell 4 c.args.body.now c.in_ok-cells.cells c.in_err-read_all_quickly.field-0.0 c.in_ok-cells.ensures.begun c.in_err-read_all_quickly.ensures)

@@ -1,4 +1,4 @@
-use Rattle.std.proofs.Common.{length, arith}
+use Rattle.std.proofs.Common.{arith}
 use Rattle.std.proofs.Math.Seq.{drop-length}
 use Rattle.pg_receive.proofs.message.layout.parts.key_end.Goals as goal
 

@@ -1,4 +1,4 @@
-use Rattle.std.proofs.Common.{◌≤◌, List, [], drop, length, refl, arith, rules}
+use Rattle.std.proofs.Common.{◌≤◌, [], drop, length, refl, arith, rules}
 use Rattle.std.proofs.lemmas.Result.{err_from_is_err_and}
 use Rattle.pg_base.proofs.ReadingLemmas.{number_fits}
 use Rattle.pg_format.proofs.FormatLaws.Places.{lacks_at}

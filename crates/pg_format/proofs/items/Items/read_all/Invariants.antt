@@ -1,0 +1,10 @@
+use Rattle.std.proofs.Common.{◌≡◌, ℕ, ◌+◌, ◌≤◌, length}
+use Rattle.pg_format.specs.Items.{AreKept}
+use Rattle.pg_format.proofs.items.Items.read_all.Given as goal
+
+abbrev pub invariant-loop-index : goal.invariant-loop-index
+invariant-loop-index g l = record {
+  within : l.at ≤ length l.fn.self.body;
+  room : (more : ℕ) → more + l._index ≡ l.fn.self.left → g.K.Keeper.has_room l.keeper more;
+  read : AreKept g.I.Item.format g.I.Item.shown g.K.Keeper.keeps l.fn.self.body l.fn.self.at l._index l.at l.fn.keeper l.keeper;
+}
