@@ -1,9 +1,9 @@
 //! The calls of pgmsg.
 
 use crate::Query;
-use pgmsg::read::{next_frame, Kind, Next, RowIndex};
-use pgmsg::write::{Messages, RawParameters, Value};
-use pgmsg::FormatCode;
+use pgmsg::backend::RowIndex;
+use pgmsg::frontend::{Bind, Execute, Message, Parse};
+use pgmsg::{Decoder, Format, Next, Value};
 
 /// Reads rows off a stream that was copied into its buffer.
 #[derive(Default)]
@@ -17,12 +17,12 @@ impl Reader {
     pub fn read(&mut self, stream: &[u8]) -> usize {
         self.buffer.clear();
         self.buffer.extend_from_slice(stream);
-        let (mut left, mut sum) = (&self.buffer[..], 0);
-        while let Next::Frame(frame) = next_frame(left).expect("a frame") {
-            assert_eq!(frame.kind, Kind::DataRow);
-            let row = self.index.read(frame.body).expect("a row");
+        let (mut decoder, mut left, mut sum) = (Decoder::of_server(), &self.buffer[..], 0);
+        while let Next::Frame(frame) = decoder.next(left).expect("a frame") {
+            assert_eq!(frame.tag, Some(b'D'));
+            let row = self.index.read(frame.body()).expect("a row");
             sum += row.iter().flatten().map(<[u8]>::len).sum::<usize>();
-            left = &left[frame.length..];
+            left = &left[frame.bytes.len()..];
         }
         sum
     }
@@ -31,18 +31,20 @@ impl Reader {
 /// Writes messages into an emptied buffer.
 #[derive(Default)]
 pub struct Writer {
-    messages: Messages,
+    out: Vec<u8>,
 }
 
 impl Writer {
     /// A Parse: how many bytes it has.
     pub fn parse(&mut self, query: &Query) -> usize {
-        self.messages.clear();
-        let (statement, text) = (query.statement.as_bytes(), query.query.as_bytes());
-        self.messages
-            .raw_parse(statement, text, &query.types)
-            .expect("a Parse");
-        self.messages.len()
+        self.out.clear();
+        let parse = Parse {
+            statement: query.statement.into(),
+            query: (&query.query).into(),
+            types: (&query.types).into(),
+        };
+        parse.write(&mut self.out).expect("a Parse");
+        self.out.len()
     }
 
     /// A Bind of the unnamed portal, an Execute of it and a Sync: how many bytes they have.
@@ -51,17 +53,18 @@ impl Writer {
         for (value, bytes) in values.iter_mut().zip(&query.values) {
             *value = Value::new(bytes);
         }
-        let parameters = RawParameters {
-            values: &values[..query.values.len()],
-            formats: &[FormatCode(1)],
-            result_formats: &[FormatCode(1)],
+        self.out.clear();
+        let bind = Bind {
+            statement: query.statement.into(),
+            formats: (&[Format::BINARY]).into(),
+            values: (&values[..query.values.len()]).into(),
+            result_formats: (&[Format::BINARY]).into(),
+            ..Bind::default()
         };
-        self.messages.clear();
-        self.messages
-            .raw_bind(b"", query.statement.as_bytes(), parameters)
-            .and_then(|messages| messages.raw_execute(b"", None))
-            .and_then(Messages::sync)
+        bind.write(&mut self.out)
+            .and_then(|()| Execute::default().write(&mut self.out))
+            .and_then(|()| Message::Sync.write(&mut self.out))
             .expect("three messages");
-        self.messages.len()
+        self.out.len()
     }
 }

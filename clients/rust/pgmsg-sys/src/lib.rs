@@ -37,6 +37,18 @@
 #![no_std]
 #![allow(non_camel_case_types)]
 
+/// The types of C that the declarations name, on any system that the library is for. A `char` is a byte.
+mod ctypes {
+    pub type c_char = u8;
+    pub type c_int = i32;
+    pub type c_schar = i8;
+    pub type c_short = i16;
+    pub type c_uchar = u8;
+    pub type c_uint = u32;
+    pub type c_ulong = u64;
+    pub type c_ushort = u16;
+}
+
 mod declarations;
 
 pub use declarations::*;

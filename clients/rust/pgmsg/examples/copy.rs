@@ -7,10 +7,9 @@
 //! The server must trust the user, since the program has no password. TABLE goes into the query as
 //! it is, so that it can name a schema and columns.
 
-use pgmsg::read::{
-    authentication, fields, next_frame, rows_affected, Authentication, FieldKind, Frame, Kind, Next,
-};
-use pgmsg::write::{copy_head, Messages};
+use pgmsg::backend::{self, rows_affected, Authentication, FieldKind};
+use pgmsg::frontend::{copy_head, Message, Startup};
+use pgmsg::{Decoder, Next};
 use std::env;
 use std::error::Error;
 use std::io::{self, Read, Write};
@@ -26,6 +25,7 @@ const MOST: usize = 1 << 16;
 
 struct Session {
     socket: TcpStream,
+    decoder: Decoder,
     /// What the server sent, of which the first `done` bytes are read.
     stream: Vec<u8>,
     done: usize,
@@ -35,29 +35,31 @@ impl Session {
     fn open(address: &str, user: &str, database: &str) -> Result<Session> {
         let mut session = Session {
             socket: TcpStream::connect(address)?,
+            decoder: Decoder::of_server(),
             stream: Vec::new(),
             done: 0,
         };
-        session.send(Messages::new().startup(&[("user", user), ("database", database)])?)?;
-        session.wait_for(Kind::ReadyForQuery)?;
+        let startup = Startup::new(&[("user", user), ("database", database)]);
+        session.send(Message::Startup(startup))?;
+        session.wait_for(b'Z')?;
         Ok(session)
     }
 
-    fn send(&mut self, messages: &Messages) -> io::Result<()> {
-        self.socket.write_all(messages.as_bytes())
+    fn send(&mut self, message: Message<'_>) -> io::Result<()> {
+        let mut out = Vec::new();
+        message.write(&mut out)?;
+        self.socket.write_all(&out)
     }
 
-    /// Reads messages up to one of a kind, and gives how many rows the last command had to do with.
-    fn wait_for(&mut self, last: Kind) -> Result<u64> {
+    /// Reads messages up to one of a tag, and gives how many rows the last command had to do with.
+    fn wait_for(&mut self, last: u8) -> Result<u64> {
         let mut rows = 0;
         loop {
-            match next_frame(&self.stream[self.done..])? {
+            match self.decoder.next(&self.stream[self.done..])? {
                 Next::Frame(frame) => {
-                    self.done += frame.length;
-                    if let Some(count) = rows_of(&frame)? {
-                        rows = count;
-                    }
-                    if frame.kind == last {
+                    self.done += frame.bytes.len();
+                    rows = rows_of(backend::Message::read(&frame)?)?.unwrap_or(rows);
+                    if frame.tag == Some(last) {
                         return Ok(rows);
                     }
                 }
@@ -80,16 +82,16 @@ impl Session {
 }
 
 /// The rows of a command, where the message reports one, or the error that it reports.
-fn rows_of(frame: &Frame<'_>) -> Result<Option<u64>> {
-    match frame.kind {
-        Kind::CommandComplete => Ok(Some(rows_affected(frame.body))),
-        Kind::ErrorResponse => {
-            let message = fields(frame.body)?.get(FieldKind::Message);
-            Err(String::from_utf8_lossy(message.unwrap_or_default()).into())
+fn rows_of(message: backend::Message<'_>) -> Result<Option<u64>> {
+    use backend::Message::{Authentication as Request, CommandComplete, ErrorResponse};
+    match message {
+        CommandComplete(tag) => Ok(Some(rows_affected(&tag))),
+        ErrorResponse(fields) => {
+            let message = fields.value(FieldKind::Message).unwrap_or_default();
+            Err(message.to_str_lossy().into())
         }
-        Kind::Authentication if authentication(frame.body)? != Authentication::Ok => {
-            Err("the server asks for a password".into())
-        }
+        Request(Authentication::Ok) => Ok(None),
+        Request(_) => Err("the server asks for a password".into()),
         _ => Ok(None),
     }
 }
@@ -101,8 +103,9 @@ fn main() -> Result<()> {
         _ => return Err("usage: copy ADDRESS USER DATABASE TABLE".into()),
     };
     let mut session = Session::open(address, user, database)?;
-    session.send(Messages::new().query(&format!("COPY {table} FROM STDIN"))?)?;
-    session.wait_for(Kind::CopyInResponse)?;
+    let query = format!("COPY {table} FROM STDIN");
+    session.send(Message::Query((&query).into()))?;
+    session.wait_for(b'G')?;
     let mut input = io::stdin().lock();
     let mut message = vec![0; HEAD + MOST];
     loop {
@@ -113,7 +116,7 @@ fn main() -> Result<()> {
         message[..HEAD].copy_from_slice(&copy_head(count)?);
         session.socket.write_all(&message[..HEAD + count])?;
     }
-    session.send(Messages::new().copy_done()?)?;
-    println!("COPY {}", session.wait_for(Kind::ReadyForQuery)?);
-    Ok(session.send(Messages::new().terminate()?)?)
+    session.send(Message::CopyDone)?;
+    println!("COPY {}", session.wait_for(b'Z')?);
+    Ok(session.send(Message::Terminate)?)
 }

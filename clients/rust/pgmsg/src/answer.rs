@@ -3,28 +3,38 @@
 use crate::error::{Fault, Refusal};
 use crate::sys;
 use crate::version;
-use std::mem::MaybeUninit;
-use std::{slice, str};
+use alloc::string::String;
+use alloc::vec::Vec;
+use core::mem::{size_of, MaybeUninit};
+use core::slice;
 
-/// What is wrong with the bytes that a call reads, for the call to fill.
+/// What is wrong with the bytes that a call reads, for the call to fill: a fault of the library.
 ///
 /// The first `words_len` of its words are initialised: `new` sets that to 0, and the library, which
 /// alone changes it, writes as many. No more is written, since most calls succeed.
-struct Report(sys::pgmsg_fault);
+#[repr(C)]
+struct Report {
+    _number: i32,
+    at: usize,
+    words_len: usize,
+    words: [MaybeUninit<u8>; 256],
+}
+
+const _: () = assert!(size_of::<Report>() == size_of::<sys::pgmsg_fault>());
 
 impl Report {
     #[inline]
     fn new() -> Report {
-        Report(sys::pgmsg_fault {
-            number: 0,
+        Report {
+            _number: 0,
             at: 0,
             words_len: 0,
             words: [MaybeUninit::uninit(); 256],
-        })
+        }
     }
 
     fn words(&self) -> &[u8] {
-        let words = self.0.words.get(..self.0.words_len).unwrap_or_default();
+        let words = self.words.get(..self.words_len).unwrap_or_default();
         // SAFETY: `words` is a slice of `words_len` bytes or of none, and these are initialised.
         unsafe { slice::from_raw_parts(words.as_ptr().cast(), words.len()) }
     }
@@ -34,7 +44,7 @@ impl Report {
     fn fault(&self, number: isize) -> Fault {
         Fault {
             refusal: Refusal::from_number(number),
-            at: self.0.at,
+            at: self.at,
             words: String::from_utf8_lossy(self.words()).into_owned(),
         }
     }
@@ -46,7 +56,8 @@ impl Report {
 pub(crate) fn answer(call: impl FnOnce(*mut sys::pgmsg_fault) -> isize) -> Result<usize, Fault> {
     version::check();
     let mut report = Report::new();
-    let number = call(&mut report.0);
+    let place: *mut Report = &mut report;
+    let number = call(place.cast());
     usize::try_from(number).map_err(|_| report.fault(number))
 }
 
@@ -56,19 +67,6 @@ pub(crate) fn part(bytes: &[u8], span: sys::pgmsg_span) -> Result<&[u8], Fault> 
     let rest = bytes.get(span.at..);
     rest.and_then(|rest| rest.get(..span.len))
         .ok_or_else(|| Fault::unexpected(span.at))
-}
-
-/// The body of a frame that a call gave. The frame ends where its body does.
-#[inline]
-pub(crate) fn body_of<'a>(stream: &'a [u8], frame: &sys::pgmsg_frame) -> Result<&'a [u8], Fault> {
-    stream
-        .get(frame.body.at..frame.length)
-        .ok_or_else(|| Fault::unexpected(frame.length))
-}
-
-/// The text at a place, which the library has found to be UTF-8.
-pub(crate) fn text(bytes: &[u8], span: sys::pgmsg_span) -> Result<&str, Fault> {
-    str::from_utf8(part(bytes, span)?).map_err(|_| Fault::unexpected(span.at))
 }
 
 /// The items that a call writes into `room`. It calls again with more room where the first room is
@@ -109,13 +107,12 @@ mod tests {
             assert_eq!(fault, Err(Fault::unexpected(at)));
         }
         assert_eq!(part(b"abc", Span { at: 3, len: 0 }), Ok(&b""[..]));
-        assert!(text(b"\xff", Span { at: 0, len: 1 }).is_err());
     }
 
     #[test]
     fn a_report_of_more_words_than_there_is_room_for_has_none() {
         let mut report = Report::new();
-        report.0.words_len = 257;
+        report.words_len = 257;
         assert_eq!(report.fault(-12), Refusal::Short.into());
     }
 

@@ -1,9 +1,8 @@
 //! Why a call fails.
 
 use crate::sys;
-use std::error::Error;
-use std::fmt;
-use std::io;
+use alloc::string::String;
+use core::fmt;
 
 /// Why a message is refused.
 #[derive(Clone, Copy, Debug, PartialEq, Eq, Hash)]
@@ -140,27 +139,14 @@ impl fmt::Display for Refusal {
     }
 }
 
-impl Error for Refusal {}
-
-/// An error of the kind `OutOfMemory` where the refusal is for memory, else `InvalidInput`.
-impl From<Refusal> for io::Error {
-    fn from(refusal: Refusal) -> io::Error {
-        let kind = match refusal {
-            Refusal::OutOfMemory => io::ErrorKind::OutOfMemory,
-            _ => io::ErrorKind::InvalidInput,
-        };
-        io::Error::new(kind, refusal)
-    }
-}
-
 /// What is wrong with bytes that were read.
 ///
 /// ```
-/// use pgmsg::{read, Refusal};
+/// use pgmsg::{backend::BackendKeyData, Refusal};
 ///
-/// let fault = read::key_data(b"\0\0\0\x2a").unwrap_err();
-/// assert_eq!((fault.refusal, fault.at), (Refusal::Short, 4));
-/// assert_eq!(fault.to_string(), "expected 4 bytes at offset 4, got 0");
+/// let fault = BackendKeyData::read(b"\0\0\0").unwrap_err();
+/// assert_eq!((fault.refusal, fault.at), (Refusal::Short, 0));
+/// assert_eq!(fault.to_string(), "expected 4 bytes at offset 0, got 3");
 /// ```
 #[derive(Clone, Debug, PartialEq, Eq)]
 #[non_exhaustive]
@@ -177,6 +163,16 @@ impl Fault {
     /// The fault of a library that gave a place, a count or a code that its header excludes.
     pub(crate) fn unexpected(number: usize) -> Fault {
         Refusal::Unexpected(i64::try_from(number).unwrap_or(i64::MAX)).into()
+    }
+
+    /// The fault of a tag that no message of a side has.
+    #[cold]
+    pub(crate) fn unknown(words: String) -> Fault {
+        Fault {
+            refusal: Refusal::UnknownMessageType,
+            at: 0,
+            words,
+        }
     }
 }
 
@@ -200,22 +196,43 @@ impl fmt::Display for Fault {
     }
 }
 
-impl Error for Fault {}
+/// The two as errors of `std`.
+#[cfg(feature = "std")]
+mod std_errors {
+    use super::{Fault, Refusal};
+    use std::error::Error;
+    use std::io;
 
-/// An error of the kind `OutOfMemory` where the refusal is for memory, else `InvalidData`.
-impl From<Fault> for io::Error {
-    fn from(fault: Fault) -> io::Error {
-        let kind = match fault.refusal {
+    impl Error for Refusal {}
+
+    impl Error for Fault {}
+
+    /// An error of the kind `OutOfMemory` where the refusal is for memory, else `InvalidInput`.
+    impl From<Refusal> for io::Error {
+        fn from(refusal: Refusal) -> io::Error {
+            io::Error::new(kind_of(refusal, io::ErrorKind::InvalidInput), refusal)
+        }
+    }
+
+    /// An error of the kind `OutOfMemory` where the refusal is for memory, else `InvalidData`.
+    impl From<Fault> for io::Error {
+        fn from(fault: Fault) -> io::Error {
+            io::Error::new(kind_of(fault.refusal, io::ErrorKind::InvalidData), fault)
+        }
+    }
+
+    fn kind_of(refusal: Refusal, other: io::ErrorKind) -> io::ErrorKind {
+        match refusal {
             Refusal::OutOfMemory => io::ErrorKind::OutOfMemory,
-            _ => io::ErrorKind::InvalidData,
-        };
-        io::Error::new(kind, fault)
+            _ => other,
+        }
     }
 }
 
 #[cfg(test)]
 mod tests {
     use super::*;
+    use std::io;
 
     #[test]
     fn numbers_outside_the_table_are_kept() {

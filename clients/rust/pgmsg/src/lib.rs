@@ -1,24 +1,24 @@
-//! Messages of the PostgreSQL wire protocol, version 3.0, as a client and a server send and receive
-//! them.
+//! Messages of the PostgreSQL wire protocol, version 3, as a client and a server send and receive them.
 //!
 //! This crate is a safe interface to `libpg_message`, the message layer of the project
-//! Tarnwhisk, whose code is proved. It has no sockets and no state of a connection:
-//! [`write::Messages`] collects bytes for the server, and the functions of [`mod@read`] take apart the
-//! bytes that the server sent, without copying texts or values. On the other side
-//! [`server::Messages`] collects bytes for a client, and the functions of [`client`] take apart those
-//! that a client sent. A [`relay::Relay`] passes the bytes of either on.
+//! Tarnwhisk, whose code is proved. It has no sockets and no state of a connection: a [`Decoder`] cuts a
+//! stream into its messages, without copying them; [`backend::Message`] and [`frontend::Message`] are any
+//! message of a server and of a client, borrowed of its bytes, to be read and to be written; a
+//! [`relay::Relay`] passes the bytes of either side on; [`scram`] answers for the password.
 //!
 //! ```
-//! use pgmsg::read::{self, Kind, TransactionStatus};
-//! use pgmsg::write::Messages;
+//! use pgmsg::{backend, frontend, Decoder};
 //!
-//! let mut messages = Messages::new();
-//! messages.query("SELECT 1")?;
-//! assert_eq!(messages.as_bytes(), b"Q\0\0\0\x0DSELECT 1\0");
+//! let mut out = Vec::new();
+//! frontend::Message::Query("SELECT 1".into()).write(&mut out)?;
+//! assert_eq!(out, b"Q\0\0\0\x0DSELECT 1\0");
 //!
-//! let frame = read::next_frame(b"Z\0\0\0\x05I")?.frame().ok_or("a complete message")?;
-//! assert_eq!(frame.kind, Kind::ReadyForQuery);
-//! assert_eq!(read::ready(frame.body)?, TransactionStatus::Idle);
+//! let mut decoder = Decoder::of_server();
+//! let frame = decoder.next(b"Z\0\0\0\x05I")?.frame().ok_or("a whole message")?;
+//! match backend::Message::read(&frame)? {
+//!     backend::Message::ReadyForQuery(status) => assert_eq!(status.letter(), b'I'),
+//!     other => panic!("{other:?}"),
+//! }
 //! # Ok::<(), Box<dyn std::error::Error>>(())
 //! ```
 //!
@@ -26,13 +26,14 @@
 //!
 //! A call that writes fails with a [`Refusal`] and leaves the messages that were written before.
 //! A call that reads fails with a [`Fault`]: a [`Refusal`], the offset of the fault, and words.
-//! Both can be made an [`io::Error`](std::io::Error). No input makes a call panic; a library of another
-//! version than the crate's declarations does, whichever call is the first one.
+//! Both can be made a `std::io::Error`. No input makes a call panic; a library of another version than the
+//! crate's declarations does, whichever call is the first one.
 //!
 //! # Features
 //!
-//! `bytes` adds what shares allocations by the crate of that name: `read::split_frame`, whose
-//! bodies are `Bytes`, `Cell::share`, `Bytes::from(messages)`, and messages over a `BytesMut`.
+//! - `std`, a default, makes errors those of `std`; without it the crate needs `alloc` alone.
+//! - `bytes` makes a `BytesMut` something that messages are appended to.
+//! - `codec` has codecs of `tokio_util` for both sides.
 //!
 //! # Building
 //!
@@ -40,6 +41,7 @@
 //! environment variable `PGMSG_LIB_DIR` names, else by `pkg-config`, else by building it, where `rt`
 //! is there. It needs Rust 1.63.
 
+#![cfg_attr(not(feature = "std"), no_std)]
 #![warn(missing_docs)]
 #![deny(unsafe_op_in_unsafe_fn)]
 #![warn(
@@ -47,19 +49,38 @@
     clippy::undocumented_unsafe_blocks
 )]
 
+extern crate alloc;
+
 mod answer;
-pub mod client;
+pub mod backend;
+mod buffer;
+mod byte_str;
+#[cfg(feature = "codec")]
+pub mod codec;
+mod decoder;
 mod error;
 mod format;
-mod next;
-pub mod read;
+mod frame;
+pub mod frontend;
+mod list;
+mod message;
+mod put;
 mod reading;
 pub mod relay;
-pub mod server;
+mod row;
+pub mod scram;
+mod value;
+mod values;
 mod version;
-pub mod write;
 
+pub use buffer::Buffer;
+pub use byte_str::{ByteStr, Secret};
+pub use decoder::Decoder;
 pub use error::{Fault, Refusal};
-pub use format::{Format, FormatCode};
+pub use format::Format;
+pub use frame::{Frame, Next};
+pub use list::List;
+pub use value::Value;
+pub use values::Values;
 
 use pgmsg_sys as sys;

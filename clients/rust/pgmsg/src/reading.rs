@@ -8,6 +8,7 @@ use crate::answer::{answer, fill};
 use crate::error::Fault;
 use crate::sys;
 use crate::version;
+use alloc::vec::Vec;
 
 /// A call that gives a number.
 type ReadNumber = unsafe extern "C" fn(*const u8, usize, *mut sys::pgmsg_fault) -> i32;

@@ -6,18 +6,17 @@
 //! or not at all, or other messages go out in its place, before it or after it.
 //!
 //! ```
-//! use pgmsg::read::{Field, FieldKind};
+//! use pgmsg::backend::{Field, FieldKind, Message};
 //! use pgmsg::relay::{Answer, Relay, Wanted};
-//! use pgmsg::server::Messages;
 //!
 //! // A server's stream, in which no client sees the text of an error.
 //! let mut relay = Relay::of_server(1 << 20, Wanted::tags(b"E"));
 //! let mut out = Vec::new();
 //! for piece in [&b"1\0\0\0\x04E\0\0"[..], b"\0\x0dMsecret\0\0Z\0\0\0\x05I"] {
 //!     relay.pass(piece, &mut out, |_| {
-//!         let mut messages = Messages::new();
-//!         messages.error(&[Field::new(FieldKind::Message, "no")])?;
-//!         Ok(Answer::Replace(messages.into_bytes()))
+//!         let mut other = Vec::new();
+//!         Message::ErrorResponse([Field::new(FieldKind::Message, "no")].into()).write(&mut other)?;
+//!         Ok(Answer::Replace(other))
 //!     })?;
 //! }
 //! assert_eq!(out, b"1\0\0\0\x04E\0\0\0\x09Mno\0\0Z\0\0\0\x05I");
@@ -31,13 +30,14 @@ mod pass;
 mod wanted;
 
 pub use answer::{check_frames, Answer};
-pub use event::{Event, Frame};
+pub use event::Event;
 pub use wanted::Wanted;
 
 use crate::error::{Fault, Refusal};
 use crate::sys;
+use alloc::vec::Vec;
+use core::fmt;
 use front::{front_of, Front};
-use std::fmt;
 
 /// Takes the bytes of one direction of a connection in pieces, and gives back what goes out.
 ///
@@ -53,6 +53,8 @@ pub struct Relay {
     needed: usize,
     /// Whether what is held has been given.
     is_given: bool,
+    /// How many bytes have been given.
+    offset: u64,
 }
 
 impl Relay {
@@ -81,6 +83,7 @@ impl Relay {
             held: Vec::new(),
             needed: 0,
             is_given: false,
+            offset: 0,
         }
     }
 
@@ -184,7 +187,8 @@ impl Relay {
         };
         let bytes = piece.get(..count).ok_or_else(|| Fault::unexpected(count))?;
         *piece = &piece[count..];
-        Ok(Some(Event::new(&self.relay, tag, bytes)))
+        let offset = &mut self.offset;
+        Ok(Some(Event::new(&self.relay, tag, bytes, offset)))
     }
 
     /// Where the front of a message is held.
@@ -208,7 +212,8 @@ impl Relay {
         };
         *piece = rest;
         self.is_given = true;
-        Ok(Some(Event::new(&self.relay, tag, &self.held)))
+        let (held, offset) = (&self.held, &mut self.offset);
+        Ok(Some(Event::new(&self.relay, tag, held, offset)))
     }
 
     /// Holds what is missing of the message at the front: first of its tag and its length, then of all of

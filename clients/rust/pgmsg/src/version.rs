@@ -1,7 +1,9 @@
 //! Whether the library that is linked is the one whose declarations this crate has.
 
 use crate::sys;
-use std::sync::atomic::{AtomicBool, Ordering};
+use alloc::borrow::Cow;
+use alloc::string::String;
+use core::sync::atomic::{AtomicBool, Ordering};
 
 /// Whether the versions have been compared, and are the same.
 static IS_COMPARED: AtomicBool = AtomicBool::new(false);
@@ -29,11 +31,16 @@ fn compare() {
 fn assert_same(linked: &sys::pgmsg_text) {
     let mut parts = linked.text.split(|&byte| byte == 0);
     let linked = String::from_utf8_lossy(parts.next().unwrap_or_default());
+    let declared = declared();
     assert!(
-        linked == sys::PGMSG_VERSION,
-        "the libpg_message that is linked is of version {linked}, and pgmsg of {}",
-        sys::PGMSG_VERSION
+        linked == declared,
+        "the libpg_message that is linked is of version {linked}, and pgmsg of {declared}"
     );
+}
+
+/// The version of the declarations, without its NUL.
+fn declared() -> Cow<'static, str> {
+    String::from_utf8_lossy(&sys::PGMSG_VERSION[..sys::PGMSG_VERSION.len() - 1])
 }
 
 #[cfg(test)]
@@ -49,7 +56,7 @@ mod tests {
     #[test]
     fn the_library_is_of_the_version_of_its_declarations() {
         check();
-        assert_same(&text_of(sys::PGMSG_VERSION));
+        assert_same(&text_of(&declared()));
     }
 
     #[test]
@@ -59,7 +66,7 @@ mod tests {
             let words = refused.expect_err("a panic");
             let words = words.downcast_ref::<String>().expect("words");
             assert!(words.contains(&format!("linked is of version {other}, ")));
-            assert!(words.ends_with(&format!("and pgmsg of {}", sys::PGMSG_VERSION)));
+            assert!(words.ends_with(&format!("and pgmsg of {}", declared())));
         }
     }
 }

@@ -1,15 +1,16 @@
-//! Bytes that no server of the protocol sends: no reader panics, and what it gives lies within the
-//! bytes.
+//! Bytes that nobody of the protocol sends: no reader panics, what it gives lies within the bytes, and what
+//! it takes is what the crate writes of it.
 
 mod common;
 
 use common::{assert_within, checked, Numbers};
-use pgmsg::read::*;
-use pgmsg::{Fault, Refusal};
+use pgmsg::backend::{self, end, rows_affected, Authentication, RowIndex, Severity};
+use pgmsg::frontend::{self, SaslInitialResponse};
+use pgmsg::{ByteStr, Refusal};
 use std::thread;
 
-/// A body of each kind that has one.
-const BODIES: [&[u8]; 13] = [
+/// A body of each form of either side.
+const BODIES: [&[u8]; 24] = [
     b"\0\x03\0\0\0\x02ab\xff\xff\xff\xff\0\0\0\0",
     b"\0\x01id\0\0\0\x40\x01\0\x02\0\0\0\x17\0\x04\xff\xff\xff\xff\0\x01",
     b"\0\x02\0\0\0\x17\0\0\0\x19",
@@ -23,107 +24,127 @@ const BODIES: [&[u8]; 13] = [
     b"\0\0\0\x0aSCRAM-SHA-256-PLUS\0SCRAM-SHA-256\0\0",
     b"\0\0\0\x0br=abcdef,s=AAEC,i=8192",
     b"\0\0\0\x0cv=AAEC",
+    b"p\0s\0\0\x02\0\x01\0\0\0\x02\0\0\0\x02ab\xff\xff\xff\xff\0\x01\0\x01",
+    b"Ps0\0",
+    b"no\0",
+    b"p\0\0\0\0\x64",
+    b"\0\0\x40\x01\0\x01\0\0\0\x02\0\0\0\x01a\xff\xff\xff\xff\0\x01",
+    b"s\0SELECT $1\0\0\x02\0\0\0\x17\0\0\0\0",
+    b"SCRAM-SHA-256\0\0\0\0\x05n,,n=",
+    b"\0\x03\0\0user\0ann\0database\0shop\0\0",
+    b"\x04\xd2\x16\x2e\0\0\0\x01a key",
+    b"\x04\xd2\x16\x2f",
+    b"\x04\xd2\x16\x30",
 ];
+
+/// The tags of either side, and one that is of neither.
+const TAGS: &[u8] = b"RK23CdcGHWDIEnNAtS1sZTBFPQXfp!";
+
+/// The parts of a client's message.
+fn parts_of_client<'a>(message: &frontend::Message<'a>) -> Vec<&'a [u8]> {
+    use frontend::Message::*;
+    match message {
+        Startup(it) => it
+            .settings
+            .iter()
+            .flat_map(|it| [it.name.0, it.value.0])
+            .collect(),
+        CancelRequest(it) => vec![it.secret_key.0],
+        Bind(it) => {
+            let values = it.values.iter().filter_map(|value| value.bytes());
+            values.chain([it.portal.0, it.statement.0]).collect()
+        }
+        FunctionCall(it) => it
+            .arguments
+            .iter()
+            .filter_map(|value| value.bytes())
+            .collect(),
+        Parse(it) => vec![it.statement.0, it.query.0],
+        Close(it) | Describe(it) => vec![it.name().0],
+        Execute(it) => vec![it.portal.0],
+        CopyData(ByteStr(it)) | CopyFail(ByteStr(it)) | Query(ByteStr(it)) => vec![it],
+        Password(it) => vec![it.0],
+        _ => vec![],
+    }
+}
+
+/// The parts of a server's message.
+fn parts_of_server<'a>(message: &backend::Message<'a>) -> Vec<&'a [u8]> {
+    use backend::Message::*;
+    match message {
+        Authentication(self::Authentication::Sasl(it)) => it.iter().map(|name| name.0).collect(),
+        Authentication(self::Authentication::SaslContinue(it)) => vec![it.0],
+        BackendKeyData(it) => vec![it.secret_key.0],
+        CommandComplete(ByteStr(it)) | CopyData(ByteStr(it)) => vec![it],
+        DataRow(it) => it.iter().filter_map(|value| value.bytes()).collect(),
+        ErrorResponse(it) | NoticeResponse(it) => it.iter().map(|field| field.value.0).collect(),
+        NotificationResponse(it) => vec![it.channel.0, it.payload.0],
+        ParameterStatus(it) => vec![it.name.0, it.value.0],
+        RowDescription(it) => it.iter().map(|column| column.name.0).collect(),
+        Other(it) => vec![it.body.0],
+        _ => vec![],
+    }
+}
+
+/// Reads a body as a client's message. Whatever is taken is written as it was.
+fn read_of_client(tag: Option<u8>, body: &[u8]) {
+    let message = match checked(body, frontend::Message::read_body(tag, body)) {
+        Some(message) => message,
+        None => return,
+    };
+    for part in parts_of_client(&message) {
+        assert_within(body, part);
+    }
+    let mut out = Vec::new();
+    assert_eq!(message.write(&mut out), Ok(()));
+    assert_eq!(out[4 + usize::from(tag.is_some())..], *body);
+}
+
+/// Reads a body as a server's message. Whatever is taken is written so that it is read as the same; and it
+/// is as it was, where nothing follows its parts.
+fn read_of_server(tag: u8, body: &[u8]) {
+    let message = match checked(body, backend::Message::read_body(Some(tag), body)) {
+        Some(message) => message,
+        None => return,
+    };
+    for part in parts_of_server(&message) {
+        assert_within(body, part);
+    }
+    let mut out = Vec::new();
+    match message.write(&mut out) {
+        Ok(()) => {
+            let again = backend::Message::read_body(Some(tag), &out[5..]);
+            assert_eq!(again.as_ref(), Ok(&message));
+        }
+        // A server's list may end in an empty name, and a field of 0 is none.
+        Err(refusal) => assert_eq!(refusal, Refusal::TextHoldsNul, "{message:?}"),
+    }
+}
 
 /// Passes a body to every reader.
 fn read_all(reader: &mut RowIndex, body: &[u8]) {
-    read_lists(reader, body);
-    read_texts(body);
-    checked(body, key_data(body));
-    checked(body, ready(body));
-    checked(body, severity(body));
-    rows_affected(body);
-    read_raw(body);
-    match checked(body, authentication(body)) {
-        Some(Authentication::Sasl { mechanisms }) => {
-            for name in mechanisms {
-                assert_within(body, name.as_bytes());
-            }
-        }
-        Some(Authentication::SaslContinue(challenge)) => {
-            assert_within(body, challenge.message);
-            assert!(challenge.salt.len() + challenge.nonce.len() < body.len());
-        }
-        _ => {}
-    }
-}
-
-fn read_raw(body: &[u8]) {
-    if let Some(tag) = checked(body, command_tag(body)) {
-        assert_within(body, tag);
-    }
-    if let Some(request) = checked(body, raw_authentication(body)) {
-        assert_within(body, request.content);
-    }
-    for name in checked(body, raw_mechanisms(body)).unwrap_or_default() {
-        assert_within(body, name);
-    }
-    if let Some(key) = checked(body, raw_key_data(body)) {
-        assert_within(body, key.secret_key);
-    }
-    if let Some(status) = checked(body, raw_parameter_status(body)) {
-        assert_within(body, status.name);
-        assert_within(body, status.value);
-    }
-    for column in checked(body, raw_columns(body)).into_iter().flatten() {
-        assert_within(body, column.name);
-    }
-    checked(body, no_body(body));
-    for tag in b"RKCdGDENAtSZT" {
-        if let Some(at) = checked(body, end(*tag, body)) {
+    for &tag in TAGS {
+        read_of_client(Some(tag), body);
+        read_of_server(tag, body);
+        if let Some(at) = checked(body, end(tag, body)) {
             assert!(at <= body.len());
         }
     }
-}
-
-fn read_lists(reader: &mut RowIndex, body: &[u8]) {
+    read_of_client(None, body);
     if let Some(row) = checked(body, reader.read(body)) {
-        assert_eq!(row.iter().count(), row.len());
         row.iter()
             .flatten()
             .for_each(|value| assert_within(body, value));
         let ranges = row.places().iter().map(|place| place.range());
         assert!(ranges.map(|range| Some(&body[range?])).eq(&row));
     }
-    for column in checked(body, columns(body)).unwrap_or_default() {
-        assert_within(body, column.name.as_bytes());
+    if let Some(initial) = checked(body, SaslInitialResponse::read(body)) {
+        let mut out = Vec::new();
+        initial.write(&mut out).expect("it can be written");
+        assert_eq!(out[5..], *body);
     }
-    if let Some(types) = checked(body, parameter_types(body)) {
-        assert!(types.len() * 4 < body.len());
-    }
-    if let Some(response) = checked(body, copy_response(body)) {
-        assert!(response.columns.len() * 2 < body.len());
-    }
-    let fields = fields(body).expect("fields are never refused");
-    let values = fields.as_slice().iter().map(|field| field.value);
-    values.for_each(|value| assert_within(body, value));
-}
-
-fn read_texts(body: &[u8]) {
-    if let Some(notification) = checked(body, notification(body)) {
-        assert_within(body, notification.channel);
-        assert_within(body, notification.payload);
-    }
-    if let Some(status) = checked(body, parameter_status(body)) {
-        assert_within(body, status.name.as_bytes());
-        assert_within(body, status.value.as_bytes());
-    }
-}
-
-/// Cuts messages off a stream up to its end or its first fault.
-fn read_stream(mut stream: &[u8]) {
-    loop {
-        match checked(stream, next_frame(stream)) {
-            Some(Next::Frame(frame)) => {
-                assert_within(stream, frame.body);
-                assert_eq!(frame.length, frame.body.len() + 5);
-                assert_eq!(frame.kind.tag(), stream[0]);
-                stream = &stream[frame.length..];
-            }
-            Some(Next::Incomplete { needed }) => return assert!(stream.len() < needed),
-            None => return,
-        }
-    }
+    checked(body, Severity::read(body));
+    rows_affected(body);
 }
 
 #[test]
@@ -142,7 +163,7 @@ fn every_byte_of_every_body_replaced() {
     for body in BODIES {
         for at in 0..body.len() {
             let mut broken = body.to_vec();
-            for byte in [0, 1, b',', b'=', 0x7f, 0x80, 0xff] {
+            for byte in [0, 1, 3, b'S', b',', b'=', 0x7f, 0x80, 0xfe, 0xff] {
                 broken[at] = byte;
                 read_all(&mut reader, &broken);
             }
@@ -154,7 +175,7 @@ fn every_byte_of_every_body_replaced() {
 fn random_bodies() {
     let mut numbers = Numbers::new(0x9e37_79b9_7f4a_7c15);
     let mut reader = RowIndex::new();
-    for _ in 0..20_000 {
+    for _ in 0..2_000 {
         let len = numbers.below(64);
         let mut body = numbers.bytes(len);
         read_all(&mut reader, &body);
@@ -165,29 +186,24 @@ fn random_bodies() {
 }
 
 #[test]
-fn random_streams() {
-    let mut numbers = Numbers::new(0xd1b5_4a32_d192_ed03);
-    let tags = b"RK23CdcGHDIEnNAtS1sZT!";
-    for _ in 0..20_000 {
-        read_stream(&numbers.stream(tags));
-    }
-}
-
-#[test]
 fn a_body_beyond_the_limit_is_refused() {
     // Pages of zeros that nobody touches take no memory.
     let body = vec![0; i32::MAX as usize - 3];
-    let too_long = Refusal::BodyTooLong;
-    let refusal = |fault: Fault| fault.refusal;
-    assert_eq!(
-        RowIndex::new().read(&body).map(|_| ()).map_err(refusal),
-        Err(too_long)
-    );
-    assert_eq!(columns(&body).map_err(refusal), Err(too_long));
-    assert_eq!(parameter_types(&body).map_err(refusal), Err(too_long));
-    assert_eq!(copy_response(&body).map_err(refusal), Err(too_long));
-    assert_eq!(severity(&body).map_err(refusal), Err(too_long));
-    assert_eq!(authentication(&body).map_err(refusal), Err(too_long));
+    for tag in *b"RKCGWDAtSZT" {
+        let read = backend::Message::read_body(Some(tag), &body);
+        assert_eq!(common::fault_of(read).0, Refusal::BodyTooLong, "{tag}");
+    }
+    for tag in [None]
+        .into_iter()
+        .chain(b"BCfDEHFPQSX".iter().copied().map(Some))
+    {
+        let fault = frontend::Message::read_body(tag, &body).expect_err("it is too long");
+        let words = "message body out of range for protocol: 2147483644";
+        assert_eq!(
+            (fault.refusal, fault.words.as_str()),
+            (Refusal::BodyTooLong, words)
+        );
+    }
 }
 
 #[test]
@@ -196,7 +212,7 @@ fn threads_read_at_once() {
         for _ in 0..4 {
             scope.spawn(|| {
                 let mut reader = RowIndex::new();
-                for body in BODIES.repeat(500) {
+                for body in BODIES.repeat(100) {
                     read_all(&mut reader, body);
                 }
             });

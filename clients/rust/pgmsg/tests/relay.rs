@@ -4,8 +4,8 @@ mod common;
 
 use common::passing::{passed, pieces, tagged, wanted, FIRSTS, LIMIT};
 use common::Numbers;
+use pgmsg::frontend::copy_head;
 use pgmsg::relay::*;
-use pgmsg::write::copy_head;
 
 /// Messages with tags, of which a few are of more bytes than a piece has.
 fn messages(numbers: &mut Numbers) -> Vec<Vec<u8>> {

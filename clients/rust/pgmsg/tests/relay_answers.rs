@@ -1,8 +1,7 @@
 //! Messages that don't go out as they came.
 
-use pgmsg::client::text;
+use pgmsg::frontend::{Message, Startup};
 use pgmsg::relay::*;
-use pgmsg::write::Messages;
 use pgmsg::{Fault, Refusal};
 
 /// A server's stream of three messages.
@@ -133,28 +132,35 @@ fn whole_messages_are_checked() {
     }
 }
 
+/// The stream of a client that runs a query.
+fn stream_of(query: &str) -> Result<Vec<u8>, Refusal> {
+    let mut stream = Vec::new();
+    Startup::new(&[("user", "ann")]).write(&mut stream)?;
+    Message::Query(query.into()).write(&mut stream)?;
+    Message::Sync.write(&mut stream)?;
+    Ok(stream)
+}
+
 #[test]
 fn a_query_that_is_changed_on_its_way() -> Result<(), Fault> {
-    let mut messages = Messages::new();
-    messages.startup(&[("user", "ann")])?.query("SELECT 1")?;
-    messages.sync()?;
     let mut relay = Relay::of_client(10_000, Wanted::tags(b"Q"));
-    let mut out = Vec::new();
-    for piece in messages.as_bytes().chunks(7) {
-        relay.pass(piece, &mut out, |frame| match frame.tag {
-            Some(b'Q') => {
-                let query = String::from_utf8_lossy(text(frame.body())?).into_owned();
-                let mut changed = Messages::new();
-                changed.query(&format!("/* ours */ {query}"))?;
-                Ok(Answer::Replace(changed.into_bytes()))
+    let (mut out, mut offsets) = (Vec::new(), Vec::new());
+    for piece in stream_of("SELECT 1")?.chunks(7) {
+        relay.pass(piece, &mut out, |frame| {
+            offsets.push(frame.offset);
+            match Message::read(&frame)? {
+                Message::Query(query) => {
+                    let (changed, mut added) =
+                        (format!("/* ours */ {}", query.to_str_lossy()), Vec::new());
+                    Message::Query((&changed).into()).write(&mut added)?;
+                    Ok(Answer::Replace(added))
+                }
+                _ => Ok(Answer::Keep),
             }
-            _ => Ok(Answer::Keep),
         })?;
     }
-    let mut due = Messages::new();
-    due.startup(&[("user", "ann")])?;
-    due.query("/* ours */ SELECT 1")?.sync()?;
-    assert_eq!(out, due.as_bytes());
+    assert_eq!(out, stream_of("/* ours */ SELECT 1")?);
+    assert_eq!(offsets, [0, 18]);
     Ok(())
 }
 

@@ -1,11 +1,10 @@
-//! Rows and columns from the server, with bytes written by hand in the layouts of "Message Formats"
-//! in the PostgreSQL documentation.
+//! Rows by an index, with bytes written by hand in the layout of a DataRow.
 
 mod common;
 
 use common::fault_of;
-use pgmsg::read::*;
-use pgmsg::{Fault, Format, FormatCode, Refusal};
+use pgmsg::backend::*;
+use pgmsg::{Fault, Refusal};
 
 /// The cells of a row.
 fn cells(body: &[u8]) -> Result<Vec<Option<&[u8]>>, Fault> {
@@ -94,53 +93,4 @@ fn broken_rows() {
 #[test]
 fn a_cell_of_any_length_below_zero_is_null() {
     assert_eq!(cells(b"\0\x01\x80\0\0\0"), Ok(vec![None]));
-}
-
-#[test]
-fn columns_of_a_result() {
-    let body = b"\0\x02\
-        id\0\0\0\x40\x01\0\x02\0\0\0\x17\0\x04\xff\xff\xff\xff\0\x01\
-        \xc3\xa9\0\0\0\0\0\0\0\0\0\0\x19\xff\xff\0\0\0\x08\0\x02";
-    let columns_of = |body| columns(body).expect("the columns are complete");
-    let [id, computed]: [Column<'_>; 2] = columns_of(body).try_into().expect("two columns");
-    assert_eq!(
-        (id.name, id.table, id.attribute),
-        ("id", Some(0x4001), Some(2))
-    );
-    assert_eq!((id.type_id, id.type_size, id.type_modifier), (23, 4, -1));
-    assert_eq!(id.format, FormatCode::from(Format::Binary));
-    assert_eq!(
-        (computed.name, computed.table, computed.attribute),
-        ("é", None, None)
-    );
-    assert_eq!(
-        (computed.type_id, computed.type_size, computed.type_modifier),
-        (25, -1, 8)
-    );
-    assert_eq!(computed.format, FormatCode(2));
-    assert_eq!(computed.format.format(), None);
-    assert_eq!(columns_of(b"\0\0"), []);
-}
-
-#[test]
-fn broken_columns() {
-    let column = |name: &[u8]| [b"\0\x01", name, &[0; 18]].concat();
-    assert_eq!(fault_of(columns(b"\0")), (Refusal::Short, 0));
-    assert_eq!(fault_of(columns(b"\0\x01")), (Refusal::Short, 2));
-    assert_eq!(
-        fault_of(columns(&[b"\0\x01", &[1; 19][..]].concat())),
-        (Refusal::MissingNul, 2)
-    );
-    assert_eq!(fault_of(columns(&column(b"\xff\0"))), (Refusal::NotUtf8, 0));
-    assert_eq!(fault_of(columns(&column(b"ab"))), (Refusal::Short, 5));
-}
-
-#[test]
-fn types_of_parameters() {
-    assert_eq!(
-        parameter_types(b"\0\x02\0\0\0\x17\0\0\0\x19"),
-        Ok(vec![23, 25])
-    );
-    assert_eq!(parameter_types(b"\0\0"), Ok(vec![]));
-    assert_eq!(fault_of(parameter_types(b"\0\x01\0")), (Refusal::Short, 2));
 }

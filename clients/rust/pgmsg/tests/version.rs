@@ -2,7 +2,7 @@
 //! call gets through to.
 
 use pgmsg::relay::{self, Relay, Wanted};
-use pgmsg::{client, read, server, write};
+use pgmsg::{backend, frontend, Decoder, Refusal};
 use std::panic::catch_unwind;
 
 /// A call by its name. It answers whether what it did is right.
@@ -10,26 +10,38 @@ type Call = (&'static str, fn() -> bool);
 
 /// A call of each form.
 const CALLS: &[Call] = &[
-    ("next_frame", || read::next_frame(b"").is_ok()),
-    ("next_raw_frame", || read::next_raw_frame(b"").is_ok()),
-    ("places_in", || read::places_in(b"", &mut []).is_err()),
-    ("row", || read::RowIndex::new().read(b"").is_err()),
-    ("columns", || read::columns(b"").is_err()),
-    ("fields", || read::fields(b"").is_ok()),
-    ("rows_affected", || read::rows_affected(b"") == 0),
-    ("copy_response", || read::copy_response(b"").is_err()),
-    ("authentication", || read::authentication(b"").is_err()),
-    ("end", || read::end(b'Z', b"").is_err()),
-    ("frame", || client::next_frame(b"").is_ok()),
-    ("first_frame", || client::next_first_frame(b"", 8).is_ok()),
-    ("bind", || client::bind(b"", &mut Vec::new()).is_err()),
-    ("parse", || client::parse(b"").is_err()),
+    ("decoder of a server", || {
+        Decoder::of_server().next(b"").is_ok()
+    }),
+    ("decoder of a client", || {
+        Decoder::of_client().next(b"").is_ok()
+    }),
+    ("places_in", || backend::places_in(b"", &mut []).is_err()),
+    ("row", || backend::RowIndex::new().read(b"").is_err()),
+    ("end", || backend::end(b'Z', b"").is_err()),
+    ("rows_affected", || backend::rows_affected(b"") == 0),
+    ("DataRow", || reads(b'D')),
+    ("RowDescription", || reads(b'T')),
+    ("ErrorResponse", || !reads(b'E')),
+    ("Bind", || frontend::Bind::read(b"").is_err()),
+    ("Parse", || frontend::Parse::read(b"").is_err()),
     ("check_frames", || relay::check_frames(b"", false).is_ok()),
     ("relay", || passes(b"Z")),
-    ("copy_head", || write::copy_head(0).is_ok()),
-    ("sync", || write::Messages::new().sync().is_ok()),
-    ("no_data", || server::Messages::new().no_data().is_ok()),
+    ("copy_head", || frontend::copy_head(0).is_ok()),
+    ("Sync", || writes(|out| frontend::Message::Sync.write(out))),
+    ("NoData", || {
+        writes(|out| backend::Message::NoData.write(out))
+    }),
 ];
+
+/// Whether a message of a server is refused without a body.
+fn reads(tag: u8) -> bool {
+    backend::Message::read_body(Some(tag), b"").is_err()
+}
+
+fn writes(write: fn(&mut Vec<u8>) -> Result<(), Refusal>) -> bool {
+    write(&mut Vec::new()).is_ok()
+}
 
 fn passes(mut piece: &[u8]) -> bool {
     let mut relay = Relay::of_server(100, Wanted::ALL);
@@ -40,13 +52,18 @@ fn passes(mut piece: &[u8]) -> bool {
 fn linked() -> String {
     // SAFETY: the call takes nothing.
     let version = unsafe { pgmsg_sys::pgmsg_version() };
-    let text = version.text.split(|&byte| byte == 0).next();
+    text_of(&version.text)
+}
+
+/// A text before its NUL.
+fn text_of(text: &[u8]) -> String {
+    let text = text.split(|&byte| byte == 0).next();
     String::from_utf8_lossy(text.unwrap_or_default()).into()
 }
 
 #[test]
 fn no_call_gets_through_to_a_library_of_another_version() {
-    let (linked, declared) = (linked(), pgmsg_sys::PGMSG_VERSION);
+    let (linked, declared) = (linked(), text_of(pgmsg_sys::PGMSG_VERSION));
     for (name, call) in CALLS {
         match catch_unwind(call) {
             Ok(succeeds) => assert!(succeeds && linked == declared, "{name}"),

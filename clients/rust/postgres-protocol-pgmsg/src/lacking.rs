@@ -1,6 +1,6 @@
 //! What `pgmsg` doesn't write or read, by hand.
 
-use bytes::{BufMut, BytesMut};
+use pgmsg::ByteStr;
 use std::io;
 
 /// The bytes of a message before its body: its tag and its length.
@@ -43,6 +43,12 @@ pub(crate) fn ends_list(body: &[u8], end: usize) -> io::Result<()> {
     }
 }
 
+/// The text, where it is UTF-8.
+#[inline]
+pub(crate) fn text(text: ByteStr<'_>) -> io::Result<&str> {
+    text.as_str().map_err(|_| refused("text is not UTF-8"))
+}
+
 /// The length of a text and of its NUL.
 #[inline]
 pub(crate) fn text_len(text: &[u8]) -> usize {
@@ -56,15 +62,4 @@ pub(crate) fn has_count(body: &[u8]) -> io::Result<()> {
         0 | 1 => Err(refused("message body is too short")),
         _ => Ok(()),
     }
-}
-
-/// Answers a challenge of a SASL exchange by bytes that aren't UTF-8: SASLResponse.
-pub(crate) fn sasl_response(data: &[u8], buf: &mut BytesMut) -> io::Result<()> {
-    let len = data.len().checked_add(4);
-    let len = len.and_then(|len| i32::try_from(len).ok());
-    let len = len.ok_or_else(|| refused("message is too long for the protocol"))?;
-    buf.put_u8(b'p');
-    buf.put_i32(len);
-    buf.put_slice(data);
-    Ok(())
 }

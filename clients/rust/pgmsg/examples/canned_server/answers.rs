@@ -1,11 +1,15 @@
 //! The answers: a table.
 
-use pgmsg::read::{Field, FieldKind, RawColumn};
-use pgmsg::server::Messages;
-use pgmsg::{Format, FormatCode, Refusal};
+use pgmsg::backend::{Column, CopyResponse, Field, FieldKind, Message};
+use pgmsg::{Format, Refusal};
 
 /// The two columns of a COPY, as text.
-pub const TEXTS: [FormatCode; 2] = [FormatCode(0); 2];
+pub fn texts() -> CopyResponse<'static> {
+    CopyResponse {
+        format: 0,
+        columns: [Format::TEXT; 2].into(),
+    }
+}
 
 /// What is answered to a query that has some words in it.
 pub struct Canned {
@@ -59,39 +63,39 @@ impl Canned {
     }
 
     /// Writes the columns, or that there are none.
-    pub fn describe(&self, out: &mut Messages) -> Result<(), Refusal> {
+    pub fn describe(&self, out: &mut Vec<u8>) -> Result<(), Refusal> {
         match self.answer {
             Answer::Rows(columns, _) => {
-                let columns = columns.iter().map(|(name, id)| RawColumn::new(*name, *id));
-                out.columns(&columns.collect::<Vec<_>>())?
+                let columns = columns.iter().map(|(name, id)| Column::new(*name, *id));
+                Message::RowDescription(columns.collect()).write(out)
             }
-            _ => out.no_data()?,
-        };
-        Ok(())
+            _ => Message::NoData.write(out),
+        }
     }
 
     /// Writes what follows the columns up to the end of the command, or an error at the words in the query.
-    pub fn finish(&self, query: &str, out: &mut Messages) -> Result<(), Refusal> {
+    pub fn finish(&self, query: &str, out: &mut Vec<u8>) -> Result<(), Refusal> {
         match self.answer {
             Answer::Failure(message) => return self.fail(query, message, out),
             Answer::Rows(_, rows) => {
                 for row in rows {
-                    out.row_of(row.iter().copied())?;
+                    let values = row.iter().map(|text| (*text).into());
+                    Message::DataRow(values.collect()).write(out)?;
                 }
             }
             Answer::CopyOut(lines) => {
-                out.copy_out_response(Format::Text, &TEXTS)?;
+                Message::CopyOutResponse(texts()).write(out)?;
                 for line in lines {
-                    out.copy_data(line)?;
+                    Message::CopyData((*line).into()).write(out)?;
                 }
-                out.copy_done()?;
+                Message::CopyDone.write(out)?;
             }
             _ => {}
         }
-        out.command_complete(self.tag).map(drop)
+        Message::CommandComplete(self.tag.into()).write(out)
     }
 
-    fn fail(&self, query: &str, message: &str, out: &mut Messages) -> Result<(), Refusal> {
+    fn fail(&self, query: &str, message: &str, out: &mut Vec<u8>) -> Result<(), Refusal> {
         let position = (query.find(self.words).unwrap_or(0) + 1).to_string();
         let fields = [
             Field::new(FieldKind::LocalizedSeverity, "ERROR"),
@@ -100,6 +104,6 @@ impl Canned {
             Field::new(FieldKind::Message, message),
             Field::new(FieldKind::Position, &position),
         ];
-        out.error(&fields).map(drop)
+        Message::ErrorResponse((&fields).into()).write(out)
     }
 }

@@ -9,7 +9,8 @@
 mod answers;
 mod session;
 
-use pgmsg::client::{first, next_first_frame, next_frame, First, Message, Next, MAX_FIRST_LENGTH};
+use pgmsg::frontend::Message;
+use pgmsg::{Decoder, Next};
 use session::Session;
 use std::error::Error;
 use std::io::{Read, Write};
@@ -30,45 +31,19 @@ fn receive(client: &mut TcpStream, stream: &mut Vec<u8>) -> Result<()> {
     }
 }
 
-/// Answers the messages without a tag. False where the client opens no session.
-fn open(client: &mut TcpStream, stream: &mut Vec<u8>) -> Result<bool> {
-    loop {
-        let (length, opens) = match next_first_frame(stream, MAX_FIRST_LENGTH)? {
-            Next::Frame(frame) => match first(frame.body)? {
-                First::Startup(_) => (frame.length, true),
-                First::CancelRequest(_) => return Ok(false),
-                // No encryption; this byte is no message.
-                _ => client.write_all(b"N").map(|()| (frame.length, false))?,
-            },
-            Next::Incomplete { .. } => {
-                receive(client, stream)?;
-                continue;
-            }
-        };
-        stream.drain(..length);
-        if opens {
-            return Ok(true);
-        }
-    }
-}
-
 fn serve(mut client: TcpStream) -> Result<()> {
-    let (mut stream, mut room, mut session) = (Vec::new(), Vec::new(), Session::default());
-    if !open(&mut client, &mut stream)? {
-        return Ok(());
-    }
-    session.greet()?;
+    let (mut decoder, mut stream, mut session) = (Decoder::of_client(), vec![], Session::default());
     loop {
         let mut done = 0;
-        while let Next::Frame(frame) = next_frame(&stream[done..])? {
-            done += frame.length;
-            match Message::read(frame.kind, frame.body, &mut room)? {
-                Message::Terminate => return Ok(()),
+        while let Next::Frame(frame) = decoder.next(&stream[done..])? {
+            done += frame.bytes.len();
+            match Message::read(&frame)? {
+                Message::Terminate | Message::CancelRequest(_) => return Ok(()),
                 message => session.take(message)?,
             }
         }
         stream.drain(..done);
-        client.write_all(session.out.as_bytes())?;
+        client.write_all(&session.out)?;
         session.out.clear();
         receive(&mut client, &mut stream)?;
     }

@@ -1,13 +1,19 @@
-//! A session, from the message that opened it on.
+//! A session.
 
-use crate::answers::{Answer, Canned, OTHER, TEXTS};
+use crate::answers::{texts, Answer, Canned, OTHER};
 use crate::Result;
-use pgmsg::client::{Message, Target};
-use pgmsg::read::TransactionStatus;
-use pgmsg::server::Messages;
-use pgmsg::Format;
+use pgmsg::backend::Message as Reply;
+use pgmsg::backend::{Authentication, BackendKeyData, NotificationResponse};
+use pgmsg::backend::{ParameterStatus, TransactionStatus};
+use pgmsg::frontend::{Message, Target};
 use std::collections::HashMap;
-use std::str;
+
+/// The settings that the session says to have.
+const SETTINGS: [(&str, &str); 3] = [
+    ("server_version", "15.0"),
+    ("client_encoding", "UTF8"),
+    ("standard_conforming_strings", "on"),
+];
 
 /// The process that the session says to be.
 const PROCESS: u32 = 42;
@@ -15,7 +21,7 @@ const PROCESS: u32 = 42;
 #[derive(Default)]
 pub struct Session {
     /// What is to be sent.
-    pub out: Messages,
+    pub out: Vec<u8>,
     statements: HashMap<Vec<u8>, &'static Canned>,
     portals: HashMap<Vec<u8>, &'static Canned>,
     /// The channel that the client listens on.
@@ -27,29 +33,40 @@ pub struct Session {
 }
 
 impl Session {
-    pub fn greet(&mut self) -> Result<()> {
-        self.out
-            .authentication_ok()?
-            .parameter_status("server_version", "15.0")?
-            .parameter_status("client_encoding", "UTF8")?
-            .parameter_status("standard_conforming_strings", "on")?
-            .backend_key_data(PROCESS, &[1, 2, 3, 4])?;
+    fn greet(&mut self) -> Result<()> {
+        Authentication::Ok.write(&mut self.out)?;
+        for (name, value) in SETTINGS {
+            let (name, value) = (name.into(), value.into());
+            ParameterStatus { name, value }.write(&mut self.out)?;
+        }
+        let key = BackendKeyData {
+            process_id: PROCESS,
+            secret_key: (&[1, 2, 3, 4]).into(),
+        };
+        key.write(&mut self.out)?;
         self.ready()
     }
 
-    fn ready(&mut self) -> Result<()> {
-        self.out.ready(TransactionStatus::Idle)?;
-        Ok(())
+    fn say(&mut self, message: Reply<'_>) -> Result<()> {
+        Ok(message.write(&mut self.out)?)
     }
 
-    pub fn take(&mut self, message: Message<'_, '_>) -> Result<()> {
+    fn ready(&mut self) -> Result<()> {
+        self.say(Reply::ReadyForQuery(TransactionStatus::Idle))
+    }
+
+    pub fn take(&mut self, message: Message<'_>) -> Result<()> {
         match message {
-            Message::Query(query) => self.answer(str::from_utf8(query)?)?,
+            Message::Startup(_) => self.greet()?,
+            // No encryption; this byte is no message.
+            Message::SslRequest | Message::GssEncRequest => self.out.push(b'N'),
+            Message::Query(query) => self.answer(query.as_str()?)?,
             Message::CopyData(data) => {
                 self.lines += data.iter().filter(|&&byte| byte == b'\n').count();
             }
             Message::CopyDone => {
-                self.out.command_complete(format!("COPY {}", self.lines))?;
+                let tag = format!("COPY {}", self.lines);
+                self.say(Reply::CommandComplete((&tag).into()))?;
                 self.ready()?;
             }
             Message::CopyFail(_) => {
@@ -70,11 +87,10 @@ impl Session {
     fn answer(&mut self, query: &str) -> Result<()> {
         let canned = Canned::of(query);
         match canned.answer {
-            _ if query.is_empty() => drop(self.out.empty_query()?),
+            _ if query.is_empty() => self.say(Reply::EmptyQueryResponse)?,
             Answer::CopyIn => {
                 self.lines = 0;
-                self.out.copy_in_response(Format::Text, &TEXTS)?;
-                return Ok(());
+                return self.say(Reply::CopyInResponse(texts()));
             }
             Answer::Rows(..) => {
                 canned.describe(&mut self.out)?;
@@ -97,30 +113,35 @@ impl Session {
         let (channel, payload) = words.split_once(", ").unwrap_or((words, ""));
         if channel == self.channel {
             let payload = payload.trim_matches('\'');
-            self.out.notification(PROCESS, channel, payload)?;
+            let notification = NotificationResponse {
+                process_id: PROCESS,
+                channel: channel.into(),
+                payload: payload.into(),
+            };
+            notification.write(&mut self.out)?;
         }
         Ok(())
     }
 
     /// Takes a message of the extended protocol. False where it is answered by an error.
-    fn take_extended(&mut self, message: Message<'_, '_>) -> Result<bool> {
+    fn take_extended(&mut self, message: Message<'_>) -> Result<bool> {
         match message {
             Message::Parse(parse) => {
-                let canned = Canned::of(str::from_utf8(parse.query)?);
-                self.statements.insert(parse.statement.into(), canned);
-                self.out.parse_complete()?;
+                let canned = Canned::of(parse.query.as_str()?);
+                self.statements.insert(parse.statement.to_vec(), canned);
+                self.say(Reply::ParseComplete)?;
             }
             Message::Bind(bind) => match self.known(Target::Statement(bind.statement))? {
                 Some(canned) => {
-                    self.portals.insert(bind.portal.into(), canned);
-                    self.out.bind_complete()?;
+                    self.portals.insert(bind.portal.to_vec(), canned);
+                    self.say(Reply::BindComplete)?;
                 }
                 None => return Ok(false),
             },
             Message::Describe(target) => match self.known(target)? {
                 Some(canned) => {
                     if let Target::Statement(_) = target {
-                        self.out.parameter_types(&[])?;
+                        self.say(Reply::ParameterDescription([].into()))?;
                     }
                     canned.describe(&mut self.out)?;
                 }
@@ -132,10 +153,10 @@ impl Session {
             },
             Message::Close(target) => {
                 match target {
-                    Target::Statement(name) => self.statements.remove(name),
-                    Target::Portal(name) => self.portals.remove(name),
+                    Target::Statement(name) => self.statements.remove(name.0),
+                    Target::Portal(name) => self.portals.remove(name.0),
                 };
-                self.out.close_complete()?;
+                self.say(Reply::CloseComplete)?;
             }
             // A Flush: all is sent at once.
             _ => {}
@@ -146,8 +167,8 @@ impl Session {
     /// The answer of a statement or a portal, or an error. What is not rows is for a Query alone.
     fn known(&mut self, target: Target<'_>) -> Result<Option<&'static Canned>> {
         let known = match target {
-            Target::Statement(name) => self.statements.get(name),
-            Target::Portal(name) => self.portals.get(name),
+            Target::Statement(name) => self.statements.get(name.0),
+            Target::Portal(name) => self.portals.get(name.0),
         };
         let known = known.copied();
         let rows = known.filter(|canned| matches!(canned.answer, Answer::Rows(..)));

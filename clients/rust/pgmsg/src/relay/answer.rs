@@ -1,14 +1,14 @@
 //! What goes out in a message's place.
 
-use super::Frame;
 use crate::answer::answer;
 use crate::error::{Fault, Refusal};
+use crate::frame::Frame;
 use crate::sys;
+use alloc::vec::Vec;
 
 /// What its user answers to a whole message.
 ///
-/// What is added has to be whole messages, as [`server::Messages`](crate::server::Messages) and
-/// [`write::Messages`](crate::write::Messages) have them.
+/// What is added has to be whole messages.
 #[derive(Clone, Debug, PartialEq, Eq)]
 #[non_exhaustive]
 pub enum Answer {
@@ -46,7 +46,8 @@ impl Answer {
     /// # Ok::<(), pgmsg::Fault>(())
     /// ```
     pub fn place<'a>(&'a self, frame: &Frame<'a>) -> Result<[&'a [u8]; 2], Fault> {
-        let (before, after) = (frame.tag.is_none(), frame.precedes_first);
+        let before = frame.tag.is_none();
+        let after = check_frames(frame.bytes, before)?;
         Ok(match self {
             Answer::Keep => [frame.bytes, &[]],
             Answer::Omit => [led(before, &[], after)?, &[]],

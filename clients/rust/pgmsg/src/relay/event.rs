@@ -1,5 +1,6 @@
 //! What a relay gives.
 
+use crate::frame::Frame;
 use crate::sys;
 
 /// What comes of the bytes that a relay takes.
@@ -24,42 +25,20 @@ impl<'a> Event<'a> {
         relay: &sys::pgmsg_relay,
         message: Option<Option<u8>>,
         bytes: &'a [u8],
+        offset: &mut u64,
     ) -> Event<'a> {
+        let start = *offset;
+        *offset += bytes.len() as u64;
         match message {
             Some(tag) => Event::Frame(Frame {
                 tag,
                 bytes,
-                precedes_first: relay.is_first,
+                offset: start,
             }),
             None => Event::Part {
                 bytes,
                 left: relay.left,
             },
         }
-    }
-}
-
-/// A whole message.
-#[derive(Clone, Copy, Debug, PartialEq, Eq)]
-#[non_exhaustive]
-pub struct Frame<'a> {
-    /// Its tag, or `None` where it is a client's without one.
-    pub tag: Option<u8>,
-    /// All of its bytes, tag and length among them.
-    pub bytes: &'a [u8],
-    /// Whether a message without a tag comes after it.
-    pub(super) precedes_first: bool,
-}
-
-/// The bytes of a length.
-const LENGTH: usize = 4;
-
-impl<'a> Frame<'a> {
-    /// The bytes after the length, which the functions of [`read`](mod@crate::read) and of
-    /// [`client`](crate::client) take apart.
-    #[inline]
-    pub fn body(&self) -> &'a [u8] {
-        let head = LENGTH + usize::from(self.tag.is_some());
-        self.bytes.get(head..).unwrap_or_default()
     }
 }

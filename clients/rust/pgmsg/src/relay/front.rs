@@ -30,7 +30,7 @@ pub(super) fn front_of(
         let number = unsafe {
             sys::pgmsg_relay_next(
                 relay,
-                wanted.flags(),
+                wanted.flags().as_ptr(),
                 bytes.as_ptr(),
                 bytes.len(),
                 &mut passage,

@@ -1,7 +1,9 @@
 //! A piece of a stream that is passed on, with its user's answers.
 
-use super::{Answer, Event, Frame, Relay};
+use super::{Answer, Event, Relay};
 use crate::error::{Fault, Refusal};
+use crate::frame::Frame;
+use alloc::vec::Vec;
 
 impl Relay {
     /// Passes a piece of a stream on: adds to `out` what goes out, which are the messages that came, or

@@ -1,6 +1,8 @@
 //! Which messages are wanted whole.
 
-use std::fmt;
+use crate::byte_str::ByteStr;
+use alloc::vec::Vec;
+use core::fmt;
 
 /// Which messages a relay gives whole, by their tags. All others go out in parts as their bytes come,
 /// whatever their length.
@@ -59,11 +61,6 @@ impl Wanted {
 impl fmt::Debug for Wanted {
     fn fmt(&self, f: &mut fmt::Formatter<'_>) -> fmt::Result {
         let tags = (0..=u8::MAX).filter(|&tag| self.wants(tag));
-        let tags = tags.flat_map(std::ascii::escape_default);
-        write!(
-            f,
-            "Wanted(b\"{}\")",
-            tags.map(char::from).collect::<String>()
-        )
+        write!(f, "Wanted({:?})", ByteStr(&tags.collect::<Vec<_>>()))
     }
 }

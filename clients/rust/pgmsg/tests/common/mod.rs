@@ -4,7 +4,6 @@
 #![allow(dead_code, unused_imports, unused_macros)]
 
 pub mod passing;
-pub mod writing;
 
 use pgmsg::{Fault, Refusal};
 

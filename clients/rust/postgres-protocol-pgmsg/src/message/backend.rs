@@ -24,43 +24,43 @@ pub use status::{
 
 use crate::lacking::{self, HEAD};
 use bytes::{Buf, BytesMut};
-use pgmsg::read::{next_raw_frame, Kind, RawNext};
+use pgmsg::{Decoder, Next};
 use std::io;
 
 /// The most room that is made at once for a message that isn't whole: a server can announce 2 GiB.
 const MOST_GROWTH: usize = 1 << 20;
 
 macro_rules! tags {
-    ($($name:ident = $kind:ident,)*) => {
+    ($($name:ident = $kind:ident $tag:literal,)*) => {
         $(
             #[doc = concat!("The tag of ", stringify!($kind), ".")]
-            pub const $name: u8 = Kind::$kind.tag();
+            pub const $name: u8 = $tag;
         )*
     };
 }
 
 tags! {
-    AUTHENTICATION_TAG = Authentication,
-    BACKEND_KEY_DATA_TAG = BackendKeyData,
-    BIND_COMPLETE_TAG = BindComplete,
-    CLOSE_COMPLETE_TAG = CloseComplete,
-    COMMAND_COMPLETE_TAG = CommandComplete,
-    COPY_DATA_TAG = CopyData,
-    COPY_DONE_TAG = CopyDone,
-    COPY_IN_RESPONSE_TAG = CopyInResponse,
-    COPY_OUT_RESPONSE_TAG = CopyOutResponse,
-    DATA_ROW_TAG = DataRow,
-    EMPTY_QUERY_RESPONSE_TAG = EmptyQueryResponse,
-    ERROR_RESPONSE_TAG = ErrorResponse,
-    NO_DATA_TAG = NoData,
-    NOTICE_RESPONSE_TAG = NoticeResponse,
-    NOTIFICATION_RESPONSE_TAG = NotificationResponse,
-    PARAMETER_DESCRIPTION_TAG = ParameterDescription,
-    PARAMETER_STATUS_TAG = ParameterStatus,
-    PARSE_COMPLETE_TAG = ParseComplete,
-    PORTAL_SUSPENDED_TAG = PortalSuspended,
-    READY_FOR_QUERY_TAG = ReadyForQuery,
-    ROW_DESCRIPTION_TAG = RowDescription,
+    AUTHENTICATION_TAG = Authentication b'R',
+    BACKEND_KEY_DATA_TAG = BackendKeyData b'K',
+    BIND_COMPLETE_TAG = BindComplete b'2',
+    CLOSE_COMPLETE_TAG = CloseComplete b'3',
+    COMMAND_COMPLETE_TAG = CommandComplete b'C',
+    COPY_DATA_TAG = CopyData b'd',
+    COPY_DONE_TAG = CopyDone b'c',
+    COPY_IN_RESPONSE_TAG = CopyInResponse b'G',
+    COPY_OUT_RESPONSE_TAG = CopyOutResponse b'H',
+    DATA_ROW_TAG = DataRow b'D',
+    EMPTY_QUERY_RESPONSE_TAG = EmptyQueryResponse b'I',
+    ERROR_RESPONSE_TAG = ErrorResponse b'E',
+    NO_DATA_TAG = NoData b'n',
+    NOTICE_RESPONSE_TAG = NoticeResponse b'N',
+    NOTIFICATION_RESPONSE_TAG = NotificationResponse b'A',
+    PARAMETER_DESCRIPTION_TAG = ParameterDescription b't',
+    PARAMETER_STATUS_TAG = ParameterStatus b'S',
+    PARSE_COMPLETE_TAG = ParseComplete b'1',
+    PORTAL_SUSPENDED_TAG = PortalSuspended b's',
+    READY_FOR_QUERY_TAG = ReadyForQuery b'Z',
+    ROW_DESCRIPTION_TAG = RowDescription b'T',
 }
 
 /// The tag and the length of a message, which may be there before the rest of it.
@@ -134,13 +134,13 @@ impl Message {
     /// for it, where its length is there.
     #[inline]
     pub fn parse(buf: &mut BytesMut) -> io::Result<Option<Message>> {
-        match next_raw_frame(buf) {
-            Ok(RawNext::Frame(frame)) => {
-                let (tag, length) = (frame.tag, frame.length);
+        match Decoder::of_server().next(buf) {
+            Ok(Next::Frame(frame)) => {
+                let (tag, length) = (frame.bytes[0], frame.bytes.len());
                 answer::take(tag, length, buf)
             }
-            Ok(RawNext::Incomplete { needed: HEAD, .. }) => Ok(None),
-            Ok(RawNext::Incomplete { needed, .. }) => Ok(make_room(buf, needed)),
+            Ok(Next::Incomplete { needed: HEAD, .. }) => Ok(None),
+            Ok(Next::Incomplete { needed, .. }) => Ok(make_room(buf, needed)),
             Err(fault) => Err(fault.into()),
         }
     }

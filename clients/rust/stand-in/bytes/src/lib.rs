@@ -1,1 +1,1 @@
-compile_error!("the feature bytes needs the crate bytes, which this stands in for: see clients/rust/README.md");
+compile_error!("this stands in for the crate bytes: see clients/rust/README.md");

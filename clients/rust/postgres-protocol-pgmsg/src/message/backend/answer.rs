@@ -2,7 +2,7 @@
 
 use super::*;
 use bytes::Bytes;
-use pgmsg::read::no_body;
+use pgmsg::backend;
 
 /// Takes a message of so many bytes off a stream.
 ///
@@ -21,11 +21,11 @@ pub(super) fn take(tag: u8, length: usize, buf: &mut BytesMut) -> io::Result<Opt
         }
         READY_FOR_QUERY_TAG => Message::ReadyForQuery(pass(buf, length, ReadyForQueryBody::read)?),
         BIND_COMPLETE_TAG => {
-            pass(buf, length, empty)?;
+            pass(buf, length, |body| empty(BIND_COMPLETE_TAG, body))?;
             Message::BindComplete
         }
         PARSE_COMPLETE_TAG => {
-            pass(buf, length, empty)?;
+            pass(buf, length, |body| empty(PARSE_COMPLETE_TAG, body))?;
             Message::ParseComplete
         }
         _ => return read(tag, body(buf, length)).map(Some),
@@ -51,8 +51,9 @@ fn pass<T>(buf: &mut BytesMut, length: usize, read: fn(&[u8]) -> io::Result<T>) 
 
 /// Reads the body of a message that has none.
 #[inline]
-fn empty(body: &[u8]) -> io::Result<()> {
-    Ok(no_body(body)?)
+fn empty(tag: u8, body: &[u8]) -> io::Result<()> {
+    backend::Message::read_body(Some(tag), body)?;
+    Ok(())
 }
 
 /// Reads the body of a message of any other tag.
@@ -84,6 +85,6 @@ fn read_empty(tag: u8, body: &[u8]) -> io::Result<Message> {
         PORTAL_SUSPENDED_TAG => Message::PortalSuspended,
         _ => return Err(lacking::refused("message of a kind that isn't known")),
     };
-    empty(body)?;
+    empty(tag, body)?;
     Ok(message)
 }

@@ -2,10 +2,10 @@
 
 use super::items::{iterate, Items};
 use super::Message;
-use crate::lacking::{ends, ends_list, refused, text_len};
+use crate::lacking::{ends, ends_list, refused, text, text_len};
 use bytes::Bytes;
 use fallible_iterator::FallibleIterator;
-use pgmsg::read::{authentication, raw_authentication, Authentication};
+use pgmsg::backend::Authentication;
 use std::io;
 
 /// The bytes of the number of the method, which all else follows.
@@ -13,7 +13,7 @@ const METHOD: usize = 4;
 
 /// Reads the body of an Authentication.
 pub(super) fn read(body: Bytes) -> io::Result<Message> {
-    let method = raw_authentication(&body)?.method;
+    let method = Authentication::read(&body)?.method();
     let fixed = |length, message| ends(&body, length).map(|()| message);
     match method {
         0 => fixed(METHOD, Message::AuthenticationOk),
@@ -51,8 +51,8 @@ pub struct AuthenticationMd5PasswordBody {
 
 impl AuthenticationMd5PasswordBody {
     fn read(body: &[u8]) -> io::Result<AuthenticationMd5PasswordBody> {
-        match authentication(body)? {
-            Authentication::Md5Password { salt } => {
+        match Authentication::read(body)? {
+            Authentication::Md5Password(salt) => {
                 ends(body, METHOD + salt.len())?;
                 Ok(AuthenticationMd5PasswordBody { salt })
             }
@@ -119,11 +119,11 @@ pub struct SaslMechanisms<'a> {
 iterate!(SaslMechanisms, &'a str);
 
 fn mechanisms(body: &[u8]) -> io::Result<Vec<&str>> {
-    match authentication(body)? {
-        Authentication::Sasl { mechanisms } => {
-            let texts: usize = mechanisms.iter().map(|it| text_len(it.as_bytes())).sum();
+    match Authentication::read(body)? {
+        Authentication::Sasl(mechanisms) => {
+            let texts: usize = mechanisms.iter().map(|it| text_len(it)).sum();
             ends_list(body, METHOD + texts)?;
-            Ok(mechanisms)
+            mechanisms.iter().map(|&it| text(it)).collect()
         }
         _ => Err(refused("not an offer of mechanisms")),
     }

@@ -4,7 +4,7 @@ use super::items::{iterate, Items};
 use crate::lacking::{ends, refused};
 use bytes::Bytes;
 use fallible_iterator::FallibleIterator;
-use pgmsg::read::copy_response;
+use pgmsg::backend::CopyResponse;
 use std::io;
 use std::marker::PhantomData;
 
@@ -86,10 +86,11 @@ pub struct ColumnFormats<'a> {
 iterate!(ColumnFormats, u16);
 
 fn column_formats(body: &[u8]) -> io::Result<Vec<u16>> {
-    let response = copy_response(body)?;
-    if response.count < 0 {
+    let columns = CopyResponse::read(body)?.columns;
+    // A count below 0 has no columns.
+    if body[1] > 0x7f {
         return Err(refused("more columns than a table can have"));
     }
-    ends(body, COUNTED + 2 * response.columns.len())?;
-    Ok(response.columns.iter().map(|code| code.0 as u16).collect())
+    ends(body, COUNTED + 2 * columns.len())?;
+    Ok(columns.iter().map(|format| format.0 as u16).collect())
 }

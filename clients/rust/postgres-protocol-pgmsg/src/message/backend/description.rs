@@ -1,11 +1,11 @@
 //! The columns of a result, and the types of a statement's parameters.
 
 use super::items::{iterate, Items};
-use crate::lacking::{ends, has_count, text_len};
+use crate::lacking::{ends, has_count, refused, text, text_len};
 use crate::Oid;
 use bytes::Bytes;
 use fallible_iterator::FallibleIterator;
-use pgmsg::read::{columns, parameter_types, Column};
+use pgmsg::backend::{self, Column};
 use std::io;
 use std::marker::PhantomData;
 
@@ -43,58 +43,66 @@ pub struct Fields<'a> {
 iterate!(Fields, Field<'a>);
 
 fn fields(body: &[u8]) -> io::Result<Vec<Field<'_>>> {
-    let columns = columns(body)?;
-    let lengths = columns
-        .iter()
-        .map(|column| text_len(column.name.as_bytes()) + NUMBERS);
+    let columns = match backend::Message::read_body(Some(b'T'), body)? {
+        backend::Message::RowDescription(columns) => columns,
+        _ => return Err(refused("not the columns of a result")),
+    };
+    let lengths = columns.iter().map(|it| text_len(&it.name) + NUMBERS);
     ends(body, COUNT + lengths.sum::<usize>())?;
-    Ok(columns.into_iter().map(Field).collect())
+    let fields = columns.iter().map(|&column| {
+        let name = text(column.name)?;
+        Ok(Field { name, column })
+    });
+    fields.collect()
 }
 
 /// A column of a result.
-pub struct Field<'a>(Column<'a>);
+pub struct Field<'a> {
+    name: &'a str,
+    column: Column<'a>,
+}
 
 impl<'a> Field<'a> {
     /// The name of the column.
     #[inline]
     pub fn name(&self) -> &'a str {
-        self.0.name
+        self.name
     }
 
     /// The object id of the table that the column is of, or 0.
     #[inline]
     pub fn table_oid(&self) -> Oid {
-        self.0.table.unwrap_or_default()
+        self.column.table
     }
 
     /// The number of the column in its table, or 0.
     #[inline]
     pub fn column_id(&self) -> i16 {
-        self.0.attribute.unwrap_or_default()
+        self.column.attribute
     }
 
     /// The object id of the type.
     #[inline]
     pub fn type_oid(&self) -> Oid {
-        self.0.type_id
+        self.column.type_id
     }
 
     /// How many bytes a value has, below 0 where that varies.
     #[inline]
     pub fn type_size(&self) -> i16 {
-        self.0.type_size
+        self.column.type_size
     }
 
     /// The modifier of the type.
     #[inline]
     pub fn type_modifier(&self) -> i32 {
-        self.0.type_modifier
+        self.column.type_modifier
     }
 
     /// The format of the values: 0 for text, 1 for binary.
     #[inline]
     pub fn format(&self) -> i16 {
-        self.0.format.0
+        self.column.format.0
     }
 }
 
@@ -128,7 +136,10 @@ pub struct Parameters<'a> {
 iterate!(Parameters, Oid);
 
 fn parameters(body: &[u8]) -> io::Result<Vec<Oid>> {
-    let types = parameter_types(body)?;
+    let types = match backend::Message::read_body(Some(b't'), body)? {
+        backend::Message::ParameterDescription(types) => types,
+        _ => return Err(refused("not the types of parameters")),
+    };
     ends(body, COUNT + 4 * types.len())?;
-    Ok(types)
+    Ok(types.into_vec())
 }

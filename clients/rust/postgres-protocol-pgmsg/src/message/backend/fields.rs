@@ -1,11 +1,11 @@
 //! The fields of an error or a notice.
 
 use super::items::{iterate, Items};
-use crate::lacking::{ends_list, refused, text_len};
+use crate::lacking::{ends_list, text, text_len};
 use bytes::Bytes;
 use fallible_iterator::FallibleIterator;
-use pgmsg::read::fields;
-use std::{io, str};
+use pgmsg::backend::Fields;
+use std::io;
 
 /// A body that is a list of fields.
 macro_rules! fields {
@@ -69,11 +69,11 @@ impl<'a> ErrorField<'a> {
 }
 
 fn error_fields(body: &[u8]) -> io::Result<Vec<ErrorField<'_>>> {
-    let fields = fields(body)?;
-    let lengths = fields.iter().map(|field| 1 + text_len(field.value));
+    let fields = Fields::read(body)?;
+    let lengths = fields.iter().map(|field| 1 + text_len(&field.value));
     ends_list(body, lengths.sum())?;
     let fields = fields.iter().map(|field| {
-        let value = str::from_utf8(field.value).map_err(|_| refused("text is not UTF-8"))?;
+        let value = text(field.value)?;
         let letter = field.letter;
         Ok(ErrorField { letter, value })
     });

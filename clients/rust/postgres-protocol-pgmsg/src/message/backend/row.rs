@@ -3,7 +3,7 @@
 use crate::lacking::{ends, has_count};
 use bytes::{Buf, Bytes};
 use fallible_iterator::FallibleIterator;
-use pgmsg::read::{places_in, Cell};
+use pgmsg::backend::{places_in, Cell};
 use std::ops::Range;
 use std::{io, vec};
 

@@ -1,21 +1,18 @@
 //! What a session and a command report of themselves.
 
-use crate::lacking::{ends, refused, text_len};
+use crate::lacking::{ends, refused, text, text_len};
 use bytes::{Buf, Bytes};
-use pgmsg::read::{
-    command_tag, key_data, notification, raw_parameter_status, ready, TransactionStatus,
+use pgmsg::backend::{
+    self, BackendKeyData, NotificationResponse, ParameterStatus, TransactionStatus,
 };
-use std::{io, str};
+use pgmsg::ByteStr;
+use std::io;
 
 /// The bytes of a number.
 const NUMBER: usize = 4;
 
 /// The bytes of the end of a text.
 const NUL: usize = 1;
-
-fn text(bytes: &[u8]) -> io::Result<&str> {
-    str::from_utf8(bytes).map_err(|_| refused("text is not UTF-8"))
-}
 
 /// What a request to cancel has to name.
 pub struct BackendKeyDataBody {
@@ -25,11 +22,12 @@ pub struct BackendKeyDataBody {
 
 impl BackendKeyDataBody {
     pub(super) fn read(body: &[u8]) -> io::Result<BackendKeyDataBody> {
-        let key = key_data(body)?;
-        ends(body, 2 * NUMBER)?;
+        let key = BackendKeyData::read(body)?;
+        let secret_key = key.secret_key.0.try_into();
+        let secret_key = secret_key.map_err(|_| refused("key of more than four bytes"))?;
         Ok(BackendKeyDataBody {
             process_id: key.process_id as i32,
-            secret_key: key.secret_key as i32,
+            secret_key: i32::from_be_bytes(secret_key),
         })
     }
 
@@ -54,9 +52,11 @@ pub struct CommandCompleteBody {
 impl CommandCompleteBody {
     #[inline]
     pub(super) fn read(mut storage: Bytes) -> io::Result<CommandCompleteBody> {
-        let tag = command_tag(&storage)?;
-        ends(&storage, text_len(tag))?;
-        let length = tag.len();
+        let length = match backend::Message::read_body(Some(b'C'), &storage)? {
+            backend::Message::CommandComplete(tag) => tag.len(),
+            _ => return Err(refused("not the end of a command")),
+        };
+        ends(&storage, length + NUL)?;
         storage.truncate(length);
         Ok(CommandCompleteBody { storage })
     }
@@ -64,7 +64,7 @@ impl CommandCompleteBody {
     /// The name of the command, and how many rows it had to do with.
     #[inline]
     pub fn tag(&self) -> io::Result<&str> {
-        text(&self.storage)
+        text(ByteStr(&self.storage))
     }
 }
 
@@ -77,9 +77,9 @@ pub struct NotificationResponseBody {
 
 impl NotificationResponseBody {
     pub(super) fn read(mut body: Bytes) -> io::Result<NotificationResponseBody> {
-        let read = notification(&body)?;
+        let read = NotificationResponse::read(&body)?;
         let (process_id, channel, message) = (read.process_id, read.channel, read.payload);
-        ends(&body, NUMBER + text_len(channel) + text_len(message))?;
+        ends(&body, NUMBER + text_len(&channel) + text_len(&message))?;
         let (channel, message) = (channel.len(), message.len());
         body.advance(NUMBER);
         let channel = body.split_to(channel);
@@ -101,13 +101,13 @@ impl NotificationResponseBody {
     /// The name of the channel.
     #[inline]
     pub fn channel(&self) -> io::Result<&str> {
-        text(&self.channel)
+        text(ByteStr(&self.channel))
     }
 
     /// What the sender passed on.
     #[inline]
     pub fn message(&self) -> io::Result<&str> {
-        text(&self.message)
+        text(ByteStr(&self.message))
     }
 }
 
@@ -119,24 +119,24 @@ pub struct ParameterStatusBody {
 
 impl ParameterStatusBody {
     pub(super) fn read(body: &Bytes) -> io::Result<ParameterStatusBody> {
-        let read = raw_parameter_status(body)?;
-        ends(body, text_len(read.name) + text_len(read.value))?;
+        let read = ParameterStatus::read(body)?;
+        ends(body, text_len(&read.name) + text_len(&read.value))?;
         Ok(ParameterStatusBody {
-            name: body.slice_ref(read.name),
-            value: body.slice_ref(read.value),
+            name: body.slice_ref(&read.name),
+            value: body.slice_ref(&read.value),
         })
     }
 
     /// The name of the setting.
     #[inline]
     pub fn name(&self) -> io::Result<&str> {
-        text(&self.name)
+        text(ByteStr(&self.name))
     }
 
     /// Its value.
     #[inline]
     pub fn value(&self) -> io::Result<&str> {
-        text(&self.value)
+        text(ByteStr(&self.value))
     }
 }
 
@@ -148,12 +148,7 @@ pub struct ReadyForQueryBody {
 impl ReadyForQueryBody {
     #[inline]
     pub(super) fn read(body: &[u8]) -> io::Result<ReadyForQueryBody> {
-        let status = match ready(body)? {
-            TransactionStatus::Idle => b'I',
-            TransactionStatus::InTransaction => b'T',
-            TransactionStatus::Failed => b'E',
-            _ => return Err(refused("unknown transaction status")),
-        };
+        let status = TransactionStatus::read(body)?.letter();
         ends(body, 1)?;
         Ok(ReadyForQueryBody { status })
     }

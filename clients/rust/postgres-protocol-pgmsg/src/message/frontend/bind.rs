@@ -2,8 +2,7 @@
 
 use crate::IsNull;
 use bytes::BytesMut;
-use pgmsg::write::{Messages, RawParameters, Values};
-use pgmsg::{FormatCode, Refusal};
+use pgmsg::{frontend, Format, Refusal, Values};
 use std::cell::Cell;
 use std::error::Error;
 use std::io;
@@ -37,8 +36,8 @@ impl From<io::Error> for BindError {
 /// What a Bind is made of, before it is one. Its allocations are used again.
 #[derive(Default)]
 struct Parts {
-    formats: Vec<FormatCode>,
-    result_formats: Vec<FormatCode>,
+    formats: Vec<Format>,
+    result_formats: Vec<Format>,
     values: Values<BytesMut>,
 }
 
@@ -69,16 +68,16 @@ where
         .ok()
         .flatten()
         .unwrap_or_default();
-    parts.formats.extend(formats.into_iter().map(FormatCode));
+    parts.formats.extend(formats.into_iter().map(Format));
     for value in values {
         parts.values.push(|bytes| {
             let is_null = serializer(value, bytes)?;
             Ok::<_, BindError>(Some(()).filter(|()| matches!(is_null, IsNull::No)))
         })?;
     }
-    let codes = result_formats.into_iter().map(FormatCode);
+    let codes = result_formats.into_iter().map(Format);
     parts.result_formats.extend(codes);
-    let written = parts.write(portal.as_bytes(), statement.as_bytes(), buf);
+    let written = parts.write(portal, statement, buf);
     parts.keep();
     Ok(written.map_err(io::Error::from)?)
 }
@@ -86,19 +85,15 @@ where
 impl Parts {
     /// Appends the message.
     #[inline]
-    fn write(
-        &mut self,
-        portal: &[u8],
-        statement: &[u8],
-        buf: &mut BytesMut,
-    ) -> Result<(), Refusal> {
-        let parameters = RawParameters {
-            values: self.values.list(),
-            formats: &self.formats,
-            result_formats: &self.result_formats,
+    fn write(&mut self, portal: &str, statement: &str, buf: &mut BytesMut) -> Result<(), Refusal> {
+        let bind = frontend::Bind {
+            portal: portal.into(),
+            statement: statement.into(),
+            formats: (&self.formats).into(),
+            values: self.values.list().into(),
+            result_formats: (&self.result_formats).into(),
         };
-        Messages::from(buf).raw_bind(portal, statement, parameters)?;
-        Ok(())
+        bind.write(buf)
     }
 
     /// Keeps the allocations for the next Bind of this thread, unless they are large.

@@ -1,8 +1,8 @@
 //! The data of a COPY.
 
-use super::{done, surely};
+use super::surely;
 use bytes::{Buf, BufMut, BytesMut};
-use pgmsg::write::{copy_head, Messages};
+use pgmsg::frontend::{copy_head, Message};
 use std::io;
 
 /// Data of a COPY, which is copied once, to where it is sent from.
@@ -33,11 +33,11 @@ impl<T: Buf> CopyData<T> {
 /// Ends the data of a COPY: CopyDone.
 #[inline]
 pub fn copy_done(buf: &mut BytesMut) {
-    surely(Messages::from(buf).copy_done());
+    surely(Message::CopyDone.write(buf));
 }
 
 /// Makes a COPY fail, for this reason: CopyFail.
 #[inline]
 pub fn copy_fail(message: &str, buf: &mut BytesMut) -> io::Result<()> {
-    done(Messages::from(buf).copy_fail(message))
+    Ok(Message::CopyFail(message.into()).write(buf)?)
 }

@@ -1,0 +1,57 @@
+//! Logs in by SCRAM-SHA-256, and prints a table: `read_table ADDRESS USER PASSWORD DATABASE TABLE`.
+
+use pgmsg::backend::{Authentication, FieldKind, Message};
+use pgmsg::frontend::{self, Startup};
+use pgmsg::scram::{Client, Sha256};
+use pgmsg::{ByteStr, Decoder, Next};
+use std::io::{Read, Write};
+use std::net::TcpStream;
+
+fn main() -> Result<(), Box<dyn std::error::Error>> {
+    let args: Vec<String> = std::env::args().skip(1).collect();
+    let args = <[String; 5]>::try_from(args);
+    let [address, user, password, database, table] =
+        args.map_err(|_| "usage: read_table ADDRESS USER PASSWORD DATABASE TABLE")?;
+    let mut random = [0; 18];
+    std::fs::File::open("/dev/urandom")?.read_exact(&mut random)?;
+    let nonce = random.map(|byte| format!("{byte:02x}")).concat();
+    let mut scram = Client::<Sha256>::new(password.as_bytes(), &nonce);
+
+    let (mut socket, mut out) = (TcpStream::connect(address)?, Vec::new());
+    Startup::new(&[("user", &user[..]), ("database", &database)]).write(&mut out)?;
+    let (mut decoder, mut stream, mut is_open) = (Decoder::of_server(), Vec::new(), false);
+    loop {
+        socket.write_all(&out)?;
+        out.clear();
+        let mut block = [0; 8192];
+        match socket.read(&mut block)? {
+            0 => return Err("the server closed the connection".into()),
+            count => stream.extend_from_slice(&block[..count]),
+        }
+        let mut done = 0;
+        while let Next::Frame(frame) = decoder.next(&stream[done..])? {
+            done += frame.bytes.len();
+            match Message::read(&frame)? {
+                Message::Authentication(Authentication::Ok) if scram.is_finished() => {}
+                Message::Authentication(request) => scram.respond(&request, &mut out)?,
+                Message::ReadyForQuery(_) if is_open => return Ok(()),
+                Message::ReadyForQuery(_) => {
+                    let query = format!("TABLE {table}");
+                    frontend::Message::Query((&query).into()).write(&mut out)?;
+                    is_open = true;
+                }
+                Message::DataRow(values) => {
+                    let texts = values.iter().map(|value| value.bytes().unwrap_or(b"NULL"));
+                    let texts: Vec<_> = texts.map(|text| ByteStr(text).to_str_lossy()).collect();
+                    println!("{}", texts.join("\t"));
+                }
+                Message::ErrorResponse(fields) => {
+                    let message = fields.value(FieldKind::Message).unwrap_or_default();
+                    return Err(message.to_str_lossy().into());
+                }
+                _ => {}
+            }
+        }
+        stream.drain(..done);
+    }
+}

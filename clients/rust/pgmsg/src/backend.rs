@@ -1,0 +1,140 @@
+//! What a server sends.
+//!
+//! [`Message`] is any of its messages. A variant has the parts of the message as a struct, where there are
+//! several; these structs can be read and written alone too. What follows the parts of a body is passed
+//! over: [`end`](fn@end) says where it begins.
+//!
+//! A reader of many rows takes a [`RowIndex`], which needs no allocation for each.
+
+mod answers;
+mod authentication;
+mod columns;
+mod copy;
+mod end;
+mod fields;
+mod status;
+
+pub use crate::row::{places_in, Cell, Cells, Row, RowIndex};
+pub use answers::{rows_affected, FunctionCallResponse, Other};
+pub use authentication::Authentication;
+pub use columns::Column;
+pub use copy::CopyResponse;
+pub use end::end;
+pub use fields::{Field, FieldKind, Fields, Severity};
+pub use status::{
+    BackendKeyData, NegotiateProtocolVersion, NotificationResponse, ParameterStatus,
+    TransactionStatus,
+};
+
+use crate::buffer::Buffer;
+use crate::byte_str::ByteStr;
+use crate::error::{Fault, Refusal};
+use crate::frame::Frame;
+use crate::frontend::{read_data, write_data};
+use crate::list::List;
+use crate::message::messages;
+use crate::value::Value;
+use answers::{read_empty, read_other};
+
+messages! {
+    /// A message from a server.
+    ///
+    /// ```
+    /// use pgmsg::backend::{Column, Message, TransactionStatus};
+    /// use pgmsg::{Decoder, Next, Value};
+    ///
+    /// let messages = [
+    ///     Message::RowDescription([Column::new("id", 23), Column::new("name", 25)].into()),
+    ///     Message::DataRow(["1".into(), Value::NULL].into()),
+    ///     Message::CommandComplete("SELECT 1".into()),
+    ///     Message::ReadyForQuery(TransactionStatus::Idle),
+    /// ];
+    /// let mut stream = Vec::new();
+    /// for message in &messages {
+    ///     message.write(&mut stream)?;
+    /// }
+    ///
+    /// let (mut decoder, mut rest, mut read) = (Decoder::of_server(), &stream[..], Vec::new());
+    /// while let Next::Frame(frame) = decoder.next(rest)? {
+    ///     read.push(Message::read(&frame)?);
+    ///     rest = &rest[frame.bytes.len()..];
+    /// }
+    /// assert_eq!(read, messages);
+    /// assert_eq!((read[1].tag(), read[1].name()), (Some(b'D'), "DataRow"));
+    /// assert_eq!(format!("{:?}", read[1]), r#"DataRow([b"1", NULL])"#);
+    /// # Ok::<(), Box<dyn std::error::Error>>(())
+    /// ```
+    read by read_other {
+        /// A message of another tag, by its body. A FunctionCallResponse and a NegotiateProtocolVersion are read
+        /// so too.
+        Other(other: Other<'a>) = Some(other.tag), Other::write;
+        /// The result of a function that was called, for a server to send.
+        FunctionCallResponse(response: FunctionCallResponse<'a>) = Some(b'V'), FunctionCallResponse::write;
+        /// The newest version of the protocol that the server speaks, for it to send.
+        NegotiateProtocolVersion(version: NegotiateProtocolVersion<'a>) = Some(b'v'), NegotiateProtocolVersion::write;
+    }
+    read by tag {
+        /// What the server asks of a client that opens a session, or that it accepts the client.
+        Authentication(authentication: Authentication<'a>) = b'R', Authentication::read, Authentication::write;
+        /// What a request to cancel has to name.
+        BackendKeyData(key: BackendKeyData<'a>) = b'K', BackendKeyData::read, BackendKeyData::write;
+        /// A Bind succeeded.
+        BindComplete = b'2', read_empty, answers::write_bind_complete;
+        /// A Close succeeded.
+        CloseComplete = b'3', read_empty, answers::write_close_complete;
+        /// A command succeeded: its tag, such as `INSERT 0 1`, of which [`rows_affected`] has the number.
+        CommandComplete(command: ByteStr<'a>) = b'C', answers::read_command, answers::write_command;
+        /// Data of a COPY.
+        CopyData(data: ByteStr<'a>) = b'd', read_data, write_data;
+        /// The end of the data of a COPY.
+        CopyDone = b'c', read_empty, answers::write_copy_done;
+        /// The server waits for the data of a COPY.
+        CopyInResponse(copy: CopyResponse<'a>) = b'G', CopyResponse::read, copy::write_in;
+        /// The data of a COPY follows.
+        CopyOutResponse(copy: CopyResponse<'a>) = b'H', CopyResponse::read, copy::write_out;
+        /// A COPY both ways begins, as in replication.
+        CopyBothResponse(copy: CopyResponse<'a>) = b'W', CopyResponse::read, copy::write_both;
+        /// A row of a result.
+        DataRow(values: List<'a, Value<'a>>) = b'D', crate::row::read, crate::row::write;
+        /// A query without a statement succeeded.
+        EmptyQueryResponse = b'I', read_empty, answers::write_empty_query;
+        /// An error.
+        ErrorResponse(fields: Fields<'a>) = b'E', Fields::read, fields::write_error;
+        /// A statement or a portal has no rows to describe.
+        NoData = b'n', read_empty, answers::write_no_data;
+        /// A notice.
+        NoticeResponse(fields: Fields<'a>) = b'N', Fields::read, fields::write_notice;
+        /// A notification from another session.
+        NotificationResponse(notification: NotificationResponse<'a>) = b'A', NotificationResponse::read, NotificationResponse::write;
+        /// The object ids of the types of a statement's parameters.
+        ParameterDescription(types: List<'a, u32>) = b't', columns::read_types, columns::write_types;
+        /// A setting of the server and its value.
+        ParameterStatus(status: ParameterStatus<'a>) = b'S', ParameterStatus::read, ParameterStatus::write;
+        /// A Parse succeeded.
+        ParseComplete = b'1', read_empty, answers::write_parse_complete;
+        /// An Execute reached its limit of rows.
+        PortalSuspended = b's', read_empty, answers::write_portal_suspended;
+        /// The server is ready for the next query.
+        ReadyForQuery(status: TransactionStatus) = b'Z', TransactionStatus::read, TransactionStatus::write;
+        /// The columns of a result.
+        RowDescription(columns: List<'a, Column<'a>>) = b'T', columns::read, columns::write;
+    }
+}
+
+impl Message<'_> {
+    /// Whether the message belongs to a secret, and should not be logged: data of an exchange by SASL or
+    /// GSSAPI, or the key of a BackendKeyData. [`Debug`](core::fmt::Debug) leaves it out.
+    ///
+    /// ```
+    /// use pgmsg::backend::{Authentication, Message, TransactionStatus};
+    ///
+    /// assert!(Message::Authentication(Authentication::SaslFinal("v=..".into())).is_secret());
+    /// assert!(!Message::ReadyForQuery(TransactionStatus::Idle).is_secret());
+    /// ```
+    pub fn is_secret(&self) -> bool {
+        match self {
+            Message::Authentication(authentication) => authentication.is_secret(),
+            message => matches!(message, Message::BackendKeyData(_)),
+        }
+    }
+}

@@ -1,0 +1,144 @@
+//! What the server asks of a client that opens a session.
+
+use super::status::texts_of;
+use crate::answer::part;
+use crate::buffer::{append, Buffer, Spare};
+use crate::byte_str::{ByteStr, Secret};
+use crate::error::{Fault, Refusal};
+use crate::list::List;
+use crate::put::{put_bytes, put_frame, put_same};
+use crate::reading::{list_items, read_parts};
+use crate::sys;
+
+/// How the server wants its client to show who it is, or that it has.
+///
+/// ```
+/// use pgmsg::{backend::Authentication, ByteStr};
+///
+/// match Authentication::read(b"\0\0\0\x0aSCRAM-SHA-256\0\0")? {
+///     Authentication::Sasl(mechanisms) => assert_eq!(mechanisms[..], [ByteStr(b"SCRAM-SHA-256")]),
+///     other => panic!("{other:?}"),
+/// }
+/// # Ok::<(), pgmsg::Fault>(())
+/// ```
+#[derive(Clone, Debug, PartialEq, Eq)]
+#[non_exhaustive]
+pub enum Authentication<'a> {
+    /// The client is accepted.
+    Ok,
+    /// A password is wanted in clear.
+    CleartextPassword,
+    /// A password is wanted as an MD5 digest, with this salt.
+    Md5Password([u8; 4]),
+    /// A SASL exchange is wanted, by one of these mechanisms, in the order of the server's preference.
+    Sasl(List<'a, ByteStr<'a>>),
+    /// The next data in a SASL exchange, which [`scram::Client`](crate::scram::Client) answers.
+    SaslContinue(Secret<'a>),
+    /// The last data in a SASL exchange.
+    SaslFinal(Secret<'a>),
+    /// Another method, by its number and what follows that: GSSAPI, SSPI, Kerberos.
+    Other(u32, Secret<'a>),
+}
+
+impl<'a> Authentication<'a> {
+    /// Reads the body of an Authentication.
+    pub fn read(body: &'a [u8]) -> Result<Authentication<'a>, Fault> {
+        // SAFETY: the call is one of the library, which reads a body so.
+        let raw = unsafe { read_parts(body, sys::pgmsg_read_raw_authentication)? };
+        let content = Secret(part(body, raw.content)?);
+        match raw.method {
+            0 => Ok(Authentication::Ok),
+            3 => Ok(Authentication::CleartextPassword),
+            5 => read_salt(body).map(Authentication::Md5Password),
+            10 => read_mechanisms(body).map(Authentication::Sasl),
+            11 => Ok(Authentication::SaslContinue(content)),
+            12 => Ok(Authentication::SaslFinal(content)),
+            method => Ok(Authentication::Other(method, content)),
+        }
+    }
+
+    /// The number of the method.
+    pub fn method(&self) -> u32 {
+        match self {
+            Authentication::Ok => 0,
+            Authentication::CleartextPassword => 3,
+            Authentication::Md5Password(_) => 5,
+            Authentication::Sasl(_) => 10,
+            Authentication::SaslContinue(_) => 11,
+            Authentication::SaslFinal(_) => 12,
+            Authentication::Other(method, _) => *method,
+        }
+    }
+
+    /// Appends the message.
+    ///
+    /// Refused with [`TextHoldsNul`](Refusal::TextHoldsNul) where the name of a mechanism holds a NUL or is
+    /// empty.
+    pub fn write<B: Buffer>(&self, out: &mut B) -> Result<(), Refusal> {
+        match self {
+            // SAFETY: the call is one of the library, which writes a message so.
+            Authentication::Ok => unsafe { put_same(out, sys::pgmsg_put_authentication_ok) },
+            Authentication::CleartextPassword => {
+                // SAFETY: the same.
+                unsafe { put_same(out, sys::pgmsg_put_authentication_cleartext) }
+            }
+            Authentication::Md5Password(salt) => write_salt(salt, out),
+            Authentication::Sasl(mechanisms) => write_mechanisms(mechanisms, out),
+            Authentication::SaslContinue(data) => {
+                // SAFETY: the same.
+                unsafe { put_bytes(out, sys::pgmsg_put_authentication_continue, data.0) }
+            }
+            Authentication::SaslFinal(data) => {
+                // SAFETY: the same.
+                unsafe { put_bytes(out, sys::pgmsg_put_authentication_final, data.0) }
+            }
+            Authentication::Other(method, content) => {
+                let body = [&method.to_be_bytes(), content.0].concat();
+                put_frame(out, b'R', &body)
+            }
+        }
+    }
+
+    /// Whether the request belongs to a secret: it carries data of an exchange.
+    pub fn is_secret(&self) -> bool {
+        match self {
+            Authentication::Other(_, content) => !content.0.is_empty(),
+            Authentication::SaslContinue(_) | Authentication::SaslFinal(_) => true,
+            _ => false,
+        }
+    }
+}
+
+fn read_salt(body: &[u8]) -> Result<[u8; 4], Fault> {
+    // SAFETY: the call is one of the library, which reads a body so.
+    unsafe { read_parts(body, sys::pgmsg_read_authentication) }.map(|read| read.salt)
+}
+
+fn write_salt<B: Buffer>(salt: &[u8; 4], out: &mut B) -> Result<(), Refusal> {
+    let call = |mut out: Spare<'_>| {
+        // SAFETY: `salt` is an array of four bytes, and `out` room, valid for its length and apart from it.
+        unsafe { sys::pgmsg_put_authentication_md5(salt.as_ptr(), out.as_mut_ptr(), out.len()) }
+    };
+    // SAFETY: the call is one of the library, which writes a message so.
+    unsafe { append(out, call) }
+}
+
+fn read_mechanisms<'a>(body: &'a [u8]) -> Result<List<'a, ByteStr<'a>>, Fault> {
+    // SAFETY: the call is one of the library, which reads a body so.
+    let places = unsafe { list_items(body, sys::pgmsg_read_raw_mechanisms)? };
+    let names = places.iter().map(|&place| part(body, place).map(ByteStr));
+    names.collect()
+}
+
+fn write_mechanisms<B: Buffer>(names: &[ByteStr<'_>], out: &mut B) -> Result<(), Refusal> {
+    let names = texts_of(names);
+    let call = |mut out: Spare<'_>| {
+        let room = out.len();
+        let (start, count) = (names.as_ptr(), names.len());
+        // SAFETY: both are slices, valid for their lengths, as are those that `names` points to; `&mut`
+        // keeps `out` apart.
+        unsafe { sys::pgmsg_put_authentication_sasl(start, count, out.as_mut_ptr(), room) }
+    };
+    // SAFETY: the call is one of the library, which writes a message so.
+    unsafe { append(out, call) }
+}

@@ -1,0 +1,89 @@
+//! How the data of a COPY is spelled.
+
+use crate::answer::{answer, fill};
+use crate::buffer::{append, Buffer, Spare};
+use crate::error::{Fault, Refusal};
+use crate::format::Format;
+use crate::list::List;
+use crate::sys;
+use alloc::vec::Vec;
+
+/// How the data of a COPY is spelled.
+///
+/// ```
+/// use pgmsg::backend::{CopyResponse, Message};
+/// use pgmsg::Format;
+///
+/// let response = CopyResponse::read(b"\0\0\x02\0\0\0\0")?;
+/// assert_eq!((response.format, &response.columns[..]), (0, &[Format::TEXT; 2][..]));
+/// # let mut out = Vec::new();
+/// Message::CopyInResponse(response).write(&mut out)?;
+/// # Ok::<(), Box<dyn std::error::Error>>(())
+/// ```
+#[derive(Clone, Debug, Default, PartialEq, Eq)]
+pub struct CopyResponse<'a> {
+    /// The format of the data as a whole: 0 for text, 1 for binary.
+    pub format: i8,
+    /// The format of each column. There is none, too, where a server announces fewer than 0.
+    pub columns: List<'a, Format>,
+}
+
+impl CopyResponse<'_> {
+    /// Reads the body of a CopyInResponse, a CopyOutResponse or a CopyBothResponse.
+    pub fn read(body: &[u8]) -> Result<CopyResponse<'static>, Fault> {
+        let mut response = sys::pgmsg_copy_response::default();
+        let mut columns = Vec::new();
+        fill(&mut columns, |room: &mut [Format]| {
+            answer(|fault| {
+                // SAFETY: `body` and `room` are slices, valid for their lengths, and `&mut` keeps `room`,
+                // `response` and `fault` apart. A `Format` is the number of the library.
+                unsafe {
+                    sys::pgmsg_read_copy_response(
+                        body.as_ptr(),
+                        body.len(),
+                        &mut response,
+                        room.as_mut_ptr().cast(),
+                        room.len(),
+                        fault,
+                    )
+                }
+            })
+        })?;
+        Ok(CopyResponse {
+            format: response.format,
+            columns: columns.into(),
+        })
+    }
+
+    /// Appends the message of a tag. Refused with [`TooMany`](Refusal::TooMany) above 32767 columns.
+    fn write<B: Buffer>(&self, tag: u8, out: &mut B) -> Result<(), Refusal> {
+        let call = |mut out: Spare<'_>| {
+            // SAFETY: both are slices, valid for their lengths, and `&mut` keeps `out` apart. A `Format`
+            // is the number of the library.
+            unsafe {
+                sys::pgmsg_put_copy_response(
+                    tag,
+                    self.format,
+                    self.columns.as_ptr().cast(),
+                    self.columns.len(),
+                    out.as_mut_ptr(),
+                    out.len(),
+                )
+            }
+        };
+        // SAFETY: the call is one of the library, which writes a message so.
+        unsafe { append(out, call) }
+    }
+}
+
+pub(super) fn write_in<B: Buffer>(copy: &CopyResponse<'_>, out: &mut B) -> Result<(), Refusal> {
+    copy.write(b'G', out)
+}
+
+pub(super) fn write_out<B: Buffer>(copy: &CopyResponse<'_>, out: &mut B) -> Result<(), Refusal> {
+    copy.write(b'H', out)
+}
+
+pub(super) fn write_both<B: Buffer>(copy: &CopyResponse<'_>, out: &mut B) -> Result<(), Refusal> {
+    copy.write(b'W', out)
+}

@@ -1,0 +1,171 @@
+//! The messages of a stream, one after the other.
+
+use crate::answer::answer;
+use crate::error::{Fault, Refusal};
+use crate::frame::{Frame, Next};
+use crate::frontend::MAX_FIRST_LENGTH;
+use crate::relay::check_frames;
+use crate::sys;
+
+/// Cuts one side's stream into its messages, without copying them: for each its tag, its bytes and its
+/// offset in the stream.
+///
+/// It holds no bytes: [`next`](Decoder::next) takes those that follow the last message.
+///
+/// ```
+/// use pgmsg::{Decoder, Next};
+///
+/// let stream = b"1\0\0\0\x04Z\0\0\0\x05IC\0\0";
+/// let (mut decoder, mut rest) = (Decoder::of_server(), &stream[..]);
+/// let mut found = Vec::new();
+/// while let Next::Frame(frame) = decoder.next(rest)? {
+///     found.push((frame.tag, frame.offset, frame.body()));
+///     rest = &rest[frame.bytes.len()..];
+/// }
+/// assert_eq!(found, [(Some(b'1'), 0, &b""[..]), (Some(b'Z'), 5, b"I")]);
+/// assert_eq!(decoder.next(rest)?, Next::Incomplete { tag: Some(b'C'), needed: 5 });
+/// # Ok::<(), pgmsg::Fault>(())
+/// ```
+#[derive(Clone, Debug)]
+pub struct Decoder {
+    side: Side,
+    limit: usize,
+    offset: u64,
+}
+
+/// Whose stream it is, and what comes next in it.
+#[derive(Clone, Copy, Debug, PartialEq, Eq)]
+enum Side {
+    /// A server's, whose messages all have a tag.
+    Server,
+    /// A client's, where a message without a tag comes next.
+    ClientFirst,
+    /// A client's, where a message with a tag comes next.
+    Client,
+}
+
+impl Decoder {
+    /// Cuts a server's stream. The single byte by which a server answers a request for encryption is no
+    /// part of it.
+    pub const fn of_server() -> Decoder {
+        Decoder::of(Side::Server)
+    }
+
+    /// Cuts a client's stream, which begins with a message without a tag; one that asks for encryption is
+    /// followed by another one.
+    pub const fn of_client() -> Decoder {
+        Decoder::of(Side::ClientFirst)
+    }
+
+    /// Cuts a client's stream from its messages with a tag on.
+    pub const fn of_open_client() -> Decoder {
+        Decoder::of(Side::Client)
+    }
+
+    const fn of(side: Side) -> Decoder {
+        Decoder {
+            side,
+            limit: usize::MAX,
+            offset: 0,
+        }
+    }
+
+    /// Refuses messages of more than so many bytes, tag and length among them. One without a tag is refused
+    /// above [`MAX_FIRST_LENGTH`] too.
+    ///
+    /// ```
+    /// use pgmsg::{Decoder, Refusal};
+    ///
+    /// let mut decoder = Decoder::of_server().with_limit(100);
+    /// let fault = decoder.next(b"D\0\0\0\x64").unwrap_err();
+    /// assert_eq!(fault.refusal, Refusal::FrameTooLong);
+    /// # Ok::<(), pgmsg::Fault>(())
+    /// ```
+    pub const fn with_limit(mut self, limit: usize) -> Decoder {
+        self.limit = limit;
+        self
+    }
+
+    /// The offset in the stream at which the next message begins.
+    #[inline]
+    pub const fn offset(&self) -> u64 {
+        self.offset
+    }
+
+    /// Whether a message without a tag comes next.
+    #[inline]
+    pub const fn expects_first(&self) -> bool {
+        matches!(self.side, Side::ClientFirst)
+    }
+
+    /// The message at the front of the bytes that follow the last one. Where it is whole, the decoder goes
+    /// on after it.
+    ///
+    /// A stream is refused as soon as five bytes show a length below 4 or, of a client, an unknown tag; a
+    /// message without a tag, where its length is below 8. The position in the stream is lost then.
+    #[inline]
+    pub fn next<'a>(&mut self, bytes: &'a [u8]) -> Result<Next<'a>, Fault> {
+        let mut head = sys::pgmsg_frame::default();
+        let is_whole = answer(|fault| self.cut(bytes, &mut head, fault))?;
+        if head.length > self.limit {
+            return Err(Refusal::FrameTooLong.into());
+        }
+        let tag = bytes.first().copied().filter(|_| !self.expects_first());
+        if is_whole == 0 {
+            let needed = head.length;
+            return Ok(Next::Incomplete { tag, needed });
+        }
+        let frame = Frame {
+            tag,
+            bytes: bytes
+                .get(..head.length)
+                .ok_or_else(|| Fault::unexpected(head.length))?,
+            offset: self.offset,
+        };
+        if tag.is_none() && !check_frames(frame.bytes, true)? {
+            self.side = Side::Client;
+        }
+        self.advance(head.length);
+        Ok(Next::Frame(frame))
+    }
+
+    /// Goes on after a message with a tag of so many bytes, which isn't looked at whole: of one that is
+    /// passed on as its bytes come, [`Next::Incomplete`] has the tag and the number of bytes.
+    ///
+    /// ```
+    /// use pgmsg::{Decoder, Next};
+    ///
+    /// let mut decoder = Decoder::of_server();
+    /// assert_eq!(decoder.next(b"d\0\0\x10\0da")?, Next::Incomplete { tag: Some(b'd'), needed: 4097 });
+    /// decoder.advance(4097);
+    /// assert_eq!(decoder.offset(), 4097);
+    /// # Ok::<(), pgmsg::Fault>(())
+    /// ```
+    #[inline]
+    pub fn advance(&mut self, length: usize) {
+        self.offset += length as u64;
+    }
+
+    /// Has the library look at the front of some bytes: 1 where there is a whole message.
+    #[inline]
+    fn cut(
+        &self,
+        bytes: &[u8],
+        head: &mut sys::pgmsg_frame,
+        fault: *mut sys::pgmsg_fault,
+    ) -> isize {
+        let (start, length) = (bytes.as_ptr(), bytes.len());
+        let is_whole = match self.side {
+            // SAFETY: `bytes` is a slice, valid for its length; `head` and `fault` are apart from it.
+            Side::Server => unsafe { sys::pgmsg_next_raw_frame(start, length, head, fault) },
+            // SAFETY: the same.
+            Side::Client => unsafe { sys::pgmsg_next_frontend_frame(start, length, head, fault) },
+            Side::ClientFirst => {
+                let limit = MAX_FIRST_LENGTH;
+                // SAFETY: the same.
+                unsafe { sys::pgmsg_next_first_frame(start, length, limit, head, fault) }
+            }
+        };
+        is_whole as isize
+    }
+}

@@ -1,0 +1,126 @@
+//! What a client sends.
+//!
+//! [`Message`] is any of its messages. A variant has the parts of the message as a struct, where there are
+//! several; these structs can be read and written alone too.
+//!
+//! ```
+//! use pgmsg::frontend::{Bind, Execute, Message, Parse};
+//! use pgmsg::Value;
+//!
+//! let mut out = Vec::new();
+//! Parse { query: "SELECT $1".into(), ..Parse::default() }.write(&mut out)?;
+//! Bind { values: [Value::new(b"5")].into(), ..Bind::default() }.write(&mut out)?;
+//! Execute::default().write(&mut out)?;
+//! Message::Sync.write(&mut out)?;
+//! # Ok::<(), pgmsg::Refusal>(())
+//! ```
+
+mod bind;
+mod copy;
+mod first;
+mod lists;
+mod password;
+mod prepared;
+mod text;
+
+pub use bind::{Bind, FunctionCall};
+pub use copy::copy_head;
+pub use first::{CancelRequest, Setting, Settings, Startup, MAX_FIRST_LENGTH};
+pub use password::{Md5Password, Password, PasswordMessage, SaslInitialResponse};
+pub use prepared::{Execute, Parse, Target};
+
+pub(crate) use copy::{read as read_data, write as write_data};
+
+use crate::buffer::Buffer;
+use crate::byte_str::ByteStr;
+use crate::error::{Fault, Refusal};
+use crate::frame::Frame;
+use crate::message::messages;
+use first::read_first;
+
+messages! {
+    /// A message from a client.
+    ///
+    /// ```
+    /// use pgmsg::frontend::{Message, Startup};
+    /// use pgmsg::{Decoder, Next};
+    ///
+    /// let messages = [
+    ///     Message::Startup(Startup::new(&[("user", "ann")])),
+    ///     Message::Query("SELECT 1".into()),
+    ///     Message::Terminate,
+    /// ];
+    /// let mut stream = Vec::new();
+    /// for message in &messages {
+    ///     message.write(&mut stream)?;
+    /// }
+    ///
+    /// let (mut decoder, mut rest, mut read) = (Decoder::of_client(), &stream[..], Vec::new());
+    /// while let Next::Frame(frame) = decoder.next(rest)? {
+    ///     read.push(Message::read(&frame)?);
+    ///     rest = &rest[frame.bytes.len()..];
+    /// }
+    /// assert_eq!(read, messages);
+    /// assert_eq!((read[1].tag(), read[1].name()), (Some(b'Q'), "Query"));
+    /// assert_eq!(format!("{:?}", read[1]), r#"Query(b"SELECT 1")"#);
+    /// # Ok::<(), Box<dyn std::error::Error>>(())
+    /// ```
+    read by read_first {
+        /// A session is opened: StartupMessage.
+        Startup(startup: Startup<'a>) = None, Startup::write;
+        /// What another session runs is to be cancelled. The server answers nothing, and closes the connection.
+        CancelRequest(cancel: CancelRequest<'a>) = None, CancelRequest::write;
+        /// An encrypted connection is asked for. The server answers with one byte, `S` or `N`.
+        SslRequest = None, first::write_ssl_request;
+        /// A connection that GSSAPI encrypts is asked for. The server answers with one byte, `G` or `N`.
+        GssEncRequest = None, first::write_gss_enc_request;
+    }
+    read by tag {
+        /// A portal is made of a prepared statement and the values of its parameters.
+        Bind(bind: Bind<'a>) = b'B', Bind::read, Bind::write;
+        /// A statement or a portal is closed.
+        Close(target: Target<'a>) = b'C', Target::read, prepared::write_close;
+        /// A part of the data of a COPY.
+        CopyData(data: ByteStr<'a>) = b'd', read_data, write_data;
+        /// The data of a COPY has ended.
+        CopyDone = b'c', text::read_empty, copy::write_done;
+        /// A COPY is given up, for this reason.
+        CopyFail(reason: ByteStr<'a>) = b'f', text::read, text::write_copy_fail;
+        /// A statement or a portal is described.
+        Describe(target: Target<'a>) = b'D', Target::read, prepared::write_describe;
+        /// A portal is run.
+        Execute(execute: Execute<'a>) = b'E', Execute::read, Execute::write;
+        /// The server is asked to send what it has.
+        Flush = b'H', text::read_empty, text::write_flush;
+        /// A function is called.
+        FunctionCall(call: FunctionCall<'a>) = b'F', FunctionCall::read, FunctionCall::write;
+        /// A statement is prepared.
+        Parse(parse: Parse<'a>) = b'P', Parse::read, Parse::write;
+        /// A request for authentication is answered: PasswordMessage, SASLInitialResponse, SASLResponse or
+        /// GSSResponse, as the request says.
+        Password(password: Password<'a>) = b'p', Password::read, Password::write;
+        /// The statements of a text are run.
+        Query(query: ByteStr<'a>) = b'Q', text::read, text::write_query;
+        /// A run of messages ends, which the server answers with ReadyForQuery.
+        Sync = b'S', text::read_empty, text::write_sync;
+        /// The session ends.
+        Terminate = b'X', text::read_empty, text::write_terminate;
+    }
+}
+
+impl Message<'_> {
+    /// Whether the message proves who the client is, and should not be logged: a password or another answer
+    /// to a request for authentication, or the key of a CancelRequest. [`Debug`](core::fmt::Debug) leaves it
+    /// out.
+    ///
+    /// ```
+    /// use pgmsg::frontend::{Message, Password};
+    ///
+    /// assert!(Message::Password(Password(b"secret\0")).is_secret());
+    /// assert!(!Message::Sync.is_secret());
+    /// ```
+    #[inline]
+    pub fn is_secret(&self) -> bool {
+        matches!(self, Message::Password(_) | Message::CancelRequest(_))
+    }
+}

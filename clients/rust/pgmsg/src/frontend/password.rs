@@ -1,0 +1,157 @@
+//! The answers to a request for authentication.
+
+use super::text;
+use crate::answer::part;
+use crate::buffer::{append, Buffer, Spare};
+use crate::byte_str::{ByteStr, Secret};
+use crate::error::{Fault, Refusal};
+use crate::put::{put_bytes, put_frame};
+use crate::reading::read_parts;
+use crate::row::Cell;
+use crate::sys;
+use core::fmt;
+
+/// The body of an answer to a request for authentication. What it is, the request says: all of it is data
+/// where it is a SASLResponse or a GSSResponse.
+///
+/// ```
+/// use pgmsg::frontend::Password;
+///
+/// let answer = Password(b"secret\0");
+/// assert_eq!(answer.password()?, b"secret");
+/// assert!(answer.sasl_initial().is_err());
+/// assert_eq!(format!("{answer:?}"), "Password(7 bytes)");
+/// # Ok::<(), pgmsg::Fault>(())
+/// ```
+#[derive(Clone, Copy, Default, PartialEq, Eq)]
+pub struct Password<'a>(pub &'a [u8]);
+
+impl<'a> Password<'a> {
+    #[inline]
+    pub(super) fn read(body: &'a [u8]) -> Result<Password<'a>, Fault> {
+        Ok(Password(body))
+    }
+
+    /// Appends a message of this body.
+    pub fn write<B: Buffer>(&self, out: &mut B) -> Result<(), Refusal> {
+        put_frame(out, b'p', self.0)
+    }
+
+    /// The password of a PasswordMessage, in clear or its digest.
+    pub fn password(self) -> Result<&'a [u8], Fault> {
+        text::read(self.0).map(|text| text.0)
+    }
+
+    /// What a SASLInitialResponse says.
+    pub fn sasl_initial(self) -> Result<SaslInitialResponse<'a>, Fault> {
+        SaslInitialResponse::read(self.0)
+    }
+}
+
+/// Shows the length alone, since the bytes may be a password.
+impl fmt::Debug for Password<'_> {
+    fn fmt(&self, f: &mut fmt::Formatter<'_>) -> fmt::Result {
+        write!(f, "Password({} bytes)", self.0.len())
+    }
+}
+
+/// A password in clear.
+///
+/// ```
+/// # let mut out = Vec::new();
+/// pgmsg::frontend::PasswordMessage("secret".into()).write(&mut out)?;
+/// assert_eq!(out, b"p\0\0\0\x0bsecret\0");
+/// # Ok::<(), pgmsg::Refusal>(())
+/// ```
+#[derive(Clone, Copy, Debug, Default, PartialEq, Eq)]
+pub struct PasswordMessage<'a>(pub Secret<'a>);
+
+impl PasswordMessage<'_> {
+    /// Appends the message.
+    ///
+    /// Refused with [`TextHoldsNul`](Refusal::TextHoldsNul) where the password holds a NUL.
+    pub fn write<B: Buffer>(&self, out: &mut B) -> Result<(), Refusal> {
+        // SAFETY: the call is one of the library, which writes a message so.
+        unsafe { put_bytes(out, sys::pgmsg_put_password_bytes, self.0 .0) }
+    }
+}
+
+/// The digest of a password: the MD5 digest of two texts joined, which are the MD5 digest of password and
+/// user name, in hexadecimal digits, and the salt that the server sent.
+///
+/// ```
+/// # let mut out = Vec::new();
+/// pgmsg::frontend::Md5Password([0xab; 16]).write(&mut out)?;
+/// assert!(out.starts_with(b"p\0\0\0\x28md5abab"));
+/// # Ok::<(), pgmsg::Refusal>(())
+/// ```
+#[derive(Clone, Copy, PartialEq, Eq)]
+pub struct Md5Password(pub [u8; 16]);
+
+impl Md5Password {
+    /// Appends the message.
+    pub fn write<B: Buffer>(&self, out: &mut B) -> Result<(), Refusal> {
+        let call = |mut out: Spare<'_>| {
+            // SAFETY: the digest is an array of sixteen bytes, and `out` room, valid for its length and
+            // apart from it.
+            unsafe { sys::pgmsg_put_md5_password(self.0.as_ptr(), out.as_mut_ptr(), out.len()) }
+        };
+        // SAFETY: the call is one of the library, which writes a message so.
+        unsafe { append(out, call) }
+    }
+}
+
+/// The first answer to a request for SASL, which chooses a mechanism.
+///
+/// ```
+/// use pgmsg::frontend::SaslInitialResponse;
+///
+/// let initial = SaslInitialResponse::read(b"SCRAM-SHA-256\0\0\0\0\x0bn,,n=,r=abc")?;
+/// assert_eq!(initial.mechanism, "SCRAM-SHA-256");
+/// assert_eq!(initial.response, Some("n,,n=,r=abc".into()));
+/// # let mut out = Vec::new();
+/// initial.write(&mut out)?;
+/// # Ok::<(), Box<dyn std::error::Error>>(())
+/// ```
+#[derive(Clone, Copy, Debug, Default, PartialEq, Eq)]
+pub struct SaslInitialResponse<'a> {
+    /// The name of the mechanism that the client chose.
+    pub mechanism: ByteStr<'a>,
+    /// The first data of its exchange; without any, the server begins.
+    pub response: Option<Secret<'a>>,
+}
+
+impl<'a> SaslInitialResponse<'a> {
+    /// Reads the body of a SASLInitialResponse.
+    pub fn read(body: &'a [u8]) -> Result<SaslInitialResponse<'a>, Fault> {
+        // SAFETY: the call is one of the library, which reads a body so.
+        let read = unsafe { read_parts(body, sys::pgmsg_read_sasl_initial)? };
+        Ok(SaslInitialResponse {
+            mechanism: ByteStr(part(body, read.mechanism)?),
+            response: Cell::new(read.response).value(body).map(Secret),
+        })
+    }
+
+    /// Appends the message.
+    ///
+    /// Refused with [`TextHoldsNul`](Refusal::TextHoldsNul) where the name holds a NUL.
+    pub fn write<B: Buffer>(&self, out: &mut B) -> Result<(), Refusal> {
+        let response = self.response.unwrap_or_default().0;
+        let call = |mut out: Spare<'_>| {
+            // SAFETY: all are slices, valid for their lengths, and `&mut` keeps `out` apart.
+            unsafe {
+                sys::pgmsg_put_sasl_mechanism(
+                    self.mechanism.as_ptr(),
+                    self.mechanism.len(),
+                    self.response.is_some(),
+                    response.as_ptr(),
+                    response.len(),
+                    out.as_mut_ptr(),
+                    out.len(),
+                )
+            }
+        };
+        // SAFETY: the call is one of the library, which writes a message so.
+        unsafe { append(out, call) }
+    }
+}

@@ -1,0 +1,197 @@
+//! What prepares, describes, runs and closes statements and portals.
+
+use super::lists::types;
+use crate::answer::part;
+use crate::buffer::{append, Buffer, Spare};
+use crate::byte_str::ByteStr;
+use crate::error::{Fault, Refusal};
+use crate::list::List;
+use crate::put::put_bytes;
+use crate::reading::read_parts;
+use crate::sys;
+use core::num::NonZeroU32;
+
+/// A statement that is prepared.
+///
+/// ```
+/// use pgmsg::frontend::Parse;
+///
+/// let parse = Parse {
+///     statement: "s0".into(),
+///     query: "SELECT $1".into(),
+///     types: [23].into(),
+/// };
+/// let mut out = Vec::new();
+/// parse.write(&mut out)?;
+/// assert_eq!(Parse::read(&out[5..])?, parse);
+/// # Ok::<(), Box<dyn std::error::Error>>(())
+/// ```
+#[derive(Clone, Debug, Default, PartialEq, Eq)]
+pub struct Parse<'a> {
+    /// The name of the statement, empty for the unnamed one.
+    pub statement: ByteStr<'a>,
+    /// The text of the query.
+    pub query: ByteStr<'a>,
+    /// The object ids of the types of the parameters, from the first one on. The server infers those that
+    /// are 0 or missing.
+    pub types: List<'a, u32>,
+}
+
+impl<'a> Parse<'a> {
+    /// Reads the body of a Parse.
+    pub fn read(body: &'a [u8]) -> Result<Parse<'a>, Fault> {
+        // SAFETY: the call is one of the library, which reads a body so.
+        let read = unsafe { read_parts(body, sys::pgmsg_read_parse)? };
+        Ok(Parse {
+            statement: ByteStr(part(body, read.statement)?),
+            query: ByteStr(part(body, read.query)?),
+            types: types(body, read.types)?,
+        })
+    }
+
+    /// Appends the message.
+    ///
+    /// Refused with [`TextHoldsNul`](Refusal::TextHoldsNul) where a text holds a NUL, and with
+    /// [`TooManyParamTypes`](Refusal::TooManyParamTypes) above 65535 types.
+    #[inline]
+    pub fn write<B: Buffer>(&self, out: &mut B) -> Result<(), Refusal> {
+        let call = |mut out: Spare<'_>| {
+            // SAFETY: all are slices, valid for their lengths, and `&mut` keeps `out` apart.
+            unsafe {
+                sys::pgmsg_put_raw_parse(
+                    self.statement.as_ptr(),
+                    self.statement.len(),
+                    self.query.as_ptr(),
+                    self.query.len(),
+                    self.types.as_ptr(),
+                    self.types.len(),
+                    out.as_mut_ptr(),
+                    out.len(),
+                )
+            }
+        };
+        // SAFETY: the call is one of the library, which writes a message so.
+        unsafe { append(out, call) }
+    }
+}
+
+/// What is described or closed, by its name, which is empty for the unnamed one.
+///
+/// ```
+/// use pgmsg::frontend::{Message, Target};
+///
+/// assert_eq!(Target::read(b"Ss0\0")?, Target::Statement("s0".into()));
+/// let mut out = Vec::new();
+/// Message::Describe(Target::Portal("".into())).write(&mut out)?;
+/// assert_eq!(out, b"D\0\0\0\x06P\0");
+/// # Ok::<(), Box<dyn std::error::Error>>(())
+/// ```
+#[derive(Clone, Copy, Debug, PartialEq, Eq, Hash)]
+pub enum Target<'a> {
+    /// A prepared statement.
+    Statement(ByteStr<'a>),
+    /// A portal.
+    Portal(ByteStr<'a>),
+}
+
+impl<'a> Target<'a> {
+    /// Reads the body of a Describe or a Close.
+    pub fn read(body: &'a [u8]) -> Result<Target<'a>, Fault> {
+        // SAFETY: the call is one of the library, which reads a body so.
+        let read = unsafe { read_parts(body, sys::pgmsg_read_target)? };
+        let name = ByteStr(part(body, read.name)?);
+        match read.letter {
+            b'S' => Ok(Target::Statement(name)),
+            b'P' => Ok(Target::Portal(name)),
+            letter => Err(Fault::unexpected(letter.into())),
+        }
+    }
+
+    /// The name of either.
+    #[inline]
+    pub fn name(self) -> ByteStr<'a> {
+        match self {
+            Target::Statement(name) | Target::Portal(name) => name,
+        }
+    }
+}
+
+#[inline]
+pub(super) fn write_describe<B: Buffer>(target: &Target<'_>, out: &mut B) -> Result<(), Refusal> {
+    let call = match target {
+        Target::Statement(_) => sys::pgmsg_put_raw_describe_statement,
+        Target::Portal(_) => sys::pgmsg_put_raw_describe_portal,
+    };
+    // SAFETY: the call is one of the library, which writes a message so.
+    unsafe { put_bytes(out, call, &target.name()) }
+}
+
+#[inline]
+pub(super) fn write_close<B: Buffer>(target: &Target<'_>, out: &mut B) -> Result<(), Refusal> {
+    let call = match target {
+        Target::Statement(_) => sys::pgmsg_put_raw_close_statement,
+        Target::Portal(_) => sys::pgmsg_put_raw_close_portal,
+    };
+    // SAFETY: the call is one of the library, which writes a message so.
+    unsafe { put_bytes(out, call, &target.name()) }
+}
+
+/// A portal that is run.
+///
+/// ```
+/// use pgmsg::frontend::Execute;
+///
+/// let execute = Execute::read(b"p0\0\0\0\0\x64")?;
+/// assert_eq!((execute.portal, execute.max_rows), ("p0".into(), 100));
+/// assert_eq!(Execute::default().limit(), None);
+/// # Ok::<(), pgmsg::Fault>(())
+/// ```
+#[derive(Clone, Copy, Debug, Default, PartialEq, Eq)]
+pub struct Execute<'a> {
+    /// The name of the portal, empty for the unnamed one.
+    pub portal: ByteStr<'a>,
+    /// The most rows to send back, 0 for all of them.
+    pub max_rows: u32,
+}
+
+impl<'a> Execute<'a> {
+    /// The most rows to send back, or `None` for all of them: by 0, or by a number that a server, which
+    /// reads a signed one, takes as below 0.
+    #[inline]
+    pub fn limit(&self) -> Option<NonZeroU32> {
+        NonZeroU32::new(self.max_rows).filter(|limit| limit.get() <= i32::MAX as u32)
+    }
+
+    /// Reads the body of an Execute.
+    pub fn read(body: &'a [u8]) -> Result<Execute<'a>, Fault> {
+        // SAFETY: the call is one of the library, which reads a body so.
+        let read = unsafe { read_parts(body, sys::pgmsg_read_execute)? };
+        Ok(Execute {
+            portal: ByteStr(part(body, read.portal)?),
+            max_rows: read.max_rows,
+        })
+    }
+
+    /// Appends the message.
+    ///
+    /// Refused with [`TextHoldsNul`](Refusal::TextHoldsNul) where the name holds a NUL.
+    #[inline]
+    pub fn write<B: Buffer>(&self, out: &mut B) -> Result<(), Refusal> {
+        let (portal, limit) = (self.portal, self.max_rows);
+        let call = |mut out: Spare<'_>| {
+            let room = out.len();
+            // SAFETY: both are slices, valid for their lengths, and `&mut` keeps `out` apart.
+            unsafe {
+                sys::pgmsg_put_raw_execute(
+                    portal.as_ptr(),
+                    portal.len(),
+                    limit,
+                    out.as_mut_ptr(),
+                    room,
+                )
+            }
+        };
+        // SAFETY: the call is one of the library, which writes a message so.
+        unsafe { append(out, call) }
+    }
+}

@@ -1,0 +1,76 @@
+//! The enum of a side's messages, by a table.
+
+/// Makes the enum of a side's messages by a table: for each its parts, its tag, and the functions that read
+/// its body and that write it. The first rows are of messages that are not read by a tag of their own.
+macro_rules! messages {
+    (
+        $(#[$doc:meta])*
+        read by $read_rest:ident {$(
+            $(#[$rest_doc:meta])*
+            $rest:ident$(($rest_parts:ident: $rest_type:ty))? = $rest_tag:expr, $write_rest:expr;
+        )*}
+        read by tag {$(
+            $(#[$row_doc:meta])*
+            $name:ident$(($parts:ident: $type:ty))? = $tag:literal, $read:expr, $write:expr;
+        )*}
+    ) => {
+        $(#[$doc])*
+        #[derive(Clone, Debug, PartialEq, Eq)]
+        #[non_exhaustive]
+        pub enum Message<'a> {
+            $($(#[$rest_doc])* $rest$(($rest_type))?,)*
+            $($(#[$row_doc])* $name$(($type))?,)*
+        }
+
+        impl<'a> Message<'a> {
+            /// Reads a message that was cut off a stream.
+            #[inline]
+            pub fn read(frame: &Frame<'a>) -> Result<Message<'a>, Fault> {
+                Message::read_body(frame.tag, frame.body())
+            }
+
+            /// Reads the body of a message by its tag.
+            #[inline]
+            #[allow(clippy::let_unit_value)]
+            pub fn read_body(tag: Option<u8>, body: &'a [u8]) -> Result<Message<'a>, Fault> {
+                Ok(match tag {
+                    $(Some($tag) => {
+                        let _read = $read(body)?;
+                        Message::$name$(({ let $parts: $type = _read; $parts }))?
+                    })*
+                    _ => $read_rest(tag, body)?,
+                })
+            }
+
+            /// Appends the message to a buffer, or leaves that as it was.
+            #[inline]
+            pub fn write<B: Buffer>(&self, out: &mut B) -> Result<(), Refusal> {
+                match self {
+                    $(Message::$rest$(($rest_parts))? => $write_rest($($rest_parts,)? out),)*
+                    $(Message::$name$(($parts))? => $write($($parts,)? out),)*
+                }
+            }
+
+            /// The tag that opens the message, or `None` where it has none.
+            #[inline]
+            #[allow(unused_variables)]
+            pub fn tag(&self) -> Option<u8> {
+                match self {
+                    $(Message::$rest$(($rest_parts))? => $rest_tag,)*
+                    $(Message::$name { .. } => Some($tag),)*
+                }
+            }
+
+            /// The name of the variant, which is that of the message in PostgreSQL's documentation but for
+            /// a few that share a tag.
+            pub fn name(&self) -> &'static str {
+                match self {
+                    $(Message::$rest { .. } => stringify!($rest),)*
+                    $(Message::$name { .. } => stringify!($name),)*
+                }
+            }
+        }
+    };
+}
+
+pub(crate) use messages;

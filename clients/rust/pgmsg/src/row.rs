@@ -1,0 +1,220 @@
+//! The cells of a row.
+
+mod cells;
+
+pub use cells::{Cell, Cells};
+
+use crate::answer::{answer, fill};
+use crate::buffer::{append, Buffer, Spare};
+use crate::error::{Fault, Refusal};
+use crate::list::List;
+use crate::sys;
+use crate::value::Value;
+use alloc::vec;
+use alloc::vec::Vec;
+use core::fmt;
+
+/// The most values of a message whose places need no allocation.
+const FEW: usize = 32;
+
+/// The values of a body, by a call that gives as many places of them as there is room for, and their count.
+#[inline]
+pub(crate) fn read_values(
+    body: &[u8],
+    mut call: impl FnMut(&mut [Cell]) -> Result<usize, Fault>,
+) -> Result<List<'_, Value<'_>>, Fault> {
+    let mut few = [Cell::default(); FEW];
+    let count = call(&mut few)?;
+    match few.get(..count) {
+        Some(cells) => Ok(values_at(body, cells)),
+        None => Ok(values_at(
+            body,
+            fill(&mut vec![Cell::default(); count], call)?,
+        )),
+    }
+}
+
+fn values_at<'b>(body: &'b [u8], cells: &[Cell]) -> List<'b, Value<'b>> {
+    cells.iter().map(|cell| cell.value(body).into()).collect()
+}
+
+/// Reads the body of a DataRow.
+#[inline]
+pub(crate) fn read(body: &[u8]) -> Result<List<'_, Value<'_>>, Fault> {
+    read_values(body, |room| places_in(body, room))
+}
+
+/// Appends a DataRow.
+#[inline]
+pub(crate) fn write<B: Buffer>(values: &[Value<'_>], out: &mut B) -> Result<(), Refusal> {
+    let call = |mut out: Spare<'_>| {
+        let room = out.len();
+        let (start, count) = (Value::list(values), values.len());
+        // SAFETY: both are slices, valid for their lengths, as are those of the values; `&mut` keeps `out`
+        // apart. A value is one of the library.
+        unsafe { sys::pgmsg_put_row(start, count, out.as_mut_ptr(), room) }
+    };
+    // SAFETY: the call is one of the library, which writes a message so.
+    unsafe { append(out, call) }
+}
+
+/// Reads rows, and keeps the room for the places of their cells from one row to the next.
+///
+/// ```
+/// # use pgmsg::backend::RowIndex;
+/// let mut index = RowIndex::new();
+/// let row = index.read(b"\0\x02\0\0\0\x015\xff\xff\xff\xff")?;
+/// assert!(row.iter().eq([Some(&b"5"[..]), None]));
+/// # Ok::<(), pgmsg::Fault>(())
+/// ```
+#[derive(Clone, Debug, Default)]
+pub struct RowIndex {
+    cells: Vec<Cell>,
+}
+
+impl RowIndex {
+    /// A reader that has allocated nothing yet.
+    #[inline]
+    pub const fn new() -> RowIndex {
+        RowIndex { cells: Vec::new() }
+    }
+
+    /// A reader with room for rows of so many cells.
+    pub fn with_capacity(cells: usize) -> RowIndex {
+        RowIndex {
+            cells: vec![Cell::default(); cells],
+        }
+    }
+
+    /// Reads the body of a DataRow.
+    ///
+    /// It allocates only for a row of more cells than any row before.
+    #[inline]
+    pub fn read<'b>(&mut self, body: &'b [u8]) -> Result<Row<'b, '_>, Fault> {
+        let cells = fill(&mut self.cells, |room| places_in(body, room))?;
+        // SAFETY: they are the places that the library gave of this body.
+        Ok(unsafe { Row::new(body, cells) })
+    }
+}
+
+/// How many cells a row has, by the body of its DataRow. As many places as there is room for are
+/// written.
+///
+/// ```
+/// # use pgmsg::backend::{places_in, Cell};
+/// let mut room = [Cell::default(); 8];
+/// let count = places_in(b"\0\x02\0\0\0\x015\xff\xff\xff\xff", &mut room)?;
+/// assert_eq!((count, room[0].range()), (2, Some(6..7)));
+/// # Ok::<(), pgmsg::Fault>(())
+/// ```
+#[inline]
+pub fn places_in(body: &[u8], room: &mut [Cell]) -> Result<usize, Fault> {
+    let count = answer(|fault| {
+        // SAFETY: `body` and `room` are slices, valid for their lengths, and `&mut` keeps `room` and
+        // `fault` apart. A `Cell` is one of the library.
+        unsafe {
+            sys::pgmsg_read_row(
+                body.as_ptr(),
+                body.len(),
+                room.as_mut_ptr().cast(),
+                room.len(),
+                fault,
+            )
+        }
+    })?;
+    // The library is proved to give no other place.
+    debug_assert!(room.iter().take(count).all(|cell| cell.is_in(body)));
+    Ok(count)
+}
+
+/// A row: for each column the bytes of its value, or `None` where it is NULL.
+///
+/// The values borrow the body alone, so they can be kept when the reader goes on to the next row.
+#[derive(Clone, Copy)]
+pub struct Row<'b, 'r> {
+    body: &'b [u8],
+    /// Each is NULL or lies in the body.
+    cells: &'r [Cell],
+}
+
+impl<'b, 'r> Row<'b, 'r> {
+    /// # Safety
+    ///
+    /// Each cell is NULL or lies in the body, as of those that the library gave of it: `version::check`
+    /// has found that it is the one which is declared.
+    #[inline]
+    pub(crate) unsafe fn new(body: &'b [u8], cells: &'r [Cell]) -> Row<'b, 'r> {
+        // The library is proved to give no other place.
+        debug_assert!(cells.iter().all(|cell| cell.is_in(body)));
+        Row { body, cells }
+    }
+
+    /// How many cells the row has.
+    #[inline]
+    pub fn len(&self) -> usize {
+        self.cells.len()
+    }
+
+    /// Whether the row has no cell.
+    #[inline]
+    pub fn is_empty(&self) -> bool {
+        self.cells.is_empty()
+    }
+
+    /// The cell of a column, counted from 0, or `None` where the row has no such column.
+    #[inline]
+    pub fn get(&self, index: usize) -> Option<Option<&'b [u8]>> {
+        self.cells.get(index).map(|cell| cell.value(self.body))
+    }
+
+    /// The cells in order.
+    #[inline]
+    pub fn iter(&self) -> Cells<'b, 'r> {
+        // SAFETY: each cell is NULL or lies in the body.
+        unsafe { Cells::new(self.body, self.cells) }
+    }
+
+    /// The places of the cells in the body.
+    ///
+    /// A driver that keeps the body copies them, and needs no reader for the row again:
+    ///
+    /// ```
+    /// # use pgmsg::backend::RowIndex;
+    /// let body = b"\0\x02\0\0\0\x015\xff\xff\xff\xff".to_vec();
+    /// let places = RowIndex::new().read(&body)?.places().to_vec();
+    /// assert_eq!(places[0].range(), Some(6..7));
+    /// assert_eq!(places[0].value(&body), Some(&b"5"[..]));
+    /// assert_eq!(places[1].range(), None);
+    /// # Ok::<(), pgmsg::Fault>(())
+    /// ```
+    #[inline]
+    pub fn places(&self) -> &'r [Cell] {
+        self.cells
+    }
+}
+
+impl fmt::Debug for Row<'_, '_> {
+    fn fmt(&self, f: &mut fmt::Formatter<'_>) -> fmt::Result {
+        f.debug_list().entries(self.iter()).finish()
+    }
+}
+
+impl<'b, 'r> IntoIterator for Row<'b, 'r> {
+    type Item = Option<&'b [u8]>;
+    type IntoIter = Cells<'b, 'r>;
+
+    #[inline]
+    fn into_iter(self) -> Cells<'b, 'r> {
+        self.iter()
+    }
+}
+
+impl<'b, 'r> IntoIterator for &Row<'b, 'r> {
+    type Item = Option<&'b [u8]>;
+    type IntoIter = Cells<'b, 'r>;
+
+    #[inline]
+    fn into_iter(self) -> Cells<'b, 'r> {
+        self.iter()
+    }
+}

@@ -1,0 +1,258 @@
+//! The client's side.
+
+use super::{base64, covered, is_nonce, is_same, proof_and_signature, without_proof};
+use super::{Digest, Error, Key, SCRAM_SHA_256, SCRAM_SHA_256_PLUS};
+use crate::answer::{answer, fill, grow};
+use crate::backend::Authentication;
+use crate::buffer::Buffer;
+use crate::error::Fault;
+use crate::frontend::{Password, SaslInitialResponse};
+use crate::sys;
+use alloc::format;
+use alloc::string::String;
+use alloc::vec::Vec;
+use core::fmt;
+use core::marker::PhantomData;
+
+/// A client that has a password.
+///
+/// [`respond`](Client::respond) takes the server's requests and writes what to send. Only once the client
+/// [is finished](Client::is_finished) has the server shown that it knows the password too: an
+/// AuthenticationOk before that is not to be trusted.
+///
+/// ```
+/// # #[cfg(feature = "sha2")] {
+/// use pgmsg::backend::Authentication;
+/// use pgmsg::scram::{Client, Sha256};
+///
+/// let mut client = Client::<Sha256>::new(b"secret", "random-text");
+/// let mut out = Vec::new();
+/// client.respond(&Authentication::Sasl(["SCRAM-SHA-256".into()].into()), &mut out)?;
+/// assert_eq!(out, b"p\0\0\0\x29SCRAM-SHA-256\0\0\0\0\x13n,,n=,r=random-text");
+/// # }
+/// # Ok::<(), pgmsg::scram::Error>(())
+/// ```
+pub struct Client<'a, D> {
+    user: &'a str,
+    password: &'a [u8],
+    nonce: &'a str,
+    binding: Option<&'a [u8]>,
+    state: State,
+    digest: PhantomData<D>,
+}
+
+/// What comes next.
+#[derive(Clone, Copy, PartialEq, Eq)]
+enum State {
+    /// The challenge, after a first message that began so.
+    Challenge(&'static str),
+    /// The server's signature, which is this.
+    Signature(Key),
+    /// Nothing.
+    Finished,
+}
+
+/// The first messages begin so without channel binding, where the client has none or the server offers none,
+/// and with it.
+const HEADERS: [&str; 3] = ["n,,", "y,,", "p=tls-server-end-point,,"];
+
+impl<'a, D: Digest> Client<'a, D> {
+    /// A client with a password, which should be normalised by SASLprep where it isn't ASCII, and a nonce:
+    /// a random text of printable ASCII but the comma, such as base64 of 18 random bytes.
+    pub const fn new(password: &'a [u8], nonce: &'a str) -> Client<'a, D> {
+        Client {
+            user: "",
+            password,
+            nonce,
+            binding: None,
+            state: State::Challenge(HEADERS[0]),
+            digest: PhantomData,
+        }
+    }
+
+    /// Names the user in the exchange, too. PostgreSQL's servers take that of the Startup.
+    pub const fn with_user(mut self, user: &'a str) -> Client<'a, D> {
+        self.user = user;
+        self
+    }
+
+    /// Binds the exchange to a TLS connection, by the hash of the server's certificate (RFC 5929's
+    /// tls-server-end-point), where the server offers that.
+    pub const fn with_channel_binding(mut self, hash: &'a [u8]) -> Client<'a, D> {
+        self.binding = Some(hash);
+        self
+    }
+
+    /// Whether the server has shown that it knows the password.
+    pub fn is_finished(&self) -> bool {
+        self.state == State::Finished
+    }
+
+    /// Answers a request of SASL: chooses a mechanism, answers a challenge, or takes the server's signature
+    /// and writes nothing.
+    pub fn respond<B: Buffer>(
+        &mut self,
+        request: &Authentication<'_>,
+        out: &mut B,
+    ) -> Result<(), Error> {
+        match request {
+            Authentication::Sasl(mechanisms) => {
+                let mechanism = self.choose(|name| mechanisms.iter().any(|it| *it == name))?;
+                let first = self.first();
+                let initial = SaslInitialResponse {
+                    mechanism: mechanism.into(),
+                    response: Some((&first).into()),
+                };
+                Ok(initial.write(out)?)
+            }
+            Authentication::SaslContinue(challenge) => {
+                Ok(Password(&self.answer(challenge.0)?).write(out)?)
+            }
+            Authentication::SaslFinal(last) => self.finish(last.0),
+            _ => Err(Error::OutOfTurn),
+        }
+    }
+
+    /// Chooses a mechanism of those that are offered.
+    fn choose(&mut self, is_offered: impl Fn(&str) -> bool) -> Result<&'static str, Error> {
+        let is_bound = self.binding.is_some();
+        let (header, mechanism) = match is_bound && is_offered(SCRAM_SHA_256_PLUS) {
+            true => (HEADERS[2], SCRAM_SHA_256_PLUS),
+            false => (HEADERS[usize::from(is_bound)], SCRAM_SHA_256),
+        };
+        if !is_offered(mechanism) {
+            return Err(Error::NoMechanism);
+        }
+        self.state = State::Challenge(header);
+        Ok(mechanism)
+    }
+
+    /// The first message, of the mechanism that was chosen, or of the one without channel binding.
+    pub fn first(&self) -> Vec<u8> {
+        let header = match self.state {
+            State::Challenge(header) => header,
+            _ => HEADERS[0],
+        };
+        format!("{header}{}", self.bare()).into()
+    }
+
+    /// The first message after its header.
+    fn bare(&self) -> String {
+        let user = self.user.replace('=', "=3D").replace(',', "=2C");
+        format!("n={user},r={}", self.nonce)
+    }
+
+    /// The answer to the server's challenge, with the proof.
+    pub fn answer(&mut self, challenge: &[u8]) -> Result<Vec<u8>, Error> {
+        let header = match self.state {
+            State::Challenge(header) => header,
+            _ => return Err(Error::OutOfTurn),
+        };
+        let read = Challenge::read(challenge)?;
+        let added = read.nonce.strip_prefix(self.nonce).unwrap_or_default();
+        let begins = challenge.starts_with(b"r=") && is_nonce(self.nonce.as_bytes());
+        if !begins || !is_nonce(added.as_bytes()) || read.iterations == 0 || read.salt.is_empty() {
+            return Err(Error::Nonce);
+        }
+        let salted = D::salted(self.password, &read.salt, read.iterations);
+        let keys = (
+            D::hmac(&salted, b"Client Key"),
+            D::hmac(&salted, b"Server Key"),
+        );
+        let binding = self
+            .binding
+            .filter(|_| header == HEADERS[2])
+            .unwrap_or_default();
+        let answer = without_proof(header, binding, &read.nonce);
+        let messages = covered(self.bare().as_bytes(), challenge, answer.as_bytes());
+        let (proof, signature) = proof_and_signature::<D>(&keys.0, &keys.1, &messages);
+        self.state = State::Signature(signature);
+        Ok(format!("{answer},p={}", base64::encode(&proof)).into())
+    }
+
+    /// Takes the server's signature.
+    pub fn finish(&mut self, last: &[u8]) -> Result<(), Error> {
+        let signature = match self.state {
+            State::Signature(signature) => signature,
+            _ => return Err(Error::OutOfTurn),
+        };
+        if !is_same(&signature, &read_verifier(last)?) {
+            return Err(Error::WrongVerifier);
+        }
+        self.state = State::Finished;
+        Ok(())
+    }
+}
+
+/// Shows nothing of the password.
+impl<D> fmt::Debug for Client<'_, D> {
+    fn fmt(&self, f: &mut fmt::Formatter<'_>) -> fmt::Result {
+        f.debug_struct("Client").finish_non_exhaustive()
+    }
+}
+
+/// The challenge of a server.
+struct Challenge {
+    iterations: u32,
+    salt: Vec<u8>,
+    nonce: String,
+}
+
+impl Challenge {
+    fn read(data: &[u8]) -> Result<Challenge, Fault> {
+        let body = [&11u32.to_be_bytes(), data].concat();
+        let (mut salt, mut nonce) = (Vec::new(), Vec::new());
+        let lengths = read_challenge(&body, &mut salt, &mut nonce)?;
+        grow(&mut salt, lengths.salt_len)?;
+        grow(&mut nonce, lengths.nonce_len)?;
+        let read = read_challenge(&body, &mut salt, &mut nonce)?;
+        Ok(Challenge {
+            iterations: read.iterations,
+            salt,
+            nonce: String::from_utf8(nonce).map_err(|_| Fault::unexpected(read.nonce_len))?,
+        })
+    }
+}
+
+/// Reads a challenge. Salt and nonce are written where they fit.
+fn read_challenge(
+    body: &[u8],
+    salt: &mut [u8],
+    nonce: &mut [u8],
+) -> Result<sys::pgmsg_challenge, Fault> {
+    let mut read = sys::pgmsg_challenge::default();
+    answer(|fault| {
+        // SAFETY: `body`, `salt` and `nonce` are slices, valid for their lengths, and `&mut` keeps
+        // all that is written apart.
+        let number = unsafe {
+            sys::pgmsg_read_challenge(
+                body.as_ptr(),
+                body.len(),
+                &mut read,
+                salt.as_mut_ptr(),
+                salt.len(),
+                nonce.as_mut_ptr(),
+                nonce.len(),
+                fault,
+            )
+        };
+        number as isize
+    })?;
+    Ok(read)
+}
+
+/// The value `v` of a message, of base64, or nothing where there is none.
+pub(super) fn read_verifier(data: &[u8]) -> Result<Vec<u8>, Fault> {
+    let body = [&12u32.to_be_bytes(), data].concat();
+    let mut verifier = Vec::new();
+    let count = fill(&mut verifier, |room: &mut [u8]| {
+        answer(|fault| {
+            let (start, length) = (body.as_ptr(), body.len());
+            // SAFETY: both are slices, valid for their lengths, and `&mut` keeps `room` and `fault` apart.
+            unsafe { sys::pgmsg_read_verifier(start, length, room.as_mut_ptr(), room.len(), fault) }
+        })
+    })?
+    .len();
+    verifier.truncate(count);
+    Ok(verifier)
+}

@@ -1,0 +1,45 @@
+//! The hash that an exchange is over.
+
+/// What SHA-256 gives of some bytes.
+pub type Key = [u8; 32];
+
+/// SHA-256 and HMAC with it, of a library of the caller's. The feature `sha2` has `Sha256`, by the crates
+/// sha2 and hmac.
+pub trait Digest {
+    /// The hash of some bytes.
+    fn hash(bytes: &[u8]) -> Key;
+
+    /// The HMAC of a message with a key.
+    fn hmac(key: &[u8], message: &[u8]) -> Key;
+
+    /// A password that is hashed with a salt, so often: PBKDF2 with HMAC.
+    fn salted(password: &[u8], salt: &[u8], iterations: u32) -> Key {
+        let mut last = Self::hmac(password, &[salt, &[0, 0, 0, 1]].concat());
+        let mut salted = last;
+        for _ in 1..iterations {
+            last = Self::hmac(password, &last);
+            for (byte, next) in salted.iter_mut().zip(last) {
+                *byte ^= next;
+            }
+        }
+        salted
+    }
+}
+
+/// SHA-256 of the crates sha2 and hmac.
+#[cfg(feature = "sha2")]
+#[derive(Clone, Copy, Debug)]
+pub struct Sha256;
+
+#[cfg(feature = "sha2")]
+impl Digest for Sha256 {
+    fn hash(bytes: &[u8]) -> Key {
+        sha2::Digest::finalize(sha2::Digest::chain_update(sha2::Sha256::default(), bytes)).into()
+    }
+
+    fn hmac(key: &[u8], message: &[u8]) -> Key {
+        use hmac::Mac;
+        let mac = hmac::Hmac::<sha2::Sha256>::new_from_slice(key).expect("a key of any length");
+        mac.chain_update(message).finalize().into_bytes().into()
+    }
+}

@@ -1,0 +1,121 @@
+//! What messages are appended to, and values that are spelled into a buffer.
+
+use pgmsg::frontend::{copy_head, Bind, Message};
+use pgmsg::{Refusal, Value, Values};
+
+#[test]
+fn messages_follow_one_another_while_the_buffer_grows() {
+    let (mut out, mut expected) = (Vec::with_capacity(1), Vec::new());
+    for length in (0..3000).step_by(7) {
+        let data = vec![length as u8; length];
+        let message = Message::CopyData((&data).into());
+        message.write(&mut out).expect("short data has no fault");
+        expected.extend(copy_head(length).expect("short data has a head"));
+        expected.extend(data);
+    }
+    assert_eq!(out, expected);
+}
+
+#[test]
+fn messages_are_appended_to_what_is_there() {
+    let mut bytes = vec![b'x'; 3000];
+    bytes.shrink_to_fit();
+    // A buffer that is lent is one, too.
+    let mut out = &mut bytes;
+    let refused = Message::Query("\0".into()).write(&mut out);
+    assert_eq!(refused, Err(Refusal::TextHoldsNul));
+    assert_eq!(Message::Query("a".into()).write(&mut out), Ok(()));
+    assert_eq!(Message::Sync.write(out), Ok(()));
+    assert_eq!(bytes[2999..], *b"xQ\0\0\0\x06a\0S\0\0\0\x04");
+}
+
+#[cfg(feature = "bytes")]
+#[test]
+fn a_buffer_of_the_crate_bytes() {
+    use bytes::BytesMut;
+    let mut out = BytesMut::from(&b"before"[..]);
+    let mut expected = out.to_vec();
+    for length in (0..3000).step_by(13) {
+        let data = vec![length as u8; length];
+        let message = Message::CopyData((&data).into());
+        assert_eq!(message.write(&mut out), Ok(()));
+        assert_eq!(message.write(&mut expected), Ok(()));
+        assert!(Message::CopyFail("\0".into()).write(&mut out).is_err());
+        let sent = out.split_to(out.len() / 2);
+        assert_eq!(sent, expected[..sent.len()]);
+        expected.drain(..sent.len());
+    }
+    assert_eq!(out, expected);
+}
+
+#[test]
+fn values_of_each_length() {
+    for length in 0..20 {
+        let bytes: Vec<u8> = (1..=length).collect();
+        let values = [Value::new(&bytes), Value::new(&bytes)];
+        let bind = Bind {
+            values: (&values).into(),
+            ..Bind::default()
+        };
+        let mut out = Vec::new();
+        bind.write(&mut out).expect("it has no fault");
+        let value = [&[0, 0, 0, length][..], &bytes].concat();
+        let head = [b'B', 0, 0, 0, 20 + 2 * length, 0, 0, 0, 0, 0, 2];
+        assert_eq!(out, [&head[..], &value, &value, b"\0\0"].concat());
+    }
+}
+
+#[test]
+fn values_of_each_form() {
+    let values = [
+        Value::new(b"\xff"),
+        "a".into(),
+        Some("").into(),
+        Value::NULL,
+    ];
+    let bytes = values.iter().map(|value| value.bytes());
+    assert!(bytes.eq([Some(&b"\xff"[..]), Some(b"a"), Some(b""), None]));
+    assert_eq!(Value::from(None::<&str>), Value::NULL);
+    assert_ne!(Value::new(b""), Value::NULL);
+    assert_eq!(format!("{values:?}"), r#"[b"\xff", b"a", b"", NULL]"#);
+}
+
+/// Adds a value that is a text, NULL, or can't be spelled.
+fn push(values: &mut Values, value: Result<Option<&str>, Refusal>) -> Result<(), Refusal> {
+    values.push(|bytes| {
+        bytes.push(b'<');
+        let value = value?;
+        Ok(value.map(|value| bytes.extend_from_slice(value.as_bytes())))
+    })
+}
+
+#[test]
+fn values_that_are_spelled_one_after_the_other() {
+    let mut values = Values::default();
+    for turn in 0..2 {
+        for value in [Ok(Some("a")), Ok(None), Ok(Some("bc"))] {
+            push(&mut values, value).expect("it can be spelled");
+        }
+        let refused = push(&mut values, Err(Refusal::BadParams));
+        assert_eq!(refused, Err(Refusal::BadParams));
+        let list: Vec<_> = values.list().iter().map(|it| it.bytes()).collect();
+        assert_eq!(list, [Some(&b"<a"[..]), None, Some(b"<bc")], "{turn}");
+        assert_eq!(format!("{values:?}"), "Values { len: 3, .. }");
+        assert_eq!(values.bytes_len(), 5);
+        values.clear();
+        assert!(values.list().is_empty());
+    }
+}
+
+#[test]
+fn values_whose_bytes_were_taken_away_lie_within_the_rest() {
+    let mut values = Values::default();
+    push(&mut values, Ok(Some("abcd"))).expect("it can be spelled");
+    let pushed = values.push(|bytes| {
+        bytes.truncate(2);
+        Ok::<_, Refusal>(Some(()))
+    });
+    assert!(pushed.is_ok());
+    let list: Vec<_> = values.list().iter().map(|it| it.bytes()).collect();
+    assert_eq!(list, [Some(&b"<a"[..]), Some(b"")]);
+}

@@ -1,0 +1,191 @@
+//! SCRAM-SHA-256 of both sides, by the example of RFC 7677, with wrong passwords, and with changed messages.
+
+use pgmsg::backend::Authentication;
+use pgmsg::frontend::{Password, SaslInitialResponse};
+use pgmsg::scram::{Client, Credentials, Digest, Error, Server, Sha256};
+
+/// The messages of section 3 of RFC 7677.
+const FIRST: &[u8] = b"n,,n=user,r=rOprNGfwEbeRWgbNEkqO";
+const CHALLENGE: &[u8] = b"r=rOprNGfwEbeRWgbNEkqO%hvYDpWUa2RaTCAfuxFIlj)hNlF$k0,\
+    s=W22ZaJ0SNY7soEsUEjb6gQ==,i=4096";
+const ANSWER: &[u8] = b"c=biws,r=rOprNGfwEbeRWgbNEkqO%hvYDpWUa2RaTCAfuxFIlj)hNlF$k0,\
+    p=dHzbZapWIk4jUhN+Ute9ytag9zjfMHgsqmmiz7AndVQ=";
+const LAST: &[u8] = b"v=6rriTRBi23WpRR/wtup+mMhUZUn/dB5nLTJRsjl95G4=";
+
+const SALT: &[u8] = b"\x5b\x6d\x99\x68\x9d\x12\x35\x8e\xec\xa0\x4b\x14\x12\x36\xfa\x81";
+const SERVER_NONCE: &str = "%hvYDpWUa2RaTCAfuxFIlj)hNlF$k0";
+
+fn client(password: &[u8]) -> Client<'_, Sha256> {
+    Client::new(password, "rOprNGfwEbeRWgbNEkqO").with_user("user")
+}
+
+fn kept() -> Credentials {
+    Credentials::new::<Sha256>(b"pencil", SALT, 4096)
+}
+
+#[test]
+fn the_example_of_the_rfc() {
+    let kept = kept();
+    let (mut client, mut server) = (
+        client(b"pencil"),
+        Server::<Sha256>::new(&kept, SERVER_NONCE),
+    );
+    assert_eq!(client.first(), FIRST);
+    assert_eq!(server.challenge(FIRST).as_deref(), Ok(CHALLENGE));
+    assert_eq!(client.answer(CHALLENGE).as_deref(), Ok(ANSWER));
+    assert_eq!(server.verify(ANSWER).as_deref(), Ok(LAST));
+    assert!(!client.is_finished());
+    assert_eq!(client.finish(LAST), Ok(()));
+    assert!(client.is_finished() && server.is_finished());
+}
+
+/// The first test vector of RFC 7914's section 11 for PBKDF2 with HMAC-SHA-256, up to 32 bytes.
+#[test]
+fn salted_passwords() {
+    let due = b"\x55\xac\x04\x6e\x56\xe3\x08\x9f\xec\x16\x91\xc2\x25\x44\xb6\x05\
+        \xf9\x41\x85\x21\x6d\xde\x04\x65\xe6\x8b\x9d\x57\xc2\x0d\xac\xbc";
+    assert_eq!(&Sha256::salted(b"passwd", b"salt", 1), due);
+}
+
+#[test]
+fn an_exchange_in_messages() {
+    let mut out = Vec::new();
+    let mut client = client(b"pencil");
+    let offer = Authentication::Sasl(["SCRAM-SHA-256-PLUS".into(), "SCRAM-SHA-256".into()].into());
+    client.respond(&offer, &mut out).expect("it is offered");
+    let initial = SaslInitialResponse::read(&out[5..]).expect("no fault");
+    let due = SaslInitialResponse {
+        mechanism: "SCRAM-SHA-256".into(),
+        response: Some(FIRST.into()),
+    };
+    assert_eq!(initial, due);
+    out.clear();
+    let challenge = Authentication::SaslContinue(CHALLENGE.into());
+    client.respond(&challenge, &mut out).expect("no fault");
+    let mut due = Vec::new();
+    Password(ANSWER).write(&mut due).expect("no refusal");
+    assert_eq!(out, due);
+    client
+        .respond(&Authentication::SaslFinal(LAST.into()), &mut out)
+        .expect("no fault");
+    assert!(client.is_finished() && out == due);
+    let again = client.respond(&Authentication::Ok, &mut out);
+    assert_eq!(again, Err(Error::OutOfTurn));
+    let none = client.respond(&Authentication::Sasl(["PLAIN".into()].into()), &mut out);
+    assert_eq!(none, Err(Error::NoMechanism));
+}
+
+#[test]
+fn channels_that_are_bound() {
+    let first_of = |offered: &[&'static str]| {
+        let mut client = client(b"pencil").with_channel_binding(b"hash");
+        let offered = offered.iter().map(|&name| name.into()).collect();
+        let mut out = Vec::new();
+        client
+            .respond(&Authentication::Sasl(offered), &mut out)
+            .expect("it is offered");
+        let initial = SaslInitialResponse::read(&out[5..]).expect("no fault");
+        let first = initial.response.expect("a response").0.to_vec();
+        let answer = client.answer(CHALLENGE).expect("no fault");
+        (initial.mechanism.to_vec(), first, answer)
+    };
+    let (mechanism, first, answer) = first_of(&["SCRAM-SHA-256", "SCRAM-SHA-256-PLUS"]);
+    assert_eq!(mechanism, b"SCRAM-SHA-256-PLUS");
+    assert!(first.starts_with(b"p=tls-server-end-point,,n=user,r="));
+    // The header and the hash in base64.
+    assert!(answer.starts_with(b"c=cD10bHMtc2VydmVyLWVuZC1wb2ludCwsaGFzaA==,r="));
+    let (mechanism, first, answer) = first_of(&["SCRAM-SHA-256"]);
+    assert_eq!(mechanism, b"SCRAM-SHA-256");
+    assert!(first.starts_with(b"y,,n=user,r="));
+    assert!(answer.starts_with(b"c=eSws,r="));
+}
+
+#[test]
+fn wrong_passwords() {
+    let kept = kept();
+    let mut server = Server::<Sha256>::new(&kept, SERVER_NONCE);
+    server.challenge(FIRST).expect("no fault");
+    let mut client = client(b"pencils");
+    let answer = client.answer(CHALLENGE).expect("no fault");
+    assert_eq!(server.verify(&answer), Err(Error::WrongProof));
+    assert!(!server.is_finished());
+    // A server that doesn't know the password has another signature.
+    assert_eq!(client.finish(LAST), Err(Error::WrongVerifier));
+    assert_eq!(client.finish(b"e=invalid-proof"), Err(Error::WrongVerifier));
+    assert!(!client.is_finished());
+}
+
+#[test]
+fn challenges_that_are_refused() {
+    let refused = |challenge: &[u8]| client(b"pencil").answer(challenge).expect_err("a fault");
+    let text = String::from_utf8(CHALLENGE.into()).expect("ASCII");
+    for changed in [
+        text.replace("r=rOpr", "r=xOpr"),
+        text.replace(SERVER_NONCE, ""),
+        text.replace("s=W22ZaJ0SNY7soEsUEjb6gQ==", "s="),
+        text.replace("4096", "0"),
+        format!("m=ext,{text}"),
+        String::from("r=other"),
+    ] {
+        assert_eq!(refused(changed.as_bytes()), Error::Nonce, "{changed}");
+    }
+    assert!(matches!(refused(b""), Error::Fault(_)));
+    assert!(matches!(
+        refused(text.replace("s=W", "s=?").as_bytes()),
+        Error::Fault(_)
+    ));
+    let mut comma = Client::<Sha256>::new(b"pencil", "a,b");
+    assert_eq!(comma.answer(b"r=a,bc,s=AAEC,i=1"), Err(Error::Nonce));
+}
+
+#[test]
+fn every_byte_of_each_answer_matters() {
+    let kept = Credentials::new::<Sha256>(b"pencil", SALT, 1);
+    for at in 0..ANSWER.len() {
+        let mut server = Server::<Sha256>::new(&kept, SERVER_NONCE);
+        let challenge = server.challenge(FIRST).expect("no fault");
+        let mut answer = client(b"pencil").answer(&challenge).expect("no fault");
+        answer[at] ^= 1;
+        assert!(server.verify(&answer).is_err(), "{at}");
+        assert!(!server.is_finished());
+    }
+}
+
+#[test]
+fn first_messages_that_are_refused() {
+    let kept = kept();
+    let first = |message: &[u8]| Server::<Sha256>::new(&kept, SERVER_NONCE).challenge(message);
+    assert_eq!(
+        first(b"p=tls-server-end-point,,n=,r=a"),
+        Err(Error::WrongProof)
+    );
+    for message in [
+        &b"n,,n=user"[..],
+        b"n,,n=,r=",
+        b"n,,m=ext,n=,r=a",
+        b"n,,r=a,n=",
+        b"n,,n=,r=\x7f",
+    ] {
+        assert_eq!(first(message), Err(Error::Nonce));
+    }
+    assert!(first(b"y,,n=,r=a,ext=1").is_ok());
+    let mut server = Server::<Sha256>::new(&kept, SERVER_NONCE);
+    assert_eq!(server.verify(ANSWER), Err(Error::OutOfTurn));
+    server.challenge(FIRST).expect("no fault");
+    assert_eq!(server.challenge(FIRST), Err(Error::OutOfTurn));
+}
+
+#[test]
+fn users_are_escaped_and_secrets_not_shown() {
+    let client = Client::<Sha256>::new(b"pencil", "nonce").with_user("a,b=c");
+    assert_eq!(client.first(), b"n,,n=a=2Cb=3Dc,r=nonce");
+    let kept = kept();
+    let shown = format!(
+        "{client:?} {kept:?} {:?}",
+        Server::<Sha256>::new(&kept, "nonce")
+    );
+    assert_eq!(
+        shown,
+        "Client { .. } Credentials { iterations: 4096, .. } Server { .. }"
+    );
+}

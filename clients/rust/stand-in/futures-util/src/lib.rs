@@ -1,0 +1,1 @@
+//! Stands in for the crate futures-util, where no registry is there.

@@ -1,0 +1,1 @@
+//! Stands in for the crate tokio, where no registry is there.
