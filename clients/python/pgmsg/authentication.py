@@ -1,82 +1,202 @@
-"""What the server asks of a client that opens a session."""
+"""What a server asks of a client that opens a session: the messages Authentication, each a class by its method."""
 
 from __future__ import annotations
 
-import ctypes
-import enum
-from typing import TYPE_CHECKING, NamedTuple
+from collections.abc import Iterable
+from dataclasses import dataclass, field
+from typing import ClassVar, NamedTuple, Self
 
-from . import _header as header
-from ._library import library
-from ._memory import view_of
-from ._reading import ask, fill, part, read
+from ._calls import allocate, found, listed, part, put, read, texts_of
+from ._library import ffi, lib
+from .fault import Code, Fault
+from .message import BackendMessage, Buffer, Text, by, fill, octets
 
-if TYPE_CHECKING:
-    from _typeshed import ReadableBuffer as Buffer
-
-# The bytes of the number of the method, which all else follows.
-METHOD_LENGTH = 4
+METHOD_LENGTH, SALT_LENGTH = 4, 4
 
 
-class Method(enum.IntEnum):
-    """What the server asks for."""
+class Authentication(BackendMessage):
+    """What the server asks for, of any method: `read` gives a message of the method's class."""
 
-    OK = 0
-    CLEARTEXT_PASSWORD = 3
-    MD5_PASSWORD = 5
-    SASL = 10
-    SASL_CONTINUE = 11
-    SASL_FINAL = 12
+    __slots__ = ()
+
+    TAG: ClassVar[int] = ord("R")
+    METHOD: ClassVar[int | None] = None
+
+    @classmethod
+    def _read(cls, body: bytes) -> Self:
+        asked = found("pgmsg_raw_authentication", lib.pgmsg_read_raw_authentication, body)
+        kind = METHODS.get(asked.method)
+        if kind is None:
+            raise Fault(Code.UNKNOWN_AUTHENTICATION, f"unknown authentication method: {asked.method}")
+        if not issubclass(kind, cls):
+            raise Fault(Code.WRONG_FORMAT, f"{asked.method} is no method of {cls.__name__}")
+        return kind._of(part(body, asked.content), body)
+
+    @classmethod
+    def _of(cls, content: bytes, body: bytes) -> Self:
+        """The message of what follows its method in a body."""
+        return cls()
+
+    def _written(self, content: bytes = b"") -> bytes:
+        body = (self.METHOD or 0).to_bytes(METHOD_LENGTH, "big") + content
+        return put(lib.pgmsg_put_raw_frame, self.TAG, body, len(body))
+
+    def write(self) -> bytes:
+        return self._written()
 
 
-class Authentication(NamedTuple):
-    """What the server asks for, and the salt of an MD5 digest, which is empty for the other methods."""
+@dataclass(frozen=True, slots=True)
+class AuthenticationOk(Authentication):
+    """The client is who it says."""
 
-    method: Method
+    METHOD: ClassVar[int] = 0
+
+
+@dataclass(frozen=True, slots=True)
+class AuthenticationKerberosV5(Authentication):
+    """Asks for Kerberos V5, as servers before version 9.3 do."""
+
+    METHOD: ClassVar[int] = 2
+
+
+@dataclass(frozen=True, slots=True)
+class AuthenticationCleartextPassword(Authentication):
+    """Asks for a password in clear."""
+
+    METHOD: ClassVar[int] = 3
+
+
+@dataclass(frozen=True, slots=True, init=False)
+class AuthenticationMD5Password(Authentication):
+    """Asks for a password as an MD5 digest with a salt of 4 bytes."""
+
+    METHOD: ClassVar[int] = 5
     salt: bytes
+
+    def __init__(self, salt: Buffer) -> None:
+        if len(octets(salt)) != SALT_LENGTH:
+            raise ValueError(f"a salt has {SALT_LENGTH} bytes, not {len(octets(salt))}")
+        fill(self, octets(salt))
+
+    @classmethod
+    def _of(cls, content: bytes, body: bytes) -> Self:
+        asked = found("pgmsg_authentication", lib.pgmsg_read_authentication, body)
+        return cls(bytes(asked.salt))
+
+    def write(self) -> bytes:
+        return put(lib.pgmsg_put_authentication_md5, self.salt)
+
+
+@dataclass(frozen=True, slots=True)
+class AuthenticationGSS(Authentication):
+    """Asks for an exchange of GSSAPI."""
+
+    METHOD: ClassVar[int] = 7
+
+
+@dataclass(frozen=True, slots=True)
+class AuthenticationSSPI(Authentication):
+    """Asks for an exchange of SSPI."""
+
+    METHOD: ClassVar[int] = 9
+
+
+@dataclass(frozen=True, slots=True, init=False)
+class AuthenticationSASL(Authentication):
+    """Asks for an exchange of SASL by one of these mechanisms, the best first."""
+
+    METHOD: ClassVar[int] = 10
+    mechanisms: tuple[bytes, ...]
+
+    def __init__(self, mechanisms: Iterable[Text]) -> None:
+        fill(self, tuple(map(octets, mechanisms)))
+
+    @classmethod
+    def _of(cls, content: bytes, body: bytes) -> Self:
+        return cls(listed(
+            "pgmsg_span", lambda room, size: lib.pgmsg_read_raw_mechanisms(body, len(body), room, size),
+            lambda span: part(body, span)))
+
+    def write(self) -> bytes:
+        names, count, _held = texts_of(self.mechanisms)
+        return put(lib.pgmsg_put_authentication_sasl, names, count)
+
+
+class AuthenticationWithData(Authentication):
+    """What goes on in an exchange."""
+
+    __slots__ = ()
+
+    data: bytes
+
+    @classmethod
+    def _of(cls, content: bytes, body: bytes) -> Self:
+        made = object.__new__(cls)
+        fill(made, content)
+        return made
+
+    def write(self) -> bytes:
+        return self._written(self.data)
+
+
+@dataclass(frozen=True, slots=True, init=False)
+class AuthenticationGSSContinue(AuthenticationWithData):
+    """The next data of an exchange of GSSAPI or SSPI."""
+
+    METHOD: ClassVar[int] = 8
+    data: bytes = field(repr=False)
+
+    def __init__(self, data: Text) -> None:
+        fill(self, octets(data))
 
 
 class Challenge(NamedTuple):
-    """The challenge of a SASL exchange by SCRAM.
-
-    `iterations` is 4096 where no number is given, `salt` and `nonce` are empty where none is. `message` is a view of
-    the challenge as the server sent it, which the proof of the client covers.
-    """
+    """The challenge of SCRAM. `iterations` is 4096 where no number is given, `salt` and `nonce` are empty where none is."""
 
     iterations: int
     salt: bytes
     nonce: str
-    message: memoryview
 
 
-def read_authentication(body: Buffer) -> Authentication:
-    """What the server asks for, by the body of its Authentication."""
-    found = header.Authentication()
-    read(library.pgmsg_read_authentication, body, ctypes.byref(found))
-    method = Method(found.method)
-    return Authentication(method, bytes(found.salt) if method is Method.MD5_PASSWORD else b"")
+@dataclass(frozen=True, slots=True, init=False)
+class AuthenticationSASLContinue(AuthenticationWithData):
+    """The next data of an exchange of SASL."""
 
+    METHOD: ClassVar[int] = 11
+    data: bytes = field(repr=False)
 
-def read_mechanisms(body: Buffer) -> list[str]:
-    """The names of the mechanisms that the server offers, by the body of an Authentication of method SASL."""
-    with view_of(body) as view:
-        room, count = fill(header.Span, lambda room, size: ask(library.pgmsg_read_mechanisms, view, room, size))
-        return [str(part(view, span), "utf-8") for span in room[:count]]
+    def __init__(self, data: Text) -> None:
+        fill(self, octets(data))
 
-
-def read_challenge(body: Buffer) -> Challenge:
-    """The challenge of a SASL exchange, by the body of an Authentication of method SASL_CONTINUE."""
-    found = header.Challenge()
-    with view_of(body) as view:
+    def challenge(self) -> Challenge:
+        """The data as a challenge of SCRAM."""
+        body = self._written(self.data)[1 + METHOD_LENGTH :]
+        answer = ffi.new("pgmsg_challenge *")
         # No part of a body is longer than the body.
-        salt, nonce = ((ctypes.c_uint8 * len(view))() for _ in range(2))
-        read(library.pgmsg_read_challenge, view, ctypes.byref(found), salt, len(salt), nonce, len(nonce))
+        salt, nonce = (allocate("uint8_t[]", len(body)) for _ in range(2))
+        read(lib.pgmsg_read_challenge, body, answer, salt, len(body), nonce, len(body))
         return Challenge(
-            found.iterations, bytes(salt[: found.salt_len]), str(bytes(nonce[: found.nonce_len]), "utf-8"),
-            view[METHOD_LENGTH:])
+            answer.iterations, bytes(ffi.buffer(salt, answer.salt_len)), str(ffi.buffer(nonce, answer.nonce_len), "utf-8"))
 
 
-def read_verifier(body: Buffer) -> bytes:
-    """The verifier that ends a SASL exchange, by the body of an Authentication of method SASL_FINAL."""
-    room, count = fill(ctypes.c_uint8, lambda room, size: read(library.pgmsg_read_verifier, body, room, size))
-    return bytes(room[:count])
+@dataclass(frozen=True, slots=True, init=False)
+class AuthenticationSASLFinal(AuthenticationWithData):
+    """The last data of an exchange of SASL."""
+
+    METHOD: ClassVar[int] = 12
+    data: bytes = field(repr=False)
+
+    def __init__(self, data: Text) -> None:
+        fill(self, octets(data))
+
+    def verifier(self) -> bytes:
+        """What proves in SCRAM that the server knows the password."""
+        body = self._written(self.data)[1 + METHOD_LENGTH :]
+        return bytes(listed(
+            "uint8_t", lambda room, size: read(lib.pgmsg_read_verifier, body, room, size), int))
+
+
+METHODS: dict[int | None, type[Authentication]] = by(
+    "METHOD", AuthenticationOk, AuthenticationKerberosV5, AuthenticationCleartextPassword, AuthenticationMD5Password,
+    AuthenticationGSS, AuthenticationGSSContinue, AuthenticationSSPI, AuthenticationSASL, AuthenticationSASLContinue,
+    AuthenticationSASLFinal)

@@ -2,20 +2,15 @@
 
 from __future__ import annotations
 
-import ctypes
 import enum
-from collections.abc import Iterable
-from typing import TYPE_CHECKING, Callable, NamedTuple
+from collections.abc import Callable, Iterable
+from typing import NamedTuple
 
-from . import _header as header
-from ._library import library
-from ._memory import Pins, view_of
-from ._reading import read
-from ._writing import in_bits
-from .fault import Fault, refusal, reported
-
-if TYPE_CHECKING:
-    from _typeshed import ReadableBuffer as Buffer
+from ._calls import read, reported
+from ._library import ffi, lib
+from ._sharing import Shared
+from .fault import Code, Fault, refusal
+from .message import Buffer, Frame, number
 
 LENGTH = 4
 
@@ -33,9 +28,9 @@ class WholeFrame(NamedTuple):
     bytes: memoryview
     precedes_first: bool
 
-    def body(self) -> memoryview:
-        """The bytes after the length, which the calls `read_*` take apart."""
-        return self.bytes[LENGTH + (self.tag is not None) :]
+    def frame(self) -> Frame:
+        """The message, for `read` of its class."""
+        return Frame(self.tag, bytes(self.bytes[LENGTH + (self.tag is not None) :]))
 
 
 class Part(NamedTuple):
@@ -83,9 +78,9 @@ class Answer(NamedTuple):
 def led(before: bool, added: Buffer, after: bool) -> bytes:
     """A copy of the bytes, where they lead from what is expected before them to what is expected after them."""
     # What is tested goes out, though another thread changes the bytes.
-    copy = bytes(view_of(added))
+    copy = bytes(memoryview(added))
     if check_frames(copy, before) is not after:
-        raise refusal(header.Code.NOT_FRAMES)
+        raise refusal(Code.NOT_FRAMES)
     return copy
 
 
@@ -94,18 +89,19 @@ def keep(_: WholeFrame) -> Answer:
     return Answer(Place.KEEP)
 
 
-class Relay:
+class Relay(Shared):
     """Takes the bytes of one direction of a connection in pieces of any length, and gives back what goes out.
 
     A message that lies in one piece is given where it lies. Only the front of a message that goes on after the piece is
     held, and only where it is wanted whole and has at most `limit` bytes. `wanted` are the tags of those that are wanted
     whole; the messages that have none, at the start of a client's stream, always are. `expects_first` says whether one of
     these comes next, or goes on; `held` is the front of a message that isn't whole yet; `left` is how many bytes are still
-    to come of one that goes out in parts. A relay is for one thread at a time.
+    to come of one that goes out in parts. Where threads share a relay, each call of `next` waits for another.
     """
 
     def __init__(self, limit: int, wanted: Iterable[int] = ALL_TAGS, expects_first: bool = False) -> None:
-        self._relay = header.Relay(in_bits(64, limit), 0, expects_first)
+        self._relay = ffi.new("pgmsg_relay *", (number(64, limit), 0, expects_first))
+        super().__init__()
         self._held = bytearray()
         self._needed = 0
         self.want(wanted)
@@ -122,11 +118,11 @@ class Relay:
 
     @property
     def limit(self) -> int:
-        return self._relay.limit
+        return int(self._relay.limit)
 
     @property
     def expects_first(self) -> bool:
-        return self._relay.is_first
+        return bool(self._relay.is_first)
 
     @property
     def held(self) -> bytes:
@@ -134,14 +130,14 @@ class Relay:
 
     @property
     def left(self) -> int:
-        return self._relay.left
+        return int(self._relay.left)
 
     def want(self, wanted: Iterable[int]) -> None:
         """Changes which messages are wanted whole, from the next one on whose front isn't held yet."""
         flags = bytearray(256)
         for tag in wanted:
-            flags[in_bits(8, tag)] = 1
-        self._wanted = (ctypes.c_uint8 * 256).from_buffer(flags)
+            flags[number(8, tag)] = 1
+        self._wanted = bytes(flags)
 
     def next(self, piece: Buffer) -> tuple[WholeFrame | Part | None, memoryview]:
         """What comes of the front of a piece, None where nothing does yet, and the rest of the piece.
@@ -149,17 +145,17 @@ class Relay:
         A length below 4, or 8 of a message without a tag, is refused as soon as it is there, and so is a message that is
         wanted whole and is longer than the limit. Relay and piece are as they were then.
         """
-        view = view_of(piece)
+        view = steady(piece)
         if not view:
             return None, view
-        return self._next_joined(view) if self._held else self._next_in_piece(view)
+        return self._alone(self._next, view)
 
     def pass_on(self, piece: Buffer, answer: Callable[[WholeFrame], Answer] = keep) -> bytes:
         """What goes out of a piece: the messages that came, or what is answered in their places.
 
         After a refusal the connection is at its end, since what comes next can't be known.
         """
-        out, rest = bytearray(), view_of(piece)
+        out, rest = bytearray(), steady(piece)
         while True:
             event, rest = self.next(rest)
             if event is None:
@@ -170,6 +166,9 @@ class Relay:
                 first, second = answer(event).parts(event)
                 out += first
                 out += second
+
+    def _next(self, view: memoryview) -> tuple[WholeFrame | Part | None, memoryview]:
+        return self._next_joined(view) if self._held else self._next_in_piece(view)
 
     def _next_in_piece(self, view: memoryview) -> tuple[WholeFrame | Part | None, memoryview]:
         """Where nothing is held."""
@@ -203,12 +202,12 @@ class Relay:
 
     def _front_of(self, data: Buffer) -> tuple[int, int, int]:
         """What the library finds at the front of some bytes, with a tag and a length, and takes where it isn't 0."""
-        passage, fault = header.Passage(), header.Fault()
-        with Pins() as pins:
-            number = library.pgmsg_relay_next(self._relay, self._wanted, *pins.pin(data), passage, fault)
-        if number < 0:
-            raise reported(number, fault)
-        return number, passage.tag, passage.length
+        passage, fault = ffi.new("pgmsg_passage *"), ffi.new("pgmsg_fault *")
+        with ffi.from_buffer("uint8_t[]", data) as held:
+            found = lib.pgmsg_relay_next(self._relay, self._wanted, held, len(held), passage, fault)
+        if found < 0:
+            raise reported(found, fault)
+        return found, passage.tag, passage.length
 
     def _event(self, number: int, tag: int | None, view: memoryview) -> WholeFrame | Part:
         return WholeFrame(tag, view, self.expects_first) if number == 1 else Part(view, self.left)
@@ -217,6 +216,13 @@ class Relay:
 def check_frames(data: Buffer, is_first: bool = False) -> bool:
     """Whether a message without a tag comes next after some bytes, which are whole messages one after the other, the first
     of them without a tag if `is_first`. Other bytes are refused."""
-    expects_first = ctypes.c_bool(is_first)
-    read(library.pgmsg_check_frames, data, ctypes.byref(expects_first))
-    return expects_first.value
+    expects_first = ffi.new("bool *", is_first)
+    read(lib.pgmsg_check_frames, bytes(memoryview(data)), expects_first)
+    return bool(expects_first[0])
+
+
+def steady(data: Buffer) -> memoryview:
+    """A view of bytes that nobody changes: those that were passed, or a copy where they aren't `bytes`."""
+    view = memoryview(data)
+    is_steady = isinstance(view.obj, bytes) and view.format == "B" and view.contiguous
+    return view if is_steady else memoryview(bytes(view))

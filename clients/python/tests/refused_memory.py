@@ -8,66 +8,49 @@ import ctypes
 import unittest
 
 import support  # noqa: F401
-import pgmsg
+import samples
 import test_faults
-import test_memory
 import test_messages
-import test_raw
-import test_server
-from pgmsg import Fault, Messages, ServerMessages
+from pgmsg import Fault, fault
+from pgmsg._library import _binding
 
 MANY_REQUESTS = 1000
 
-pgmsg.library.refuse_nth.argtypes = [ctypes.c_size_t]
-pgmsg.library.was_refused.restype = ctypes.c_bool
-
-# What was sent before the call whose memory is refused.
-BEFORE = b"Q\0\0\0\x0dSELECT 1\0"
+refusing = ctypes.PyDLL(_binding.__file__)
+refusing.refuse_nth.argtypes = [ctypes.c_size_t]
+refusing.was_refused.restype = ctypes.c_bool
 
 
 class TestRefusedMemory(unittest.TestCase):
     def each_refused(self, call):
         """What a call raises, once for each of its requests for memory, which is refused."""
         for nth in range(1, MANY_REQUESTS):
-            pgmsg.library.refuse_nth(nth)
+            refusing.refuse_nth(nth)
             raised = None
             try:
                 call()
             except (MemoryError, Fault) as error:
                 raised = error
-            if not pgmsg.library.was_refused():
+            if not refusing.was_refused():
                 return
             yield raised
         self.fail("a call makes requests without end")
 
     def test_messages(self):
-        for call, due in test_messages.SAMPLES + test_raw.SAMPLES * test_raw.HAS_RAW:
-            messages = Messages().query("SELECT 1")
-            for raised in self.each_refused(lambda: call(messages)):
-                self.assertIsInstance(raised, MemoryError)
-                self.assertEqual(bytes(messages), BEFORE)
-            self.assertEqual(bytes(messages), BEFORE + due)
-
-    def test_messages_to_a_client(self):
-        for call, due in test_server.SAMPLES:
-            messages = ServerMessages().no_data()
-            for raised in self.each_refused(lambda: call(messages)):
-                self.assertIsInstance(raised, MemoryError)
-                self.assertEqual(bytes(messages), b"n\0\0\0\x04")
-            self.assertEqual(bytes(messages), b"n\0\0\0\x04" + due)
-
-    def test_bodies(self):
-        for call, body, *_ in test_memory.VIEWS + test_memory.COPIES:
-            for raised in self.each_refused(lambda: call(body)):
-                self.assertIsInstance(raised, MemoryError)
+        for message, data in samples.ALL:
+            frame = test_messages.frame_of(message, data)
+            for call in (message.write, lambda: type(message).read(frame)):
+                for raised in self.each_refused(call):
+                    self.assertIsInstance(raised, MemoryError)
+            self.assertEqual(message.write(), data)
 
     def test_faults(self):
-        for call, body, code, *_ in test_faults.REPORTED:
-            for raised in self.each_refused(lambda: call(body)):
+        for reader, body, code, *_ in test_faults.REPORTED:
+            for raised in self.each_refused(lambda: test_faults.call_of(reader)(body)):
                 if not isinstance(raised, MemoryError):
                     # Without memory for the words these are the shorter ones of the code.
                     self.assertIs(raised.code, code)
-                    self.assertEqual(str(raised), str(pgmsg.fault.refusal(code)))
+                    self.assertEqual(str(raised), str(fault.refusal(code)))
 
 
 if __name__ == "__main__":

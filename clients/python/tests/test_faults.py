@@ -1,13 +1,12 @@
 """Each code with its words and its offset."""
 
-import ctypes
-import mmap
 import unittest
-from unittest import mock
 
 import support  # noqa: F401
-import pgmsg
-from pgmsg import Code, Fault, Messages, _library, fault
+import samples
+from pgmsg import *
+from pgmsg import fault
+from pgmsg._library import lib
 
 NOTICE_NOT_UTF8 = (
     "Postgres returned a non-UTF-8 string for its error message. This is most likely due to an error that occurred "
@@ -15,188 +14,169 @@ NOTICE_NOT_UTF8 = (
     "for the error details.")
 
 
-def first_frame(stream):
-    """The message without a tag at the front of a stream, of at most 40 bytes."""
-    return pgmsg.next_first_frame(stream, 40)
+def next_of_server(data):
+    """The message at the front of a server's stream."""
+    stream = ClientStream()
+    stream.feed(data)
+    return next(iter(stream), None)
 
 
-# A call of the package with what it is passed, and the code, the offset and the words that are due.
+def first_of_client(data):
+    """The first message of a client."""
+    stream = ServerStream()
+    stream.feed(data)
+    return next(iter(stream), None)
+
+
+def next_of_client(data):
+    """The message at the front of a client's stream, after those without a tag."""
+    stream = ServerStream()
+    stream.feed(StartupMessage({}).write() + data)
+    return list(stream)[1]
+
+
+def severity(body):
+    """How grave an error is."""
+    return ErrorResponse.read(Frame(ord("E"), body)).severity
+
+
+def challenge(data):
+    """The parts of a challenge."""
+    return AuthenticationSASLContinue(data).challenge()
+
+
+def verifier(data):
+    """What proves that the server knows the password."""
+    return AuthenticationSASLFinal(data).verifier()
+
+
+# A class or a call with what it reads, and the code, the offset and the words that are due, None for those of the code.
 REPORTED = [
-    (pgmsg.next_frame, b"v\0\0\0\x03", Code.UNKNOWN_MESSAGE_TYPE, 0, "unknown message type: 118"),
-    (pgmsg.next_frame, b"Z\0\0\0\x03", Code.BAD_LENGTH, 0, "bad message length: 3"),
-    (pgmsg.next_frame, b"1\xff\xff\xff\xff", Code.BAD_LENGTH, 0, "bad message length: -1"),
-    (pgmsg.read_ready, b"Q", Code.UNKNOWN_STATUS, 0, "unknown transaction status: 81"),
-    (pgmsg.read_key_data, b"\0\0\x27\xc6\x89\x52", Code.SHORT, 4, "expected 4 bytes at offset 4, got 2"),
-    (pgmsg.read_columns, b"\xff\xff", Code.SHORT, 2, "expected 1245165 bytes at offset 2, got 0"),
-    (pgmsg.read_row, b"\0\1\0\0\0\5ab", Code.SHORT, 6, "expected 5 bytes at offset 6, got 2"),
-    (pgmsg.read_notification, b"\0\0\0\1a\0b", Code.MISSING_NUL, 6, "expected NUL after offset 6"),
-    (pgmsg.read_parameter_status, b"a\0\xff\0", Code.NOT_UTF8, 0, "text is not UTF-8"),
-    (pgmsg.read_severity, b"VFOO\0\0", Code.UNKNOWN_SEVERITY, 0, "unknown severity"),
-    (pgmsg.read_severity, b"M\xff\0\0", Code.NOTICE_NOT_UTF8, 0, NOTICE_NOT_UTF8),
-    (pgmsg.read_authentication, b"\0\0\0\7", Code.UNKNOWN_AUTHENTICATION, 0, "unknown authentication method: 7"),
-    (pgmsg.read_challenge, b"\0\0\0\x0cv=", Code.UNKNOWN_AUTHENTICATION, 0, "unknown authentication method: 12"),
-    (pgmsg.read_verifier, b"\0\0\0\x0br=", Code.UNKNOWN_AUTHENTICATION, 0, "unknown authentication method: 11"),
-    (pgmsg.read_authentication, b"\0\0\0\x0br", Code.SHORT_SASL_ITEM, 0, "SASL item of fewer than two bytes"),
-    (pgmsg.read_authentication, b"\0\0\0\x0cv=*", Code.BASE64, 0, "SASL value is not base64"),
+    (next_of_server, b"!\0\0\0\x03", Code.UNKNOWN_MESSAGE_TYPE, 0, "unknown message type: 33"),
+    (next_of_server, b"v\0\0\0\x03", Code.BAD_LENGTH, 0, "bad message length: 3"),
+    (next_of_server, b"Z\0\0\0\x03", Code.BAD_LENGTH, 0, "bad message length: 3"),
+    (next_of_server, b"1\xff\xff\xff\xff", Code.BAD_LENGTH, 0, "bad message length: -1"),
+    (ReadyForQuery, b"Q", Code.UNKNOWN_STATUS, 0, "unknown transaction status: 81"),
+    (BackendKeyData, b"\0\0\x27", Code.SHORT, 0, "expected 4 bytes at offset 0, got 3"),
+    (BackendKeyData, b"\0\0\x27\xc6\x89\x52", Code.BAD_KEY_LENGTH, 0, "secret key length out of range for protocol: 2"),
+    (RowDescription, b"\xff\xff", Code.SHORT, 2, "expected 1245165 bytes at offset 2, got 0"),
+    (DataRow, b"\0\1\0\0\0\5ab", Code.SHORT, 6, "expected 5 bytes at offset 6, got 2"),
+    (NotificationResponse, b"\0\0\0\1a\0b", Code.MISSING_NUL, 6, "expected NUL after offset 6"),
+    (ParameterStatus, b"a\0b", Code.MISSING_NUL, 2, "expected NUL after offset 2"),
+    (severity, b"VFOO\0\0", Code.UNKNOWN_SEVERITY, 0, "unknown severity"),
+    (severity, b"V\xff\0\0", Code.NOTICE_NOT_UTF8, 0, NOTICE_NOT_UTF8),
+    (Authentication, b"\0\0\0\6", Code.UNKNOWN_AUTHENTICATION, 0, "unknown authentication method: 6"),
+    (challenge, b"r", Code.SHORT_SASL_ITEM, 0, "SASL item of fewer than two bytes"),
+    (verifier, b"v=*", Code.BASE64, 0, "SASL value is not base64"),
+    (AuthenticationMD5Password, b"\0\0\0\5abc", Code.SHORT, 4, "expected 4 bytes at offset 4, got 3"),
+    (CommandComplete, b"BEGIN", Code.MISSING_NUL, 0, "expected NUL after offset 0"),
+    (NoData, b"a", Code.BODY_TOO_LONG, 0, "message body out of range for protocol: 0"),
+    (CopyInResponse, b"\0\0", Code.SHORT, 1, "expected 2 bytes at offset 1, got 1"),
+    (ParameterDescription, b"\0\1\0", Code.SHORT, 2, "expected 4 bytes at offset 2, got 1"),
+    (FunctionCallResponse, b"\0\0\0\5ab", Code.SHORT, 4, None),
+    (FunctionCallResponse, b"\0\0", Code.SHORT, 0, None),
+    (NegotiateProtocolVersion, b"\0\3\0", Code.SHORT, 0, None),
+    (NegotiateProtocolVersion, b"\0\3\0\0\0\0\0", Code.SHORT, 4, None),
+    (NegotiateProtocolVersion, b"\0\3\0\0\0\0\0\1ab", Code.MISSING_NUL, 8, None),
+    (NegotiateProtocolVersion, b"\0\3\0\0\0\0\0\1ab\0c", Code.TRAILING_BYTES, 11, None),
+    (NegotiateProtocolVersion, b"\0\3\0\0\xff\xff\xff\xff\0\0", Code.MISSING_NUL, 10, None),
     # What a client sent.
-    (pgmsg.next_frontend_frame, b"!\0\0\0\x04", Code.UNKNOWN_MESSAGE_TYPE, 0, "unknown message type: 33"),
-    (pgmsg.next_frontend_frame, b"Z\0\0\0\x03", Code.UNKNOWN_MESSAGE_TYPE, 0, "unknown message type: 90"),
-    (pgmsg.next_frontend_frame, b"Q\0\0\0\x03", Code.BAD_LENGTH, 0, "bad message length: 3"),
-    (pgmsg.next_frontend_frame, b"S\xff\xff\xff\xff", Code.BAD_LENGTH, 0, "bad message length: -1"),
-    (first_frame, b"\0\0\0\x07", Code.BAD_LENGTH, 0, "bad message length: 7"),
-    (first_frame, b"\xff\xff\xff\xff\0", Code.BAD_LENGTH, 0, "bad message length: -1"),
-    (first_frame, b"\0\0\0\x29", Code.FIRST_TOO_LONG, 0, "expected a first message of at most 40 bytes, got 41"),
-    (pgmsg.read_first, b"\0\3\0", Code.SHORT, 0, "expected 4 bytes at offset 0, got 3"),
-    (pgmsg.read_first, b"\0\2\0\0", Code.UNKNOWN_CODE, 0, "unknown code: 131072"),
-    (pgmsg.read_first, b"\0\4\0\0", Code.UNKNOWN_CODE, 0, "unknown code: 262144"),
-    (pgmsg.read_first, b"\0\3\0\0", Code.MISSING_NUL, 4, "expected NUL after offset 4"),
-    (pgmsg.read_first, b"\0\3\0\0user\0ann", Code.MISSING_NUL, 9, "expected NUL after offset 9"),
-    (pgmsg.read_first, b"\0\3\0\0user\0ann\0", Code.MISSING_NUL, 13, "expected NUL after offset 13"),
-    (pgmsg.read_first, b"\0\3\0\0\0a", Code.TRAILING_BYTES, 5, "expected the end of the message at offset 5"),
-    (pgmsg.read_first, b"\x04\xd2\x16\x2e\0\0\0", Code.SHORT, 4, "expected 4 bytes at offset 4, got 3"),
-    (pgmsg.read_first, b"\x04\xd2\x16\x2e\0\0\0\1abc", Code.BAD_KEY_LENGTH, 0, "bad secret key length: 3"),
-    (pgmsg.read_first, b"\x04\xd2\x16\x2e\0\0\0\1" + bytes(257), Code.BAD_KEY_LENGTH, 0, "bad secret key length: 257"),
-    (pgmsg.read_first, b"\x04\xd2\x16\x2f\0", Code.TRAILING_BYTES, 4, "expected the end of the message at offset 4"),
-    (pgmsg.read_first, b"\x04\xd2\x16\x30\0", Code.TRAILING_BYTES, 4, "expected the end of the message at offset 4"),
-    (pgmsg.read_parse, b"", Code.MISSING_NUL, 0, "expected NUL after offset 0"),
-    (pgmsg.read_parse, b"s\0q", Code.MISSING_NUL, 2, "expected NUL after offset 2"),
-    (pgmsg.read_parse, b"\0\0\0", Code.SHORT, 2, "expected 2 bytes at offset 2, got 1"),
-    (pgmsg.read_parse, b"\0\0\0\2\0\0\0\x17\0", Code.SHORT, 4, "expected 8 bytes at offset 4, got 5"),
-    (pgmsg.read_parse, b"\0\0\0\0x", Code.TRAILING_BYTES, 4, "expected the end of the message at offset 4"),
-    (pgmsg.read_target, b"", Code.SHORT, 0, "expected 1 bytes at offset 0, got 0"),
-    (pgmsg.read_target, b"Xs\0", Code.UNKNOWN_TARGET, 0, "neither a statement nor a portal: 88"),
-    (pgmsg.read_target, b"Sabc", Code.MISSING_NUL, 1, "expected NUL after offset 1"),
-    (pgmsg.read_target, b"Ps\0\0", Code.TRAILING_BYTES, 3, "expected the end of the message at offset 3"),
-    (pgmsg.read_execute, b"p", Code.MISSING_NUL, 0, "expected NUL after offset 0"),
-    (pgmsg.read_execute, b"\0\0\0", Code.SHORT, 1, "expected 4 bytes at offset 1, got 2"),
-    (pgmsg.read_execute, bytes(6), Code.TRAILING_BYTES, 5, "expected the end of the message at offset 5"),
-    (pgmsg.read_text, b"SELECT 1", Code.MISSING_NUL, 0, "expected NUL after offset 0"),
-    (pgmsg.read_text, b"a\0b\0", Code.TRAILING_BYTES, 2, "expected the end of the message at offset 2"),
-    (pgmsg.read_empty, b"a", Code.TRAILING_BYTES, 0, "expected the end of the message at offset 0"),
-    (pgmsg.read_sasl_initial, b"X", Code.MISSING_NUL, 0, "expected NUL after offset 0"),
-    (pgmsg.read_sasl_initial, b"X\0\0\0\0\2a", Code.SHORT, 6, "expected 2 bytes at offset 6, got 1"),
-    (pgmsg.read_sasl_initial, b"X\0\xff\xff\xff\xfe", Code.BAD_VALUE_LENGTH, 2, "bad value length at offset 2: -2"),
-    (pgmsg.read_sasl_initial, b"X\0\0\0\0\1ab", Code.TRAILING_BYTES, 7, "expected the end of the message at offset 7"),
-    (pgmsg.read_bind, b"p\0s", Code.MISSING_NUL, 2, "expected NUL after offset 2"),
-    (pgmsg.read_bind, b"\0\0\0\2\0\1\0", Code.SHORT, 4, "expected 4 bytes at offset 4, got 3"),
-    (pgmsg.read_bind, b"\0\0\0\0\0", Code.SHORT, 4, "expected 2 bytes at offset 4, got 1"),
-    (pgmsg.read_bind, b"\0\0\0\0\0\1\0\0\0", Code.SHORT, 6, "expected 4 bytes at offset 6, got 3"),
-    (pgmsg.read_bind, b"\0\0\0\0\0\1\0\0\0\2a", Code.SHORT, 10, "expected 2 bytes at offset 10, got 1"),
-    (pgmsg.read_bind, b"\0\0\0\0\0\1\x80\0\0\0\0\0", Code.BAD_VALUE_LENGTH, 6,
+    (next_of_client, b"!\0\0\0\x04", Code.UNKNOWN_MESSAGE_TYPE, 0, "unknown message type: 33"),
+    (next_of_client, b"Z\0\0\0\x03", Code.UNKNOWN_MESSAGE_TYPE, 0, "unknown message type: 90"),
+    (next_of_client, b"Q\0\0\0\x03", Code.BAD_LENGTH, 0, "bad message length: 3"),
+    (next_of_client, b"S\xff\xff\xff\xff", Code.BAD_LENGTH, 0, "bad message length: -1"),
+    (first_of_client, b"\0\0\0\x07", Code.BAD_LENGTH, 0, "bad message length: 7"),
+    (first_of_client, b"\xff\xff\xff\xff\0", Code.BAD_LENGTH, 0, "bad message length: -1"),
+    (first_of_client, b"\0\0\x27\x15", Code.FIRST_TOO_LONG, 0, "expected a first message of at most 10004 bytes, got 10005"),
+    (FirstMessage, b"\0\3\0", Code.SHORT, 0, "expected 4 bytes at offset 0, got 3"),
+    (FirstMessage, b"\0\2\0\0", Code.UNKNOWN_CODE, 0, "unknown code: 131072"),
+    (FirstMessage, b"\0\4\0\0", Code.UNKNOWN_CODE, 0, "unknown code: 262144"),
+    (FirstMessage, b"\0\3\0\0", Code.MISSING_NUL, 4, "expected NUL after offset 4"),
+    (FirstMessage, b"\0\3\0\0user\0ann", Code.MISSING_NUL, 9, "expected NUL after offset 9"),
+    (FirstMessage, b"\0\3\0\0user\0ann\0", Code.MISSING_NUL, 13, "expected NUL after offset 13"),
+    (FirstMessage, b"\0\3\0\0\0a", Code.TRAILING_BYTES, 5, "expected the end of the message at offset 5"),
+    (FirstMessage, b"\x04\xd2\x16\x2e\0\0\0", Code.SHORT, 4, "expected 4 bytes at offset 4, got 3"),
+    (FirstMessage, b"\x04\xd2\x16\x2e\0\0\0\1abc", Code.BAD_KEY_LENGTH, 0, "bad secret key length: 3"),
+    (FirstMessage, b"\x04\xd2\x16\x2e\0\0\0\1" + bytes(257), Code.BAD_KEY_LENGTH, 0, "bad secret key length: 257"),
+    (FirstMessage, b"\x04\xd2\x16\x2f\0", Code.TRAILING_BYTES, 4, "expected the end of the message at offset 4"),
+    (FirstMessage, b"\x04\xd2\x16\x30\0", Code.TRAILING_BYTES, 4, "expected the end of the message at offset 4"),
+    (Parse, b"", Code.MISSING_NUL, 0, "expected NUL after offset 0"),
+    (Parse, b"s\0q", Code.MISSING_NUL, 2, "expected NUL after offset 2"),
+    (Parse, b"\0\0\0", Code.SHORT, 2, "expected 2 bytes at offset 2, got 1"),
+    (Parse, b"\0\0\0\2\0\0\0\x17\0", Code.SHORT, 4, "expected 8 bytes at offset 4, got 5"),
+    (Parse, b"\0\0\0\0x", Code.TRAILING_BYTES, 4, "expected the end of the message at offset 4"),
+    (Describe, b"", Code.SHORT, 0, "expected 1 bytes at offset 0, got 0"),
+    (Describe, b"Xs\0", Code.UNKNOWN_TARGET, 0, "neither a statement nor a portal: 88"),
+    (Describe, b"Sabc", Code.MISSING_NUL, 1, "expected NUL after offset 1"),
+    (Describe, b"Ps\0\0", Code.TRAILING_BYTES, 3, "expected the end of the message at offset 3"),
+    (Execute, b"p", Code.MISSING_NUL, 0, "expected NUL after offset 0"),
+    (Execute, b"\0\0\0", Code.SHORT, 1, "expected 4 bytes at offset 1, got 2"),
+    (Execute, bytes(6), Code.TRAILING_BYTES, 5, "expected the end of the message at offset 5"),
+    (Query, b"SELECT 1", Code.MISSING_NUL, 0, "expected NUL after offset 0"),
+    (Query, b"a\0b\0", Code.TRAILING_BYTES, 2, "expected the end of the message at offset 2"),
+    (Sync, b"a", Code.TRAILING_BYTES, 0, "expected the end of the message at offset 0"),
+    (SASLInitialResponse, b"X", Code.MISSING_NUL, 0, "expected NUL after offset 0"),
+    (SASLInitialResponse, b"X\0\0\0\0\2a", Code.SHORT, 6, "expected 2 bytes at offset 6, got 1"),
+    (SASLInitialResponse, b"X\0\xff\xff\xff\xfe", Code.BAD_VALUE_LENGTH, 2, "bad value length at offset 2: -2"),
+    (SASLInitialResponse, b"X\0\0\0\0\1ab", Code.TRAILING_BYTES, 7, "expected the end of the message at offset 7"),
+    (Bind, b"p\0s", Code.MISSING_NUL, 2, "expected NUL after offset 2"),
+    (Bind, b"\0\0\0\2\0\1\0", Code.SHORT, 4, "expected 4 bytes at offset 4, got 3"),
+    (Bind, b"\0\0\0\0\0", Code.SHORT, 4, "expected 2 bytes at offset 4, got 1"),
+    (Bind, b"\0\0\0\0\0\1\0\0\0", Code.SHORT, 6, "expected 4 bytes at offset 6, got 3"),
+    (Bind, b"\0\0\0\0\0\1\0\0\0\2a", Code.SHORT, 10, "expected 2 bytes at offset 10, got 1"),
+    (Bind, b"\0\0\0\0\0\1\x80\0\0\0\0\0", Code.BAD_VALUE_LENGTH, 6,
      "bad value length at offset 6: -2147483648"),
-    (pgmsg.read_bind, b"\0\0\0\0\0\0\0\1\0", Code.SHORT, 8, "expected 2 bytes at offset 8, got 1"),
-    (pgmsg.read_bind, bytes(9), Code.TRAILING_BYTES, 8, "expected the end of the message at offset 8"),
-    (pgmsg.read_function_call, b"\0\0\0", Code.SHORT, 0, "expected 4 bytes at offset 0, got 3"),
-    (pgmsg.read_function_call, b"\0\0\0\1\0\1\0", Code.SHORT, 6, "expected 2 bytes at offset 6, got 1"),
-    (pgmsg.read_function_call, b"\0\0\0\1\0\0\0\1\xff\xff\xff\xfe\0\0", Code.BAD_VALUE_LENGTH, 8,
+    (Bind, b"\0\0\0\0\0\0\0\1\0", Code.SHORT, 8, "expected 2 bytes at offset 8, got 1"),
+    (Bind, bytes(9), Code.TRAILING_BYTES, 8, "expected the end of the message at offset 8"),
+    (FunctionCall, b"\0\0\0", Code.SHORT, 0, "expected 4 bytes at offset 0, got 3"),
+    (FunctionCall, b"\0\0\0\1\0\1\0", Code.SHORT, 6, "expected 2 bytes at offset 6, got 1"),
+    (FunctionCall, b"\0\0\0\1\0\0\0\1\xff\xff\xff\xfe\0\0", Code.BAD_VALUE_LENGTH, 8,
      "bad value length at offset 8: -2"),
-    (pgmsg.read_function_call, b"\0\0\0\1\0\0\0\0\0", Code.SHORT, 8, "expected 2 bytes at offset 8, got 1"),
-    (pgmsg.read_function_call, bytes(11), Code.TRAILING_BYTES, 10, "expected the end of the message at offset 10"),
+    (FunctionCall, b"\0\0\0\1\0\0\0\0\0", Code.SHORT, 8, "expected 2 bytes at offset 8, got 1"),
+    (FunctionCall, bytes(11), Code.TRAILING_BYTES, 10, "expected the end of the message at offset 10"),
 ]
 
-# The least length of a body that is refused unread.
-TOO_LONG = 2147483644
 
-READERS = [
-    pgmsg.read_row, pgmsg.read_columns, pgmsg.read_parameter_types, pgmsg.read_copy_response, pgmsg.read_severity,
-    pgmsg.read_notification, pgmsg.read_parameter_status, pgmsg.read_key_data, pgmsg.read_ready,
-    pgmsg.read_authentication, pgmsg.read_verifier, pgmsg.read_first, pgmsg.read_parse, pgmsg.read_target,
-    pgmsg.read_execute, pgmsg.read_text, pgmsg.read_empty, pgmsg.read_sasl_initial, pgmsg.read_bind,
-    pgmsg.read_function_call,
-]
-
-# A call that writes or passes on, and the code.
-REFUSED = [
-    (lambda: Messages().query("\0"), Code.TEXT_HOLDS_NUL),
-    (lambda: Messages().query(b"\xff"), Code.NOT_UTF8),
-    (lambda: Messages().parse("", types=[0] * 65536), Code.TOO_MANY_PARAM_TYPES),
-    (lambda: Messages().bind([None] * 65536), Code.BAD_PARAMS),
-    (lambda: Messages().bind(formats=[0] * 65536), Code.TOO_MANY_PARAM_FORMATS),
-    (lambda: Messages().bind(result_formats=[0] * 65536), Code.TOO_MANY_RESULT_FORMATS),
-    (lambda: pgmsg.copy_head(TOO_LONG), Code.MESSAGE_TOO_LONG),
-    (lambda: pgmsg.ServerMessages().row([None] * 65536), Code.TOO_MANY),
-    (lambda: pgmsg.check_frames(b"Z"), Code.NOT_FRAMES),
-    (lambda: pgmsg.Relay.of_server(5).next(b"Z\0\0\0\5I"), Code.FRAME_TOO_LONG),
-]
-
-# Codes that no test here provokes, with the reason.
+# Codes that no message here provokes, with the reason.
 WITHOUT = {
     "OUT_OF_MEMORY": "it is raised as MemoryError",
-    "WRONG_FORMAT": "no call returns it",
+    "WRONG_FORMAT": "test_messages.py has it, where a frame has another tag",
+    "MESSAGE_TOO_LONG": "test_messages.py has it of copy_head",
+    "NOT_FRAMES": "test_relay.py has it",
+    "FRAME_TOO_LONG": "test_relay.py and test_streams.py have it",
 }
 
 
-class TestFaults(unittest.TestCase):
-    def refused(self, call, *args):
-        with self.assertRaises(Fault) as refused:
-            call(*args)
-        return refused.exception
+def call_of(reader):
+    """What reads a body as a class."""
+    return (lambda body: reader.read(Frame(reader.TAG, body))) if isinstance(reader, type) else reader
 
+
+class TestFaults(unittest.TestCase):
     def test_each_that_is_reported(self):
-        for call, body, code, at, words in REPORTED:
-            with self.subTest(words=words):
-                found = self.refused(call, body)
-                self.assertEqual((found.code, found.at, found.words, str(found)), (code, at, words, words))
+        for reader, body, code, at, words in REPORTED:
+            with self.subTest(reader=reader.__name__, body=body):
+                with self.assertRaises(Fault) as refused:
+                    call_of(reader)(body)
+                found = refused.exception
+                self.assertEqual((found.code, found.at), (code, at))
+                self.assertEqual(str(found), words or str(fault.refusal(code)))
                 self.assertIsInstance(found.code, Code)
 
-    def test_bodies_that_are_too_long(self):
-        # Memory that is never there, since no byte of it is read or written.
-        with mmap.mmap(-1, TOO_LONG, flags=mmap.MAP_PRIVATE | mmap.MAP_ANONYMOUS, prot=mmap.PROT_READ) as body:
-            for call in READERS:
-                found = self.refused(call, body)
-                self.assertIs(found.code, Code.BODY_TOO_LONG)
-                self.assertEqual(found.words, "message body out of range for protocol: 2147483644")
-
-    def test_each_of_a_message_to_be_sent(self):
-        for call, code in REFUSED:
-            found = self.refused(call)
-            self.assertIs(found.code, code)
-            self.assertTrue(found.words)
-            self.assertEqual(str(found), found.words)
-
     def test_no_code_is_forgotten(self):
-        tested = {code for _, _, code, _, _ in REPORTED} | {code for _, code in REFUSED} | {Code.BODY_TOO_LONG}
-        self.assertEqual({code.name for code in set(Code) - tested} - set(WITHOUT), set())
-        self.assertEqual({code.name for code in tested} & set(WITHOUT), set())
+        tested = {code for _, _, code, _, _ in REPORTED} | {code for _, code in samples.REFUSED}
+        self.assertEqual({code.name for code in set(Code) - tested}, set(WITHOUT))
 
-    def test_words_of_the_header(self):
-        with mock.patch.object(fault.header, "PROTOTYPES", {}):
-            for code in set(Code) - {Code.OUT_OF_MEMORY}:
-                self.assertEqual(str(fault.refusal(code)), fault.header.WORDS[code])
+    def test_the_codes_are_those_of_the_header(self):
+        numbers = {name: getattr(lib, name) for name in dir(lib) if name.startswith("PGMSG_")}
+        self.assertEqual({f"PGMSG_{code.name}": code for code in Code}, {
+            name: number for name, number in numbers.items() if number < 0})
 
     def test_words_of_the_library(self):
-        for kind in (ctypes.c_char, ctypes.c_uint8):
-            text = type("Text", (ctypes.Structure,), {"_fields_": [("text", kind * 64)]})()
-            ctypes.memmove(ctypes.addressof(text), b"some words", 10)
-            with mock.patch.object(fault.header, "PROTOTYPES", {"pgmsg_strerror": None}):
-                with mock.patch.object(_library, "library") as library:
-                    library.pgmsg_strerror.return_value = text
-                    self.assertEqual(str(fault.refusal(Code.SHORT)), "some words")
-                    library.pgmsg_strerror.assert_called_with(Code.SHORT)
-
-    def test_a_number_that_the_header_does_not_have(self):
-        found = fault.refusal(-1000)
-        self.assertEqual((found.code, str(found)), (-1000, "unexpected number -1000 of libpg_message"))
-
-
-class TestOutOfMemory(unittest.TestCase):
-    def test_a_number_is_a_memory_error(self):
-        messages = Messages().sync()
-        with mock.patch.object(pgmsg.messages, "library") as library:
-            library.pgmsg_put_sync.return_value = Code.OUT_OF_MEMORY
-            with self.assertRaisesRegex(MemoryError, "memory"):
-                messages.sync()
-        with mock.patch.object(pgmsg.answers, "library") as library:
-            library.pgmsg_read_ready.return_value = Code.OUT_OF_MEMORY
-            self.assertRaises(MemoryError, pgmsg.read_ready, b"I")
-        self.assertEqual(bytes(messages), b"S\0\0\0\x04")
-
-    def test_no_room_for_a_message(self):
-        messages = Messages().sync()
-        with mock.patch.object(pgmsg.messages, "library") as library:
-            library.pgmsg_put_sync.return_value = 1 << 62
-            self.assertRaises(MemoryError, messages.sync)
-        self.assertEqual(bytes(messages.sync()), b"S\0\0\0\x04" * 2)
+        for code in set(Code) - {Code.OUT_OF_MEMORY}:
+            self.assertGreater(len(str(fault.refusal(code))), 10)
+        self.assertIsInstance(fault.refusal(Code.OUT_OF_MEMORY), MemoryError)
+        self.assertIn("memory", str(fault.refusal(Code.OUT_OF_MEMORY)))
 
 
 if __name__ == "__main__":

@@ -1,23 +1,18 @@
-"""Bytes of any kind: each is read or refused by a Fault, and what is read lies in them."""
+"""Bytes of any kind: each is read or refused by a Fault, and what is read is written as it came or can't be sent."""
 
 import random
 import unittest
 
 import support  # noqa: F401
-import pgmsg
-import test_faults
-import test_memory
-from pgmsg import Fault, Stream
+import samples
+from pgmsg import *
+from pgmsg.tags import BACKEND, FRONTEND
 
 ROUNDS = 300
 
-# Calls that take more than a body.
-OTHERS = {pgmsg.read_end, pgmsg.read_codes, pgmsg.read_types}
+KINDS = [*BACKEND.values(), *FRONTEND.values(), PasswordMessage, SASLInitialResponse, SASLResponse, GSSResponse]
 
-READERS = {getattr(pgmsg, name) for name in pgmsg.__all__ if name.startswith("read_")} - OTHERS
-
-# Bodies that are right, or wrong in one place.
-BODIES = sorted({body for _, body, *_ in test_memory.VIEWS + test_memory.COPIES + test_faults.REPORTED})
+BODIES = sorted({data[5:] for _, data in samples.TAGGED} | {data[4:] for _, data in samples.FIRST})
 
 
 def changed(chance, body):
@@ -29,64 +24,60 @@ def changed(chance, body):
     return bytes(made[: chance.randrange(len(made) + 1)] if chance.randrange(2) else made)
 
 
-def message(tag, body):
+def tagged(tag, body):
     """A message with this tag and body."""
     return bytes([tag]) + (len(body) + 4).to_bytes(4, "big") + body
-
-
-def stream_of(chance):
-    """Three messages, of which some have a tag that no server sends."""
-    return b"".join(message(chance.choice(b"RKZTDv"), changed(chance, chance.choice(BODIES))) for _ in range(3))
-
-
-def views_in(answer):
-    """The views in what a call gave."""
-    if isinstance(answer, memoryview):
-        yield answer
-    elif isinstance(answer, (list, tuple, pgmsg.Row)):
-        for part in answer:
-            yield from views_in(part)
 
 
 class TestHostile(unittest.TestCase):
     def test_bodies(self):
         chance = random.Random(1)
-        self.assertEqual(len(READERS), 32)
         for _ in range(ROUNDS):
             body = changed(chance, chance.choice(BODIES) if chance.randrange(4) else chance.randbytes(30))
-            for call in READERS:
-                with self.subTest(call=call.__name__, body=body):
+            for kind in KINDS:
+                with self.subTest(kind=kind.__name__, body=body):
                     try:
-                        answer = call(body)
-                    except Fault:
+                        message = kind.read(Frame(kind.TAG, body))
+                        again = message.write()
+                    except Fault as fault:
+                        self.assertLessEqual(fault.at, len(body))
                         continue
-                    for view in views_in(answer):
-                        self.assertIs(view.obj, body)
-                        self.assertIn(bytes(view), body)
-
-    def test_ends(self):
-        chance = random.Random(3)
-        for _ in range(ROUNDS):
-            body, tag = changed(chance, chance.choice(BODIES)), chance.choice(b"RKCGDENAtSZT1")
-            with self.subTest(tag=tag, body=body):
-                try:
-                    self.assertLessEqual(pgmsg.read_end(tag, body), len(body))
-                except Fault:
-                    continue
+                    # What follows the parts of a server's message is left out.
+                    front = again[4 + (kind.TAG is not None) :]
+                    self.assertEqual(type(message).read(Frame(kind.TAG, front)), message)
+                    self.assertLessEqual(len(front), len(body) + 4)
 
     def test_streams(self):
         chance = random.Random(2)
         for _ in range(ROUNDS):
-            sent, found = changed(chance, stream_of(chance)), b""
-            stream = Stream()
+            sent = changed(chance, b"".join(
+                tagged(chance.choice(b"RKZTDv"), changed(chance, chance.choice(BODIES))) for _ in range(3)))
+            streams = [ClientStream() for _ in range(2)]
+            for stream, size in zip(streams, (1, len(sent) + 1)):
+                stream.found = []
+                try:
+                    for at in range(0, len(sent), size):
+                        stream.feed(sent[at : at + size])
+                        for message in stream:
+                            stream.found.append(message)
+                except Fault:
+                    self.assertRaises(Fault, list, stream)
+            self.assertEqual(*[stream.found for stream in streams])
+
+    def test_rows(self):
+        chance = random.Random(3)
+        for _ in range(ROUNDS):
+            stream, rows = ClientStream(), []
+            sent = changed(chance, b"".join(tagged(68, chance.choice(BODIES)) for _ in range(3)))
+            stream.feed(sent)
             try:
-                for byte in sent:
-                    stream.feed(bytes([byte]))
-                    for frame in stream:
-                        found += message(frame.kind, frame.body)
-            except Fault:
-                self.assertRaises(Fault, list, stream)
-            self.assertTrue(sent.startswith(found))
+                for kind in (bytes, memoryview, str):
+                    rows += stream.rows(kind)
+            except (Fault, UnicodeDecodeError):
+                pass
+            for row in rows:
+                for cell in row:
+                    self.assertTrue(cell is None or bytes(cell) in sent)
 
 
 if __name__ == "__main__":

@@ -1,126 +1,213 @@
-"""Messages to the server, byte by byte as the page "Message Formats" of PostgreSQL's documentation has them."""
+"""Each message each way, by its bytes."""
 
-import array
-import mmap
+import dataclasses
+import inspect
 import unittest
 
 import support  # noqa: F401
-from pgmsg import Code, Fault, Format, Messages, copy_head
-from writing import WritesMessages
+import pgmsg
+import samples
+from pgmsg import *
 
-DIGEST = bytes(range(15)) + b"\xff"
-
-# A call of Messages, and the bytes that are due.
-SAMPLES = [
-    (lambda m: m.startup({"user": "ann", "database": "d"}), b"\0\0\0\x1d\0\3\0\0user\0ann\0database\0d\0\0"),
-    (lambda m: m.startup([(b"user", "ä")]), b"\0\0\0\x11\0\3\0\0user\0\xc3\xa4\0\0"),
-    (lambda m: m.startup({}), b"\0\0\0\x09\0\3\0\0\0"),
-    (lambda m: m.ssl_request(), b"\0\0\0\x08\x04\xd2\x16\x2f"),
-    (lambda m: m.password("pw"), b"p\0\0\0\x07pw\0"),
-    (lambda m: m.md5_password(DIGEST), b"p\0\0\0\x28md5000102030405060708090a0b0c0d0eff\0"),
-    (lambda m: m.sasl_initial("n,,n=,r=x"), b"p\0\0\0\x1fSCRAM-SHA-256\0\0\0\0\x09n,,n=,r=x"),
-    (lambda m: m.sasl_initial("y", plus=True), b"p\0\0\0\x1cSCRAM-SHA-256-PLUS\0\0\0\0\x01y"),
-    (lambda m: m.sasl_response("c=biws"), b"p\0\0\0\x0ac=biws"),
-    (lambda m: m.terminate(), b"X\0\0\0\x04"),
-    (lambda m: m.query("SELECT 1"), b"Q\0\0\0\x0dSELECT 1\0"),
-    (lambda m: m.query(""), b"Q\0\0\0\x05\0"),
-    (lambda m: m.describe_statement(12), b"D\0\0\0\x0fSsqlx_s_12\0"),
-    (lambda m: m.describe_portal(), b"D\0\0\0\x06P\0"),
-    (lambda m: m.close_statement(), b"C\0\0\0\x06S\0"),
-    (lambda m: m.close_portal(4294967295), b"C\0\0\0\x17Psqlx_p_4294967295\0"),
-    (lambda m: m.execute(limit=100), b"E\0\0\0\x09\0\0\0\0\x64"),
-    (lambda m: m.flush(), b"H\0\0\0\x04"),
-    (lambda m: m.sync(), b"S\0\0\0\x04"),
-    (lambda m: m.parse("SELECT $1", statement=2, types=[23]), b"P\0\0\0\x1dsqlx_s_2\0SELECT $1\0\0\1\0\0\0\x17"),
-    (lambda m: m.parse(""), b"P\0\0\0\x08\0\0\0\0"),
-    (lambda m: m.bind([b"ab", None, ""], statement=1, formats=[Format.TEXT], result_formats=[1, Format.TEXT]),
-     b"B\0\0\0\x28\0sqlx_s_1\0\0\1\0\0\0\3\0\0\0\2ab\xff\xff\xff\xff\0\0\0\0\0\2\0\1\0\0"),
-    (lambda m: m.bind(portal=3), b"B\0\0\0\x14sqlx_p_3\0\0\0\0\0\0\0\0"),
-    (lambda m: m.batch("SELECT $1", ["5"]),
-     b"P\0\0\0\x11\0SELECT $1\0\0\0" b"B\0\0\0\x11\0\0\0\0\0\1\0\0\0\x015\0\0"
-     b"D\0\0\0\x06P\0" b"E\0\0\0\x09\0\0\0\0\0" b"S\0\0\0\x04"),
-    (lambda m: m.copy_data(b"1\t2\n"), b"d\0\0\0\x081\t2\n"),
-    (lambda m: m.copy_data(b""), b"d\0\0\0\x04"),
-    (lambda m: m.copy_done(), b"c\0\0\0\x04"),
-    (lambda m: m.copy_fail("no"), b"f\0\0\0\x07no\0"),
+# What no repr shows: passwords, keys, and the data of an exchange.
+SECRETS = [
+    PasswordMessage("hidden"), PasswordMessage.md5("ann", "hidden", b"abcd"), SASLInitialResponse("X", "hidden"),
+    SASLResponse("hidden"), GSSResponse("hidden"), AuthenticationSASLContinue("hidden"),
+    AuthenticationSASLFinal("hidden"), AuthenticationGSSContinue("hidden"), BackendKeyData(7, b"hidden"),
+    CancelRequest(7, b"hidden"),
 ]
 
-TOO_MANY = 65536
-
-# A call that is refused, and the code.
-REFUSALS = [
-    (lambda m: m.startup([("user", b"\xff")]), Code.NOT_UTF8),
-    (lambda m: m.startup([("user", "a\0b")]), Code.TEXT_HOLDS_NUL),
-    (lambda m: m.startup([("", "b")]), Code.TEXT_HOLDS_NUL),
-    (lambda m: m.password(b"\xff"), Code.NOT_UTF8),
-    (lambda m: m.password("a\0b"), Code.TEXT_HOLDS_NUL),
-    (lambda m: m.sasl_initial(b"\xff"), Code.NOT_UTF8),
-    (lambda m: m.sasl_response(b"\xff"), Code.NOT_UTF8),
-    (lambda m: m.query(b"\xff"), Code.NOT_UTF8),
-    (lambda m: m.query("a\0b"), Code.TEXT_HOLDS_NUL),
-    (lambda m: m.parse("a\0b"), Code.TEXT_HOLDS_NUL),
-    (lambda m: m.parse("", types=[0] * TOO_MANY), Code.TOO_MANY_PARAM_TYPES),
-    (lambda m: m.bind([None] * TOO_MANY), Code.BAD_PARAMS),
-    (lambda m: m.bind(formats=[0] * TOO_MANY), Code.TOO_MANY_PARAM_FORMATS),
-    (lambda m: m.bind(result_formats=[0] * TOO_MANY), Code.TOO_MANY_RESULT_FORMATS),
-    (lambda m: m.batch("a\0b"), Code.TEXT_HOLDS_NUL),
-    (lambda m: m.batch("", [None] * TOO_MANY), Code.BAD_PARAMS),
-    (lambda m: m.copy_fail("a\0b"), Code.TEXT_HOLDS_NUL),
-]
-
-# A call whose argument no C call could take.
+# What no message can be made of.
 MISTAKES = [
-    (lambda m: m.describe_statement(1 << 32), OverflowError),
-    (lambda m: m.execute(limit=-1), OverflowError),
-    (lambda m: m.parse("", types=[-1]), OverflowError),
-    (lambda m: m.parse("", statement=1 << 32), OverflowError),
-    (lambda m: m.bind(portal=1 << 32), OverflowError),
-    (lambda m: m.bind(formats=[256]), ValueError),
-    (lambda m: m.bind(formats=3), TypeError),
-    (lambda m: m.bind([5]), TypeError),
-    (lambda m: m.md5_password(DIGEST[1:]), ValueError),
-    (lambda m: m.query(None), TypeError),
-    (lambda m: m.query("\ud800"), UnicodeEncodeError),
-    (lambda m: m.copy_data(memoryview(b"abcd")[::2]), BufferError),
+    (lambda: AuthenticationMD5Password(b"abc"), ValueError),
+    (lambda: BackendKeyData(1 << 32, bytes(4)), OverflowError),
+    (lambda: BackendKeyData(1, 5), TypeError),
+    (lambda: NegotiateProtocolVersion(-1), OverflowError),
+    (lambda: NegotiateProtocolVersion(1 << 16), OverflowError),
+    (lambda: ReadyForQuery("X"), ValueError),
+    (lambda: NotificationResponse(-1, "a"), OverflowError),
+    (lambda: Column("a", 1 << 32), OverflowError),
+    (lambda: Column("a", 1, table=-1), OverflowError),
+    (lambda: Column("a", 1, type_size=32768), OverflowError),
+    (lambda: Column("a", 1, type_modifier=-1 << 32), OverflowError),
+    (lambda: DataRow([5]), TypeError),
+    (lambda: ParameterDescription([-1]), OverflowError),
+    (lambda: CopyInResponse(128), OverflowError),
+    (lambda: CopyOutResponse(columns=[32768]), OverflowError),
+    (lambda: ErrorResponse({"\u0100": "a"}), OverflowError),
+    (lambda: ErrorResponse({"SC": "a"}), TypeError),
+    (lambda: StartupMessage({}, minor=1 << 16), OverflowError),
+    (lambda: CancelRequest(1 << 32, bytes(4)), OverflowError),
+    (lambda: Query(None), TypeError),
+    (lambda: Query(5), TypeError),
+    (lambda: Query("\ud800"), UnicodeEncodeError),
+    (lambda: Parse("", types=[1 << 32]), OverflowError),
+    (lambda: Bind([5]), TypeError),
+    (lambda: Bind(formats=[65536]), OverflowError),
+    (lambda: Bind(result_formats=[-1]), OverflowError),
+    (lambda: Describe("X"), ValueError),
+    (lambda: Execute(limit=-1), OverflowError),
+    (lambda: FunctionCall(-1), OverflowError),
+    (lambda: FunctionCall(1, result_format=65536), OverflowError),
 ]
 
 
-class TestMessages(WritesMessages, unittest.TestCase):
-    MESSAGES, SAMPLES, REFUSALS, MISTAKES = Messages, SAMPLES, REFUSALS, MISTAKES
-
-    def test_at_the_end_of_the_room(self):
-        for call, due in SAMPLES:
-            for spare in range(len(due) + 2):
-                messages = Messages()
-                fill = len(messages._memory.bytes) - 5 - spare
-                call(messages.copy_data(bytes(fill)))
-                self.assertEqual(messages.view()[fill + 5 :], due)
-
-    def test_clear(self):
-        messages = Messages().query("SELECT 1")
-        messages.clear()
-        self.assertEqual(bytes(messages), b"")
-        self.assertEqual(bytes(messages.sync()), b"S\0\0\0\x04")
-
-    def test_bytes_of_any_object(self):
-        data = b"1\t2\n"
-        mapped = mmap.mmap(-1, 4)
-        mapped[:] = data
-        for form in (bytearray(data), memoryview(data), memoryview(b"-" + data)[1:], array.array("B", data), mapped,
-                     memoryview(data).cast("i")):
-            self.assertEqual(bytes(Messages().copy_data(form)), b"d\0\0\0\x08" + data)
-
-    def test_repr_hides_the_bytes(self):
-        self.assertEqual(repr(Messages().password("pw")), "<8 bytes of messages>")
+def frame_of(message, data):
+    """The frame of a message."""
+    return Frame(message.TAG, data[4 + (message.TAG is not None) :])
 
 
-class TestCopyHead(unittest.TestCase):
-    def test_heads(self):
-        self.assertEqual(copy_head(0), b"d\0\0\0\x04")
-        self.assertEqual(copy_head(65536), b"d\0\1\0\x04")
-        self.assertEqual(copy_head(2147483643), b"d\x7f\xff\xff\xff")
+class TestEach(unittest.TestCase):
+    def test_written(self):
+        for message, data in samples.ALL:
+            with self.subTest(message=message):
+                self.assertEqual(message.write(), data)
 
-    def test_too_long(self):
+    def test_read(self):
+        for message, data in samples.ALL:
+            with self.subTest(message=message):
+                found = type(message).read(frame_of(message, data))
+                self.assertEqual(found, message)
+                self.assertIs(type(found), type(message))
+                self.assertEqual(hash(found), hash(message))
+                self.assertEqual(found.write(), data)
+
+    def test_each_class_has_one(self):
+        classes = {it for it in vars(pgmsg).values() if inspect.isclass(it) and dataclasses.is_dataclass(it)}
+        self.assertEqual(classes - {Column}, {type(message) for message, _ in samples.ALL})
+        self.assertEqual(len(classes), 53)
+
+    def test_none_changes(self):
+        for message, _ in samples.ALL:
+            self.assertFalse(hasattr(message, "__dict__"))
+            for name in message.__slots__ or ["name"]:
+                with self.assertRaises((dataclasses.FrozenInstanceError, TypeError)):
+                    setattr(message, name, None)
+
+    def test_another_tag(self):
+        for message, data in samples.ALL:
+            with self.assertRaises(Fault) as refused:
+                type(message).read(Frame(ord("!"), frame_of(message, data).body))
+            self.assertIs(refused.exception.code, Code.WRONG_FORMAT)
+
+    def test_another_method_and_another_first_message(self):
+        for kind, frame in [(AuthenticationOk, Frame(ord("R"), b"\0\0\0\3")), (SSLRequest, Frame(None, b"\x04\xd2\x16\x30"))]:
+            with self.assertRaises(Fault) as refused:
+                kind.read(frame)
+            self.assertIs(refused.exception.code, Code.WRONG_FORMAT)
+
+    def test_by_the_tag(self):
+        for read, rows in [(read_backend, samples.OF_SERVER + samples.OF_BOTH),
+                           (read_frontend, samples.FIRST + samples.OF_CLIENT + samples.OF_BOTH)]:
+            for message, data in rows:
+                self.assertEqual(read(frame_of(message, data)), message)
+            known = {message.TAG for message, _ in rows}
+            for tag in {*range(256), None} - known:
+                with self.assertRaises(Fault) as refused:
+                    read(Frame(tag, b""))
+                self.assertIs(refused.exception.code, Code.UNKNOWN_MESSAGE_TYPE)
+        for message, data in samples.ANSWERS:
+            self.assertEqual(read_frontend(frame_of(message, data), type(message)), message)
+
+    def test_any_method_and_any_first_message(self):
+        for base, rows in [(Authentication, samples.OF_SERVER), (FirstMessage, samples.FIRST)]:
+            for message, data in rows:
+                if isinstance(message, base):
+                    self.assertEqual(base.read(frame_of(message, data)), message)
+
+
+class TestParts(unittest.TestCase):
+    def test_texts(self):
+        for message, data in samples.ALL:
+            for name in dir(type(message)):
+                if name.endswith("_text"):
+                    value = getattr(message, name.removesuffix("_text"))
+                    if value.isascii():
+                        self.assertEqual(getattr(message, name), str(value, "ascii"))
+                    elif b"\xff" in value:
+                        self.assertRaises(UnicodeDecodeError, getattr, message, name)
+        self.assertEqual(ParameterStatus("a", "ä").value_text, "ä")
+
+    def test_a_text_is_any_bytes(self):
+        for text in ("ä", "ä".encode(), bytearray("ä".encode()), memoryview("ä".encode()), memoryview("ä".encode()).cast("H")):
+            self.assertEqual(Query(text), Query(b"\xc3\xa4"))
+
+    def test_secrets(self):
+        for message in SECRETS:
+            shown = repr(message)
+            self.assertTrue(shown.startswith(type(message).__name__))
+            self.assertNotIn("hidden", shown)
+            self.assertNotIn("md5", shown)
+        self.assertEqual(repr(CommandComplete("SELECT 1")), "CommandComplete(command=b'SELECT 1')")
+
+    def test_match(self):
+        match Bind(["1"], "s"):
+            case Bind((value,), statement):
+                self.assertEqual((value, statement), (b"1", b"s"))
+        match CommandComplete("COPY 5"):
+            case CommandComplete(b"COPY 5") as ended:
+                self.assertEqual(ended.rows_affected, 5)
+
+    def test_rows_affected(self):
+        for command, due in [("INSERT 0 17", 17), ("BEGIN", 0), ("", 0), ("COPY 18446744073709551615", (1 << 64) - 1)]:
+            self.assertEqual(CommandComplete(command).rows_affected, due)
+
+    def test_fields(self):
+        error = ErrorResponse(samples.FIELDS | {"V": "FATAL"})
+        self.assertEqual((error.code, error.message, error.text("X")), ("42601", "\ufffd", ""))
+        self.assertIs(error.severity, Severity.FATAL)
+        for word, due in Severity.__members__.items():
+            self.assertIs(NoticeResponse({"V": word}).severity, due)
+        for fields, code in [({"V": "FOO"}, Code.UNKNOWN_SEVERITY), ({"V": b"\xff"}, Code.NOTICE_NOT_UTF8)]:
+            with self.assertRaises(Fault) as refused:
+                ErrorResponse(fields).severity
+            self.assertIs(refused.exception.code, code)
+
+    def test_parameters(self):
+        found = StartupMessage([("user", "ann"), ("user", "bob")])
+        self.assertEqual((found.text("user"), found.text("database")), ("bob", ""))
+
+    def test_many_items(self):
+        for count in (0, 1, 15, 16, 17, 64, 65, 1664, 65535):
+            codes, values = [at % 3 for at in range(count)], [b"%d" % at for at in range(count)]
+            for message in (
+                DataRow(values), Bind(values, formats=codes, result_formats=codes), FunctionCall(1, values, codes),
+                Parse("", types=range(count)), ParameterDescription(range(count)),
+                RowDescription(Column(value, 25) for value in values), AuthenticationSASL(values),
+                CopyInResponse(0, codes[:32767]), ErrorResponse(("M", value) for value in values),
+            ):
+                self.assertEqual(type(message).read(frame_of(message, message.write())), message)
+        pairs = [(f"name{at}", str(at)) for at in range(1000)]
+        self.assertEqual(StartupMessage.read(Frame(None, StartupMessage(pairs).write()[4:])), StartupMessage(pairs))
+
+    def test_long_texts(self):
+        for length in range(500, 530):
+            self.assertEqual(Query("x" * length).write(), b"Q" + (length + 5).to_bytes(4, "big") + b"x" * length + b"\0")
+        data = bytes(range(256)) * 4096
+        self.assertEqual(CopyData(data).write(), b"d" + (len(data) + 4).to_bytes(4, "big") + data)
+
+    def test_md5(self):
+        # A server's SELECT 'md5' || md5(md5('secret' || 'ann') || 'abcd').
+        self.assertEqual(
+            PasswordMessage.md5("ann", "secret", b"abcd"), PasswordMessage("md5b74835331d7e1d325026d95f00dd69c5"))
+
+
+class TestRefused(unittest.TestCase):
+    def test_each(self):
+        for message, code in samples.REFUSED:
+            with self.subTest(code=code), self.assertRaises(Fault) as refused:
+                message.write()
+            self.assertIs(refused.exception.code, code)
+            self.assertEqual((refused.exception.at, str(refused.exception)), (0, refused.exception.words))
+            self.assertTrue(refused.exception.words)
+
+    def test_mistakes(self):
+        for make, error in MISTAKES:
+            self.assertRaises(error, make)
+
+    def test_head_of_copy_data(self):
+        for length, due in [(0, b"d\0\0\0\x04"), (65536, b"d\0\1\0\x04"), (2147483643, b"d\x7f\xff\xff\xff")]:
+            self.assertEqual(copy_head(length), due)
         for length in (2147483644, (1 << 64) - 1):
             with self.assertRaises(Fault) as refused:
                 copy_head(length)

@@ -1,141 +1,112 @@
-"""The package as it is installed: its wheel, and what it says where a part of it is missing."""
+"""The package as it is installed, its docs, and its examples."""
 
-import base64
-import contextlib
-import csv
-import hashlib
+import doctest
+import importlib.machinery
+import inspect
 import io
-import os
 import pathlib
 import re
-import shutil
 import subprocess
 import sys
 import tempfile
+import tomllib
 import unittest
-import zipfile
+from contextlib import redirect_stdout
 from unittest import mock
 
 import support
 import pgmsg
-from pgmsg import _library
+from pgmsg._library import _binding, lib
 
-BUILD = support.TOP / "build"
+FOLDER = pathlib.Path(pgmsg.__file__).parent
 
-LIBRARY = pathlib.Path(pgmsg.library._name)
+SOURCES = "".join(file.read_text() for file in [*(support.TOP / "pgmsg").glob("*.py"), support.TOP / "fast.c"])
 
+# Calls of the header that the package has no need of, with the reason.
+LEFT_OUT = {
+    "pgmsg_put_md5_password": "a PasswordMessage of the digest is the same",
+    "pgmsg_put_no_body": "a frame of the tag is the same",
+    "pgmsg_read_end": "what follows the parts of a message is left out",
+}
 
-def run(*words, **variables):
-    """Runs Python without what is installed beside it, and with no other library than those variables name."""
-    kept = {name: value for name, value in os.environ.items() if name not in ("PYTHONPATH", _library.VARIABLE)}
-    words = [sys.executable, "-S", "-B", *words]
-    return subprocess.run(words, env={**kept, **variables}, capture_output=True, text=True)
-
-
-@unittest.skipUnless(LIBRARY.is_file(), "the library is one of the system's")
-class TestWheel(unittest.TestCase):
-    def setUp(self):
-        folder = tempfile.TemporaryDirectory()
-        self.addCleanup(folder.cleanup)
-        self.folder = pathlib.Path(folder.name)
-        prefix = self.folder / "prefix"
-        for part, file in [("include", support.HEADER), ("lib", LIBRARY)]:
-            (prefix / part).mkdir(parents=True)
-            shutil.copy(file, prefix / part)
-        shutil.copy(LIBRARY, prefix / "lib" / "libpg_message.so")
-        built = run(BUILD, "--wheel", prefix, self.folder / "made")
-        self.assertEqual((built.returncode, built.stderr), (0, ""))
-        self.wheel = pathlib.Path(built.stdout.strip())
-
-    def test_name(self):
-        self.assertRegex(self.wheel.name, r"^pgmsg-\d+\.\d+\.\d+-py3-none-linux_\w+\.whl$")
-        self.assertIn(pgmsg.VERSION, self.wheel.name)
-
-    def test_the_list_has_each_file_with_its_digest(self):
-        with zipfile.ZipFile(self.wheel) as archive:
-            names = archive.namelist()
-            info = f"pgmsg-{pgmsg.VERSION}.dist-info"
-            rows = list(csv.reader(io.StringIO(archive.read(f"{info}/RECORD").decode())))
-            self.assertEqual([path for path, _, _ in rows], names)
-            self.assertEqual(rows[-1], [f"{info}/RECORD", "", ""])
-            for path, digest, size in rows[:-1]:
-                content = archive.read(path)
-                due = base64.urlsafe_b64encode(hashlib.sha256(content).digest()).decode().rstrip("=")
-                self.assertEqual((digest, size), (f"sha256={due}", str(len(content))))
-        for name in ("__init__.py", "_header.py", "py.typed", "libpg_message.so"):
-            self.assertIn(f"pgmsg/{name}", names)
-        self.assertFalse([name for name in names if "__pycache__" in name or "test" in name])
-
-    def test_it_runs_by_itself(self):
-        with zipfile.ZipFile(self.wheel) as archive:
-            archive.extractall(self.folder / "here")
-        program = "import pgmsg; print(pgmsg.library._name, bytes(pgmsg.Messages().sync()))"
-        found = run("-c", program, PYTHONPATH=str(self.folder / "here"))
-        library = self.folder / "here" / "pgmsg" / "libpg_message.so"
-        self.assertEqual(found.stdout, f"{library} b'S\\x00\\x00\\x00\\x04'\n", found.stderr)
-
-    def test_the_same_files_make_the_same_wheel(self):
-        again = run(BUILD, "--wheel", self.folder / "prefix", self.folder / "again")
-        self.assertEqual(pathlib.Path(again.stdout.strip()).read_bytes(), self.wheel.read_bytes())
-
-    def test_no_installation(self):
-        found = run(BUILD, "--wheel", self.folder / "none")
-        self.assertEqual(found.returncode, 1)
-        self.assertIn(f"`clients/library --install {self.folder}/none` makes it", found.stderr)
+# Those that do as another does, for text in UTF-8 alone or for the names of one driver.
+NARROW = r"put_(authentication_(ok|cleartext|continue|final)|password|sasl_initial|sasl_response|query|copy_fail|copy_done|batch" \
+    r"|flush|sync|terminate|parse|bind|execute|(describe|close)_(statement|portal))" \
+    r"|read_(columns|key_data|parameter_status|mechanisms)"
 
 
-class TestMissing(unittest.TestCase):
-    def setUp(self):
-        folder = tempfile.TemporaryDirectory()
-        self.addCleanup(folder.cleanup)
-        self.folder = pathlib.Path(folder.name)
-        leave = shutil.ignore_patterns("__pycache__", "*.so")
-        shutil.copytree(pathlib.Path(pgmsg.__file__).parent, self.folder / "pgmsg", ignore=leave)
+class TestHeader(unittest.TestCase):
+    def test_each_call_is_used_or_left_out(self):
+        used = set(re.findall(r"\bpgmsg_(?:put|read|next|relay|check)_\w+", SOURCES))
+        calls = {name for name in dir(lib) if name.startswith("pgmsg_") and name not in ("pgmsg_version", "pgmsg_strerror")}
+        without = {name for name in calls - used if not re.fullmatch(f"pgmsg_({NARROW})", name)}
+        self.assertEqual(without, set(LEFT_OUT))
 
-    def error(self, **variables):
-        found = run("-c", "import pgmsg", PYTHONPATH=str(self.folder), **variables)
-        self.assertEqual(found.returncode, 1)
-        return found.stderr.splitlines()[-1]
+    def test_versions(self):
+        project = tomllib.loads((support.TOP / "pyproject.toml").read_text())["project"]
+        version = re.search(r'#define PGMSG_VERSION "(.*)"', support.HEADER.read_text())[1]
+        self.assertEqual({pgmsg.__version__, project["version"]}, {version})
 
-    def test_declarations(self):
-        (self.folder / "pgmsg" / "_header.py").unlink()
-        self.assertEqual(
-            self.error(),
-            "ImportError: pgmsg/_header.py is missing: the command `clients/python/build` makes it of the C header")
 
-    def test_library(self):
-        error = self.error(PGMSG_LIBRARY="/nowhere/libpg_message.so")
-        self.assertIn("pgmsg finds no shared library (/nowhere/libpg_message.so", error)
-        self.assertIn("PGMSG_LIBRARY may name PREFIX/lib/libpg_message.so", error)
+class TestPackage(unittest.TestCase):
+    def test_it_has_its_types(self):
+        for name in ("py.typed", "_fast.pyi", "_binding.pyi"):
+            self.assertTrue((FOLDER / name).exists(), name)
 
-    def declare(self, old, new):
-        """Changes the declarations."""
-        declarations = self.folder / "pgmsg" / "_header.py"
-        declarations.write_text(declarations.read_text().replace(old, new))
+    def test_it_is_of_the_stable_abi(self):
+        self.assertIn(".abi3.", pathlib.Path(_binding.__file__).name)
 
-    def test_library_without_a_call(self):
-        self.declare("'pgmsg_put_sync'", "'pgmsg_put_other'")
-        self.assertIn("has no pgmsg_put_other", self.error(PGMSG_LIBRARY=str(LIBRARY)))
+    def test_all_names_are_exported_and_have_words(self):
+        self.assertEqual(sorted(pgmsg.__all__, key=str.casefold), sorted(
+            (name for name, it in vars(pgmsg).items() if name[0] != "_" and not inspect.ismodule(it)), key=str.casefold))
+        for name in pgmsg.__all__:
+            it = getattr(pgmsg, name)
+            if callable(it):
+                self.assertTrue((it.__doc__ or "").strip() and not it.__doc__.startswith(f"{name}("), name)
+        for kind in (pgmsg.Message, pgmsg.ClientStream, pgmsg.ServerStream, pgmsg.Relay, pgmsg.Scram, pgmsg.Login):
+            for name, it in inspect.getmembers(kind, inspect.isfunction):
+                self.assertTrue(name.startswith("_") or it.__doc__, f"{kind.__name__}.{name}")
 
-    def test_library_of_another_version(self):
-        self.declare(f"VERSION = '{pgmsg.VERSION}'", "VERSION = '99.0'")
-        due = f"is of version {pgmsg.VERSION}, and its header of 99.0"
-        self.assertIn(due, self.error(PGMSG_LIBRARY=str(LIBRARY)))
-        # Nor is another of its calls looked for.
-        self.declare("'pgmsg_put_sync'", "'pgmsg_put_other'")
-        self.assertIn(due, self.error(PGMSG_LIBRARY=str(LIBRARY)))
+    def test_it_is_not_built(self):
+        with tempfile.TemporaryDirectory() as folder:
+            made = pathlib.Path(folder, "pgmsg")
+            made.mkdir()
+            for file in FOLDER.glob("*.py"):
+                made.joinpath(file.name).write_text(file.read_text())
+            found = subprocess.run(
+                [sys.executable, "-B", "-c", "import pgmsg"], env={"PYTHONPATH": folder}, capture_output=True, text=True)
+            self.assertRegex(found.stderr.splitlines()[-1], "^ImportError: pgmsg isn't built: `pip install`")
+
+    def test_examples_of_the_docs(self):
+        found = doctest.testmod(pgmsg)
+        self.assertEqual(found.failed, 0)
+        self.assertGreater(found.attempted, 4)
+
+
+class TestDrivers(unittest.TestCase):
+    def test_each_message_of_its_table_has_a_class_of_its_name(self):
+        rows = re.findall(r"^\| ([A-Z][\w, ]+) \|", (support.TOP.parent / "DRIVERS.md").read_text(), re.MULTILINE)
+        names = [name for row in rows for name in row.split(", ")]
+        self.assertGreater(len(names), 30)
+        self.assertEqual([name for name in names if not issubclass(getattr(pgmsg, name), pgmsg.Message)], [])
 
 
 class TestReadme(unittest.TestCase):
     def test_its_program(self):
         program = re.search(r"```python\n(.*?)```", (support.TOP / "README.md").read_text(), re.DOTALL)[1]
         connection = mock.Mock()
-        connection.recv.side_effect = [b"2\0\0\0\x04D\0\0\0\x13\0\3\0\0", b"\0\x015\xff\xff\xff\xff\0\0\0\0", b""]
-        with contextlib.redirect_stdout(io.StringIO()) as output:
+        connection.recv.side_effect = [
+            b"1\0\0\0\x042\0\0\0\x04D\0\0\0\x13\0\3\0\0", b"\0\x015\xff\xff\xff\xff\0\0\0\0C\0\0\0\x0dSELECT 1\0Z\0\0\0\5I", b""]
+        with redirect_stdout(io.StringIO()) as output:
             exec(program, {"connection": connection})
-        self.assertEqual(output.getvalue(), "['5', None, '']\n")
-        sent = connection.sendall.call_args[0][0]
-        self.assertEqual(sent, bytes(pgmsg.Messages().batch("SELECT $1::int", ["5"])))
+        self.assertEqual(output.getvalue(), "('5', None, '')\nSELECT 1\n")
+        sent = b"".join(call.args[0] for call in connection.sendall.call_args_list)
+        self.assertEqual(sent, pgmsg.write(
+            pgmsg.Parse("SELECT $1::int"), pgmsg.Bind(["5"]), pgmsg.Execute(), pgmsg.Sync()))
+
+    def test_the_examples_are_short(self):
+        for name in ("read_table.py", "read_table_asyncio.py"):
+            self.assertLessEqual(len((support.TOP / "examples" / name).read_text().splitlines()), 47)
 
 
 if __name__ == "__main__":

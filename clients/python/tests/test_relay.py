@@ -6,7 +6,7 @@ from unittest import mock
 
 import support  # noqa: F401
 import pgmsg
-from pgmsg import Answer, Code, Fault, Part, Place, Relay, ServerMessages, WholeFrame, check_frames
+from pgmsg import Answer, Code, Fault, Frame, NoData, NoticeResponse, Part, Place, Relay, WholeFrame, check_frames, write
 
 LIMIT = 1 << 16
 
@@ -71,9 +71,9 @@ class TestPassing(unittest.TestCase):
         stream = STARTUP + tagged(81, b"q\0") + tagged(100, b"1234")[:7]
         first, rest = relay.next(stream)
         self.assertEqual(first, WholeFrame(None, memoryview(STARTUP), False))
-        self.assertEqual(first.body(), STARTUP[4:])
+        self.assertEqual(first.frame(), Frame(None, STARTUP[4:]))
         second, rest = relay.next(rest)
-        self.assertEqual((second.tag, bytes(second.body())), (81, b"q\0"))
+        self.assertEqual(second.frame(), Frame(81, b"q\0"))
         self.assertIs(second.bytes.obj, stream)
         part, rest = relay.next(rest)
         self.assertEqual((part, rest, relay.left), (Part(memoryview(b"d\0\0\0\x0812"), 2), b"", 2))
@@ -102,7 +102,17 @@ class TestPassing(unittest.TestCase):
             message = tagged(68, bytes([at]))
             self.assertEqual(relay.next(message[:3]), (None, b""))
             found.append(relay.next(message[3:])[0])
-        self.assertEqual([bytes(frame.body()) for frame in found], [bytes([at]) for at in range(100)])
+        self.assertEqual([frame.frame().body for frame in found], [bytes([at]) for at in range(100)])
+
+
+    def test_what_another_thread_changes_is_copied(self):
+        for made in (bytearray, lambda data: memoryview(bytearray(data)), lambda data: memoryview(data)[::1].cast("b")):
+            piece = made(STREAM)
+            frame, rest = Relay.of_server(LIMIT).next(piece)
+            self.assertIsNot(frame.bytes.obj, piece)
+            self.assertEqual(bytes(frame.bytes) + bytes(rest), STREAM)
+        frame, _ = Relay.of_server(LIMIT).next(memoryview(STREAM))
+        self.assertIs(frame.bytes.obj, STREAM)
 
 
 class TestRefusals(unittest.TestCase):
@@ -161,7 +171,7 @@ class TestRefusals(unittest.TestCase):
 
 STREAM = b"1\0\0\0\x04" b"D\0\0\0\x06\0\0" b"Z\0\0\0\x05I"
 
-ADDED = bytes(ServerMessages().notice({}).no_data())
+ADDED = write(NoticeResponse({}), NoData())
 
 
 class TestAnswers(unittest.TestCase):

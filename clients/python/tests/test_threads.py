@@ -1,4 +1,4 @@
-"""Messages that threads share, and calls that come into one another."""
+"""Streams and messages that threads share."""
 
 import copy
 import os
@@ -11,89 +11,77 @@ import unittest
 
 import support
 import pgmsg
-from pgmsg import Messages, ServerMessages, _library, library
+import samples
+from pgmsg import ClientStream, NoData, Relay
 
 HAMMER = support.TOP / "tests" / "hammer.py"
 
 PACKAGE = pathlib.Path(pgmsg.__file__).parent.parent
 
 # How long another thread has for a call that it should wait with.
-A_WHILE = 0.2
-
-SYNC = b"S\0\0\0\x04"
-
-FLUSH = b"H\0\0\0\x04"
+A_WHILE = 0.1
 
 
 class TestThreads(unittest.TestCase):
     def test_a_second_of_calls(self):
-        variables = {**os.environ, "PYTHONPATH": str(PACKAGE), _library.VARIABLE: library._name}
-        words = [sys.executable, "-S", "-B", "-X", "dev", "-W", "error", HAMMER]
+        variables = {**os.environ, "PYTHONPATH": os.pathsep.join([str(PACKAGE), os.environ.get("PYTHONPATH", "")])}
+        words = [sys.executable, "-B", "-X", "dev", "-W", "error", HAMMER]
         found = subprocess.run(words, env=variables, capture_output=True, text=True, timeout=60)
         self.assertEqual((found.returncode, found.stderr), (0, ""))
 
     def test_a_call_waits_for_one_of_another_thread(self):
-        for change, due in [(Messages.clear, b""), (Messages.sync, SYNC + FLUSH + SYNC), (Messages.view, SYNC + FLUSH)]:
-            messages = Messages().sync()
-            other = threading.Thread(target=change, args=(messages,))
-
-            def call(out, length):
+        message = NoData().write()
+        for call, due in [(lambda s: s.feed(b"Z"), message + b"Z"), (list, b""), (ClientStream.rows, message)]:
+            stream = ClientStream()
+            stream.feed(message)
+            with stream._lock:
+                other = threading.Thread(target=call, args=(stream,))
                 other.start()
                 other.join(A_WHILE)
                 self.assertTrue(other.is_alive())
-                return library.pgmsg_put_flush(out, length)
-
-            messages._put(call)
             other.join()
-            self.assertEqual(bytes(messages), due)
+            self.assertEqual(stream.held, due)
+
+
+class InnerStream(ClientStream):
+    """A stream into whose calls another one comes, as from the handler of a signal."""
+
+    def _read(self, tag, body):
+        for call in (lambda: self.feed(b"Z"), lambda: next(iter(self)), self.rows, lambda: self.held):
+            with self.test.assertRaisesRegex(RuntimeError, "this InnerStream is in use"):
+                call()
+        return super()._read(tag, body)
+
+
+class InnerRelay(Relay):
+    """A relay of that kind."""
+
+    def _front_of(self, data):
+        self.test.assertRaises(RuntimeError, self.next, b"Z")
+        return super()._front_of(data)
 
 
 class TestInnerCalls(unittest.TestCase):
-    def test_one_that_changes_is_refused(self):
-        # As the handler of a signal comes into a call.
-        for change in (Messages.clear, Messages.sync):
-            messages = Messages().sync()
-
-            def call(out, length):
-                self.assertRaisesRegex(RuntimeError, "these messages", change, messages)
-                self.assertEqual((bytes(messages), len(messages)), (SYNC, len(SYNC)))
-                return library.pgmsg_put_flush(out, length)
-
-            self.assertEqual(bytes(messages._put(call)), SYNC + FLUSH)
-            change(messages)
-
-    def test_after_a_mistake_in_a_call_the_next_is_taken(self):
-        messages = Messages().sync()
-
-        def call(out, length):
-            raise ValueError
-
-        self.assertRaises(ValueError, messages._put, call)
-        self.assertEqual(bytes(messages.flush()), SYNC + FLUSH)
+    def test_they_are_refused(self):
+        for made in (InnerStream(), InnerRelay(100)):
+            made.test = self
+            for _ in range(2):
+                if isinstance(made, Relay):
+                    self.assertEqual(made.pass_on(NoData().write()), NoData().write())
+                else:
+                    made.feed(NoData().write())
+                    self.assertEqual(list(made), [NoData()])
 
 
-class TestRoom(unittest.TestCase):
-    def test_it_keeps_its_place(self):
-        for messages in (Messages().sync(), ServerMessages().no_data()):
-            room = messages.view().obj
-            self.assertRaises(BufferError, room.clear)
-            self.assertRaises(BufferError, room.extend, b"a")
-            self.assertEqual(len(messages), len(SYNC))
+class TestCopies(unittest.TestCase):
+    def test_messages_are_copied_and_pickled(self):
+        for message, _ in samples.ALL:
+            for made in (copy.copy(message), copy.deepcopy(message), pickle.loads(pickle.dumps(message))):
+                self.assertEqual(made, message)
 
-    def test_messages_are_not_copied(self):
-        for copied in (copy.copy, copy.deepcopy, pickle.dumps):
-            for messages in (Messages().sync(), ServerMessages().no_data()):
-                self.assertRaisesRegex(TypeError, r"by bytes\(\)", copied, messages)
-
-    def test_a_length_that_changes_between_two_calls(self):
-        messages, lengths = Messages().sync(), []
-
-        def call(out, length):
-            lengths.append(length)
-            return length + 1 if len(lengths) < 4 else library.pgmsg_put_flush(out, length)
-
-        self.assertEqual(bytes(messages._put(call)), SYNC + FLUSH)
-        self.assertEqual(lengths, sorted(set(lengths)))
+    def test_streams_are_not(self):
+        for call in (copy.deepcopy, pickle.dumps):
+            self.assertRaises(TypeError, call, ClientStream())
 
 
 if __name__ == "__main__":

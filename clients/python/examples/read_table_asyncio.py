@@ -1,0 +1,47 @@
+"""Prints the rows of a table, as read_table.py, by asyncio and TCP: read_table_asyncio.py HOST PORT USER DATABASE TABLE"""
+
+import asyncio
+import os
+import sys
+
+from pgmsg import Authentication, ClientStream, ErrorResponse, Login, Query, ReadyForQuery, StartupMessage, Terminate
+
+
+class Reader(asyncio.Protocol):
+    def __init__(self, user, database, query):
+        self.stream, self.login = ClientStream(), Login(user, os.environ.get("PGPASSWORD", ""))
+        self.to_send = [StartupMessage({"user": user, "database": database}), Query(query), Terminate()]
+        self.error, self.rows = EOFError("the server closed the connection"), []
+        self.result = asyncio.get_running_loop().create_future()
+
+    def connection_made(self, transport):
+        self.transport = transport
+        transport.write(self.to_send.pop(0).write())
+
+    def data_received(self, data):
+        self.stream.feed(data)
+        for message in self.stream.runs():
+            match message:
+                case list():
+                    self.rows += message
+                case Authentication() if answer := self.login.answer(message):
+                    self.transport.write(answer.write())
+                case ReadyForQuery():
+                    self.transport.write(self.to_send.pop(0).write())
+                case ErrorResponse():
+                    self.error = RuntimeError(message.message)
+                    return self.transport.close()
+
+    def connection_lost(self, error):
+        if error or self.to_send:
+            return self.result.set_exception(error or self.error)
+        self.result.set_result(self.rows)
+
+
+async def main(host, port, user, database, table):
+    connect = asyncio.get_running_loop().create_connection
+    _, reader = await connect(lambda: Reader(user, database, f"TABLE {table}"), host, port)
+    print(*await reader.result, sep="\n")
+
+
+asyncio.run(main(*sys.argv[1:]))

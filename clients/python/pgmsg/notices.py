@@ -1,0 +1,95 @@
+"""Errors and notices."""
+
+from __future__ import annotations
+
+import enum
+from collections.abc import Callable, Iterable, Mapping
+from dataclasses import dataclass
+from typing import ClassVar, Self, TypeAlias
+
+from ._calls import listed, part, put, read
+from ._library import ffi, lib
+from .message import BackendMessage, Text, fill, number, octets
+
+# Texts by their letters.
+Fields: TypeAlias = Mapping[str, Text] | Iterable[tuple[str, Text]]
+
+
+class Severity(enum.IntEnum):
+    """How grave an error or a notice is."""
+
+    PANIC = 0
+    FATAL = 1
+    ERROR = 2
+    WARNING = 3
+    NOTICE = 4
+    DEBUG = 5
+    INFO = 6
+    LOG = 7
+
+
+class WithFields(BackendMessage):
+    """Fields in order, each a letter and a text: a client asks for `S`, `C` and `M` at least.
+
+    The texts need not be UTF-8 where the error is one of a login.
+    """
+
+    __slots__ = ()
+
+    PUT: ClassVar[Callable[..., int]]
+    fields: tuple[tuple[str, bytes], ...]
+
+    def __init__(self, fields: Fields) -> None:
+        pairs = fields.items() if isinstance(fields, Mapping) else fields
+        fill(self, tuple((chr(number(8, ord(letter))), octets(text)) for letter, text in pairs))
+
+    @classmethod
+    def _read(cls, body: bytes) -> Self:
+        made = object.__new__(cls)
+        fill(made, listed(
+            "pgmsg_field", lambda room, size: lib.pgmsg_read_fields(body, len(body), room, size),
+            lambda it: (chr(it.letter), part(body, it.value))))
+        return made
+
+    def write(self) -> bytes:
+        held = [ffi.from_buffer("uint8_t[]", text) for _, text in self.fields]
+        rows = [(ord(letter), text, len(text)) for (letter, _), text in zip(self.fields, held)]
+        return put(type(self).PUT, ffi.new("pgmsg_field_text[]", rows), len(rows))
+
+    def text(self, letter: str) -> str:
+        """The text of a field, empty where it isn't there, with U+FFFD for what isn't UTF-8."""
+        return str(dict(self.fields).get(letter, b""), "utf-8", "replace")
+
+    @property
+    def code(self) -> str:
+        """The code of SQLSTATE."""
+        return self.text("C")
+
+    @property
+    def message(self) -> str:
+        """What is wrong, for people."""
+        return self.text("M")
+
+    @property
+    def severity(self) -> Severity:
+        """How grave it is. A word that isn't known is a Fault."""
+        words = type(self)([it for it in self.fields if it[0] in "SV"])
+        return Severity(read(lib.pgmsg_read_severity, words.write()[5:]))
+
+
+@dataclass(frozen=True, slots=True, init=False)
+class ErrorResponse(WithFields):
+    """Ends a command by an error."""
+
+    TAG: ClassVar[int] = ord("E")
+    PUT = lib.pgmsg_put_error
+    fields: tuple[tuple[str, bytes], ...]
+
+
+@dataclass(frozen=True, slots=True, init=False)
+class NoticeResponse(WithFields):
+    """Says something beside the answers."""
+
+    TAG: ClassVar[int] = ord("N")
+    PUT = lib.pgmsg_put_notice
+    fields: tuple[tuple[str, bytes], ...]

@@ -1,0 +1,196 @@
+"""What a server answers to queries: rows, and how they end."""
+
+from __future__ import annotations
+
+from collections.abc import Iterable
+from dataclasses import dataclass
+from typing import ClassVar, Self
+
+from . import _fast
+from ._calls import found, listed, part, put, read, sized
+from ._library import ffi, lib
+from .fault import Fault, refusal
+from .message import (
+    AsText, BackendMessage, Text, WithoutBody, fill, number, numbers, octets, optional_octets, set_attribute,
+    values_of)
+
+
+@dataclass(frozen=True, slots=True, init=False)
+class Column:
+    """A column of a result.
+
+    `table` and `attribute` are object id and number of a table's column, or 0. `type_size` is below 0 where it varies.
+    `format` is that of the values: 0 as text, 1 as binary.
+    """
+
+    name: bytes
+    type_id: int
+    table: int
+    attribute: int
+    type_size: int
+    type_modifier: int
+    format: int
+    name_text = AsText("name")
+
+    def __init__(
+        self, name: Text, type_id: int, table: int = 0, attribute: int = 0, type_size: int = -1,
+        type_modifier: int = -1, format: int = 0,
+    ) -> None:
+        fill(self, octets(name), number(32, type_id), number(32, table), number(-16, attribute),
+             number(-16, type_size), number(-32, type_modifier), number(-16, format))
+
+
+@dataclass(frozen=True, slots=True, init=False)
+class RowDescription(BackendMessage):
+    """The columns of a result."""
+
+    TAG: ClassVar[int] = ord("T")
+    columns: tuple[Column, ...]
+
+    def __init__(self, columns: Iterable[Column]) -> None:
+        fill(self, tuple(columns))
+
+    @classmethod
+    def _read(cls, body: bytes) -> Self:
+        return cls(listed(
+            "pgmsg_column", lambda room, size: read(lib.pgmsg_read_raw_columns, body, room, size),
+            lambda it: Column(
+                part(body, it.name), it.type_id, it.table, it.attribute, it.type_size, it.type_modifier, it.format)))
+
+    def write(self) -> bytes:
+        held = [ffi.from_buffer("uint8_t[]", it.name) for it in self.columns]
+        rows = [
+            (name, len(name), it.table, it.attribute, it.type_id, it.type_size, it.type_modifier, it.format)
+            for it, name in zip(self.columns, held)
+        ]
+        return put(lib.pgmsg_put_columns, ffi.new("pgmsg_column_text[]", rows), len(rows))
+
+
+@dataclass(frozen=True, slots=True, init=False)
+class DataRow(BackendMessage):
+    """A row, None for NULL. `Stream.rows` reads many at once."""
+
+    TAG: ClassVar[int] = ord("D")
+    values: tuple[bytes | None, ...]
+
+    def __init__(self, values: Iterable[Text | None]) -> None:
+        fill(self, values_of(values))
+
+    @classmethod
+    def _read(cls, body: bytes) -> Self:
+        made = object.__new__(cls)
+        set_attribute(made, "values", _fast.cells(body))
+        return made
+
+    def write(self) -> bytes:
+        return _fast.data_rows((self.values,))
+
+
+@dataclass(frozen=True, slots=True, init=False)
+class CommandComplete(BackendMessage):
+    """Ends a command, by its tag, such as `INSERT 0 1`."""
+
+    TAG: ClassVar[int] = ord("C")
+    command: bytes
+    command_text = AsText("command")
+
+    def __init__(self, command: Text) -> None:
+        fill(self, octets(command))
+
+    @classmethod
+    def _read(cls, body: bytes) -> Self:
+        return cls(part(body, found("pgmsg_span", lib.pgmsg_read_command_tag, body)))
+
+    def write(self) -> bytes:
+        return put(lib.pgmsg_put_command_complete, *sized(self.command))
+
+    @property
+    def rows_affected(self) -> int:
+        """How many rows the command had to do with: 0 where no number is there."""
+        body = self.command + b"\0"
+        count: int = lib.pgmsg_read_rows_affected(body, len(body))
+        return count
+
+
+@dataclass(frozen=True, slots=True)
+class EmptyQueryResponse(WithoutBody, BackendMessage):
+    """Answers a query without a statement."""
+
+    TAG: ClassVar[int] = ord("I")
+
+
+@dataclass(frozen=True, slots=True)
+class ParseComplete(WithoutBody, BackendMessage):
+    """Answers a Parse that succeeded."""
+
+    TAG: ClassVar[int] = ord("1")
+
+
+@dataclass(frozen=True, slots=True)
+class BindComplete(WithoutBody, BackendMessage):
+    """Answers a Bind that succeeded."""
+
+    TAG: ClassVar[int] = ord("2")
+
+
+@dataclass(frozen=True, slots=True)
+class CloseComplete(WithoutBody, BackendMessage):
+    """Answers a Close."""
+
+    TAG: ClassVar[int] = ord("3")
+
+
+@dataclass(frozen=True, slots=True)
+class PortalSuspended(WithoutBody, BackendMessage):
+    """Ends an Execute at its limit, where rows are left."""
+
+    TAG: ClassVar[int] = ord("s")
+
+
+@dataclass(frozen=True, slots=True)
+class NoData(WithoutBody, BackendMessage):
+    """Describes a statement or a portal that gives no rows."""
+
+    TAG: ClassVar[int] = ord("n")
+
+
+@dataclass(frozen=True, slots=True, init=False)
+class ParameterDescription(BackendMessage):
+    """The object ids of the types of a statement's parameters."""
+
+    TAG: ClassVar[int] = ord("t")
+    types: tuple[int, ...]
+
+    def __init__(self, types: Iterable[int]) -> None:
+        fill(self, numbers(32, types))
+
+    @classmethod
+    def _read(cls, body: bytes) -> Self:
+        return cls(listed(
+            "uint32_t", lambda room, size: read(lib.pgmsg_read_parameter_types, body, room, size), int))
+
+    def write(self) -> bytes:
+        return put(lib.pgmsg_put_parameter_types, self.types, len(self.types))
+
+
+@dataclass(frozen=True, slots=True, init=False)
+class FunctionCallResponse(BackendMessage):
+    """The result of a function that was called, None for NULL."""
+
+    TAG: ClassVar[int] = ord("V")
+    value: bytes | None
+
+    def __init__(self, value: Text | None) -> None:
+        fill(self, optional_octets(value))
+
+    @classmethod
+    def _read(cls, body: bytes) -> Self:
+        # Spelled as the only cell of a row.
+        try:
+            (value,) = _fast.cells(b"\0\1" + body)
+        except Fault as fault:
+            raise refusal(fault.code, at=fault.at - 2) from None
+        return cls(value)
+
+    def write(self) -> bytes:
+        return put(lib.pgmsg_put_function_result, *sized(self.value or b""), self.value is None)

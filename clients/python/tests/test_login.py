@@ -1,0 +1,78 @@
+"""Logins, with the exchange of RFC 7677, and those that go wrong."""
+
+import unittest
+
+import support  # noqa: F401
+from pgmsg import *
+
+NONCE = "rOprNGfwEbeRWgbNEkqO"
+
+CHALLENGE = AuthenticationSASLContinue(
+    f"r={NONCE}%hvYDpWUa2RaTCAfuxFIlj)hNlF$k0,s=W22ZaJ0SNY7soEsUEjb6gQ==,i=4096")
+
+
+def begun():
+    """The exchange of the RFC."""
+    return Scram("pencil", "user", NONCE)
+
+
+class TestScram(unittest.TestCase):
+    def test_the_exchange_of_the_rfc(self):
+        scram = begun()
+        self.assertEqual(scram.initial(), SASLInitialResponse("SCRAM-SHA-256", f"n,,n=user,r={NONCE}"))
+        self.assertEqual(scram.response(CHALLENGE), SASLResponse(
+            f"c=biws,r={NONCE}%hvYDpWUa2RaTCAfuxFIlj)hNlF$k0,p=dHzbZapWIk4jUhN+Ute9ytag9zjfMHgsqmmiz7AndVQ="))
+        scram.check(AuthenticationSASLFinal("v=6rriTRBi23WpRR/wtup+mMhUZUn/dB5nLTJRsjl95G4="))
+
+    def test_a_server_that_does_not_know_the_password(self):
+        scram = begun()
+        scram.response(CHALLENGE)
+        for final in ("v=6rriTRBi23WpRR/wtup+mMhUZUn/dB5nLTJRsjl95G5=", "v=", "e=other-error"):
+            with self.assertRaises((ValueError, Fault)):
+                scram.check(AuthenticationSASLFinal(final))
+
+    def test_before_a_challenge_nothing_is_right(self):
+        for final in ("v=", "v=AA==", ""):
+            with self.assertRaises((ValueError, Fault)):
+                begun().check(AuthenticationSASLFinal(final))
+
+    def test_a_challenge_of_another_exchange(self):
+        for nonce in ("", NONCE, "x" + NONCE):
+            self.assertRaises(ValueError, begun().response, AuthenticationSASLContinue(f"r={nonce},s=AQID,i=1"))
+
+    def test_parts_of_a_challenge(self):
+        for data, due in [("r=abc,s=AQID,i=8192", Challenge(8192, b"\1\2\3", "abc")), ("r=a", Challenge(4096, b"", "a"))]:
+            self.assertEqual(AuthenticationSASLContinue(data).challenge(), due)
+
+    def test_nonces_differ(self):
+        self.assertNotEqual(Scram("a").initial(), Scram("a").initial())
+        self.assertIn(b"n=a=2Cb=3D,r=", Scram("", "a,b=").initial().data)
+
+
+class TestLogin(unittest.TestCase):
+    def test_passwords(self):
+        login = Login("ann", "secret")
+        self.assertIsNone(login.answer(AuthenticationOk()))
+        self.assertEqual(login.answer(AuthenticationCleartextPassword()), PasswordMessage("secret"))
+        self.assertEqual(
+            login.answer(AuthenticationMD5Password(b"abcd")), PasswordMessage("md5b74835331d7e1d325026d95f00dd69c5"))
+
+    def test_a_server_that_does_not_prove_itself(self):
+        login = Login("ann", "secret")
+        first = login.answer(AuthenticationSASL(["SCRAM-SHA-256-PLUS", "SCRAM-SHA-256"]))
+        self.assertEqual(first.mechanism, b"SCRAM-SHA-256")
+        nonce = first.data.decode().partition("r=")[2]
+        self.assertRaises(ValueError, login.answer, AuthenticationOk())
+        answer = login.answer(AuthenticationSASLContinue(f"r={nonce}abc,s=AQID,i=1"))
+        self.assertTrue(answer.data.startswith(f"c=biws,r={nonce}abc,p=".encode()))
+        for message in (AuthenticationOk(), AuthenticationSASLFinal("v=AQID"), AuthenticationOk()):
+            self.assertRaises(ValueError, login.answer, message)
+
+    def test_what_is_not_known(self):
+        for message in (AuthenticationGSS(), AuthenticationSSPI(), AuthenticationKerberosV5(), CHALLENGE,
+                        AuthenticationSASL(["SCRAM-SHA-1"]), AuthenticationSASLFinal("v=AQID")):
+            self.assertRaises(ValueError, Login("ann", "secret").answer, message)
+
+
+if __name__ == "__main__":
+    unittest.main()

@@ -1,0 +1,40 @@
+"""The types that a user of the package sees, which mypy checks: so no `test_` begins the name of this file."""
+
+from collections.abc import Iterator
+from typing import assert_type
+
+from pgmsg import (
+    BackendMessage, Bind, ClientStream, CommandComplete, DataRow, FrontendMessage, Login, Query, Relay, ServerStream,
+    executions)
+
+
+def read(stream: ClientStream) -> None:
+    assert_type(stream.rows(), list[tuple[str | None, ...]])
+    assert_type(stream.rows(bytes), list[tuple[bytes | None, ...]])
+    assert_type(stream.rows(memoryview), list[tuple[memoryview | None, ...]])
+    assert_type(iter(stream), Iterator[BackendMessage])
+    for message in stream.runs():
+        match message:
+            case list():
+                assert_type(message, list[tuple[str | None, ...]])
+            case DataRow(values):
+                assert_type(values, tuple[bytes | None, ...])
+            case CommandComplete():
+                assert_type(message.command, bytes)
+                assert_type(message.command_text, str)
+                assert_type(message.rows_affected, int)
+
+
+def serve(stream: ServerStream) -> None:
+    for message in stream:
+        assert_type(message, FrontendMessage)
+        if isinstance(message, Query):
+            assert_type(stream.send(DataRow(["a", None, b"b"])), bytes)
+
+
+def write(login: Login, relay: Relay) -> None:
+    assert_type(Query("SELECT 1"), Query)
+    assert_type(Query(b"SELECT 1").query, bytes)
+    assert_type(Query("SELECT 1").query_text, str)
+    assert_type(Bind(["1", None, memoryview(b"")], formats=[0]).formats, tuple[int, ...])
+    assert_type(executions([["1"]], "s"), bytes)
