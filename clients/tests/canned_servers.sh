@@ -1,45 +1,11 @@
-# The example servers with canned answers, in C, Rust and Python: what psql and pgbench make of them. No PostgreSQL server
-# is needed. Sourced by `test`.
+# The example server with canned answers, in Rust: what psql and pgbench make of it. No PostgreSQL server is needed. Sourced
+# by `test`.
 
 # Sets $bin to the folder of psql, or answers false.
 find_psql() {
     find_server && return
     bin=$(dirname "$(command -v psql)")
     [ -x "$bin/psql" ]
-}
-
-# Makes the shared library where an earlier part didn't.
-install_library() {
-    if [ ! -e "$work/installed/lib/libpg_message.so" ]; then
-        try ./library --install "$work/installed"
-        expect 'the shared library' 0
-    fi
-}
-
-# Sets $python_example to the words before the path of an example, which run it on the package of the tree; answers false
-# where there is no Python for it.
-prepare_python_example() {
-    has_python || return
-    install_library
-    try python/build
-    expect 'the declarations of the Python package' 0
-    python_example=(env PYTHONPATH=python PGMSG_LIBRARY="$work/installed/lib/libpg_message.so" python3 -S -B -W error)
-}
-
-# Runs a test of an example in each language: on what it is called there, and on the words that run it.
-in_each_language() {
-    local test=$1 what=$2 example=$3
-    "$test" "$what in C" "$programs/$example"
-    if build_rust_examples; then
-        "$test" "$what in Rust" "$rust_examples/$example"
-    else
-        echo "left out: $what in Rust, which need rustc and cargo from $oldest_rust on"
-    fi
-    if prepare_python_example; then
-        "$test" "$what in Python" "${python_example[@]}" "python/examples/$example.py"
-    else
-        echo "left out: $what in Python, which need Python 3.11"
-    fi
 }
 
 # Starts a server on a free port, and leaves its process in $canned, its port in $canned_port.
@@ -109,8 +75,10 @@ test_canned() {
 
 test_canned_servers() {
     if ! find_psql; then
-        echo 'left out: psql and pgbench on the example servers, which are not there'
-        return
+        echo 'left out: psql and pgbench on the example server, which are not there'
+    elif build_rust_examples; then
+        test_canned 'canned answers' "$rust_examples/canned_server"
+    else
+        echo "left out: canned answers, which need rustc and cargo from $oldest_rust on"
     fi
-    in_each_language test_canned 'canned answers' canned_server
 }

@@ -21,6 +21,6 @@ test_escaped_traces() {
 test_escaped_differences() {
     record_words "$as_postgres" read 'query:SELECT 1' read terminate end
     differs 'a query that a terminal would obey' '' 'message 2 of connection 1' "$as_postgres" read "query:$obeyed" end
-    is_escaped 'replay: a difference' "$work/errors.replay"
+    is_escaped 'replay: a difference, both where it is shown' "$work/errors.replay" 2
     same 'replay: a difference, the client too' "$(grep -c -F "${escaped//\\/\\\\}" <<< "$replayed")" 1
 }

@@ -23,11 +23,10 @@ USER = b"user\0postgres\0"
 
 VERSION = b"\0\3\0\0"
 
-# Where each language says the greatest length of a first message; Rust takes that of the header.
+# Where each language says the greatest length of a first message; Rust and Python take that of the header.
 GREATEST = {
     "crates/pg_frames/src/frontend/frame.rt": r"MAX_FIRST_LENGTH: usize = ([\d_]+)",
     "clients/c/include/pg_message.h": r"PGMSG_MAX_FIRST_LENGTH = (\d+)",
-    "clients/python/pgmsg/client_frames.py": r"MAX_FIRST_LENGTH = ([\d_]+)",
 }
 
 

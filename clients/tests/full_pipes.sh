@@ -37,6 +37,19 @@ test_unread_lines() {
     done
 }
 
+# The same where the recording is such a pipe.
+test_unread_recording() {
+    local waiting
+    open_unread
+    start_recording /dev/null -o "$work/unread" -h 127.0.0.1 --threads 2
+    rows_through 1000 > /dev/null 2>&1 &
+    waiting=$!
+    sleep 1
+    ends_by 'Ctrl-C ends a recorder whose recording is a pipe that nobody reads' INT "$recording" 130
+    wait "$waiting"
+    exec {unread}>&-
+}
+
 test_unread_notifications() {
     open_unread
     start_listening "$work/unread" plain
@@ -50,7 +63,7 @@ test_unread_notifications() {
 
 # A replay that can't say a difference.
 test_unread_differences() {
-    local port number waiting
+    local port number waiting begun
     record_words "$as_postgres" read 'query:SELECT 1' read terminate end
     for number in 1 4; do
         open_unread
@@ -61,8 +74,9 @@ test_unread_differences() {
         fill_unread
         at_port "$port" "${client[@]}" "$as_postgres" read 'query:SELECT 2' end > "$work/waiting" &
         waiting=$!
-        sleep 1
-        ends_by "SIGTERM ends a replay whose differences nobody reads, threads: $number" TERM "$replaying" 143
+        begun=$SECONDS
+        reap "$replaying"
+        same "a replay ends whose differences nobody reads, threads: $number" "$? $((SECONDS - begun <= 10))" '11 1'
         wait "$waiting"
         exec {unread}>&-
     done

@@ -1,15 +1,56 @@
-# The Python package: its unit tests, from the tree and from a wheel, and its example with a server. Sourced by `test`.
+# The Python package: its unit tests, on a wheel that its build backend makes, and its examples with a server. Sourced by
+# `test`.
 
-# Whether there is a Python that the package can run with.
+# Whether there is a Python from 3.11 on.
 has_python() {
     python3 -c 'import sys; sys.exit(sys.version_info < (3, 11))' 2> /dev/null
 }
 
-# Runs Python without what is installed beside it, on the package in a folder and on the library that is named.
+# Sets $builder to a Python that can build the package without a network and run it, or answers false.
+find_builder() {
+    command -v pkg-config > /dev/null || return
+    for builder in python3 /usr/bin/python3; do
+        if "$builder" -c 'import sys, cffi, setuptools, wheel; sys.exit(sys.version_info < (3, 11))' 2> /dev/null; then
+            return
+        fi
+    done
+    return 1
+}
+
+# Runs Python on the package in a folder.
 run_python() {
     local package=$1
     shift
-    PYTHONPATH=$package python3 -S -B -W error "$@"
+    PYTHONPATH=$package "$builder" -B -W error "$@"
+}
+
+# Makes a wheel of the source distribution with the library that is installed in a folder, and unpacks it in another.
+unpack_wheel() {
+    local prefix=$1 made=$2
+    PKG_CONFIG_PATH=$prefix/lib/pkgconfig try "$builder" -m pip wheel --quiet --no-build-isolation --no-deps \
+        --disable-pip-version-check -w "$made.wheels" "$work"/sdist/pgmsg-*.tar.gz
+    expect "python: a wheel, $(basename "$made")" 0
+    try "$builder" -m zipfile -e "$made".wheels/pgmsg-*.whl "$made"
+    expect "python: the wheel is unpacked, $(basename "$made")" 0
+}
+
+# Makes the shared library where an earlier part didn't.
+install_library() {
+    if [ ! -e "$work/installed/lib/libpg_message.so" ]; then
+        try ./library --install "$work/installed"
+        expect 'the shared library' 0
+    fi
+}
+
+# Makes the package in $work/package where an earlier part didn't, of a source distribution.
+prepare_package() {
+    if [ ! -d "$work/package" ]; then
+        install_library
+        cp -r python "$work/python"
+        (cd "$work/python" && PKG_CONFIG_PATH=$work/installed/lib/pkgconfig "$builder" -W ignore -c \
+            'import sys; from setuptools import build_meta; build_meta.build_sdist(sys.argv[1])' "$work/sdist" > /dev/null 2>&1)
+        unpack_wheel "$work/installed" "$work/package"
+    fi
 }
 
 # The unit tests on the package in a folder.
@@ -18,42 +59,50 @@ test_python_units() {
     expect "python, $1: $(grep -o 'Ran [0-9]* tests' <<< "$errors")" 0 OK
 }
 
+# A copy of what is installed whose library can have its memory refused.
+make_refusing() {
+    cp -r "$work/installed" "$work/refusing"
+    try cc -fPIC -c -o "$work/refusing.o" c/tests/refusing.c
+    ar r "$work/refusing/lib/libpg_message.a" "$work/refusing.o" 2> /dev/null
+    sed -i "s|^prefix=.*|prefix=$work/refusing|" "$work/refusing/lib/pkgconfig/pg_message.pc"
+}
+
 test_python() {
-    local library=$work/installed/lib/libpg_message.so
-    if ! has_python; then
-        echo 'left out: the tests of the Python package, which needs Python 3.11'
+    if ! find_builder; then
+        echo 'left out: the tests of the Python package, which needs Python 3.11, cffi, setuptools, wheel and pkg-config'
         return
     fi
-    install_library
-    try python/build
-    expect 'python: the declarations of the header' 0
-    PGMSG_LIBRARY=$library test_python_units 'the tree' python
-    try cc -shared -fPIC -o "$work/refusing.so" c/tests/refusing.c -Wl,-Bsymbolic \
-        -Wl,--whole-archive "$work/installed/lib/libpg_message.a" -Wl,--no-whole-archive -ldl
-    expect 'python: a library whose memory can be refused' 0
-    PGMSG_LIBRARY=$work/refusing.so test_python_units 'refused memory' python -p refused_memory.py
-    try python/build --wheel "$work/installed" "$work"
-    expect 'python: a wheel' 0
-    try python3 -m zipfile -e "$output" "$work/wheel"
-    expect 'python: the wheel is unpacked' 0
-    test_python_units 'the wheel' "$work/wheel"
-    test_pip "$work"/pgmsg-*.whl
+    prepare_package
+    test_python_units 'the wheel' "$work/package"
+    make_refusing
+    LDFLAGS=-Wl,-Bsymbolic unpack_wheel "$work/refusing" "$work/package_refusing"
+    test_python_units 'refused memory' "$work/package_refusing" -p refused_memory.py
+    CFLAGS='-O1 -g -fsanitize=address,undefined -fno-sanitize-recover=all' LDFLAGS='-fsanitize=address,undefined' \
+        unpack_wheel "$work/installed" "$work/package_sanitized"
+    # The interpreter keeps memory to its end.
+    LD_PRELOAD="$(cc -print-file-name=libasan.so) $(cc -print-file-name=libubsan.so)" ASAN_OPTIONS=detect_leaks=0 \
+        PYTHONMALLOC=malloc test_python_units 'each access to memory is tested' "$work/package_sanitized"
+    test_pip "$work"/package.wheels/pgmsg-*.whl
     test_types
 }
 
-# The wheel by pip, which gets nothing else.
+# The wheel by pip, which gets nothing else, in each Python that there is.
 test_pip() {
-    if ! python3 -m venv "$work/venv" > /dev/null 2>&1; then
-        echo 'left out: the wheel by pip, without venv'
-        return
-    fi
-    try "$work/venv/bin/python" -m pip install --no-index --quiet --disable-pip-version-check "$1"
-    expect 'python: pip installs the wheel' 0
-    try "$work/venv/bin/python" -B -c 'import pgmsg; print(pgmsg.__version__, bytes(pgmsg.Messages().sync()))'
-    same 'python: the package that pip installed' "$status $output" '0 0.1.0 b'\''S\x00\x00\x00\x04'\'''
+    local each
+    for each in python3 /usr/bin/python3; do
+        if ! "$each" -c 'import cffi, venv' 2> /dev/null || ! "$each" -m venv --system-site-packages "$work/venv" > /dev/null 2>&1; then
+            echo "left out: the wheel by pip of $each, without cffi or venv"
+            continue
+        fi
+        try "$work/venv/bin/python" -m pip install --no-index --quiet --disable-pip-version-check "$1"
+        expect "python: pip installs the wheel, $each" 0
+        try "$work/venv/bin/python" -B -c 'import pgmsg; print(pgmsg.__version__, pgmsg.Sync().write())'
+        same "python: the package that pip installed, $each" "$status $output" '0 0.1.0 b'\''S\x00\x00\x00\x04'\'''
+        rm -r "$work/venv"
+    done
 }
 
-# The types of the package, by mypy.
+# The types of the package, and those that its user sees, by mypy.
 test_types() {
     if ! command -v mypy > /dev/null; then
         echo 'left out: the types of the Python package, without mypy'
@@ -61,35 +110,48 @@ test_types() {
     fi
     try mypy --strict --cache-dir "$work/mypy" python/pgmsg
     expect 'python: types' 0
+    MYPYPATH=python try mypy --strict --cache-dir "$work/mypy" python/tests/typed.py
+    expect 'python: types as a user sees them' 0
 }
 
-# Runs the example on the package of the wheel, with a password.
-copy_out() {
-    PGPASSWORD=$1 try run_python "$work/wheel" python/examples/copy_out.py "${@:2}"
+# Runs an example on the package of the wheel, with a password.
+read_table() {
+    PGPASSWORD=$2 try run_python "$work/package" "python/examples/$1.py" "${@:3}"
 }
 
 make_python_tables() {
+    [ -n "$(sql "SELECT 1 FROM pg_roles WHERE rolname = 'by_scram'")" ] || make_users
     sql "CREATE TABLE python (id int, name text);
-         INSERT INTO python VALUES (1, 'ann'), (2, NULL), (3, E'a\\tb\\\\c\\n'), (4, '');
-         GRANT SELECT ON python TO by_clear;
+         INSERT INTO python VALUES (1, 'ann'), (2, NULL), (3, E'a\\tb\\\\c\\n'), (4, ''), (5, 'ä');
+         GRANT SELECT ON python TO by_clear, by_md5, by_scram;
          CREATE TABLE python_many AS SELECT n, repeat('x', n % 500) FROM generate_series(1, 20000) n"
 }
 
 test_python_copy() {
-    local by_socket=("$PGHOST" "$PGPORT" "$PGUSER" "$PGDATABASE") by_password=(127.0.0.1 "$PGPORT" by_clear "$PGDATABASE") rows
-    if ! has_python; then
+    local by_socket=("$PGHOST" "$PGPORT" "$PGUSER" "$PGDATABASE") rows example user
+    if ! find_builder; then
         return
     fi
+    prepare_package
     make_python_tables
-    rows=$(printf '%s\n' "[b'1', b'ann']" "[b'2', None]" "[b'3', b'a\\tb\\\\c\\n']" "[b'4', b'']")
-    copy_out '' "${by_socket[@]}" python
-    same 'python: a table by a Unix socket' "$status $output" "0 $rows"
-    copy_out "pass word '1" "${by_password[@]}" python
-    same 'python: a table by TCP and a password' "$status $output" "0 $rows"
-    copy_out '' "${by_socket[@]}" python_many
-    same 'python: many rows' "$(grep -c '^\[b' <<< "$output") ${output: -4}" "20000 b'']"
-    copy_out '' "${by_socket[@]}" missing
-    same 'python: the words of an error' "$status $errors" '1 relation "missing" does not exist'
-    copy_out wrong "${by_password[@]}" python
-    same 'python: a wrong password' "$status $errors" '1 password authentication failed for user "by_clear"'
+    rows=$(printf '%s\n' "('1', 'ann')" "('2', None)" "('3', 'a\\tb\\\\c\\n')" "('4', '')" "('5', 'ä')")
+    read_table read_table '' "${by_socket[@]}" python
+    same 'python: a table by a Unix socket' "$status $output$errors" "0 $rows"
+    read_table read_table '' "${by_socket[@]}" python_many
+    same 'python: many rows' "$(grep -c "^('" <<< "$output") ${output: -5}" "20000 , '')"
+    for example in read_table read_table_asyncio; do
+        for user in by_clear by_md5 by_scram; do
+            read_table "$example" "pass word '1" 127.0.0.1 "$PGPORT" "$user" "$PGDATABASE" python
+            same "python, $example: a table by TCP and a password, $user" "$status $output$errors" "0 $rows"
+            read_table "$example" wrong 127.0.0.1 "$PGPORT" "$user" "$PGDATABASE" python
+            same "python, $example: a wrong password, $user" "$status ${errors##*$'\n'}" \
+                "1 ${said_of[$example]}password authentication failed for user \"$user\""
+        done
+        read_table "$example" "pass word '1" 127.0.0.1 "$PGPORT" by_clear "$PGDATABASE" missing
+        same "python, $example: the words of an error" "$status ${errors##*$'\n'}" \
+            "1 ${said_of[$example]}relation \"missing\" does not exist"
+    done
 }
+
+# What an example says before the words of an error.
+declare -A said_of=([read_table]='' [read_table_asyncio]='RuntimeError: ')

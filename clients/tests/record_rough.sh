@@ -128,66 +128,6 @@ test_short_descriptors() {
     read_back 'short descriptors' "$tape"
 }
 
-# More connections than there is memory for: those that are there are served, and later ones.
-test_short_memory() {
-    local programs=out tape=$work/short.tape descriptor descriptors=()
-    start_limited '-v 12000' "$tape"
-    for _ in {1..150}; do
-        exec {descriptor}<> "/dev/tcp/127.0.0.1/$record_port"
-        descriptors+=("$descriptor")
-    done
-    await grep -q 'out of memory' "$work/errors.record"
-    for descriptor in "${descriptors[@]}"; do
-        exec {descriptor}>&-
-    done
-    same 'after more clients than memory: the next one is served' "$(query_through 'SELECT 7')" 7
-    stop_taping "$tape"
-    read_back 'short memory' "$tape"
-}
-
-# Builds what refuses a request for memory of a program. Where that can't be, it is false and says so.
-build_no_memory() {
-    if ! cc -shared -fPIC -o "$work/no_memory.so" c/tests/no_memory.c 2> "$work/errors"; then
-        echo 'left out: programs without memory, which need glibc'
-        return 1
-    fi
-}
-
-# Records the same query of two clients with one request for memory refused, by its number, and leaves the recorder's end in
-# $status, what it said in $errors, and the row that a client got in $output.
-record_without_memory() {
-    rm -f "$2"
-    : > "$work/errors.record"
-    REFUSED=$1 LD_PRELOAD=$work/no_memory.so out/pg_record --threads 2 -o "$2" 0 > /dev/null 2> "$work/errors.record" &
-    recording=$!
-    await has_begun "$work/errors.record" "$recording"
-    record_port=$(sed -n 's/^listening on 127.0.0.1 port //p' "$work/errors.record")
-    output=$(for turn in 1 2; do query_through 'SELECT 7'; done 2> /dev/null | uniq)
-    kill "$recording" 2> /dev/null
-    reap "$recording"
-    status=$?
-    errors=$(cat "$work/errors.record")
-}
-
-# Whatever request is refused, the recorder ends and says why, or serves another client.
-test_refused_memory() {
-    local number wrong=0 ended=0 tape=$work/refused.tape
-    build_no_memory || return
-    for ((number = 0; ; number++)); do
-        record_without_memory "$number" "$tape"
-        [[ $errors == *'a request for memory is refused'* ]] || break
-        case "$status $output $errors" in
-        '143 7 '*) read_back "without request $number" "$tape" ;;
-        '8  '*'out of memory'* | '7  '*'Cannot allocate memory'* | '2  '*emory*) ended=$((ended + 1)) ;;
-        *)
-            wrong=$((wrong + 1))
-            echo "without request $number: $status $output $errors"
-            ;;
-        esac
-    done
-    same "a request for memory is refused, in each of $number places, of which $ended end the recorder" "$wrong" 0
-}
-
 test_taped_memory() {
     local programs=out tape=$work/much.tape megabytes=${RECORD_MEGABYTES:-200}
     start_taping "$tape"
@@ -225,11 +165,10 @@ test_record_rough() {
     test_taped_ends
     test_rough_clients
     test_short_descriptors
-    test_short_memory
     test_taped_memory
-    test_refused_memory
     test_record_threads
     test_escaped_traces
     test_unread_lines
+    test_unread_recording
     ok "the second reader reads each of $recordings_read recordings, $records_read records"
 }

@@ -218,8 +218,12 @@ test_replay_notify() {
     stop_tape
     start_replay "$work/notify.tape"
     at_port "$replay_port" "${client[@]}" $as_postgres read 'query:LISTEN a' read 'count:1' 'query:SELECT 1' read \
-        terminate end > "$work/notify.replayed"
+        terminate end > "$work/notify.replayed" &
+    listening=$!
+    sleep 1
+    same 'replay: a notification waits for its cause' "$(grep -c '^A ' "$work/notify.replayed")" 0
     at_port "$replay_port" "$bin/psql" -X -q -c "NOTIFY a, 'payload'"
+    wait "$listening"
     end_replay
     expect 'replay: a notification from another session' 0 '2 of 2 sessions are replayed'
     same 'replay: a notification at the same place' "$(cat "$work/notify.replayed")" "$(cat "$work/notify.recorded")"
@@ -255,8 +259,12 @@ test_replay() {
     test_no_descriptors
     test_escaped_differences
     test_unread_differences
-    test_replay_memory
     test_replay_example
+    test_replay_rules
+    test_replay_causes
+    test_replay_real
+    test_replay_mutants
+    test_replay_replication
     end_slow_openings
     echo "replay: $((passed - passed_before)) tests in $((SECONDS - begun)) s"
 }

@@ -19,13 +19,13 @@ rust_folders() {
 }
 
 test_rust() {
-    local folders folder version features=() bytes=$PWD/rust/stand-in/bytes first=yes
+    local folders folder version features=() source=() first=yes
     folders=$(rust_folders)
     if [ -z "$folders" ]; then
         echo "left out: the tests of the Rust crates, which need rustc and cargo from $oldest_rust on"
         return
     fi
-    find_bytes
+    find_features
     while read -r -u 3 folder version; do
         # What a newer cargo wrote an older one may not read.
         rm -f rust/Cargo.lock
@@ -42,30 +42,29 @@ test_rust() {
     done 3<<< "$folders"
 }
 
-# Takes the crate bytes of Debian, where it is there.
-find_bytes() {
-    local found
-    found=$(compgen -G '/usr/share/cargo/registry/bytes-1.*' | tail -n 1)
-    if [ -z "$found" ]; then
-        echo 'left out: the feature bytes of the Rust crate, which needs librust-bytes-dev'
+# Takes the crates of Debian that the features and their tests need, where they are there.
+find_features() {
+    if ! has_crates bytes futures-util hmac sha2 tokio tokio-util; then
+        echo "left out: the features of the Rust crate, which need librust-$lacking-dev"
         return
     fi
-    bytes=$found
-    features=(--features pgmsg/bytes)
+    source=(--config "source.beside.directory='$registry'")
+    features=(--features pgmsg/codec,pgmsg/sha2)
 }
 
 # Runs cargo of the folder on the crates, over the library that is tested.
 by_cargo() {
-    try env PATH="$folder:$PATH" RUSTC="$folder/rustc" RUSTDOC="$folder/rustdoc" RUSTDOCFLAGS=-Dwarnings \
-        CARGO_INCREMENTAL=0 CARGO_PROFILE_DEV_DEBUG=0 CARGO_TARGET_DIR="out/rust/$version" \
-        PGMSG_LIB_DIR="$(dirname "$(realpath "$LIBRARY")")" \
-        "$folder/cargo" "$1" --offline --manifest-path rust/Cargo.toml --config "patch.crates-io.bytes.path='$bytes'" "${@:2}"
+    try env -C rust PATH="$folder:$PATH" RUSTC="$folder/rustc" RUSTDOC="$folder/rustdoc" RUSTDOCFLAGS=-Dwarnings \
+        CARGO_INCREMENTAL=0 CARGO_PROFILE_DEV_DEBUG=0 CARGO_TARGET_DIR="$PWD/out/rust/$version" \
+        PGMSG_LIB_DIR="$(dirname "$(realpath "$LIBRARY")")" "$folder/cargo" "$1" --offline "${source[@]}" "${@:2}"
 }
 
 # No warning of the documentation or of clippy, and no library where there is none.
 test_rust_words() {
     try rust/declare --check
     expect 'the declarations of pgmsg-sys are those of the header' 0
+    by_cargo check --quiet --package pgmsg --no-default-features
+    expect 'the Rust crate without std' 0
     by_cargo doc --quiet --no-deps "${features[@]}"
     expect 'the Rust crates: documentation without a warning' 0
     if "$folder/cargo" clippy --version > /dev/null 2>&1; then
@@ -116,7 +115,9 @@ test_rust_program() {
     printf '[package]\nname = "program"\nversion = "0.1.0"\nedition = "2021"\n' > "$program/Cargo.toml"
     cat > "$program/src/main.rs" << 'END'
 fn main() -> Result<(), pgmsg::Refusal> {
-    print!("{}", pgmsg::write::Messages::new().query("SELECT 1")?.len());
+    let mut out = Vec::new();
+    pgmsg::frontend::Message::Query("SELECT 1".into()).write(&mut out)?;
+    print!("{}", out.len());
     Ok(())
 }
 END
@@ -130,11 +131,12 @@ END
 
 # Builds the examples of the crate by the first cargo, where they aren't there; false where there is no cargo.
 build_rust_examples() {
-    local folder version features=() bytes=$PWD/rust/stand-in/bytes
+    local folder version features=() source=()
     read -r folder version < <(rust_folders)
     if [ -z "$rust_examples" ] && [ -n "$folder" ]; then
         rm -f rust/Cargo.lock
-        by_cargo build --quiet --package pgmsg --examples
+        find_features
+        by_cargo build --quiet --package pgmsg --examples "${features[@]}"
         expect 'the examples of the Rust crate' 0
         rust_examples=out/rust/$version/debug/examples
     fi
@@ -152,4 +154,19 @@ test_rust_copy() {
     printf 'x\n' > "$work/rust.tsv"
     try "$rust_copy" "127.0.0.1:$PGPORT" postgres postgres by_rust < "$work/rust.tsv"
     expect 'a COPY by Rust that the server refuses' 1 'invalid input syntax'
+}
+
+# Logs in by SCRAM and reads a table, by the example of the crate.
+test_rust_scram() {
+    build_rust_examples && [ -x "$rust_examples/read_table" ] || return
+    local read_table=("$rust_examples/read_table" "127.0.0.1:$PGPORT")
+    sql "SET password_encryption = 'scram-sha-256'; CREATE ROLE by_scram_of_rust LOGIN PASSWORD 'pass word ''1'
+         ; CREATE TABLE of_rust AS SELECT * FROM (VALUES (1, 'a'), (2, NULL)) AS rows
+         ; GRANT SELECT ON of_rust TO by_scram_of_rust"
+    try "${read_table[@]}" by_scram_of_rust "pass word '1" postgres of_rust
+    same 'a login by SCRAM by Rust' "$status $output" $'0 1\ta\n2\tNULL'
+    try "${read_table[@]}" by_scram_of_rust wrong postgres of_rust
+    expect 'a login by SCRAM by Rust with a wrong password' 1 'password authentication failed'
+    try "${read_table[@]}" postgres any postgres of_rust
+    expect 'a server that trusts where Rust asks for SCRAM' 1 'OutOfTurn'
 }

@@ -62,7 +62,7 @@ local all all trust
 host all by_trust 127.0.0.1/32 trust
 host all by_clear 127.0.0.1/32 password
 host all by_md5 127.0.0.1/32 md5
-host all by_scram 127.0.0.1/32 scram-sha-256
+host all by_scram,by_scram_of_rust 127.0.0.1/32 scram-sha-256
 host all postgres 127.0.0.1/32 trust
 RULES
 }

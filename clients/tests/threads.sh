@@ -54,9 +54,12 @@ test_record_threads() {
 }
 
 test_replay_threads() {
-    local tape=$work/pgbench-of-8.tape programs=$work/threads number client
+    local tape=$work/pgbench-of-8.tape number client
     local of_8='pgbench_without_times -M prepared -c 8 -j 4 -t 20'
-    build_with_threads pg_replay || return
+    if [ ! -e "$tape" ]; then
+        echo 'left out: replays by several threads, since there is no pgbench'
+        return
+    fi
     for number in 1 2 8; do
         replay_command "$tape" "--any-order --threads $number" bash -c "$of_8"
         expect "replay: threads, $number" 0 '9 of 9 sessions are replayed'

@@ -137,10 +137,5 @@ test_odd_trace() {
 }
 
 test_trace_lines() {
-    local programs
-    for programs in out out/sanitized; do
-        try "$programs/trace_test"
-        expect "the trace of broken messages, $programs: $output" 0
-    done
     test_odd_trace
 }

@@ -1,0 +1,19 @@
+//! How many sessions a process has descriptors for.
+
+use rlimit::Resource;
+
+/// The most sessions at a time.
+const MOST_SESSIONS: u64 = 1000;
+/// The most descriptors that are of neither a session nor a thread.
+const OTHERS: u64 = 32;
+
+/// How many sessions of so many descriptors each the process has descriptors for, after raising their limit where it
+/// may.
+pub fn most_sessions(descriptors: u64) -> usize {
+    let wanted = descriptors * MOST_SESSIONS + OTHERS;
+    let limit = rlimit::increase_nofile_limit(wanted)
+        .or_else(|_| Resource::NOFILE.get().map(|(soft, _)| soft))
+        .unwrap_or(wanted);
+    let most = limit.saturating_sub(OTHERS) / descriptors;
+    most.clamp(1, MOST_SESSIONS) as usize
+}

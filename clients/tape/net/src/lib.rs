@@ -1,0 +1,29 @@
+//! Addresses, listeners and TLS of either side, for what stands between clients of PostgreSQL and its servers, and how
+//! such a program ends.
+#![forbid(unsafe_code)]
+
+mod address;
+mod connect;
+mod descriptors;
+mod listen;
+mod open;
+mod options;
+mod roots;
+mod say;
+mod signals;
+mod status;
+mod stream;
+mod tls;
+
+pub use address::Address;
+pub use connect::Upstream;
+pub use descriptors::most_sessions;
+pub use listen::Listener;
+pub use open::{front, open, FirstMessage, Front, OpenError, Opened};
+pub use options::{Bound, Listening, ServerOptions};
+pub use roots::SslMode;
+pub use say::Sayer;
+pub use signals::{ended, ignore_file_size};
+pub use status::{Failure, Status};
+pub use stream::Stream;
+pub use tls::ServerTls;

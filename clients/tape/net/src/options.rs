@@ -1,0 +1,150 @@
+//! Options that programs share.
+
+use crate::{Address, Failure, Listener, ServerTls, SslMode, Status, Upstream};
+use clap::Args;
+use std::env;
+use std::path::{Path, PathBuf};
+
+/// The most threads.
+const THREADS_MOST: u64 = 64;
+/// The folders that have a server's socket, as Debian's psql or the original one would look for it.
+const FOLDERS: [&str; 2] = ["/var/run/postgresql", "/tmp"];
+
+/// Where clients connect, and with which threads they are served.
+#[derive(Args, Debug)]
+pub struct Listening {
+    /// Accept connections on the Unix socket .s.PGSQL.LISTEN_PORT of this folder, and on no port
+    #[arg(long, value_name = "FOLDER")]
+    pub folder: Option<PathBuf>,
+    /// Accept connections there too: HOST:PORT, where a number of IPv6 stands in brackets, a PORT of 127.0.0.1, FOLDER:PORT
+    /// for a Unix socket, or the path of one. It can be given more than once
+    #[arg(long, value_name = "ADDRESS")]
+    pub listen: Vec<Address>,
+    /// Accept TLS from clients that ask for it, or begin with it, by the certificate of this file and those that lead to
+    /// its root. Clients that don't are accepted without
+    #[arg(long, value_name = "FILE", requires = "key")]
+    pub cert: Option<PathBuf>,
+    /// The key of that certificate
+    #[arg(long, value_name = "FILE", requires = "cert")]
+    pub key: Option<PathBuf>,
+    /// Serve with so many threads, not with half as many as there are processors
+    #[arg(long, value_name = "N", value_parser = clap::value_parser!(u64).range(1..=THREADS_MOST))]
+    pub threads: Option<u64>,
+}
+
+/// What listens.
+pub struct Bound {
+    pub listeners: Vec<Listener>,
+    pub tls: Option<ServerTls>,
+}
+
+impl Listening {
+    /// The addresses that are asked for, with that of the port that is named without an option.
+    fn addresses(&self, port: Option<u16>) -> Result<Vec<Address>, Failure> {
+        let named = match (&self.folder, port) {
+            (Some(folder), Some(port)) if port > 0 => Some(Address::in_folder(folder, port)),
+            (None, port) => port.map(Address::local),
+            _ => {
+                return Err(Failure::new(
+                    Status::Usage,
+                    "a folder's socket has a port from 1 on",
+                ))
+            }
+        };
+        Ok(named
+            .into_iter()
+            .chain(self.listen.iter().cloned())
+            .collect())
+    }
+
+    /// Listens, and says where.
+    pub async fn bind(
+        &self,
+        port: Option<u16>,
+        mut says: impl FnMut(String),
+    ) -> Result<Bound, Failure> {
+        let local = |why| Failure::new(Status::Local, format!("TLS with clients: {why:#}"));
+        let tls = match (&self.cert, &self.key) {
+            (Some(cert), Some(key)) => Some(ServerTls::new(cert, key).map_err(local)?),
+            _ => None,
+        };
+        let mut listeners = Vec::new();
+        for address in self.addresses(port)? {
+            let listener = Listener::bind(&address).await?;
+            let address = listener.address().unwrap_or(address);
+            says(format!("listening on {address}"));
+            listeners.push(listener);
+        }
+        Ok(Bound { listeners, tls })
+    }
+
+    /// How many threads are wanted.
+    pub fn threads(&self) -> usize {
+        let processors = std::thread::available_parallelism().map_or(2, usize::from);
+        let usual = (processors / 2).clamp(1, THREADS_MOST as usize);
+        self.threads.map_or(usual, |threads| threads as usize)
+    }
+
+    /// What runs tasks on them.
+    pub fn runtime(&self) -> std::io::Result<tokio::runtime::Runtime> {
+        tokio::runtime::Builder::new_multi_thread()
+            .worker_threads(self.threads())
+            .enable_all()
+            .build()
+    }
+}
+
+/// Where the server is, and how it is reached.
+#[derive(Args, Debug)]
+pub struct ServerOptions {
+    /// The server's host, or the folder of its Unix socket; PGHOST where it isn't said
+    #[arg(short = 'h', value_name = "HOST")]
+    host: Option<String>,
+    /// The server's port; PGPORT where it isn't said, else 5432
+    #[arg(short = 'p', value_name = "PORT")]
+    port: Option<String>,
+    /// Whether the connection to the server is encrypted, and its certificate verified, as libpq has it
+    #[arg(long, value_enum, value_name = "MODE", default_value = "disable")]
+    sslmode: SslMode,
+    /// The trusted roots, in a file or by `system` those of the system; ~/.postgresql/root.crt where it isn't said
+    #[arg(long, value_name = "FILE")]
+    sslrootcert: Option<PathBuf>,
+}
+
+/// A variable of the environment; an empty one counts as none.
+fn variable(name: &str) -> Option<String> {
+    env::var(name).ok().filter(|value| !value.is_empty())
+}
+
+/// A folder that has the server's socket, or this host.
+fn usual_host(port: u16) -> String {
+    let has_socket = |folder: &&str| Path::new(folder).join(format!(".s.PGSQL.{port}")).exists();
+    FOLDERS
+        .into_iter()
+        .find(has_socket)
+        .unwrap_or("localhost")
+        .to_owned()
+}
+
+impl ServerOptions {
+    /// The address that is asked for, or the usual one.
+    pub fn address(&self) -> Result<Address, Failure> {
+        let port = self.port.clone().or_else(|| variable("PGPORT"));
+        let port = port.as_deref().unwrap_or("5432");
+        let number = port
+            .parse()
+            .ok()
+            .filter(|&number| number > 0)
+            .ok_or_else(|| Failure::new(Status::Usage, format!("no port has the number {port}")))?;
+        let host = self.host.clone().or_else(|| variable("PGHOST"));
+        Ok(Address::of_server(
+            &host.unwrap_or_else(|| usual_host(number)),
+            number,
+        ))
+    }
+
+    /// Finds the server.
+    pub async fn find(&self) -> Result<Upstream, Failure> {
+        Upstream::find(self.address()?, self.sslmode, self.sslrootcert.as_deref()).await
+    }
+}

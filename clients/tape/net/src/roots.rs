@@ -1,0 +1,71 @@
+//! Which servers are trusted.
+
+use crate::{Failure, Status};
+use clap::ValueEnum;
+use openssl::ssl::{SslConnector, SslMethod, SslMode as Mode, SslVerifyMode, SslVersion};
+use std::path::{Path, PathBuf};
+
+/// Whether the connection to the server is encrypted, as libpq's `sslmode`, which has `allow` besides.
+#[derive(Clone, Copy, Debug, PartialEq, Eq, ValueEnum)]
+pub enum SslMode {
+    /// Never.
+    Disable,
+    /// Where the server can.
+    Prefer,
+    /// Always. The server's certificate is verified as by verify-ca where there is a file of roots.
+    Require,
+    /// Always, with a certificate that leads to a trusted root.
+    VerifyCa,
+    /// The same, with a certificate of the host that is named.
+    VerifyFull,
+}
+
+/// The name by which libpq asks for the system's roots.
+const SYSTEM: &str = "system";
+
+/// The file of roots that libpq looks for.
+fn usual_roots() -> Option<PathBuf> {
+    let home = std::env::var_os("HOME").filter(|home| !home.is_empty())?;
+    Some(Path::new(&home).join(".postgresql/root.crt"))
+}
+
+impl SslMode {
+    fn verifies(self) -> bool {
+        matches!(self, SslMode::VerifyCa | SslMode::VerifyFull)
+    }
+}
+
+fn fail(why: impl std::fmt::Display) -> Failure {
+    Failure::new(Status::Local, format!("TLS with the server: {why}"))
+}
+
+/// What connects by TLS: it trusts the roots of a file, of the system, or of libpq's usual file. As in libpq a mode that
+/// verifies needs them, and `require` verifies where they are there.
+pub(crate) fn connector(mode: SslMode, roots: Option<&Path>) -> Result<SslConnector, Failure> {
+    let mut builder = SslConnector::builder(SslMethod::tls_client()).map_err(fail)?;
+    builder
+        .set_min_proto_version(Some(SslVersion::TLS1_2))
+        .map_err(fail)?;
+    builder
+        .set_alpn_protos(crate::tls::PROTOCOL)
+        .map_err(fail)?;
+    builder.set_mode(Mode::RELEASE_BUFFERS);
+    let is_system = roots == Some(Path::new(SYSTEM));
+    let file = roots.map(Path::to_owned).or_else(usual_roots);
+    let file = file.filter(|file| !is_system && file.exists());
+    if let Some(file) = &file {
+        builder
+            .set_ca_file(file)
+            .map_err(|why| fail(format!("no certificates are in {}: {why}", file.display())))?;
+    } else if mode.verifies() && !is_system {
+        return Err(fail(
+            "there is no file of trusted roots: name one by --sslrootcert, or `system`",
+        ));
+    }
+    let verifies = mode.verifies() || (mode == SslMode::Require && file.is_some());
+    builder.set_verify(match verifies {
+        true => SslVerifyMode::PEER,
+        false => SslVerifyMode::NONE,
+    });
+    Ok(builder.build())
+}

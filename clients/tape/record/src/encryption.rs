@@ -1,0 +1,75 @@
+//! Requests for encryption that the server answers.
+
+use crate::session::{Link, NoLink, Session};
+use net::{front, Front, OpenError, Stream};
+use tokio::io::{AsyncReadExt, AsyncWriteExt};
+
+/// What the server makes of a request.
+enum Answer {
+    /// Both sides begin with encryption.
+    Yes,
+    /// The client goes on without.
+    No,
+    /// Bytes of a message, or none where the server hangs up.
+    Other(Vec<u8>),
+}
+
+/// Passes requests for encryption on, until one is granted, or another first message comes.
+pub async fn link(session: &mut Session<'_>, mut client: Stream) -> Result<Link, NoLink> {
+    let (mut from_client, mut connected) = (Vec::new(), None);
+    loop {
+        let front = front(&mut client, &mut from_client)
+            .await
+            .map_err(OpenError::from)?;
+        if let Front::End = front {
+            return Err(NoLink::Gone);
+        }
+        let mut server = match connected.take() {
+            Some(server) => server,
+            None => session.connect().await?,
+        };
+        let (is_encrypted, from_server) = match front {
+            Front::SslRequest(length) | Front::GssEncRequest(length) => {
+                let request: Vec<u8> = from_client.drain(..length).collect();
+                match ask(&mut client, &mut server, &request).await? {
+                    Answer::Yes => (true, Vec::new()),
+                    Answer::Other(bytes) => (false, bytes),
+                    Answer::No => {
+                        connected = Some(server);
+                        continue;
+                    }
+                }
+            }
+            Front::Message(first, _) => {
+                session.count(&first);
+                (false, Vec::new())
+            }
+            _ => (true, Vec::new()),
+        };
+        return Ok(Link {
+            client,
+            server,
+            from_client,
+            from_server,
+            is_encrypted,
+        });
+    }
+}
+
+/// Passes a request on, and the byte that answers it.
+async fn ask(
+    client: &mut Stream,
+    server: &mut Stream,
+    request: &[u8],
+) -> Result<Answer, OpenError> {
+    server.write_all(request).await?;
+    let mut answer = [0];
+    let count = server.read(&mut answer).await?;
+    let is_yes = match &answer[..count] {
+        b"S" | b"G" => true,
+        b"N" => false,
+        other => return Ok(Answer::Other(other.to_vec())),
+    };
+    client.write_all(&answer).await?;
+    Ok(if is_yes { Answer::Yes } else { Answer::No })
+}

@@ -1,0 +1,40 @@
+//! Passes connections on to a server, and records or prints what both sides say; prints a recording.
+#![forbid(unsafe_code)]
+
+mod arguments;
+mod direction;
+mod encryption;
+mod framer;
+mod output;
+mod print;
+mod printer;
+mod proxy;
+mod serve;
+mod session;
+mod tape;
+
+use arguments::Arguments;
+use net::{Failure, Sayer, Status};
+use std::process;
+
+fn run(arguments: &Arguments, says: &Sayer) -> Result<Status, Failure> {
+    match &arguments.print {
+        Some(path) => print::print(path, arguments, says),
+        None => serve::serve(arguments, says),
+    }
+}
+
+fn main() {
+    let arguments = Arguments::read();
+    let says = Sayer::new("pg_record");
+    let status = run(&arguments, &says).unwrap_or_else(|failure| {
+        says.say(&failure);
+        if failure.status == Status::Usage {
+            says.say_plain(format!("usage: {}", arguments::USAGE));
+        }
+        failure.status
+    });
+    says.end();
+    // Threads that wait for a pipe which nobody reads end here.
+    process::exit(status as i32);
+}

@@ -1,0 +1,266 @@
+//! What passes, or what is recorded, as lines.
+
+use crate::arguments::Form;
+use crate::framer::decoder_of;
+use lines::trace;
+use pgmsg::{Decoder, Frame, Next};
+use recording::{Kind, Side};
+use std::collections::BTreeMap;
+use std::fmt::Display;
+use std::io::Write;
+
+/// The longest message that is shown.
+const LONGEST_SHOWN: usize = 64 << 20;
+
+/// Prints the lines of connections.
+pub struct Printer {
+    form: Form,
+    /// The number of the connection that is shown, where not all are.
+    only: Option<u32>,
+    shows_numbers: bool,
+    all: BTreeMap<u32, [Direction; 2]>,
+    out: Out,
+}
+
+/// Where lines are added.
+struct Out {
+    bytes: Vec<u8>,
+    /// What was to be said on standard error.
+    said: Vec<String>,
+}
+
+/// A direction of a connection.
+struct Direction {
+    side: Side,
+    decoder: Decoder,
+    /// No message begins as the bytes go on.
+    is_over: bool,
+    /// How much comes of a message that is too long to be shown, and how much of it came.
+    left: usize,
+    skipped: usize,
+    /// Those of the message that isn't whole.
+    bytes: Vec<u8>,
+}
+
+impl Printer {
+    pub fn new(form: Form, only: Option<u32>, shows_numbers: bool) -> Printer {
+        Printer {
+            form,
+            only,
+            shows_numbers,
+            all: BTreeMap::new(),
+            out: Out {
+                bytes: Vec::new(),
+                said: Vec::new(),
+            },
+        }
+    }
+
+    /// Adds the lines of messages that are whole with a record.
+    pub fn take(&mut self, number: u32, kind: Kind, content: &[u8]) {
+        if self.only.map_or(false, |only| only != number) {
+            return;
+        }
+        let at = |side| if side == Side::Client { 0 } else { 1 };
+        let lines = Lines {
+            form: self.form,
+            prefix: self.shows_numbers.then_some(number),
+        };
+        match (kind, self.all.get_mut(&number)) {
+            (Kind::Opened, _) => {
+                let both = [Direction::new(Side::Client), Direction::new(Side::Server)];
+                self.all.insert(number, both);
+            }
+            (Kind::Bytes(side), Some(both)) => {
+                lines.take(&mut both[at(side)], content, &mut self.out)
+            }
+            (Kind::LeftOut(side), Some(_)) => lines.left_out(side, content, &mut self.out),
+            (Kind::Encrypted, Some(_)) => {
+                let words = format!("connection {number} is encrypted from here on");
+                self.out.said.push(words);
+            }
+            (Kind::Closed, Some(both)) => {
+                both.iter()
+                    .for_each(|direction| lines.end(direction, &mut self.out));
+                self.all.remove(&number);
+            }
+            (_, None) => {}
+        }
+    }
+
+    /// Ends the connections that are open.
+    pub fn end(&mut self) {
+        for (number, both) in std::mem::take(&mut self.all) {
+            let lines = Lines {
+                form: self.form,
+                prefix: self.shows_numbers.then_some(number),
+            };
+            both.iter()
+                .for_each(|direction| lines.end(direction, &mut self.out));
+        }
+    }
+
+    /// The lines that were added, to be taken away.
+    pub fn lines(&mut self) -> &mut Vec<u8> {
+        &mut self.out.bytes
+    }
+
+    /// What was to be said on standard error, which is taken away.
+    pub fn said(&mut self) -> Vec<String> {
+        std::mem::take(&mut self.out.said)
+    }
+}
+
+impl Direction {
+    fn new(side: Side) -> Direction {
+        Direction {
+            side,
+            decoder: decoder_of(side),
+            is_over: false,
+            left: 0,
+            skipped: 0,
+            bytes: Vec::new(),
+        }
+    }
+
+    /// Passes over what there is of a message that is too long, and gives what follows.
+    fn skip<'c>(&mut self, content: &'c [u8]) -> &'c [u8] {
+        let count = self.left.min(content.len());
+        self.left -= count;
+        self.skipped += count;
+        &content[count..]
+    }
+}
+
+/// How the lines of a connection are.
+struct Lines {
+    form: Form,
+    prefix: Option<u32>,
+}
+
+impl Lines {
+    fn number(&self, out: &mut Vec<u8>) {
+        if let Some(number) = self.prefix {
+            put(out, format_args!("{number} "));
+        }
+    }
+
+    /// Adds bytes of a direction, and prints the messages that are whole.
+    fn take(&self, direction: &mut Direction, content: &[u8], out: &mut Out) {
+        let is_shown = self.form != Form::Server || direction.side == Side::Server;
+        if direction.is_over || !is_shown {
+            return;
+        }
+        let content = direction.skip(content);
+        if content.is_empty() {
+            return;
+        }
+        let mut held = std::mem::take(&mut direction.bytes);
+        held.extend_from_slice(content);
+        let count = self.print_whole(direction, &held, out);
+        held.drain(..count);
+        direction.bytes = held;
+    }
+
+    /// Prints messages, and gives how many bytes are passed over.
+    fn print_whole(&self, direction: &mut Direction, bytes: &[u8], out: &mut Out) -> usize {
+        let mut at = 0;
+        loop {
+            match self.next(direction, &bytes[at..]) {
+                Ok(Next::Incomplete { needed, .. }) if needed > LONGEST_SHOWN => {
+                    out.said
+                        .push(format!("a message of {needed} bytes isn't shown"));
+                    (direction.left, direction.skipped) = (needed, 0);
+                    direction.skip(&bytes[at..]);
+                    return bytes.len();
+                }
+                Ok(Next::Incomplete { .. }) => return at,
+                Ok(Next::Frame(frame)) => {
+                    self.number(&mut out.bytes);
+                    self.print(direction.side, &frame, &mut out.bytes);
+                    at += frame.bytes.len();
+                }
+                Err(words) => {
+                    self.number(&mut out.bytes);
+                    put(&mut out.bytes, format_args!("{words}\n"));
+                    direction.is_over = true;
+                    return bytes.len();
+                }
+            }
+        }
+    }
+
+    /// The message at the front, or what is wrong with it.
+    fn next<'b>(&self, direction: &mut Direction, bytes: &'b [u8]) -> Result<Next<'b>, String> {
+        match *bytes {
+            [tag, _, _, _, _, ..] if !self.has_line(direction.side, tag) => {
+                Err(format!("unknown message type: {tag}"))
+            }
+            _ => {
+                let next = direction.decoder.next(bytes);
+                next.map_err(|fault| fault.to_string())
+            }
+        }
+    }
+
+    /// Whether there is a line of a message by its tag. The decoder judges those of a client.
+    fn has_line(&self, side: Side, tag: u8) -> bool {
+        let is_server_line = side == Side::Server && !matches!(self.form, Form::Trace(_));
+        !is_server_line || lines::server_name(tag).is_some()
+    }
+
+    fn print(&self, side: Side, frame: &Frame<'_>, out: &mut Vec<u8>) {
+        let body = frame.body();
+        match (self.form, side, frame.tag) {
+            (Form::Trace(style), _, Some(tag)) => {
+                trace::message(out, style, side_of(side), tag, body);
+            }
+            (Form::Trace(style), _, None) => {
+                trace::first_message(out, style, body);
+            }
+            (_, Side::Server, Some(tag)) => lines::server_line(out, tag, body),
+            _ => lines::client_line(out, frame),
+        }
+    }
+
+    /// Prints a message whose body is left out.
+    fn left_out(&self, side: Side, content: &[u8], out: &mut Out) {
+        let (tag, length) = match content {
+            &[tag, a, b, c, d] => (tag, u32::from_be_bytes([a, b, c, d])),
+            _ => return,
+        };
+        self.number(&mut out.bytes);
+        match (self.form, side) {
+            (Form::Trace(style), _) => {
+                trace::left_out(&mut out.bytes, style, side_of(side), tag, length)
+            }
+            (_, Side::Server) => lines::left_out_line(&mut out.bytes, tag, length),
+            (_, Side::Client) => put(&mut out.bytes, "password left-out\n"),
+        }
+    }
+
+    /// Prints how many bytes of a direction are no whole message, where there are any.
+    fn end(&self, direction: &Direction, out: &mut Out) {
+        let rest = match direction.left {
+            0 => direction.bytes.len(),
+            _ => direction.skipped,
+        };
+        if rest > 0 && !direction.is_over {
+            self.number(&mut out.bytes);
+            put(&mut out.bytes, format_args!("rest {rest}\n"));
+        }
+    }
+}
+
+fn side_of(side: Side) -> trace::Side {
+    match side {
+        Side::Client => trace::Side::Client,
+        Side::Server => trace::Side::Server,
+    }
+}
+
+/// Adds text.
+fn put(out: &mut Vec<u8>, text: impl Display) {
+    // Writing to a vector never fails.
+    let _ = write!(out, "{text}");
+}

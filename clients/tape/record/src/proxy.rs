@@ -1,0 +1,97 @@
+//! What all sessions share, and where clients are accepted.
+
+use crate::session::{Session, OPENING};
+use crate::tape::Tape;
+use net::{Listener, Sayer, ServerTls, Status, Upstream};
+use std::io;
+use std::sync::atomic::{AtomicU64, Ordering};
+use std::sync::Arc;
+use std::time::Duration;
+use tokio::sync::{mpsc, Notify, OwnedSemaphorePermit, Semaphore};
+use tokio::time::{sleep, sleep_until, timeout_at, Instant};
+
+/// How long a client's first message may take while others wait for its place.
+const CROWDED: Duration = Duration::from_secs(2);
+/// How long no client is accepted where that can't be done.
+const PAUSE: Duration = Duration::from_millis(50);
+
+pub struct Proxy {
+    pub upstream: Upstream,
+    pub tape: Tape,
+    pub tls: Option<ServerTls>,
+    pub passes_encryption: bool,
+    pub leaves_out: bool,
+    pub says: Sayer,
+    /// All ends with the first session, whose status is told here.
+    pub single: Option<mpsc::UnboundedSender<Status>>,
+    pub places: Arc<Semaphore>,
+    /// Calls sessions when clients wait for a place.
+    pub is_crowded: Notify,
+    pub cancels: AtomicU64,
+}
+
+impl Proxy {
+    /// Waits until a client that says no first message is given up: sooner while others wait.
+    pub async fn run_out(&self, begun: Instant) {
+        let hurried = async {
+            sleep_until(begun + CROWDED).await;
+            loop {
+                let called = self.is_crowded.notified();
+                if self.places.available_permits() == 0 {
+                    return;
+                }
+                called.await;
+            }
+        };
+        let _ = timeout_at(begun + OPENING, hurried).await;
+    }
+
+    pub fn count_cancel(&self) {
+        self.cancels.fetch_add(1, Ordering::Relaxed);
+    }
+
+    /// Notes how the session of a number ended.
+    pub fn session_ended(&self, number: u32, status: Status) {
+        if let Some(single) = self.single.as_ref().filter(|_| number == 1) {
+            let _ = single.send(status);
+        }
+    }
+
+    /// A place for a client, of which there are as many as the process has descriptors for.
+    async fn place(&self) -> Option<OwnedSemaphorePermit> {
+        if let Ok(place) = self.places.clone().try_acquire_owned() {
+            return Some(place);
+        }
+        self.is_crowded.notify_waiters();
+        self.places.clone().acquire_owned().await.ok()
+    }
+
+    /// Serves those who connect to a listener, each by a task of its own.
+    pub async fn accept(self: Arc<Proxy>, listener: Listener) {
+        loop {
+            let (client, peer) = match listener.accept().await {
+                Ok(accepted) => accepted,
+                Err(why) => {
+                    self.wait_after(&why).await;
+                    continue;
+                }
+            };
+            let place = match self.place().await {
+                Some(place) => place,
+                None => return,
+            };
+            let proxy = self.clone();
+            tokio::spawn(async move {
+                Session::new(&proxy, peer).serve(client).await;
+                drop(place);
+            });
+        }
+    }
+
+    /// Waits for what may pass: a client that gave up, or a lack of descriptors or of memory.
+    async fn wait_after(&self, why: &io::Error) {
+        if why.kind() != io::ErrorKind::ConnectionAborted {
+            sleep(PAUSE).await;
+        }
+    }
+}

@@ -1,0 +1,181 @@
+//! The passing on of many connections, until a signal comes or nothing may pass any more.
+
+use crate::arguments::{Arguments, Form};
+use crate::output::Output;
+use crate::printer::Printer;
+use crate::proxy::Proxy;
+use crate::tape::Tape;
+use net::{
+    ended, ignore_file_size, most_sessions, Bound, Failure, Listener, Sayer, ServerTls, Status,
+    Upstream,
+};
+use std::io;
+use std::sync::atomic::{AtomicU64, Ordering};
+use std::sync::Arc;
+use std::time::Duration;
+use tokio::runtime::{Builder, Runtime};
+use tokio::sync::{mpsc, Notify, Semaphore};
+use tokio::task::{spawn_blocking, JoinError, JoinHandle};
+use tokio::time::timeout;
+
+/// How long a listener or the file may take to be closed.
+const PATIENCE: Duration = Duration::from_secs(1);
+/// The descriptors of a session.
+const DESCRIPTORS: u64 = 2;
+
+fn local(why: io::Error) -> Failure {
+    Failure::new(Status::Local, format!("no threads: {why}"))
+}
+
+/// Serves, and gives the status in which that ends.
+pub fn serve(arguments: &Arguments, says: &Sayer) -> Result<Status, Failure> {
+    // Signals and the end have a thread of their own, so that a write which blocks all others doesn't hold them up.
+    let own = Builder::new_current_thread()
+        .enable_all()
+        .build()
+        .map_err(local)?;
+    let _file_size = own.block_on(async { ignore_file_size() }).map_err(local)?;
+    let signal = own.spawn(ended());
+    let sessions = arguments.listening.runtime().map_err(local)?;
+    let (fails, failures) = mpsc::unbounded_channel();
+    let tape = tape_of(arguments, says, fails)?;
+    let served = match sessions.block_on(begin(arguments, says)) {
+        Ok((upstream, bound)) => {
+            let (single, first) = mpsc::unbounded_channel();
+            let single = arguments.is_single.then_some(single);
+            let proxy = proxy_of(arguments, says, tape, upstream, bound.tls, single);
+            let accepting = accept(&proxy, bound.listeners, &sessions);
+            let ends = Ends {
+                failures,
+                signal,
+                first,
+            };
+            own.block_on(end(&proxy, accepting, ends))
+        }
+        Err(failure) => {
+            tape.close(true);
+            Err(failure)
+        }
+    };
+    // Threads that wait for a pipe which nobody reads end with the process.
+    sessions.shutdown_background();
+    own.shutdown_background();
+    served
+}
+
+/// Where what passes goes. Nothing asked for is lines of the server's messages.
+fn tape_of(
+    arguments: &Arguments,
+    says: &Sayer,
+    fails: mpsc::UnboundedSender<Failure>,
+) -> Result<Tape, Failure> {
+    let file = arguments
+        .output
+        .as_deref()
+        .map(|path| (path, arguments.keep_passing));
+    let form = arguments
+        .form()
+        .or_else(|| Some(Form::Server).filter(|_| file.is_none()));
+    let told = fails.clone();
+    let lines = form.map(|form| {
+        let printer = Printer::new(form, arguments.only, arguments.numbers);
+        let output = Output::new(move |failure| drop(told.send(failure)));
+        (printer, output)
+    });
+    let fails = Box::new(move |failure| drop(fails.send(failure)));
+    Tape::new(file, lines, says.clone(), fails)
+}
+
+/// Finds the server, and listens.
+async fn begin(arguments: &Arguments, says: &Sayer) -> Result<(Upstream, Bound), Failure> {
+    let upstream = arguments.server.find().await?;
+    let says = |words| says.say_plain(words);
+    let bound = arguments
+        .listening
+        .bind(arguments.listen_port, says)
+        .await?;
+    Ok((upstream, bound))
+}
+
+fn proxy_of(
+    arguments: &Arguments,
+    says: &Sayer,
+    tape: Tape,
+    upstream: Upstream,
+    tls: Option<ServerTls>,
+    single: Option<mpsc::UnboundedSender<Status>>,
+) -> Arc<Proxy> {
+    let prints_server = arguments.form().is_none() && arguments.output.is_none();
+    Arc::new(Proxy {
+        upstream,
+        tape,
+        tls,
+        passes_encryption: arguments.encryption,
+        leaves_out: !arguments.passwords && !prints_server,
+        says: says.clone(),
+        single,
+        places: Arc::new(Semaphore::new(most_sessions(DESCRIPTORS))),
+        is_crowded: Notify::new(),
+        cancels: AtomicU64::new(0),
+    })
+}
+
+/// Accepts clients of all listeners.
+fn accept(proxy: &Arc<Proxy>, listeners: Vec<Listener>, sessions: &Runtime) -> Vec<JoinHandle<()>> {
+    let accepting = |listener| sessions.spawn(proxy.clone().accept(listener));
+    listeners.into_iter().map(accepting).collect()
+}
+
+/// What ends the program.
+struct Ends {
+    failures: mpsc::UnboundedReceiver<Failure>,
+    signal: JoinHandle<io::Result<Status>>,
+    /// The status of the first session, where all ends with it.
+    first: mpsc::UnboundedReceiver<Status>,
+}
+
+/// Waits for an end, and gives its status. All that has passed is in the file, so little is left to be done.
+async fn end(
+    proxy: &Arc<Proxy>,
+    accepting: Vec<JoinHandle<()>>,
+    mut ends: Ends,
+) -> Result<Status, Failure> {
+    let (ended, is_told) = tokio::select! {
+        biased;
+        Some(failure) = ends.failures.recv() => (Err(failure), false),
+        status = &mut ends.signal => (Ok(status_of(status)), true),
+        Some(status) = ends.first.recv() => (Ok(status), false),
+    };
+    for each in accepting {
+        each.abort();
+        // A listener is closed with its task, unless all threads wait for a file.
+        let _ = timeout(PATIENCE, each).await;
+    }
+    let (closed, is_unreachable) = (proxy.clone(), matches!(ended, Ok(Status::Unreachable)));
+    let closing = spawn_blocking(move || closed.tape.close(is_unreachable));
+    if timeout(PATIENCE, closing).await.is_err() {
+        // Who writes to a pipe that nobody reads may keep others from their lines, too.
+        return ended;
+    }
+    let lost = tokio::select! {
+        lost = proxy.tape.end(is_told) => lost,
+        _ = ends.signal, if !is_told => proxy.tape.end(true).await,
+    };
+    say_cancels(proxy);
+    ended.map(|status| lost.unwrap_or(status))
+}
+
+/// The status of a signal, or that of the task which can't wait for one.
+fn status_of(status: Result<io::Result<Status>, JoinError>) -> Status {
+    status.ok().and_then(Result::ok).unwrap_or(Status::Local)
+}
+
+fn say_cancels(proxy: &Proxy) {
+    match proxy.cancels.load(Ordering::Relaxed) {
+        0 => {}
+        1 => proxy.says.say("1 request to cancel was passed on"),
+        count => proxy
+            .says
+            .say(format_args!("{count} requests to cancel were passed on")),
+    }
+}

@@ -1,0 +1,174 @@
+//! Where what passes goes: to a recording, to standard output, or both.
+
+use crate::output::Output;
+use crate::printer::Printer;
+use net::{Failure, Sayer, Status};
+use recording::{Kind, Lost};
+use std::path::{Path, PathBuf};
+use std::sync::atomic::{AtomicBool, Ordering};
+use std::sync::{Mutex, MutexGuard, PoisonError};
+
+/// Nothing may pass any more. Why is told to the one that ends the program.
+#[derive(Debug)]
+pub struct Over;
+
+/// Tells why the program ends.
+pub type Fails = Box<dyn Fn(Failure) + Send + Sync>;
+
+/// Takes what is to be a record, before it passes.
+pub struct Tape {
+    file: Option<Recorded>,
+    lines: Option<Printed>,
+    /// How many connections have been opened.
+    opened: Mutex<u32>,
+    says: Sayer,
+    fails: Fails,
+}
+
+/// A recording, and its file.
+struct Recorded {
+    tape: recording::Tape,
+    path: PathBuf,
+    /// What passes does so also where it can't be recorded any more.
+    goes_on: bool,
+    is_lost: AtomicBool,
+}
+
+/// Lines in the order of the records, and where they go.
+struct Printed {
+    printer: Mutex<Printer>,
+    output: Output,
+}
+
+fn lock<T>(mutex: &Mutex<T>) -> MutexGuard<'_, T> {
+    mutex.lock().unwrap_or_else(PoisonError::into_inner)
+}
+
+impl Recorded {
+    fn new(path: &Path, goes_on: bool) -> Result<Recorded, Failure> {
+        let tape = recording::Tape::create(path)
+            .map_err(|why| Failure::new(Status::Unrecorded, format!("{} {why}", path.display())))?;
+        Ok(Recorded {
+            tape,
+            path: path.to_owned(),
+            goes_on,
+            is_lost: AtomicBool::new(false),
+        })
+    }
+}
+
+impl Tape {
+    /// Makes the file of a recording, and prints, where each is asked for.
+    pub fn new(
+        file: Option<(&Path, bool)>,
+        lines: Option<(Printer, Output)>,
+        says: Sayer,
+        fails: Fails,
+    ) -> Result<Tape, Failure> {
+        let file = file
+            .map(|(path, goes_on)| Recorded::new(path, goes_on))
+            .transpose()?;
+        Ok(Tape {
+            file,
+            lines: lines.map(|(printer, output)| Printed {
+                printer: Mutex::new(printer),
+                output,
+            }),
+            opened: Mutex::new(0),
+            says,
+            fails,
+        })
+    }
+
+    /// Takes the opening of a connection, and gives its number.
+    pub async fn open(&self, peer: &str) -> Result<u32, Over> {
+        let records = [(Kind::Opened, peer.as_bytes())];
+        let (number, end) = {
+            let mut opened = lock(&self.opened);
+            *opened += 1;
+            (*opened, self.put(*opened, &records)?)
+        };
+        self.wait(end).await.map(|()| number)
+    }
+
+    /// Takes records of a connection. They may pass once this is over.
+    pub async fn take(&self, connection: u32, records: &[(Kind, &[u8])]) -> Result<(), Over> {
+        let end = self.put(connection, records)?;
+        self.wait(end).await
+    }
+
+    /// Records and prints, and gives where the lines end.
+    fn put(&self, connection: u32, records: &[(Kind, &[u8])]) -> Result<u64, Over> {
+        let lines = match &self.lines {
+            None => return self.record(connection, records).map(|()| 0),
+            Some(lines) => lines,
+        };
+        let mut printer = lock(&lines.printer);
+        self.record(connection, records)?;
+        for &(kind, content) in records {
+            printer.take(connection, kind, content);
+        }
+        printer.said().iter().for_each(|words| self.says.say(words));
+        Ok(lines.output.add(printer.lines()))
+    }
+
+    fn record(&self, connection: u32, records: &[(Kind, &[u8])]) -> Result<(), Over> {
+        let file = match &self.file {
+            Some(file) if !file.is_lost.load(Ordering::Relaxed) => file,
+            _ => return Ok(()),
+        };
+        let why = match file.tape.add(connection, records) {
+            Ok(()) => return Ok(()),
+            Err(why) => why,
+        };
+        if let Lost::Now(_) = why {
+            let words = format!("{} {why}", file.path.display());
+            if file.goes_on {
+                self.says.say(words);
+                self.says.say("nothing is recorded from here on");
+            } else {
+                (self.fails)(Failure::new(Status::Unrecorded, words));
+            }
+        }
+        file.is_lost.store(file.goes_on, Ordering::Relaxed);
+        Some(()).filter(|()| file.goes_on).ok_or(Over)
+    }
+
+    async fn wait(&self, end: u64) -> Result<(), Over> {
+        match &self.lines {
+            Some(lines) => lines.output.wait(end).await.map_err(|_| Over),
+            None => Ok(()),
+        }
+    }
+
+    /// Ends the recording, once what is being written is: that may take for ever where the file is a pipe. A file without
+    /// a record is taken away where no server could be reached.
+    pub fn close(&self, is_unreachable: bool) {
+        if let Some(file) = &self.file {
+            file.tape.close();
+            if is_unreachable {
+                file.tape.forget(&file.path);
+            }
+        }
+    }
+
+    /// Ends the lines, and gives the status where the recording is lost. Where a signal told the program to end, lines that
+    /// nobody reads are given up.
+    pub async fn end(&self, is_told: bool) -> Option<Status> {
+        if let Some(lines) = &self.lines {
+            self.end_printer(lines);
+            if let Err(words) = lines.output.end(is_told).await {
+                self.says.say(words);
+            }
+        }
+        let is_lost = |file: &Recorded| file.is_lost.load(Ordering::Relaxed);
+        let is_lost = self.file.as_ref().map_or(false, is_lost);
+        Some(Status::Unrecorded).filter(|_| is_lost)
+    }
+
+    fn end_printer(&self, lines: &Printed) {
+        let mut printer = lock(&lines.printer);
+        printer.end();
+        lines.output.add(printer.lines());
+    }
+}

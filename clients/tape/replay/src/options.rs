@@ -1,0 +1,113 @@
+//! The options, and what is wrong with them.
+
+use crate::form::LiteralKind;
+use crate::rules::Rules;
+use clap::Parser;
+use net::{Address, Failure, Listening, Status};
+use std::path::PathBuf;
+use std::time::Duration;
+
+/// The longest path of a Unix socket.
+const PATH_MOST: usize = 107;
+
+const FORM: &str = "pg_replay [OPTION..] FILE [LISTEN_PORT]";
+pub const USAGE: &str = "usage: pg_replay [OPTION..] FILE [LISTEN_PORT]";
+
+/// Serves the recording FILE of pg_record: answers each client as the server did, and compares what it says with what was
+/// recorded.
+///
+/// A client goes on with the next exchange of the connection whose Startup it said; where that differs, and it is outside
+/// of a transaction, with the first exchange of any connection that is the same and that no client had. Names of
+/// statements, portals, cursors and savepoints may differ, and settings may come in any order. No password is asked for
+/// where none is named. Ends when all connections are replayed, or at a difference, with status 11, after both messages
+/// are printed, and the rule that would let them differ.
+///
+/// Messages up to a mebibyte are compared so; longer ones have to be as recorded.
+#[derive(Parser, Debug)]
+#[command(name = "pg_replay", override_usage = FORM, disable_version_flag = true)]
+pub struct Options {
+    /// The recording
+    pub file: PathBuf,
+    /// A port of 127.0.0.1 to serve on, a free one for 0; with --folder, that of its socket's name
+    pub listen_port: Option<u16>,
+    #[command(flatten)]
+    pub listening: Listening,
+    /// Asks each client by SCRAM-SHA-256 for the password that is the first line of FILE
+    #[arg(long, value_name = "FILE")]
+    pub scram: Option<PathBuf>,
+    /// What may differ, in TOML: `[[replace]]` pattern, with; `[[parameter]]` statement, positions; `[[ignore]]` statement,
+    /// command; `[settings]` ignore
+    #[arg(long, value_name = "FILE")]
+    rules: Option<PathBuf>,
+    /// A setting of the Startup may differ, or be missing
+    #[arg(long, value_name = "NAME")]
+    any_setting: Vec<String>,
+    /// The value of parameter N of each Bind may differ; the first is 1
+    #[arg(long, value_name = "N", value_parser = clap::value_parser!(u16).range(1..))]
+    any_parameter: Vec<u16>,
+    /// Literals of this kind may differ in the text of SQL
+    #[arg(long, value_name = "KIND", value_enum)]
+    any_literal: Vec<LiteralKind>,
+    /// Names may differ, which they may without it
+    #[arg(long, hide = true)]
+    any_name: bool,
+    /// With --again: a connection is served again as soon as its client is gone, for which another one waits some seconds
+    #[arg(long)]
+    pub any_order: bool,
+    /// Answers as long after a message as the server did, and not at once
+    #[arg(long)]
+    pub speed: bool,
+    /// Takes silence for a difference where the recorded client had sent more
+    #[arg(long, value_name = "SECONDS", value_parser = clap::value_parser!(u32).range(..=86400))]
+    patience: Option<u32>,
+    /// Serves on after a difference
+    #[arg(long)]
+    pub go_on: bool,
+    /// Serves the recording again when all of it is replayed
+    #[arg(long)]
+    pub again: bool,
+}
+
+/// What is wrong, and the form of the arguments.
+fn with_usage(why: &str) -> String {
+    let what = why.split("\n\n").next().unwrap_or_default();
+    format!("pg_replay: {}\n{USAGE}\n", what.trim_start_matches("error: "))
+}
+
+impl Options {
+    /// Takes the arguments. What is to be printed of them otherwise comes with a status.
+    pub fn take() -> Result<Options, (Status, String)> {
+        let options = Options::try_parse().map_err(|why| match why.use_stderr() {
+            true => (Status::Usage, with_usage(&why.to_string())),
+            false => (Status::Ok, why.to_string()),
+        })?;
+        match options.listening.listen.is_empty() && options.listen_port.is_none() {
+            true => Err((Status::Usage, format!("{USAGE}\n"))),
+            false => Ok(options),
+        }
+    }
+
+    pub fn patience(&self) -> Option<Duration> {
+        self.patience.filter(|it| *it > 0).map(|it| Duration::from_secs(it.into()))
+    }
+
+    /// Refuses the path of a socket that is longer than one may be.
+    pub fn check_paths(&self) -> Result<(), Failure> {
+        let named = self.listening.folder.as_ref().zip(self.listen_port).map(|(folder, port)| Address::in_folder(folder, port));
+        let mut all = named.iter().chain(&self.listening.listen);
+        let long = all.find(|it| matches!(it, Address::Unix(path) if path.as_os_str().len() > PATH_MOST));
+        long.map_or(Ok(()), |it| Err(Failure::new(Status::Unreachable, format!("{it} is too long"))))
+    }
+
+    /// What may differ.
+    pub fn rules(&self) -> Result<Rules, Failure> {
+        let mut rules = match &self.rules {
+            None => Rules::default(),
+            Some(path) => {
+                Rules::read(path).map_err(|why| Failure::new(Status::Usage, format!("{}: {why:#}", path.display())))?
+            }
+        };
+        rules.allow(&self.any_setting, &self.any_parameter, &self.any_literal);
+        Ok(rules)
+    }
+}

@@ -1,0 +1,131 @@
+//! Taking another turn in the place of one that has begun: as long as all that was said and heard of both is the same.
+
+use super::Pool;
+use crate::tape::{Changed, What};
+
+impl Pool {
+    /// Takes another turn in the place of that which a session is in: one that went the same up to here, and goes on with
+    /// a form. A client that has that one gets this one.
+    pub(super) fn choose_again(&mut self, id: usize, form: u32) -> Result<bool, Changed> {
+        let seat = &self.seats[&id];
+        let (Some(turn), at) = (seat.turn, seat.at) else {
+            return Ok(false);
+        };
+        let count = self.passed(turn, at);
+        for other in self.like(turn, count) {
+            let Some(place) = self.place_after(other, count) else {
+                continue;
+            };
+            let place = self.find(other, place, form).filter(|_| self.can_change(id, other, count));
+            if let (Some(place), true) = (place, self.is_alike(turn, other, count)?) {
+                self.change(id, turn, other);
+                self.seat(id).at = place;
+                return Ok(true);
+            }
+        }
+        Ok(false)
+    }
+
+    /// The messages of a turn that none may leave out.
+    fn core(&self, turn: usize) -> impl Iterator<Item = usize> + '_ {
+        self.tape.turns[turn].said.clone().filter(|it| !self.tape.is_free(*it))
+    }
+
+    /// How many of them are before a place in the turn.
+    fn passed(&self, turn: usize, at: usize) -> usize {
+        let place = self.tape.turns[turn].said.start + at;
+        self.core(turn).take_while(|it| *it < place).count()
+    }
+
+    /// The turns that begin as one, where so many messages of it were said, and there are others to take.
+    fn like(&self, turn: usize, count: usize) -> Vec<usize> {
+        let first = self.core(turn).next().map(|it| self.tape.said[it].what);
+        match first {
+            Some(What::Form(first)) if count > 0 && !self.tape.is_single() => {
+                let like = self.by_first.get(&first);
+                like.into_iter().flatten().copied().filter(|it| *it != turn).collect()
+            }
+            _ => Vec::new(),
+        }
+    }
+
+    /// The place in a turn after so many messages that none may leave out.
+    fn place_after(&self, turn: usize, count: usize) -> Option<usize> {
+        let last = self.core(turn).nth(count.checked_sub(1)?)?;
+        Some(last + 1 - self.tape.turns[turn].said.start)
+    }
+
+    /// Takes another turn where data aren't the recorded ones: one that went the same up to here, and has data of which so
+    /// many bytes are the same, and these come next; or none, where the data are to end. Answers which message has them.
+    pub fn choose_bytes(&mut self, id: usize, passed: u64, next: &[u8]) -> Result<Option<usize>, Changed> {
+        let seat = &self.seats[&id];
+        let (Some(turn), at) = (seat.turn, seat.at) else {
+            return Ok(None);
+        };
+        let (own, count) = (self.tape.turns[turn].said.start + at, self.passed(turn, at));
+        for other in self.like(turn, count) {
+            let place = self.place_after(other, count).map(|it| self.tape.turns[other].said.start + it);
+            let Some(said) = place.filter(|it| *it < self.tape.turns[other].said.end) else {
+                continue;
+            };
+            let fits = self.can_change(id, other, count)
+                && self.tape.begins_with(said, own, passed, next)?
+                && self.is_alike(turn, other, count)?;
+            if fits {
+                self.change(id, turn, other);
+                self.seat(id).at = said - self.tape.turns[other].said.start;
+                return Ok(Some(said));
+            }
+        }
+        Ok(None)
+    }
+
+    /// Whether a turn is free, or has a client that may as well have the session's. That client isn't ahead of the session,
+    /// which has said so many messages that none may leave out.
+    fn can_change(&self, id: usize, other: usize, count: usize) -> bool {
+        match self.turns[other].holder {
+            Some(holder) if holder == id => false,
+            Some(holder) => {
+                let there = &self.seats[&holder];
+                there.turn == Some(other) && !there.is_busy && self.passed(other, there.at) <= count
+            }
+            None => self.is_free(other),
+        }
+    }
+
+    /// Whether two turns are the same for so many messages and their answers.
+    fn is_alike(&self, one: usize, other: usize, count: usize) -> Result<bool, Changed> {
+        let pairs: Vec<_> = self.core(one).zip(self.core(other)).take(count).collect();
+        let what = |said: usize| self.tape.said[said].what;
+        if pairs.len() < count || !pairs.iter().all(|(one, other)| what(*one) == what(*other)) {
+            return Ok(false);
+        }
+        for (one, other) in pairs {
+            let is_same = match what(one) {
+                What::Form(_) => true,
+                What::Bytes(len) => self.tape.begins_with(other, one, len, &[])?,
+            };
+            if !is_same || !self.tape.is_same_answer(one, other)? {
+                return Ok(false);
+            }
+        }
+        Ok(true)
+    }
+
+    /// Exchanges two turns, of which another client may have the second. That one goes on at the same message.
+    fn change(&mut self, id: usize, own: usize, other: usize) {
+        let holder = self.turns[other].holder.replace(id);
+        self.turns[own].holder = holder;
+        self.seat(id).turn = Some(other);
+        let Some(holder) = holder else {
+            self.turns[own].uses -= 1;
+            self.turns[other].uses += 1;
+            return;
+        };
+        let count = self.passed(other, self.seats[&holder].at);
+        let place = self.place_after(own, count).unwrap_or(0);
+        let seat = self.seat(holder);
+        seat.turn = Some(own);
+        seat.at = place;
+    }
+}

@@ -1,0 +1,31 @@
+//! What is replayed of a recording, and what is left.
+
+use super::Pool;
+
+impl Pool {
+    /// Whether as many clients came and are gone as were recorded.
+    pub fn is_done(&self) -> bool {
+        !self.again && self.done >= self.tape.connections.len()
+    }
+
+    /// How many sessions were replayed without a difference.
+    pub fn replayed(&self) -> usize {
+        self.replayed
+    }
+
+    /// The first recorded message that no client said, of those that may not be left out.
+    pub fn first_unsaid(&self) -> Option<usize> {
+        let unused = self.turns.iter().position(|it| it.uses == 0);
+        let unused = unused.into_iter().flat_map(|first| first..self.turns.len());
+        unused
+            .filter(|turn| self.turns[*turn].uses == 0 && !self.may_be_left_out(*turn))
+            .map(|turn| self.tape.turns[turn].said.start)
+            .next()
+    }
+
+    /// The number of the connection of a message.
+    pub fn connection_of(&self, said: usize) -> u32 {
+        let place = self.tape.connections.partition_point(|it| it.startup <= said);
+        self.tape.connections[place.max(1) - 1].number
+    }
+}

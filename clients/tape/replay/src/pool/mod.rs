@@ -1,0 +1,327 @@
+//! Which recorded turn a client gets. A session goes on with the next one of the connection that it follows. Where that
+//! differs it takes another one that nobody had, of any connection, as long as all that it said and heard since it was
+//! outside of a transaction is the same there.
+
+mod choose;
+mod claims;
+mod ending;
+
+pub use claims::Claim;
+
+use crate::tape::{Changed, Ending, Tape, What};
+use std::collections::HashMap;
+use std::sync::Arc;
+
+/// What a client has.
+#[derive(Debug)]
+struct Seat {
+    /// The connection whose Startup it said.
+    home: usize,
+    /// The turn that comes next where all goes as recorded, which may be none of its connection any more.
+    next: usize,
+    /// The connection that it follows.
+    connection: usize,
+    turn: Option<usize>,
+    /// How many messages of the turn it has said.
+    at: usize,
+    /// It is within a message or data that are compared as bytes.
+    is_busy: bool,
+    /// The number of the last message.
+    number: u32,
+    cancels: u32,
+    /// How many causes there were when it began.
+    begun: u64,
+}
+
+#[derive(Clone, Debug, Default)]
+struct TurnState {
+    uses: u32,
+    holder: Option<usize>,
+}
+
+#[derive(Clone, Debug, Default)]
+struct ConnectionState {
+    is_held: bool,
+    /// How many clients had it and are gone.
+    rounds: usize,
+}
+
+pub struct Pool {
+    tape: Arc<Tape>,
+    again: bool,
+    turns: Vec<TurnState>,
+    connections: Vec<ConnectionState>,
+    /// Those connections can be taken that so many clients had, or fewer.
+    round: usize,
+    /// The turns by the form of their first message, but for those that prepare statements.
+    by_first: HashMap<u32, Vec<usize>>,
+    /// Messages that prepare statements, by their forms. Only the connections of a pool say them at other places.
+    preparing: HashMap<u32, usize>,
+    seats: HashMap<usize, Seat>,
+    next_seat: usize,
+    /// When messages were said that others wait for, by their count.
+    causes: HashMap<usize, u64>,
+    caused: u64,
+    done: usize,
+    replayed: usize,
+}
+
+/// What becomes of a message.
+#[derive(Clone, Copy, Debug, PartialEq, Eq)]
+pub enum Step {
+    Fits(Fit),
+    /// It prepares a statement, which is answered as this message was, and nothing is passed by it.
+    Prepares(usize),
+    /// The recorded message that would be next, where there is one.
+    Differs(Option<usize>),
+}
+
+/// A message that fits.
+#[derive(Clone, Copy, Debug, PartialEq, Eq)]
+pub struct Fit {
+    pub said: usize,
+    /// No transaction is open after it.
+    pub is_turn_over: bool,
+    /// The server hung up after it.
+    pub hangs_up: bool,
+    /// The recording ends after it, before the answer was whole.
+    pub is_cut: bool,
+}
+
+/// What is expected of a session.
+#[derive(Clone, Copy, Debug)]
+pub struct Expected {
+    /// The recorded message that would be next.
+    pub said: Option<usize>,
+    /// Within a turn, or where the order is the recorded one, no other is.
+    pub is_sure: bool,
+    pub ending: Ending,
+    /// Whether something after the Startup is recorded.
+    pub has_turns: bool,
+    /// Its place: the number of its connection, and of the message in that.
+    pub connection: u32,
+    pub number: u32,
+}
+
+impl Pool {
+    /// With `again`, what was replayed is replayed again, and then `any_order` needs no round to be over.
+    pub fn new(tape: Arc<Tape>, again: bool, any_order: bool) -> Pool {
+        let mut by_first: HashMap<u32, Vec<usize>> = HashMap::new();
+        for (number, turn) in tape.turns.iter().enumerate() {
+            let first = turn.said.clone().find(|it| !tape.is_free(*it)).map(|it| tape.said[it].what);
+            if let Some(What::Form(form)) = first {
+                by_first.entry(form).or_default().push(number);
+            }
+        }
+        let preparing = (0..tape.said.len()).filter(|it| tape.is_free(*it) && !tape.said[*it].heard.is_empty());
+        let preparing = preparing.filter_map(|it| match tape.said[it].what {
+            What::Form(form) => Some((form, it)),
+            What::Bytes(_) => None,
+        });
+        let preparing = preparing.collect();
+        Pool {
+            preparing,
+            again,
+            turns: vec![TurnState::default(); tape.turns.len()],
+            connections: vec![ConnectionState::default(); tape.connections.len()],
+            round: if again && any_order { usize::MAX } else { 0 },
+            by_first,
+            seats: HashMap::new(),
+            next_seat: 0,
+            causes: HashMap::new(),
+            caused: 0,
+            done: 0,
+            replayed: 0,
+            tape,
+        }
+    }
+
+    /// Whether a turn can be taken.
+    fn is_free(&self, turn: usize) -> bool {
+        self.again || self.turns[turn].uses == 0
+    }
+
+    /// The next turn of the connection that a session follows.
+    fn own_next(&self, seat: &Seat) -> Option<usize> {
+        let end = self.tape.connections[seat.connection].turns.end;
+        (seat.next..end).find(|turn| self.is_free(*turn))
+    }
+
+    /// What is expected next.
+    pub fn expected(&self, id: usize) -> Expected {
+        let seat = &self.seats[&id];
+        let connection = &self.tape.connections[seat.connection];
+        let said = match seat.turn {
+            Some(turn) => Some(self.tape.turns[turn].said.start + seat.at).filter(|it| *it < self.tape.turns[turn].said.end),
+            None => self.own_next(seat).map(|turn| self.tape.turns[turn].said.start),
+        };
+        Expected {
+            said,
+            is_sure: seat.turn.is_some() || self.tape.is_single(),
+            ending: self.tape.connections[seat.home].ending,
+            has_turns: !self.tape.connections[seat.home].turns.is_empty(),
+            connection: connection.number,
+            number: said.map_or(seat.number + 1, |it| self.tape.said[it].number),
+        }
+    }
+
+    /// Takes a message by the number of its form.
+    pub fn step(&mut self, id: usize, form: u32) -> Result<Step, Changed> {
+        let is_next = match self.seats[&id].turn {
+            Some(turn) => self.pass(id, turn, form),
+            None => self.take_turn(id, form),
+        };
+        if is_next {
+            return Ok(Step::Fits(self.advance(id)));
+        }
+        if let Some(said) = self.preparing.get(&form) {
+            return Ok(Step::Prepares(*said));
+        }
+        match self.choose_again(id, form)? {
+            true => Ok(Step::Fits(self.advance(id))),
+            false => Ok(Step::Differs(self.expected(id).said)),
+        }
+    }
+
+    /// The place in a turn, from one on, of a message of a form: the next one, or the first one after those that may be
+    /// left out.
+    fn find(&self, turn: usize, from: usize, form: u32) -> Option<usize> {
+        let said = self.tape.turns[turn].said.clone();
+        let mut at = said.start + from;
+        while at < said.end {
+            let there = &self.tape.said[at];
+            if there.what == What::Form(form) {
+                return Some(at - said.start);
+            }
+            match there.ignored {
+                0 if self.tape.is_free(at) => at += 1,
+                0 => return None,
+                count => at += count as usize,
+            }
+        }
+        None
+    }
+
+    /// Goes to the next message of a turn that has a form, where that may be.
+    fn pass(&mut self, id: usize, turn: usize, form: u32) -> bool {
+        let found = self.find(turn, self.seats[&id].at, form);
+        if let Some(at) = found {
+            self.seat(id).at = at;
+        }
+        found.is_some()
+    }
+
+    fn seat(&mut self, id: usize) -> &mut Seat {
+        self.seats.get_mut(&id).expect("a session has a seat until it ends")
+    }
+
+    /// Begins a turn whose first message has a form.
+    fn take_turn(&mut self, id: usize, form: u32) -> bool {
+        let seat = &self.seats[&id];
+        let end = self.tape.connections[seat.connection].turns.end;
+        let mut own = (seat.next..end).filter(|turn| self.is_free(*turn));
+        let own = own.find(|turn| self.find(*turn, 0, form).is_some() || !self.may_be_left_out(*turn));
+        let jumps = !self.tape.is_single() && !self.preparing.contains_key(&form);
+        let found = own
+            .filter(|turn| self.find(*turn, 0, form).is_some())
+            .or_else(|| if jumps { self.first_of(form) } else { None });
+        let at = found.and_then(|turn| self.find(turn, 0, form));
+        if let (Some(turn), Some(at)) = (found, at) {
+            self.hold(id, turn, at);
+        }
+        at.is_some()
+    }
+
+    /// Whether all of a turn may be left out.
+    fn may_be_left_out(&self, turn: usize) -> bool {
+        let said = self.tape.turns[turn].said.clone();
+        self.tape.said[said.start].ignored as usize == said.len() || said.into_iter().all(|it| self.tape.is_free(it))
+    }
+
+    /// The turn that begins with a form, of those that were taken most seldom.
+    fn first_of(&self, form: u32) -> Option<usize> {
+        let mut alike = self.by_first.get(&form)?.iter().copied();
+        match self.again {
+            true => alike.min_by_key(|turn| self.turns[*turn].uses),
+            false => alike.find(|turn| self.is_free(*turn)),
+        }
+    }
+
+    fn hold(&mut self, id: usize, turn: usize, at: usize) {
+        let state = &mut self.turns[turn];
+        state.uses += 1;
+        state.holder = Some(id);
+        let seat = self.seat(id);
+        seat.turn = Some(turn);
+        seat.at = at;
+    }
+
+    /// Goes on after a message that fits.
+    fn advance(&mut self, id: usize) -> Fit {
+        let tape = self.tape.clone();
+        let seat = self.seat(id);
+        let turn = seat.turn.unwrap_or_default();
+        let recorded = &tape.turns[turn];
+        let said = recorded.said.start + seat.at;
+        seat.at += 1;
+        seat.is_busy = false;
+        seat.connection = recorded.connection;
+        seat.next = turn + 1;
+        seat.number = tape.said[said].number;
+        let connection = &tape.connections[recorded.connection];
+        let is_last = said + 1 == recorded.said.end;
+        let is_end = is_last && turn + 1 == connection.turns.end;
+        if is_last && recorded.is_whole {
+            seat.turn = None;
+            self.turns[turn].holder = None;
+        }
+        if tape.said[said].is_cause {
+            self.caused += 1;
+            self.causes.insert(said, self.caused);
+        }
+        Fit {
+            said,
+            is_turn_over: is_last && recorded.is_whole,
+            hangs_up: is_end && connection.ending == Ending::ByServer,
+            is_cut: is_end && connection.ending == Ending::Unrecorded { is_idle: false },
+        }
+    }
+
+    /// Begins with data or a long message, where the recorded client does so next.
+    pub fn begin_bytes(&mut self, id: usize) -> Option<usize> {
+        let said = self.expected(id).said.filter(|it| matches!(self.tape.said[*it].what, What::Bytes(_)))?;
+        if self.seats[&id].turn.is_none() {
+            let turn = self.own_next(&self.seats[&id])?;
+            self.hold(id, turn, 0);
+        }
+        self.seat(id).is_busy = true;
+        Some(said)
+    }
+
+    /// Ends them.
+    pub fn end_bytes(&mut self, id: usize) -> Fit {
+        self.advance(id)
+    }
+
+    /// Whether a message was said since a session began.
+    pub fn is_said(&self, id: usize, said: usize) -> bool {
+        self.causes.get(&said).copied().unwrap_or(0) > self.seats[&id].begun
+    }
+
+    /// Takes a request to cancel what the session of a process does. Answers whether there is one.
+    pub fn cancel(&mut self, process: u32) -> bool {
+        let Some(connection) = self.tape.processes.get(&process) else {
+            return false;
+        };
+        let seat = self.seats.values_mut().find(|it| it.home == *connection);
+        seat.map(|it| it.cancels += 1).is_some()
+    }
+
+    /// Whether a request to cancel has come, which is used up by that.
+    pub fn take_cancel(&mut self, id: usize) -> bool {
+        let seat = self.seat(id);
+        let has_come = seat.cancels > 0;
+        seat.cancels -= u32::from(has_come);
+        has_come
+    }
+}

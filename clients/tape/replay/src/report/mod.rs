@@ -1,0 +1,183 @@
+//! What is said about a difference, here and to the client.
+
+mod diff;
+mod parting;
+mod rule;
+
+use crate::pool::Expected;
+use crate::rules::Rules;
+use crate::tape::{Ending, Tape, HEAD, MESSAGE_MOST};
+use lines::trace::{self, Style};
+use parting::parting;
+use pgmsg::backend::{Field, FieldKind, Message, TransactionStatus};
+
+pub use parting::Parting;
+
+/// Longer texts are cut.
+const SHOWN: usize = 4096;
+
+/// What is at a side.
+#[derive(Clone, Debug)]
+pub enum Side {
+    /// Words for what is there in the place of a message.
+    Words(String),
+    /// A message, from its tag on.
+    Message(Vec<u8>),
+    /// A message without a tag, from its length on.
+    Startup(Vec<u8>),
+    /// A message that is too long to be shown.
+    Long { tag: u8, length: u32 },
+}
+
+impl Side {
+    pub fn message(message: &[u8]) -> Side {
+        Side::Message(message.to_vec())
+    }
+
+    /// A message of which some bytes are there, of a length with its tag.
+    pub fn bytes(bytes: &[u8], length: usize) -> Side {
+        match length > MESSAGE_MOST || bytes.len() < length {
+            true => Side::Long { tag: bytes[0], length: (length - 1) as u32 },
+            false => Side::message(bytes),
+        }
+    }
+
+    /// What was recorded in the place of what came.
+    pub fn recorded(tape: &Tape, expected: &Expected) -> Side {
+        let said = match (expected.said, expected.ending) {
+            (Some(said), _) => said,
+            (None, Ending::Terminate) => return Side::Message(b"X\0\0\0\x04".to_vec()),
+            (None, Ending::Unrecorded { .. }) => return Side::Words("the recording ends here".to_owned()),
+            (None, _) => return Side::Words("the connection ended".to_owned()),
+        };
+        match tape.message(said) {
+            Ok(message) => Side::read(message),
+            Err(why) => Side::Words(format!("what {why}")),
+        }
+    }
+
+    /// The Startup of a recorded connection.
+    pub fn startup(tape: &Tape, connection: usize) -> Side {
+        match tape.message(tape.connections[connection].startup) {
+            Ok(message) => Side::Startup(message),
+            Err(why) => Side::Words(format!("what {why}")),
+        }
+    }
+
+    /// A message of the recording: its head alone where it is long.
+    pub fn read(message: Vec<u8>) -> Side {
+        let length = message[1..HEAD].iter().fold(0, |sum, byte| sum << 8 | u32::from(*byte));
+        match length as usize + 1 > message.len() {
+            true => Side::Long { tag: message[0], length },
+            false => Side::Message(message),
+        }
+    }
+
+    /// A message as a line of libpq's PQtrace.
+    fn trace(&self) -> String {
+        let (mut out, style, client) = (Vec::new(), Style::Whole, trace::Side::Client);
+        match self {
+            Side::Words(_) => {}
+            Side::Message(message) => drop(trace::message(&mut out, style, client, message[0], &message[HEAD..])),
+            Side::Startup(message) => drop(trace::first_message(&mut out, style, &message[4..])),
+            Side::Long { tag, length } => trace::left_out(&mut out, style, client, *tag, *length),
+        }
+        String::from_utf8_lossy(&out).trim_end_matches('\n').to_owned()
+    }
+
+    fn line(&self) -> String {
+        let mut line = match self {
+            Side::Words(words) => words.clone(),
+            _ => self.trace(),
+        };
+        if line.len() > SHOWN {
+            let end = (0..=SHOWN).rev().find(|at| line.is_char_boundary(*at));
+            line.truncate(end.unwrap_or_default());
+        }
+        line
+    }
+}
+
+/// What may differ in what is compared.
+pub struct Allowed<'r> {
+    pub rules: &'r Rules,
+    /// The text of the statement of a Bind.
+    pub statement: Option<Vec<u8>>,
+}
+
+impl Allowed<'_> {
+    /// Whether the value of a parameter may differ, from 1 on.
+    fn is_any_value(&self, position: usize) -> bool {
+        let rules = self.rules;
+        let free = self.statement.as_ref().map(|it| rules.free_parameters(&rules.text(it)));
+        rules.is_any_parameter(position) || free.map_or(false, |it| it.contains(&position))
+    }
+}
+
+/// A difference.
+pub struct Report {
+    is_startup: bool,
+    sentence: String,
+    sides: String,
+    /// The parts that differ, and the rule that would let them.
+    more: String,
+}
+
+impl Report {
+    /// Of a message of a connection, where one is taken.
+    pub fn new(
+        place: (Option<u32>, u32),
+        allowed: &Allowed<'_>,
+        recorded: &Side,
+        received: &Side,
+        part: Option<Parting>,
+    ) -> Report {
+        let (connection, number) = place;
+        let connection = connection.map_or(String::new(), |it| format!(" of connection {it}"));
+        let part = part.or_else(|| parting(allowed, recorded, received));
+        let part = part.map_or(String::new(), |it| format!(": {}", it.words(recorded, received)));
+        let rule = rule::of(allowed, recorded, received);
+        let rule = rule.map_or(String::new(), |it| format!("\nto let this differ:\n{it}"));
+        Report {
+            is_startup: number == 1,
+            sentence: format!("message {number}{connection} isn't the recorded one{part}"),
+            sides: format!("recorded: {}\nreceived: {}", recorded.line(), received.line()),
+            more: diff::lines(allowed, recorded, received) + &rule,
+        }
+    }
+
+    /// What is said here.
+    pub fn words(&self) -> String {
+        format!("pg_replay: {}\n{}{}", self.sentence, self.sides, self.more)
+    }
+
+    /// What the client hears: an error, and a ReadyForQuery after it, without which some drivers show none.
+    pub fn error(&self) -> Vec<u8> {
+        let (sentence, detail) = (plain(&self.sentence), plain(&format!("{}{}", self.sides, self.more)));
+        let mut fields = fatal("08P01", &sentence);
+        fields.push(Field::new(FieldKind::Detail, &detail));
+        let mut messages = vec![Message::ErrorResponse(fields.into())];
+        if !self.is_startup {
+            messages.push(Message::ReadyForQuery(TransactionStatus::Idle));
+        }
+        let mut bytes = Vec::new();
+        let written = messages.iter().try_for_each(|it| it.write(&mut bytes));
+        written.map_or(Vec::new(), |()| bytes)
+    }
+}
+
+/// The fields of an error that ends a session.
+pub fn fatal<'a>(code: &'a str, message: &'a str) -> Vec<Field<'a>> {
+    vec![
+        Field::new(FieldKind::LocalizedSeverity, "FATAL"),
+        Field::new(FieldKind::Severity, "FATAL"),
+        Field::new(FieldKind::Code, code),
+        Field::new(FieldKind::Message, message),
+    ]
+}
+
+/// A text that a client takes in any encoding.
+fn plain(text: &str) -> String {
+    let plain = |it: char| if it == '\n' || it == '\t' || (' '..='~').contains(&it) { it } else { '?' };
+    text.chars().map(plain).collect()
+}

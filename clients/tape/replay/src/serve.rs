@@ -1,0 +1,224 @@
+//! Serving a recording to the clients that connect.
+
+use crate::pool::Pool;
+use crate::report::{Allowed, Report, Side};
+use crate::rules::Rules;
+use crate::session::{greet, Login};
+use crate::tape::{plain, Tape};
+use anyhow::Result;
+use net::{Failure, Listener, Sayer, ServerTls, Status};
+use std::collections::VecDeque;
+use std::sync::atomic::{AtomicBool, Ordering};
+use std::sync::{Arc, Mutex, MutexGuard, PoisonError};
+use std::time::{Duration, Instant};
+use tokio::sync::{mpsc, oneshot, Notify, Semaphore};
+use tokio::time::sleep;
+
+/// The most clients at a time.
+const CLIENTS_MOST: usize = 1000;
+/// How long a client may take for its Startup while others wait for a place.
+const CROWDED_PATIENCE: Duration = Duration::from_secs(2);
+/// When it is looked again where no client can be accepted.
+const PAUSE: Duration = Duration::from_millis(50);
+
+/// What all sessions have.
+pub struct Shared {
+    pub tape: Arc<Tape>,
+    pub rules: Arc<Rules>,
+    pool: Mutex<Pool>,
+    /// Something came that a session may wait for of others.
+    pub stirred: Notify,
+    pub keeps_times: bool,
+    pub patience: Option<Duration>,
+    pub tell: Sayer,
+    pub again: bool,
+    pub any_order: bool,
+    pub goes_on: bool,
+    pub tls: Option<ServerTls>,
+    pub login: Option<Login>,
+    is_different: AtomicBool,
+    /// Clients whose Startup hasn't come, the oldest first.
+    openings: Mutex<VecDeque<Opening>>,
+    end: mpsc::Sender<Result<(), Failure>>,
+}
+
+/// When a client came that hasn't opened its session, and what tells it that it has to go.
+type Opening = (Instant, oneshot::Sender<()>);
+
+/// How a recording is served.
+pub struct Settings {
+    pub keeps_times: bool,
+    pub patience: Option<Duration>,
+    pub again: bool,
+    pub any_order: bool,
+    pub goes_on: bool,
+    pub login: Option<Login>,
+}
+
+impl Shared {
+    pub fn new(tape: Tape, rules: Arc<Rules>, tell: Sayer, tls: Option<ServerTls>, settings: Settings) -> (Shared, mpsc::Receiver<Result<(), Failure>>) {
+        let (end, ends) = mpsc::channel(1);
+        let tape = Arc::new(tape);
+        let shared = Shared {
+            pool: Mutex::new(Pool::new(tape.clone(), settings.again, settings.any_order)),
+            tape,
+            rules,
+            stirred: Notify::new(),
+            keeps_times: settings.keeps_times,
+            patience: settings.patience,
+            tell,
+            again: settings.again,
+            any_order: settings.any_order,
+            goes_on: settings.goes_on,
+            tls,
+            login: settings.login,
+            is_different: AtomicBool::new(false),
+            openings: Mutex::new(VecDeque::new()),
+            end,
+        };
+        (shared, ends)
+    }
+
+    pub fn pool(&self) -> MutexGuard<'_, Pool> {
+        self.pool.lock().unwrap_or_else(PoisonError::into_inner)
+    }
+
+    fn openings(&self) -> MutexGuard<'_, VecDeque<Opening>> {
+        self.openings.lock().unwrap_or_else(PoisonError::into_inner)
+    }
+
+    pub fn tell_difference(&self, report: &Report) {
+        self.is_different.store(true, Ordering::Relaxed);
+        self.tell.say_plain(report.words());
+    }
+
+    /// Ends the oldest connection without a Startup, where others wait for a place.
+    fn make_place(&self) {
+        let mut openings = self.openings();
+        openings.retain(|(_, go)| !go.is_closed());
+        if openings.front().map_or(false, |(begun, _)| begun.elapsed() >= CROWDED_PATIENCE) {
+            if let Some((_, go)) = openings.pop_front() {
+                let _ = go.send(());
+            }
+        }
+    }
+
+    /// Notes a client that hasn't opened its session, and gives what tells it that it has to go.
+    fn note_opening(&self) -> oneshot::Receiver<()> {
+        let (go, has_to_go) = oneshot::channel();
+        let mut openings = self.openings();
+        openings.retain(|(_, go)| !go.is_closed());
+        openings.push_back((Instant::now(), go));
+        has_to_go
+    }
+
+    /// Ends a session, and the program where nothing is left to do.
+    pub fn leave(&self, seat: usize, ended: Result<bool>) {
+        let is_replayed = *ended.as_ref().unwrap_or(&false);
+        let is_done = {
+            let mut pool = self.pool();
+            pool.leave(seat, is_replayed);
+            pool.is_done()
+        };
+        let is_cut = !is_replayed && !self.goes_on;
+        match ended.map_err(|why| why.downcast::<Failure>()) {
+            Err(Ok(failure)) => drop(self.end.try_send(Err(failure))),
+            _ if is_cut || is_done => drop(self.end.try_send(Ok(()))),
+            _ => {}
+        }
+    }
+}
+
+impl Shared {
+    /// Ends a client that got no connection: it is counted for the one that it differs from.
+    pub fn fail(&self, connection: Option<usize>) {
+        let seat = connection.and_then(|it| self.pool().take_failed(it));
+        if let Some(seat) = seat {
+            self.leave(seat, Ok(false));
+        } else if !self.goes_on {
+            let _ = self.end.try_send(Ok(()));
+        }
+    }
+}
+
+/// Serves until all is replayed, a client differs, or something fails.
+pub async fn serve(
+    shared: Arc<Shared>,
+    listeners: Vec<Listener>,
+    mut ends: mpsc::Receiver<Result<(), Failure>>,
+) -> Result<(), Failure> {
+    let places = Arc::new(Semaphore::new(CLIENTS_MOST));
+    for listener in listeners {
+        let (shared, places) = (shared.clone(), places.clone());
+        tokio::spawn(async move {
+            if let Err(why) = accept(&shared, &listener, &places).await {
+                let failure = Failure::new(Status::Local, format!("no connection can be accepted: {}", plain(&why)));
+                let _ = shared.end.send(Err(failure)).await;
+            }
+        });
+    }
+    ends.recv().await.unwrap_or(Ok(()))
+}
+
+/// What is left to say of the sessions, and how the program ends.
+pub fn ended(shared: &Shared, ended: Result<(), Failure>) -> Status {
+    let unsaid = {
+        let pool = shared.pool();
+        let unsaid = pool.first_unsaid().filter(|_| pool.is_done());
+        unsaid.map(|said| (pool.connection_of(said), said))
+    };
+    let mut is_different = shared.is_different.load(Ordering::Relaxed);
+    if let (Some((connection, said)), false, true) = (unsaid, is_different, ended.is_ok()) {
+        is_different = true;
+        let recorded = shared.tape.message(said).map_or_else(|why| Side::Words(why.to_string()), Side::read);
+        let received = Side::Words("no client said it".to_owned());
+        let place = (Some(connection), shared.tape.said[said].number);
+        let allowed = Allowed { rules: &shared.rules, statement: None };
+        shared.tell.say_plain(Report::new(place, &allowed, &recorded, &received, None).words());
+    }
+    let status = match ended {
+        Err(failure) => {
+            shared.tell.say(&failure);
+            failure.status
+        }
+        Ok(()) if is_different => Status::Different,
+        Ok(()) => Status::Ok,
+    };
+    let (replayed, all) = (shared.pool().replayed(), shared.tape.connections.len());
+    shared.tell.say(format!("{replayed} of {all} sessions are replayed"));
+    status
+}
+
+/// Accepts clients. Where that can't be now, the oldest that says nothing gives its place.
+async fn accept(shared: &Arc<Shared>, listener: &Listener, places: &Arc<Semaphore>) -> std::io::Result<()> {
+    loop {
+        let place = loop {
+            match places.clone().try_acquire_owned() {
+                Ok(place) => break place,
+                Err(_) => {
+                    shared.make_place();
+                    sleep(PAUSE).await;
+                }
+            }
+        };
+        match listener.accept().await {
+            Ok((stream, _)) => {
+                let (session, has_to_go) = (shared.clone(), shared.note_opening());
+                tokio::spawn(async move {
+                    let _place = place;
+                    greet(&session, stream, has_to_go).await;
+                });
+            }
+            Err(why) if may_pass(&why) => {
+                shared.make_place();
+                sleep(PAUSE).await;
+            }
+            Err(why) => return Err(why),
+        }
+    }
+}
+
+/// Whether a client that gave up, or a lack that may pass, is why none is accepted: only a socket that is none isn't.
+fn may_pass(why: &std::io::Error) -> bool {
+    !matches!(why.kind(), std::io::ErrorKind::InvalidInput | std::io::ErrorKind::PermissionDenied)
+}

@@ -1,0 +1,227 @@
+//! A client, and what it is answered.
+
+mod greeting;
+mod login;
+mod outgoing;
+mod take;
+
+pub use greeting::greet;
+pub use login::Login;
+
+use crate::form::Former;
+use crate::report::{Allowed, Parting, Report, Side};
+use crate::serve::Shared;
+use crate::tape::{Changed, Cutter, Ending, Place, SpokenReader};
+use anyhow::Result;
+use net::{Failure, Status, Stream};
+use outgoing::{Outgoing, Sent};
+use pgmsg::backend::Message;
+use std::time::{Duration, Instant};
+use tokio::io::{AsyncReadExt, AsyncWriteExt};
+use tokio::sync::futures::Notified;
+use tokio::time::{sleep_until, timeout};
+
+/// How long a client may take to hang up, and how long to take what was recorded before an error.
+const PATIENCE: Duration = Duration::from_secs(2);
+const PATIENCE_WITH_ERROR: Duration = Duration::from_secs(10);
+const READ_AT_ONCE: usize = 64 << 10;
+
+/// Whether more is taken of a client.
+#[derive(Clone, Copy, Debug, PartialEq, Eq)]
+enum State {
+    Serving,
+    /// What is to be sent is sent, and nothing more is taken.
+    Ending,
+}
+
+/// A message or data that are compared as bytes.
+struct Run {
+    said: usize,
+    reader: SpokenReader,
+    len: u64,
+    left: u64,
+    /// They are a COPY's data, after which others may come.
+    is_data: bool,
+    /// Where the recorded message begins.
+    begins: Place,
+}
+
+pub struct Session<'s> {
+    shared: &'s Shared,
+    seat: usize,
+    state: State,
+    has_failed: bool,
+    former: Former,
+    cutter: Cutter,
+    /// Where a long message isn't over, how many bytes of it came.
+    long: usize,
+    run: Option<Run>,
+    out: Outgoing,
+    /// Messages of the standby's state are left out.
+    is_both: bool,
+    /// All since the last ReadyForQuery was answered by the rules.
+    is_ignoring: bool,
+    /// The state of the transaction that the client knows.
+    is_in_transaction: bool,
+    heard_at: Instant,
+    /// The recorded client said more before it heard anything.
+    is_owing: bool,
+    /// What is heard of the last message is sent with what is heard of later ones, as a server does.
+    holds: bool,
+    /// The last message is one after which a server sends what it has.
+    ends_run: bool,
+}
+
+impl<'s> Session<'s> {
+    pub fn new(shared: &'s Shared, seat: usize) -> Session<'s> {
+        Session {
+            shared,
+            seat,
+            state: State::Serving,
+            has_failed: false,
+            former: Former::new(shared.rules.clone()),
+            cutter: Cutter::of_client(),
+            long: 0,
+            run: None,
+            out: Outgoing::new(shared.keeps_times),
+            is_both: false,
+            is_ignoring: false,
+            is_in_transaction: false,
+            heard_at: Instant::now(),
+            is_owing: false,
+            holds: false,
+            ends_run: true,
+        }
+    }
+
+    /// Serves a client whose Startup fits a connection, and which has said these bytes after it. Answers whether it did
+    /// as recorded.
+    pub async fn serve(mut self, mut stream: Stream, startup: usize, bytes: Vec<u8>) -> Result<bool> {
+        self.out.add(&self.shared.tape, startup, self.heard_at);
+        self.end_without_turns();
+        let ends = self.talk(&mut stream, bytes).await;
+        if self.state == State::Ending && ends.is_ok() {
+            let _ = timeout(PATIENCE_WITH_ERROR, self.send_rest(&mut stream)).await;
+            linger(&mut stream).await;
+        }
+        ends.map(|()| !self.has_failed)
+    }
+
+    /// Ends a session of which nothing after its Startup is recorded, where its client didn't end it.
+    fn end_without_turns(&mut self) {
+        let expected = self.shared.pool().expected(self.seat);
+        match expected.ending {
+            _ if expected.has_turns => {}
+            Ending::ByServer => self.state = State::Ending,
+            Ending::Unrecorded { is_idle: false } => self.differ_at_cut(),
+            _ => {}
+        }
+    }
+
+    /// Ends the session where the recording does, in the midst of an answer.
+    fn differ_at_cut(&mut self) {
+        let recorded = Side::Words("the recording ends here".to_owned());
+        self.differ_from(&recorded, &Side::Words("a client that waits for more".to_owned()), None);
+    }
+
+    /// Takes what comes and sends what answers it, until nothing more is to be taken.
+    async fn talk(&mut self, stream: &mut Stream, mut bytes: Vec<u8>) -> Result<()> {
+        loop {
+            // What others do from here on is seen.
+            let stirred = self.shared.stirred.notified();
+            self.take(&bytes).map_err(|why| self.changed(&why))?;
+            bytes.clear();
+            if self.state == State::Ending {
+                return Ok(());
+            }
+            let waits = match self.out.send(self.shared, self.seat, stream, self.holds).await {
+                Ok(sent) => sent,
+                Err(outgoing::Unsent::Changed(why)) => return Err(self.changed(&why).into()),
+                // A client that is gone hears nothing more.
+                Err(outgoing::Unsent::Broken) => return self.end_of_client().map_err(|why| self.changed(&why).into()),
+            };
+            if !self.wait(stream, &mut bytes, waits, stirred).await {
+                return self.end_of_client().map_err(|why| self.changed(&why).into());
+            }
+        }
+    }
+
+    /// Waits for bytes, or for something else to do. False where the client has ended.
+    async fn wait(
+        &mut self,
+        stream: &mut Stream,
+        bytes: &mut Vec<u8>,
+        waits: Sent,
+        stirred: Notified<'_>,
+    ) -> bool {
+        bytes.reserve(READ_AT_ONCE);
+        let patience = self.shared.patience.filter(|_| self.is_owing).map(|it| self.heard_at + it);
+        let due = waits.due.into_iter().chain(patience).min();
+        let read = if due.is_none() && !waits.is_for_others {
+            stream.read_buf(bytes).await
+        } else {
+            let far = Instant::now() + Duration::from_secs(86400);
+            tokio::select! {
+                read = stream.read_buf(bytes) => read,
+                () = sleep_until(due.unwrap_or(far).into()) => {
+                    self.check_patience(patience);
+                    return true;
+                }
+                () = stirred, if waits.is_for_others => return true,
+            }
+        };
+        self.heard_at = Instant::now();
+        matches!(read, Ok(count) if count > 0)
+    }
+
+    /// Ends a session whose client leaves out what it had sent at once.
+    fn check_patience(&mut self, patience: Option<Instant>) {
+        if patience.map_or(false, |it| Instant::now() >= it) {
+            self.differ(Side::Words("nothing, for too long".to_owned()));
+        }
+    }
+
+    /// Sends all that is left, whatever it waits for.
+    async fn send_rest(&mut self, stream: &mut Stream) {
+        let _ = self.out.send_all(self.shared, stream).await;
+    }
+
+    /// Ends the session where the client says otherwise than recorded.
+    fn differ(&mut self, received: Side) {
+        let expected = self.shared.pool().expected(self.seat);
+        let recorded = Side::recorded(&self.shared.tape, &expected);
+        self.differ_from(&recorded, &received, None);
+    }
+
+    /// The same with what was recorded, and with the place where both part.
+    fn differ_from(&mut self, recorded: &Side, received: &Side, part: Option<Parting>) {
+        let (expected, shared) = (self.shared.pool().expected(self.seat), self.shared);
+        let statement = expected.said.and_then(|it| shared.tape.statement_of(it));
+        let (allowed, place) = (Allowed { rules: &shared.rules, statement }, (Some(expected.connection), expected.number));
+        let report = Report::new(place, &allowed, recorded, received, part);
+        shared.tell_difference(&report);
+        self.out.add_made(report.error());
+        self.has_failed = true;
+        self.state = State::Ending;
+    }
+
+    fn changed(&self, why: &Changed) -> Failure {
+        Failure::new(Status::Damaged, format!("{} {why}", self.shared.tape.path.display()))
+    }
+}
+
+/// Sends a message at once.
+async fn say(stream: &mut Stream, message: &Message<'_>) -> Result<()> {
+    let mut bytes = Vec::new();
+    message.write(&mut bytes)?;
+    stream.write_all(&bytes).await?;
+    Ok(stream.flush().await?)
+}
+
+/// Hangs up once all is sent, and waits until the client does: what isn't read when a socket is closed may take back what
+/// was written to it.
+async fn linger(stream: &mut Stream) {
+    let mut rest = vec![0; 4096];
+    let _ = stream.shutdown().await;
+    let _ = timeout(PATIENCE, async { while matches!(stream.read(&mut rest).await, Ok(1..)) {} }).await;
+}

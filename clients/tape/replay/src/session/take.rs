@@ -1,0 +1,268 @@
+//! What a client says.
+
+use super::{Run, Session, State};
+use crate::form::Ignored;
+use crate::pool::{Fit, Step};
+use crate::report::{Parting, Side};
+use crate::tape::{is_state_of_standby, Changed, Cut, Cutter, Ending, Said, Tape, What, HEAD};
+use pgmsg::backend::{Message, TransactionStatus};
+use pgmsg::List;
+
+impl Session<'_> {
+    /// Takes bytes, message by message, until the session ends.
+    pub(super) fn take(&mut self, mut bytes: &[u8]) -> Result<(), Changed> {
+        let mut cutter = std::mem::replace(&mut self.cutter, Cutter::of_client());
+        while self.state == State::Serving {
+            match cutter.cut(&mut bytes) {
+                Ok(None) => break,
+                Ok(Some(Cut::Whole(message))) => self.take_message(message)?,
+                Ok(Some(Cut::Part(part, left))) => self.take_part(part, left)?,
+                Err(why) => self.differ(Side::Words(why.to_string())),
+            }
+        }
+        self.cutter = cutter;
+        Ok(())
+    }
+
+    fn take_message(&mut self, message: &[u8]) -> Result<(), Changed> {
+        match message[0] {
+            // Answers don't wait for a Flush, and no password is asked for any more.
+            b'H' | b'p' => {
+                self.holds = false;
+                Ok(())
+            }
+            b'X' => self.take_terminate(message),
+            b'd' if self.is_both && is_state_of_standby(&message[HEAD..]) => Ok(()),
+            b'd' => self.take_bytes(message, message.len(), message.len()),
+            _ => match self.end_run(message)? {
+                true => self.take_form(message),
+                false => Ok(()),
+            },
+        }
+    }
+
+    /// Takes a message that is compared by its form.
+    fn take_form(&mut self, message: &[u8]) -> Result<(), Changed> {
+        let (shared, tag) = (self.shared, message[0]);
+        let form = shared.tape.forms.find(self.former.message(Some(tag), &message[HEAD..]));
+        self.ends_run = !matches!(tag, b'P' | b'B' | b'D' | b'E' | b'C');
+        let is_end_of_ignored = tag == b'S' && self.is_ignoring;
+        let step = match is_end_of_ignored {
+            true => Step::Differs(None),
+            false => shared.pool().step(self.seat, form)?,
+        };
+        match step {
+            Step::Fits(fit) => {
+                self.former.settle(form);
+                self.fit(fit);
+            }
+            Step::Prepares(said) => {
+                self.out.add(&shared.tape, said, self.heard_at);
+                self.former.settle(form);
+                self.is_ignoring = true;
+                self.holds = false;
+            }
+            Step::Differs(_) if is_end_of_ignored || self.former.ignored().is_some() => self.ignore(form),
+            Step::Differs(_) => self.differ(Side::message(message)),
+        }
+        Ok(())
+    }
+
+    /// Answers what fits.
+    fn fit(&mut self, fit: Fit) {
+        let said = &self.shared.tape.said[fit.said];
+        self.out.add(&self.shared.tape, fit.said, self.heard_at);
+        self.is_owing = said.goes_on && !fit.is_turn_over;
+        self.holds = said.goes_on && !self.ends_run;
+        self.is_both |= said.opens_both;
+        self.is_in_transaction = !fit.is_turn_over;
+        self.is_ignoring = false;
+        if fit.is_turn_over {
+            self.is_both = false;
+            self.former.end_transaction();
+        }
+        if said.is_cause {
+            self.shared.stirred.notify_waiters();
+        }
+        if fit.hangs_up {
+            self.state = State::Ending;
+        }
+        if fit.is_cut {
+            self.differ_at_cut();
+        }
+    }
+
+    /// Answers what the rules let a client say though it isn't recorded.
+    fn ignore(&mut self, form: u32) {
+        let ready = Message::ReadyForQuery(match self.is_in_transaction {
+            true => TransactionStatus::InTransaction,
+            false => TransactionStatus::Idle,
+        });
+        let messages = match self.former.ignored() {
+            None => vec![ready],
+            Some(Ignored::Query(tag)) => vec![Message::CommandComplete(tag.into()), ready],
+            Some(Ignored::Execute(tag)) => vec![Message::CommandComplete(tag.into())],
+            Some(Ignored::Parse) => vec![Message::ParseComplete],
+            Some(Ignored::Bind) => vec![Message::BindComplete],
+            Some(Ignored::Close) => vec![Message::CloseComplete],
+            Some(Ignored::Describe { is_statement: true }) => {
+                vec![Message::ParameterDescription(List::default()), Message::NoData]
+            }
+            Some(Ignored::Describe { is_statement: false }) => vec![Message::NoData],
+        };
+        let mut answer = Vec::new();
+        let written = messages.iter().try_for_each(|it| it.write(&mut answer));
+        self.is_ignoring = !matches!(self.former.ignored(), None | Some(Ignored::Query(_)));
+        self.former.settle(form);
+        if written.is_ok() {
+            self.out.add_made(answer);
+            self.holds &= !self.ends_run;
+        }
+    }
+
+    /// Takes a part of a message that is too long to be held.
+    fn take_part(&mut self, part: &[u8], left: usize) -> Result<(), Changed> {
+        let begun = self.long;
+        self.long = if left > 0 { begun + part.len() } else { 0 };
+        self.take_bytes(part, begun, begun + part.len() + left)
+    }
+
+    /// Compares bytes from a place on in a message of a length with the recorded ones.
+    fn take_bytes(&mut self, bytes: &[u8], from: usize, length: usize) -> Result<(), Changed> {
+        let shared = self.shared;
+        if self.run.is_none() {
+            let Some(said) = shared.pool().begin_bytes(self.seat) else {
+                self.differ(Side::bytes(bytes, length));
+                return Ok(());
+            };
+            self.run = shared.tape.said[said].run(said).map(|run| Run { is_data: bytes[0] == b'd', ..run });
+        }
+        let Some(run) = self.run.as_mut() else {
+            return Ok(());
+        };
+        if from == 0 {
+            run.begins = run.reader.place();
+        }
+        let passed = run.passed();
+        if let Some(at) = compare(run, &shared.tape, bytes)? {
+            let other = shared.pool().choose_bytes(self.seat, passed, bytes)?;
+            if let Some(mut other) = other.and_then(|said| shared.tape.said[said].run(said)) {
+                other.skip(&shared.tape, passed)?;
+                other.begins = other.reader.place();
+                self.run = Some(other);
+                return self.take_bytes(bytes, from, length);
+            }
+            return self.differ_in_bytes(bytes, from, at, length);
+        }
+        if run.left == 0 && (!run.is_data || !shared.tape.said[run.said].heard.is_empty()) {
+            self.finish_run();
+        }
+        Ok(())
+    }
+
+    fn differ_in_bytes(&mut self, bytes: &[u8], from: usize, at: usize, length: usize) -> Result<(), Changed> {
+        let begins = self.run.as_ref().map(|it| it.begins).unwrap_or_default();
+        let recorded = Side::read(self.shared.tape.message_at(begins, HEAD)?);
+        let received = if from == 0 { Side::bytes(bytes, length) } else { recorded.clone() };
+        let name = if bytes[0] == b'd' || from > 0 { "the data" } else { "the body" };
+        let part = (from + at >= HEAD).then(|| Parting::at(name, from + at));
+        self.differ_from(&recorded, &received, part);
+        Ok(())
+    }
+
+    fn finish_run(&mut self) {
+        self.run = None;
+        let fit = self.shared.pool().end_bytes(self.seat);
+        self.fit(fit);
+    }
+
+    /// Ends data before a message. False where they aren't over, and the session is at its end.
+    fn end_run(&mut self, message: &[u8]) -> Result<bool, Changed> {
+        let Some(run) = &self.run else {
+            return Ok(true);
+        };
+        let is_over = run.left == 0 || self.shared.pool().choose_bytes(self.seat, run.passed(), &[])?.is_some();
+        match is_over {
+            true => self.finish_run(),
+            false => self.differ(Side::message(message)),
+        }
+        Ok(is_over && self.state == State::Serving)
+    }
+
+    fn take_terminate(&mut self, message: &[u8]) -> Result<(), Changed> {
+        if !self.end_run(message)? {
+            return Ok(());
+        }
+        let expected = self.shared.pool().expected(self.seat);
+        match expected.said.filter(|_| expected.is_sure) {
+            Some(_) => self.differ(Side::message(message)),
+            None => self.state = State::Ending,
+        }
+        Ok(())
+    }
+
+    /// Takes the end of what the client sends.
+    pub(super) fn end_of_client(&mut self) -> Result<(), Changed> {
+        if self.run.as_ref().map_or(false, |it| it.left == 0) {
+            self.finish_run();
+        }
+        if self.state == State::Ending {
+            return Ok(());
+        }
+        let expected = self.shared.pool().expected(self.seat);
+        let is_owing = expected.said.is_some() && expected.is_sure;
+        if is_owing || expected.ending == Ending::Terminate || self.cutter.is_within() {
+            self.differ(Side::Words("the connection ended".to_owned()));
+        }
+        self.state = State::Ending;
+        Ok(())
+    }
+}
+
+impl Said {
+    /// The comparison of bytes that begins with it, where it is compared so.
+    fn run(&self, said: usize) -> Option<Run> {
+        let What::Bytes(len) = self.what else {
+            return None;
+        };
+        let reader = self.reader();
+        Some(Run { said, begins: reader.place(), reader, len, left: len, is_data: true })
+    }
+}
+
+impl Run {
+    /// How many of the bytes came.
+    fn passed(&self) -> u64 {
+        self.len - self.left
+    }
+
+    /// Passes over bytes that came.
+    fn skip(&mut self, tape: &Tape, count: u64) -> Result<(), Changed> {
+        let mut left = count;
+        while left > 0 {
+            let next = (self.reader.next(tape)?.len() as u64).min(left);
+            self.reader.pass(next as usize);
+            left -= next.max(1);
+        }
+        self.left -= count;
+        Ok(())
+    }
+}
+
+/// Compares bytes with those that were recorded. Answers where they differ first.
+fn compare(run: &mut Run, tape: &Tape, mut bytes: &[u8]) -> Result<Option<usize>, Changed> {
+    let mut at = 0;
+    while !bytes.is_empty() {
+        let next = run.reader.next(tape)?;
+        let count = next.len().min(bytes.len()).min(usize::try_from(run.left).unwrap_or(usize::MAX));
+        if count == 0 || next[..count] != bytes[..count] {
+            let same = next.iter().zip(bytes).take(count).take_while(|(one, other)| one == other).count();
+            return Ok(Some(at + same));
+        }
+        run.reader.pass(count);
+        run.left -= count as u64;
+        bytes = &bytes[count..];
+        at += count;
+    }
+    Ok(None)
+}

@@ -1,0 +1,200 @@
+//! What the server of a recorded connection said: where it belongs, and what it waits for.
+
+use super::causes::{Target, Wait};
+use super::connection::{Building, Bytes, End};
+use super::cutter::{Cut, Cutter};
+use super::{Heard, Piece, HEAD};
+use pgmsg::backend::{BackendKeyData, FieldKind, Fields, NotificationResponse};
+use std::collections::HashMap;
+
+/// The states of errors that come after a time.
+const TIMED: [&[u8]; 6] = [b"57014", b"55P03", b"57P05", b"25P03", b"25P04", b"57P01"];
+/// The method of an Authentication that asks for nothing.
+const METHOD_OK: [u8; 4] = [0; 4];
+
+impl Building {
+    /// Takes what the server said. `cancelled` has the last request to cancel for each process.
+    pub fn take_server(&mut self, bytes: Bytes<'_>, cancelled: &HashMap<u32, u64>) {
+        self.has_heard = true;
+        let (mut rest, mut open) = (bytes.content, None);
+        let piece = |from: usize, to: usize| {
+            Piece::of(&bytes.content[from..to], bytes.at + from as u64, bytes.time)
+        };
+        let mut server = std::mem::replace(&mut self.server, Cutter::of_server());
+        loop {
+            let begin = bytes.content.len() - rest.len();
+            let cut = match server.cut(&mut rest) {
+                Ok(Some(cut)) => cut,
+                Ok(None) => {
+                    let rest = (begin < bytes.content.len()).then(|| piece(begin, bytes.content.len()));
+                    self.pending.extend(rest);
+                    break;
+                }
+                Err(_) => {
+                    self.close(open.take(), &piece);
+                    self.hear_broken(piece(begin, bytes.content.len()));
+                    break;
+                }
+            };
+            let end = bytes.content.len() - rest.len();
+            match cut {
+                Cut::Whole(message) => {
+                    let place = self.place(message[0], &message[HEAD..], bytes.time, cancelled);
+                    let is_rest = !self.pending.is_empty();
+                    if is_rest || !extends(&mut open, place, begin, end) {
+                        self.close(open.take(), &piece);
+                        self.hear(place);
+                        open = place.map(|it| (if is_rest { rest_of(it) } else { it }, begin, end));
+                    }
+                }
+                Cut::Part(part, left) => {
+                    self.close(open.take(), &piece);
+                    let tag = *self.long_tag.get_or_insert(part[0]);
+                    self.pending.push(piece(begin, end));
+                    if left == 0 {
+                        self.long_tag = None;
+                        let place = self.place(tag, &[], bytes.time, cancelled);
+                        self.hear(place);
+                    }
+                }
+            }
+        }
+        self.close(open, &piece);
+        self.server = server;
+    }
+
+    /// Adds what is no message as it came, to what is heard of the last one.
+    fn hear_broken(&mut self, piece: Piece) {
+        self.pending.push(piece);
+        let last = self.drafts.len().saturating_sub(1);
+        self.hear(Some((Target::Said(last), Wait::No)));
+    }
+
+    /// Adds bytes that belong together.
+    fn close(&mut self, open: Option<Open>, piece: &impl Fn(usize, usize) -> Piece) {
+        if let Some((place, begin, end)) = open {
+            let before = std::mem::take(&mut self.pending);
+            self.pending.push(piece(begin, end));
+            self.hear(Some(place));
+            self.pending = before;
+        }
+    }
+
+    /// Adds what is pending, or drops it where it has no place.
+    fn hear(&mut self, place: Option<(Target, Wait)>) {
+        let pending = std::mem::take(&mut self.pending);
+        let Some((target, wait)) = place else {
+            return;
+        };
+        let mut place = (target, wait);
+        for piece in pending {
+            let wait = place.1;
+            place = rest_of(place);
+            let heard = match target {
+                Target::Held => &mut self.held,
+                Target::Said(said) | Target::After(said) => match self.drafts.get_mut(said) {
+                    Some(draft) => &mut draft.heard,
+                    None => return,
+                },
+            };
+            heard.push(Heard { piece, wait });
+        }
+    }
+
+    /// Where a server's message belongs, and what it waits for. Requests for a password have no place.
+    fn place(&mut self, tag: u8, body: &[u8], time: u64, cancelled: &HashMap<u32, u64>) -> Option<(Target, Wait)> {
+        if tag == b'R' && body.len() >= METHOD_OK.len() && !body.starts_with(&METHOD_OK) {
+            self.asks_for_password = true;
+            return None;
+        }
+        let target = self.causes.heard(tag);
+        match tag {
+            b'K' => self.process = BackendKeyData::read(body).ok().map(|it| it.process_id),
+            b'W' => self.open_both(target),
+            b'Z' => self.end_exchange(target, body),
+            b'E' => self.note_error(target),
+            _ => {}
+        }
+        Some((target, self.wait(tag, body, target, time, cancelled)))
+    }
+
+    fn note_error(&mut self, target: Target) {
+        if let Target::Said(said) = target {
+            self.drafts[said].is_preparing = false;
+        }
+    }
+
+    fn open_both(&mut self, target: Target) {
+        if let Target::Said(said) = target {
+            self.drafts[said].opens_both = true;
+        }
+    }
+
+    fn end_exchange(&mut self, target: Target, body: &[u8]) {
+        let status = body.first().copied().unwrap_or(b'I');
+        match target {
+            Target::Said(said) => self.ends.push(End { said, status }),
+            Target::Held => self.held_status = Some(status),
+            Target::After(_) => {}
+        }
+    }
+
+    fn wait(&self, tag: u8, body: &[u8], target: Target, time: u64, cancelled: &HashMap<u32, u64>) -> Wait {
+        let said = match target {
+            Target::Said(said) | Target::After(said) => self.drafts.get(said).map_or(0, |it| it.time),
+            Target::Held => return Wait::No,
+        };
+        let is_by_itself = matches!(target, Target::After(_));
+        match tag {
+            // Whose it is is known once all connections are.
+            b'A' => match NotificationResponse::read(body) {
+                Ok(it) if Some(it.process_id) != self.process => Wait::Said(it.process_id as usize),
+                _ => Wait::No,
+            },
+            b'E' => {
+                let code = code_of(body);
+                let is_cancelled = self.process.and_then(|it| cancelled.get(&it)).map_or(false, |at| *at >= said);
+                match code {
+                    b"57014" if is_cancelled => Wait::Cancel,
+                    code if is_by_itself || TIMED.contains(&code) => {
+                        Wait::Time(((time.saturating_sub(said)) / 1000).min(u64::from(u32::MAX)) as u32)
+                    }
+                    _ => Wait::No,
+                }
+            }
+            _ => Wait::No,
+        }
+    }
+}
+
+/// Bytes of a record that belong together: where, and from where to where.
+type Open = ((Target, Wait), usize, usize);
+
+/// Whether a message goes on what is open, which it extends then.
+fn extends(open: &mut Option<Open>, place: Option<(Target, Wait)>, begin: usize, end: usize) -> bool {
+    match (open, place) {
+        (Some((own, _, last)), Some(place)) if *last == begin && own.0 == place.0 && place.1 == Wait::No => {
+            // What waits for another client's message isn't waited for by what follows.
+            let is_one = !matches!(own.1, Wait::Said(_));
+            if is_one {
+                *last = end;
+            }
+            is_one
+        }
+        _ => false,
+    }
+}
+
+/// What the rest of a message waits for: it comes with its front.
+fn rest_of((target, wait): (Target, Wait)) -> (Target, Wait) {
+    match wait {
+        Wait::Said(_) => (target, wait),
+        _ => (target, Wait::No),
+    }
+}
+
+/// The SQLSTATE of an error.
+fn code_of(body: &[u8]) -> &[u8] {
+    let code = Fields::read(body).ok().and_then(|fields| fields.value(FieldKind::Code));
+    code.unwrap_or_default().0
+}
