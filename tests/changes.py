@@ -19,6 +19,11 @@ def git(*words):
     return subprocess.run(["git", *words], cwd=crates.TOP, capture_output=True, text=True, check=True).stdout
 
 
+def differ(since, folder):
+    """Whether something in a folder changed since a commit."""
+    return bool(git("diff", "--name-only", since, "--", folder) or git("ls-files", "--others", "--exclude-standard", "--", folder))
+
+
 def changed(since):
     """The changed lines of each file that changed, from 0, by its path from the top."""
     found, path = {}, None

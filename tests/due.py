@@ -9,25 +9,27 @@ import wrong_bodies
 # The commit from which on changes count, and the toolchain: by another logic all are tried again.
 TRIED = crates.TOP / "tests" / "tried"
 
-# Each function has its turn at one of so many commits, with the next of its mutants, and those by hand at one of so many: no more
-# than what a gate has processors for.
-TURNS, TURNS_BY_HAND = 16, 32
+# Each function has its turn at one of so many commits, with the next of its mutants, and those by hand at one of so many.
+# What has its turn at a commit stands together in the tree: each check has some seconds of its own, so a few of many wrong
+# bodies cost less than many of a few.
+TURNS, TURNS_BY_HAND = 12, 24
 
 
 class Due:
-    """What is due at this commit, of the wrong bodies of each crate."""
+    """What is due at this commit, of the wrong bodies of all crates."""
 
     def __init__(self):
         since, toolchain = TRIED.read_text().splitlines()[1:]
         # A clone without its history tries all, and so does another logic.
         self.is_all = not is_ancestor(since) or logic_of(toolchain) != logic_of(printed("rt", "version"))
+        self.has_self_test = self.is_all or changes.differ(since, "tests")
         if not self.is_all:
             self.commits = int(changes.git("rev-list", "--count", "HEAD"))
             lines = changes.changed(since)
             self.changed = {crate: changes.Change(crate, since, lines) for crate in crates.known().values()}
 
-    def of(self, crate, wrong):
-        """Those of a crate's wrong bodies that are due.
+    def of(self, wrong):
+        """Those that are due, of the wrong bodies of each crate.
 
         What the crates below it promise doesn't decide: a body that breaks a promise of its own crate breaks it over
         any of theirs.
@@ -35,20 +37,25 @@ class Due:
         if self.is_all:
             return wrong
         share = set(self.share_of(wrong))
-        return [it for it in wrong if it in share or self.changed[crate].concerns(it)]
+        return {crate: [it for it in its if it in share or self.changed[crate].concerns(it)] for crate, its in wrong.items()}
 
     def share_of(self, wrong):
-        """A share of a crate's wrong bodies, another one at each commit."""
+        """A share of all wrong bodies, another one at each commit."""
         made, by_hand = {}, []
-        for it in wrong:
+        for it in (it for its in wrong.values() for it in its):
             if isinstance(it, wrong_bodies.Mutant):
                 made.setdefault(it.function.name, []).append(it)
             else:
                 by_hand.append(it)
-        for number, its in enumerate(made.values(), self.commits):
-            if number % TURNS == 0:
-                yield its[number // TURNS % len(its)]
-        yield from (it for number, it in enumerate(by_hand, self.commits) if number % TURNS_BY_HAND == 0)
+        for its in part(list(made.values()), self.commits, TURNS):
+            yield its[self.commits // TURNS % len(its)]
+        yield from part(by_hand, self.commits, TURNS_BY_HAND)
+
+
+def part(items, turn, turns):
+    """The part of a list whose turn it is."""
+    turn %= turns
+    return items[len(items) * turn // turns:len(items) * (turn + 1) // turns]
 
 
 def is_ancestor(commit):
