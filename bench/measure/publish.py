@@ -1,11 +1,11 @@
-"""Writes what was measured as files of text, and the main part of it into bench/README.md."""
+"""Writes what was measured as a file of text, and the main part of it into bench/README.md."""
 
 import re
 import time
 
 from build import BENCH, output
 
-# What stands above each table in its file.
+# What stands above each table.
 HEADS = {
     "times": """Ours over each other's: the median, the first and the last tenth. A ratio above its aim has stars around it.
 The column "before" is of 2026-11-23, when a checksum of the benchmark was timed with the rest.""",
@@ -31,10 +31,10 @@ def measured(rounds, load):
 
 
 def write(folder, parts, head):
-    """A file for each table, below what holds of all."""
+    """All tables, below what holds of all."""
     folder.mkdir(exist_ok=True)
-    for name, part in parts.items():
-        (folder / f"{name}.txt").write_text(f"{head}\n\n{HEADS[name]}\n\n{part}\n")
+    tables = (f"{HEADS[name]}\n\n{part}\n" for name, part in parts.items())
+    (folder / "tables.txt").write_text("\n".join([f"{head}\n", *tables]))
 
 
 def into_readme(main, when):
