@@ -4,7 +4,7 @@ import re
 import shutil
 
 from cases import CASES
-from program import Program
+from timing import Program
 
 PASSES = 2
 

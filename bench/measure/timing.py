@@ -1,11 +1,33 @@
-"""Times what the sides do, in turn, round by round."""
+"""Benchmark programs that run and answer commands (`timer/timer.c` has them), timed in turn, round by round."""
 
+import os
+import subprocess
 from statistics import median, quantiles
 
 # A timing takes about as much processor time, in nanoseconds, and at least so many passes, beside which
 # what is done once is little.
 TARGET = 6_000_000
 FEWEST = 8
+
+
+class Program:
+    def __init__(self, words, core=None):
+        """Starts it, on one processor where its number is given."""
+        bound = (lambda: os.sched_setaffinity(0, {core})) if core is not None else None
+        pipes = {"stdin": subprocess.PIPE, "stdout": subprocess.PIPE}
+        self.process = subprocess.Popen(list(map(str, words)), text=True, preexec_fn=bound, **pipes)
+
+    def ask(self, *words):
+        """The number that answers a command."""
+        print(*words, file=self.process.stdin, flush=True)
+        line = self.process.stdout.readline()
+        if not line:
+            raise SystemExit(f"{self.process.args[0]} ended at {' '.join(map(str, words))}")
+        return int(line)
+
+    def close(self):
+        self.process.stdin.close()
+        self.process.wait()
 
 
 class Programs:
