@@ -74,7 +74,7 @@ begin_slow_openings() {
     mv "$work/errors.replay" "$work/errors.slow_replay"
     local port
     for port in "$PGPORT" "$tape_port" "$replay_port"; do
-        tests/slow_opening.py "$port" > "$work/slow.$port" &
+        tests/slow_clients.py opening "$port" > "$work/slow.$port" &
         slow_clients+=($! "$work/slow.$port")
     done
 }

@@ -140,7 +140,7 @@ test_bytes_through() {
 
 # A client that doesn't read: the server's rows mustn't pile up here.
 test_pressure() {
-    local programs=out peak
+    local peak
     if [ ! -r "/proc/$$/status" ]; then
         echo 'left out: the memory of pg_record, since there is no /proc'
         return

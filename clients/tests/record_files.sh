@@ -206,7 +206,7 @@ test_taped_bytes() {
     same 'a session of one query' "$(query_through 'SELECT 7')" 7
     stop_taping "$tape"
     read_back 'one query' "$tape"
-    try tests/record_bytes.py out/pg_record "$tape" "$work/changed.tape"
+    try tests/record_bytes.py "$programs/pg_record" "$tape" "$work/changed.tape"
     expect "a changed byte is refused by name and place, and a cut file is read to its last whole record: $output" 0
     printf 'x' > "$work/changed.tape"
     try "$programs/pg_record" --print "$work/changed.tape"

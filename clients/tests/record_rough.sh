@@ -25,7 +25,7 @@ rows_through() {
 
 # Kills a recorder while rows pass, a hundred times.
 test_killed_recordings() {
-    try tests/record_kills.py out/pg_record "$work/killed.tape" 100
+    try tests/record_kills.py "$programs/pg_record" "$work/killed.tape" 100
     expect "a recorder that is killed: each file is read to its last whole record: $output" 0
     recordings_read=$((recordings_read + 100))
     records_read=$((records_read + $(sed 's/.*files, \([0-9]*\) .*/\1/' <<< "$output")))
@@ -95,9 +95,9 @@ has_records() {
 
 # Clients that send little, much, or nothing, beside one that asks.
 test_rough_clients() {
-    local programs=out tape=$work/rough.tape begun
+    local tape=$work/rough.tape begun
     start_taping "$tape"
-    tests/record_clients.py "$record_port" > "$work/said_by_clients" 2> "$work/errors.clients" &
+    tests/slow_clients.py rough "$record_port" > "$work/said_by_clients" 2> "$work/errors.clients" &
     await grep -q begun "$work/said_by_clients"
     begun=$(date +%s%N)
     same 'a hundred half-open connections, a byte a second, a gigabyte announced: others are served' \
@@ -113,7 +113,7 @@ test_rough_clients() {
 
 # More half-open connections than there are descriptors for: they are given up sooner.
 test_short_descriptors() {
-    local programs=out tape=$work/short.tape descriptor descriptors=()
+    local tape=$work/short.tape descriptor descriptors=()
     start_limited '-n 64' "$tape"
     for _ in {1..30}; do
         exec {descriptor}<> "/dev/tcp/127.0.0.1/$record_port"
@@ -129,7 +129,7 @@ test_short_descriptors() {
 }
 
 test_taped_memory() {
-    local programs=out tape=$work/much.tape megabytes=${RECORD_MEGABYTES:-200}
+    local tape=$work/much.tape megabytes=${RECORD_MEGABYTES:-200}
     start_taping "$tape"
     same "COPY of $megabytes MB while recording" "$(rows_through $((megabytes * 1024)) | wc -l)" $((megabytes * 1024))
     holds_less 'its memory' 16000
@@ -148,13 +148,55 @@ test_taped_pieces() {
 
 # A message that is too long to be printed passes, and those after it are printed.
 test_long_message() {
-    local programs=out
     start_recording "$work/lines"
     same 'a message of 70 MB passes' "$(query_through "SELECT repeat('x', 70000000)" | wc -c)" 70000001
     same 'what follows it is printed' "$(tail -n 2 "$work/lines" | cut -d ' ' -f 1)" $'CommandComplete\nReadyForQuery'
     same 'that it is not is said' "$(grep -c "a message of 70000011 bytes isn't shown" "$work/errors.record")" 1
     holds_less 'and it is not held' 16000
     stop_recording
+}
+
+# Stops the recorder while clients are at work, and tests its status.
+stop_at_work() {
+    local tape=$1 client
+    through "$bin/pgbench" -n -S -c 8 -j 4 -T 30 > /dev/null 2>&1 &
+    client=$!
+    await has_records "$tape"
+    stop_recording
+    same "$2" $? "$3"
+    wait "$client" 2> /dev/null
+    read_back "$2" "$tape"
+}
+
+# Recordings that several threads make.
+test_record_threads() {
+    local tape=$work/threads.tape number
+    if [ ! -x "$bin/pgbench" ]; then
+        echo 'left out: recordings by several threads, since there is no pgbench'
+        return
+    fi
+    for number in 1 8; do
+        start_taping "$tape" --threads "$number"
+        try through "$bin/pgbench" -i -q -s 1
+        try through "$bin/pgbench" -n -C -c 8 -j 4 -t 5
+        same "threads, $number: connections that are opened" "$status $(grep -o '40/40' <<< "$output")" '0 40/40'
+        try through "$bin/pgbench" -n -M prepared -c 8 -j 4 -t 25
+        same "threads, $number: clients" "$status $(grep -o '200/200' <<< "$output")" '0 200/200'
+        stop_taping "$tape"
+        same "threads, $number: SIGTERM" "$?" 143
+        read_back "threads, $number" "$tape"
+        "$programs/pg_record" --print "$tape" > "$work/lines_of_all"
+        same "threads, $number: each update is recorded" \
+            "$(grep -c '^CommandComplete 13 555044415445203100' "$work/lines_of_all")" 720
+    done
+    start_taping "$tape" --threads 4
+    stop_at_work "$tape" 'threads: SIGTERM while clients are at work' 143
+    start_limited '-f 2000' "$tape" --threads 4
+    try through "$bin/pgbench" -n -S -c 8 -j 4 -T 30
+    reap "$recording"
+    same 'threads: a file that may not grow' "$? $(grep -c 'File too large' "$work/errors.record")" '9 1'
+    read_back 'threads: a file that may not grow' "$tape"
+    same 'threads: no panic' "$(grep -c -i panic "$work/errors.record")" 0
 }
 
 test_record_rough() {

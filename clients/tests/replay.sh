@@ -191,7 +191,7 @@ test_replay_python() {
     local driver
     for driver in psycopg2 asyncpg; do
         if /usr/bin/python3 -c "import $driver" 2> /dev/null; then
-            both_ways "$driver" '' /usr/bin/python3 "tests/replay_$driver.py"
+            both_ways "$driver" '' /usr/bin/python3 -B "tests/real/${driver}_says.py"
         else
             echo "left out: replays of $driver, since there is no python3-$driver"
         fi
@@ -263,7 +263,7 @@ test_replay() {
     test_replay_rules
     test_replay_causes
     test_replay_real
-    test_replay_mutants
+    test_replay_random
     test_replay_replication
     end_slow_openings
     echo "replay: $((passed - passed_before)) tests in $((SECONDS - begun)) s"

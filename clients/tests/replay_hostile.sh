@@ -118,7 +118,7 @@ test_replay_long() {
 test_replay_pressure() {
     local words=("$as_postgres" read "query:SELECT repeat('x', 1000) FROM generate_series(1, 50000)" sleep:1 read
         terminate end)
-    local programs=out peak
+    local peak
     record_words "${words[@]}"
     start_replay "$work/words.tape"
     at_port "$replay_port" "${client[@]}" "${words[@]}" > "$work/pressure" &

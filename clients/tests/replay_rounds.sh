@@ -1,4 +1,4 @@
-# Recordings that are served again and again: each round goes as the first. Sourced by `test`.
+# Recordings that are served again and again, each round as the first, and by several threads. Sourced by `test`.
 
 # Tests that some words get the same answers each time, after the first of which some other words may come.
 same_rounds() {
@@ -38,4 +38,33 @@ test_replay_rounds() {
         PGHOST=127.0.0.1 PGPORT=$replay_port timeout 60 xargs -d '\n' "${client[@]}" | grep -c "^D .*1'")
     stop_replay
     same 'replay: twenty clients of one connection, each as soon as the one before is gone' "$replayed" 20
+}
+
+# Recordings that several threads serve.
+test_replay_threads() {
+    local tape=$work/pgbench-of-8.tape number client
+    local of_8='pgbench_without_times -M prepared -c 8 -j 4 -t 20'
+    if [ ! -e "$tape" ]; then
+        echo 'left out: replays by several threads, since there is no pgbench'
+        return
+    fi
+    for number in 1 8; do
+        replay_command "$tape" "--any-order --threads $number" bash -c "$of_8"
+        expect "replay: threads, $number" 0 '9 of 9 sessions are replayed'
+        same "replay: threads, $number, the same output" "$replayed" "$(cat "$tape.output")"
+    done
+    # Some threads are at work still when it ends.
+    for number in 1 2; do
+        replay_command "$tape" '--any-order --threads 4' bash -c "$of_8 --random-seed=2"
+        expect "replay: threads and a difference, $number" 11 "isn't the recorded one"
+        same "replay: threads and a difference, $number, a client shows it" \
+            "$(grep -c -m 1 "FATAL: .* isn't the recorded one" <<< "$replayed")" 1
+    done
+    start_replay "$tape" --any-order --again --threads 4
+    at_port "$replay_port" bash -c "$of_8" > /dev/null 2>&1 &
+    client=$!
+    sleep 0.3
+    stop_replay
+    same 'replay: threads, SIGTERM' "$status" 143
+    wait "$client" || true
 }

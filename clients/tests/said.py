@@ -4,6 +4,7 @@
     said.py keep FOLDER PORT       passes connections on to a port of this machine, and keeps what each client says in a
                                    file of the folder, and what the server answers in one of its name with .answers;
                                    prints its own port
+    said.py pass PORT SAID ANSWERED    passes one connection on, and keeps both sides in files; prints its own port
     said.py read FOLDER PROGRAM    PG_SERVER_TOOL must read each file as messages and nothing else, and the program must print
                                    the same lines; prints each kind
 """
@@ -40,6 +41,20 @@ def keep(folder, port):
             threading.Thread(target=pass_on, args=way, daemon=True).start()
 
 
+def keep_one(port, *paths):
+    """Passes one connection on, and keeps what each side says."""
+    with socket.create_server(("127.0.0.1", 0)) as listener:
+        print(listener.getsockname()[1], flush=True)
+        client, _ = listener.accept()
+    server = socket.create_connection(("127.0.0.1", port))
+    with client, server, open(paths[0], "wb") as said, open(paths[1], "wb") as answered:
+        ways = [threading.Thread(target=pass_on, args=way) for way in ((client, server, said), (server, client, answered))]
+        for way in ways:
+            way.start()
+        for way in ways:
+            way.join()
+
+
 def pass_on(source, target, kept):
     """Passes bytes on to their end, and keeps them."""
     with contextlib.suppress(OSError):
@@ -72,11 +87,13 @@ def read(folder, program):
 
 
 def main():
-    command, folder, other = sys.argv[1:]
-    if command == "keep":
-        keep(pathlib.Path(folder), int(other))
-    else:
-        read(pathlib.Path(folder), other)
+    match sys.argv[1:]:
+        case "keep", folder, port:
+            keep(pathlib.Path(folder), int(port))
+        case "pass", port, said, answered:
+            keep_one(int(port), said, answered)
+        case "read", folder, program:
+            read(pathlib.Path(folder), program)
 
 
 if __name__ == "__main__":

@@ -1,4 +1,4 @@
-# What clients say to a server: read by pg_server_tool, and in C. Sourced by `test`.
+# What clients say to a server: read by pg_server_tool, by the lines of pg_record, and passed on. Sourced by `test`.
 
 # Leaves the process that keeps what is said in $keeping, its port in $said_port, what precedes a client in $aloud.
 start_keeping() {
@@ -50,7 +50,7 @@ say_by_python() {
     local driver
     for driver in asyncpg psycopg2; do
         if /usr/bin/python3 -c "import $driver" 2> /dev/null; then
-            try "${aloud[@]}" /usr/bin/python3 "tests/said_$driver.py"
+            try "${aloud[@]}" /usr/bin/python3 -B "tests/real/${driver}_says.py"
             expect "$driver speaks" 0
         else
             echo "left out: what $driver says, since there is no python3-$driver"
@@ -109,4 +109,40 @@ test_said() {
     try tests/said.py read "$work/connections" "$programs/said_lines"
     expect "what clients say is read, in C as well: $errors" 0
     same 'each kind of message is said' "$(comm -23 <(echo "$said_kinds") <(tr ' ' '\n' <<< "$output" | sort))" ''
+}
+
+# Streams of the tables of pg_server_tool.
+test_said_lines() {
+    try timeout 300 tests/said_lines.py "$programs/said_lines"
+    expect "the lines of clients' streams: $output" 0
+}
+
+# What was said, also in a recording of pg_record with each kind of message, is passed on in random pieces by the example in
+# Python.
+test_passed_on() {
+    keep_said
+    if [ -f "$work/recorded" ]; then
+        as_tags "$work/recorded" > "$work/connections/recorded.lines"
+    fi
+    if ! find_builder; then
+        echo 'left out: recordings passed on, which need Python 3.11, cffi, setuptools, wheel and pkg-config'
+        return
+    fi
+    prepare_package
+    try tests/passed_on.py "$work/connections" env PYTHONPATH="$work/package" "$builder" -B -W error python/examples/pass_on.py
+    expect "recordings passed on: $output" 0
+}
+
+# Which first messages a server takes, beside what is read of them.
+test_first_messages() {
+    local taken
+    if [ -z "${PG_SERVER_TOOL:-}" ]; then
+        echo 'left out: first messages by pg_server_tool, which PG_SERVER_TOOL has to name'
+        return
+    fi
+    try tests/first_messages.py "$PGPORT"
+    taken=$(grep -c ': taken$' <<< "$output")
+    expect "first messages that a server takes: $taken of $(grep -c ': \(taken\|refused\)$' <<< "$output")" 0
+    same 'a server negotiates, and how' "$(grep ': negotiated$' <<< "$output")" \
+        "$(printf '%s\n' 'a minor version: negotiated' 'an option of the protocol: negotiated')"
 }

@@ -64,7 +64,7 @@ build_sessions() {
 # Runs a session with libpq's trace to a file, through a program that keeps what both sides say to a port.
 run_session() {
     local session=$1 port=$2
-    tests/forward.py "$port" "$work/said_by_client" "$work/said_by_server" > "$work/port_of_forward" &
+    tests/said.py pass "$port" "$work/said_by_client" "$work/said_by_server" > "$work/port_of_forward" &
     local forwarding=$!
     await test -s "$work/port_of_forward"
     PGHOST=127.0.0.1 PGPORT=$(cat "$work/port_of_forward") timeout 60 \
@@ -76,7 +76,7 @@ run_session() {
 
 # Runs a session, and compares both traces of it.
 compare_traces() {
-    local name=$1 session=${1%% *} programs difference lines
+    local name=$1 session=${1%% *} difference lines
     run_session "$session" "$2"
     if [ "$status" != 0 ]; then
         bad "the trace of $name" "status $status; $(cat "$work/errors")"
@@ -85,13 +85,11 @@ compare_traces() {
     by_sides "$work/trace" | tee "$work/as_they_are" | with_escapes > "$work/by_libpq"
     escaped_lines=$((escaped_lines + $(diff -a "$work/as_they_are" "$work/by_libpq" | grep -a -c '^<')))
     lines=$(wc -l < "$work/by_libpq")
-    for programs in out out/sanitized; do
-        : > "$work/left_out"
-        "$programs/trace_lines" "$work/said_by_client" "$work/said_by_server" > "$work/lines" 2> "$work/errors"
-        LC_ALL=C awk -F '\t' -v session="$session" -v left_out="$work/left_out" "$untraced" "$work/lines" > "$work/by_us"
-        difference=$(diff -a "$work/by_libpq" "$work/by_us" | cut -c 1-300 | head -n 4; cat "$work/errors")
-        verdict "the trace of $name, $programs: $lines lines" "$difference"
-    done
+    : > "$work/left_out"
+    "$programs/trace_lines" "$work/said_by_client" "$work/said_by_server" > "$work/lines" 2> "$work/errors"
+    LC_ALL=C awk -F '\t' -v session="$session" -v left_out="$work/left_out" "$untraced" "$work/lines" > "$work/by_us"
+    difference=$(diff -a "$work/by_libpq" "$work/by_us" | cut -c 1-300 | head -n 4; cat "$work/errors")
+    verdict "the trace of $name: $lines lines" "$difference"
     if [ -z "$difference" ]; then
         traced=$((traced + lines))
         cat "$work/left_out" >> "$work/all_left_out"

@@ -1,10 +1,13 @@
 #!/usr/bin/env python3
-"""Random and mutated bytes of both sides to a recorder: record_random.py PG_RECORD RECORDING SECONDS [SEED]
+"""Random and mutated bytes, so many connections of them:
+
+    random_bytes.py clients PORT COUNT SEED
+    random_bytes.py both PG_RECORD RECORDING COUNT SEED
 
 Clients begin with first messages and frames of which bytes are changed, doubled, cut out or random, in pieces, and leave
-at any place; a server answers so. The recorder must take them all without an end of its own, without growth, and must
-still pass an honest session on; its recording must be read by a second reader, and be printed in each form. Prints how
-many connections and bytes there were, and the most memory in kB.
+at any place. With `both` a server behind a recorder answers so: the recorder must take it all without an end of its own,
+without growth, and must still pass an honest session on; its recording must be read by a second reader, and be printed in
+each form. Prints how many bytes there were, and then also the most memory in kB.
 """
 
 import contextlib
@@ -17,24 +20,34 @@ import subprocess
 import sys
 import threading
 import time
+from concurrent.futures import ThreadPoolExecutor
 
 sys.path.insert(0, str(pathlib.Path(__file__).resolve().parents[1] / "python/examples"))
 import read_recording  # noqa: E402
 
 STARTUP = struct.pack(">II", 22, 196608) + b"user\0postgres\0"
 MOST_KB = 40_000
-CLIENTS = 8
+THREADS = 8
 
-# Honest beginnings, of which others are made.
-CLIENT = [
+
+def frame(tag, body=b""):
+    return tag + struct.pack(">I", len(body) + 4) + body
+
+
+# Honest beginnings and frames, of which others are made.
+FIRST = [
     STARTUP,
     struct.pack(">II", 8, 80877103),
     struct.pack(">II", 8, 80877104),
     struct.pack(">IIII", 16, 80877102, 1, 2),
-    STARTUP + b"p\0\0\0\x0bsecret\0Q\0\0\0\x0dSELECT 7\0X\0\0\0\4",
-    STARTUP + b"P\0\0\0\x10\0SELECT $1\0\0\0B\0\0\0\x0c\0\0\0\0\0\0\0\0E\0\0\0\x09\0\0\0\0\0S\0\0\0\4",
     b"\x16\3\1\2\0\1\0\1\xfc\3\3",
     b"GET / HTTP/1.1\r\n\r\n",
+]
+FRAMES = [
+    frame(b"Q", b"SELECT 1\0"), frame(b"P", b"\0SELECT 2\0\0\0"), frame(b"B", b"\0\0\0\0\0\1\0\0\0\x025\0\0\0"),
+    frame(b"B", bytes(8)), frame(b"E", bytes(5)), frame(b"D", b"P\0"), frame(b"C", b"S\0"), frame(b"S"), frame(b"H"),
+    frame(b"X"), frame(b"d", b"data"), frame(b"c"), frame(b"f", b"no\0"), frame(b"F", b"\0\0\0\1" + bytes(6)),
+    frame(b"p", b"secret\0"),
 ]
 HONEST = STARTUP + b"Q\0\0\0\x14SELECT 'honest'\0X\0\0\0\4"
 SERVER = [
@@ -69,15 +82,13 @@ def mutated(rng, honest):
     return bytes(said)
 
 
-class Count:
-    """How many connections and bytes were tried."""
-
-    def __init__(self):
-        self.lock, self.connections, self.bytes = threading.Lock(), 0, 0
-
-    def add(self, said):
-        with self.lock:
-            self.connections, self.bytes = self.connections + 1, self.bytes + len(said)
+def said_by_client(rng):
+    """What a client says: a first message that is mutated, or an honest one and some frames, mutated or not."""
+    way = rng.randrange(4)
+    if way == 0:
+        return mutated(rng, FIRST)
+    frames = b"".join(rng.choices(FRAMES, k=rng.randrange(1, 12)))
+    return STARTUP + (frames if way == 1 else mutated(rng, [frames]))
 
 
 def speak(rng, side, said):
@@ -99,24 +110,30 @@ def speak(rng, side, said):
     side.close()
 
 
-def answer_all(seed, listener, count):
-    """The server: an honest one to whom it is said."""
+def answer_all(seed, listener):
+    """The server behind a recorder."""
     rng = random.Random(seed)
     with contextlib.suppress(OSError):
         while True:
             side, _ = listener.accept()
-            said = mutated(rng, SERVER)
-            count.add(said)
             each = random.Random(rng.random())
-            threading.Thread(target=speak, args=(each, side, said), daemon=True).start()
+            threading.Thread(target=speak, args=(each, side, mutated(each, SERVER)), daemon=True).start()
 
 
-def ask_all(seed, port, until, count):
-    rng = random.Random(seed)
-    while time.monotonic() < until:
-        said = mutated(rng, CLIENT)
-        count.add(said)
-        speak(rng, socket.create_connection(("127.0.0.1", port)), said)
+def ask_some(seed, port, times):
+    """So many clients, one after the other. How many bytes they say."""
+    rng, count = random.Random(seed), 0
+    for _ in range(times):
+        said = said_by_client(rng)
+        count += len(said)
+        with contextlib.suppress(ConnectionError):
+            speak(rng, socket.create_connection(("127.0.0.1", port)), said)
+    return count
+
+
+def ask_all(seed, port, times):
+    with ThreadPoolExecutor(THREADS) as threads:
+        return sum(threads.map(lambda at: ask_some(seed + at, port, times // THREADS), range(THREADS)))
 
 
 def receive(side, length):
@@ -162,24 +179,19 @@ def judge(program, path, recorder):
     return ""
 
 
-def main():
-    program, path, seconds = sys.argv[1], sys.argv[2], float(sys.argv[3])
-    seed = int(sys.argv[4]) if len(sys.argv) > 4 else random.randrange(1 << 32)
+def try_recorder(program, path, times, seed):
+    """Both sides of a recorder. How many bytes clients say, and its most memory in kB."""
     pathlib.Path(path).unlink(missing_ok=True)
-    count, listener = Count(), socket.create_server(("127.0.0.1", 0), backlog=100)
+    listener = socket.create_server(("127.0.0.1", 0), backlog=100)
     address = ["-h", "127.0.0.1", "-p", str(listener.getsockname()[1])]
     with open(f"{path}.errors", "w") as errors:
         recorder = subprocess.Popen([program, *address, "-o", path, "0"], stderr=errors)
     while not (found := re.search(r"^listening on .* port (\d+)", pathlib.Path(f"{path}.errors").read_text())):
         time.sleep(0.01)
-    port, until = int(found[1]), time.monotonic() + seconds
-    serving = threading.Thread(target=answer_all, args=(seed, listener, count))
+    port = int(found[1])
+    serving = threading.Thread(target=answer_all, args=(seed, listener))
     serving.start()
-    asking = [threading.Thread(target=ask_all, args=(seed + at, port, until, count)) for at in range(1, CLIENTS + 1)]
-    for each in asking:
-        each.start()
-    for each in asking:
-        each.join()
+    count = ask_all(seed + 1, port, times)
     # The one that accepts is woken, and leaves the listener to the honest session.
     listener.shutdown(socket.SHUT_RDWR)
     serving.join()
@@ -189,7 +201,15 @@ def main():
     wrong = judge(program, path, recorder) or wrong or (f"{peak} kB" if peak > MOST_KB else "")
     if wrong:
         sys.exit(f"seed {seed}: {wrong}")
-    print(f"{count.connections} connections, {count.bytes} bytes, {peak} kB")
+    return count, peak
+
+
+def main():
+    match sys.argv[1:]:
+        case "clients", port, times, seed:
+            print(ask_all(int(seed), int(port), int(times)), "bytes")
+        case "both", program, path, times, seed:
+            print("%d bytes, %d kB" % try_recorder(program, path, int(times), int(seed)))
 
 
 if __name__ == "__main__":
