@@ -25,22 +25,16 @@ load() {
 }
 
 test_many_rows() {
+    local wanted
     make_table by_psql
     "$bin/psql" -X -q -c "\\copy by_psql from '$work/rows'"
-    local wanted kind
     wanted=$(sum_of by_psql)
-    for kind in out out/plain out/sanitized; do
-        make_table by_copy
-        programs=$kind try load by_copy "$work/rows"
-        same "a million rows of a file, $kind" "$status $output" "0 COPY $rows"
-        same "they are those of psql, $kind" "$(sum_of by_copy)" "$wanted"
-    done
     make_table by_copy
-    try load by_copy - < <(cat "$work/rows")
-    same 'a million rows of a pipe' "$status $output $(sum_of by_copy)" "0 COPY $rows $wanted"
+    try load by_copy "$work/rows"
+    same 'a million rows of a file' "$status $output $(sum_of by_copy)" "0 COPY $rows $wanted"
     make_table by_copy
-    try load -h 127.0.0.1 by_copy "$work/rows"
-    same 'a million rows over TCP' "$status $output $(sum_of by_copy)" "0 COPY $rows $wanted"
+    try load -h 127.0.0.1 by_copy - < <(cat "$work/rows")
+    same 'a million rows of a pipe, over TCP' "$status $output $(sum_of by_copy)" "0 COPY $rows $wanted"
 }
 
 test_names() {
@@ -95,30 +89,24 @@ load_rest() {
 
 # Standard input may stand anywhere in a file, and goes on where the data ended.
 test_parts_of_files() {
-    local kind
-    for kind in "$programs" out/plain; do
-        make_table by_copy
-        programs=$kind try load_rest by_copy < "$work/rows"
-        same "a file from its second line on, $kind" "$status $output" "0 COPY $((rows - 1))"
-        same "it has the other lines, $kind" "$(sql 'SELECT count(*), min(id), max(id) FROM by_copy')" \
-            "$((rows - 1))|2|$rows"
-    done
+    make_table by_copy
+    try load_rest by_copy < "$work/rows"
+    same 'a file from its second line on' "$status $output" "0 COPY $((rows - 1))"
+    same 'it has the other lines' "$(sql 'SELECT count(*), min(id), max(id) FROM by_copy')" "$((rows - 1))|2|$rows"
 }
 
 # Regular files that say no length, or a wrong one.
 test_files_of_the_system() {
-    local file kind
+    local file
     sql 'CREATE TABLE lines (line text)'
     for file in /proc/sys/kernel/ostype /sys/devices/system/cpu/online; do
         if ! [ -r "$file" ]; then
             echo "left out: $file, which is not there"
             continue
         fi
-        for kind in "$programs" out/plain; do
-            sql 'TRUNCATE lines'
-            programs=$kind try load lines "$file"
-            same "$file, $kind" "$status $output $(sql 'TABLE lines')" "0 COPY 1 $(cat "$file")"
-        done
+        sql 'TRUNCATE lines'
+        try load lines "$file"
+        same "$file" "$status $output $(sql 'TABLE lines')" "0 COPY 1 $(cat "$file")"
     done
 }
 
@@ -133,19 +121,6 @@ test_notices() {
     same 'all notices are printed' "$(grep -c '^NOTICE 00000: xxx' "$work/errors")" 20000
 }
 
-test_progress() {
-    if ! command -v script > /dev/null; then
-        echo 'left out: progress at a terminal, since there is no script(1)'
-        return
-    fi
-    make_table by_copy
-    SHELL=/bin/sh try script -q -e -c "cat $work/rows | $programs/pg_copy by_copy" /dev/null < /dev/null
-    case $status$output in
-    0*' bytes sent'*"COPY $rows"*) ok 'progress at a terminal' ;;
-    *) bad 'progress at a terminal' "$status $output" ;;
-    esac
-}
-
 test_copy() {
     make_rows
     test_many_rows
@@ -154,5 +129,4 @@ test_copy() {
     test_parts_of_files
     test_files_of_the_system
     test_notices
-    test_progress
 }

@@ -1,4 +1,4 @@
-# Loads by pg_copy that are stopped in the middle. Sourced by `test`.
+# Loads by pg_copy that are stopped in the middle, or whose file changes. Sourced by `test`.
 
 count_rows() {
     sql 'SELECT count(*) FROM by_copy'
@@ -51,77 +51,21 @@ test_bad_value() {
     expect 'a bad value before rows without an end' 4 22P02
 }
 
+# The server learns of a signal by the end of the connection.
 test_signals() {
-    start_load interrupted
-    kill -INT "$loading"
-    end_load
-    expect 'Ctrl-C' 130 'COPY from stdin failed: the client was interrupted'
-    same 'no row is stored after Ctrl-C' "$(count_rows)" 0
-    start_load terminated
-    kill -TERM "$loading"
-    end_load
-    expect 'SIGTERM' 143 57014
-    test_signal_in_file
-    test_signal_before_rows
-    test_two_signals
+    local signal
+    for signal in INT TERM; do
+        start_load "by_$signal"
+        kill "-$signal" "$loading"
+        end_load
+        same "SIG$signal" "$status" $((128 + $(kill -l "$signal")))
+        await is_over
+        same "no row is stored after SIG$signal" "$(count_rows)" 0
+    done
 }
 
-# A file is always ready to be read, so that a wait for it never lasts.
-test_signal_in_file() {
-    make_table by_copy
-    cat "$work/rows" "$work/rows" "$work/rows" > "$work/many_rows"
-    "$programs/pg_copy" by_copy "$work/many_rows" > "$work/output" 2> "$work/errors" &
-    loading=$!
-    await is_loading
-    kill -INT "$loading"
-    end_load
-    expect 'Ctrl-C in a file' 130 57014
-    rm "$work/many_rows"
-}
-
-# A server that takes nothing more doesn't answer a CopyFail either.
-test_two_signals() {
-    start_load twice
-    local stopped
-    stopped=$(backend)
-    kill -STOP "$stopped"
-    yes $'1\ta\tb\t1' > "$work/fifo.twice" 2> /dev/null &
-    sleep 1
-    kill -INT "$loading"
-    sleep 0.5
-    if kill -0 "$loading" 2> /dev/null; then
-        ok 'the first Ctrl-C waits for the server'
-    else
-        bad 'the first Ctrl-C waits for the server' "$(cat "$work/errors")"
-    fi
-    kill -INT "$loading"
-    end_load
-    expect 'the second Ctrl-C does not' 130
-    kill -CONT "$stopped"
-}
-
-# While another session holds the table, the load waits for the server's leave to send.
-test_signal_before_rows() {
-    "$bin/psql" -X -q -c 'BEGIN; LOCK by_copy; SELECT pg_sleep(60)' > /dev/null 2>&1 &
-    local holder=$!
-    await is_held
-    "$programs/pg_copy" by_copy /dev/null > "$work/output" 2> "$work/errors" &
-    loading=$!
-    await is_waiting
-    kill -INT "$loading"
-    end_load
-    expect 'Ctrl-C while the table is locked' 130
-    kill "$holder"
-    sql "SELECT pg_terminate_backend(pid) FROM pg_locks WHERE relation = 'by_copy'::regclass" > /dev/null 2>&1
-    reap "$holder"
-}
-
-is_held() {
-    [ "$(sql "SELECT count(*) FROM pg_locks WHERE relation = 'by_copy'::regclass AND granted")" = 1 ]
-}
-
-is_waiting() {
-    [ "$(sql "SELECT count(*) FROM pg_locks WHERE relation = 'by_copy'::regclass AND NOT granted")" = 1 ]
+is_over() {
+    [ -z "$(backend)" ]
 }
 
 # The process of the server that takes the rows.
@@ -135,9 +79,8 @@ test_breaks() {
     end_load
     expect 'the server ends the session' 4 57P01
     case $errors in
-    *'bytes of data were sent, and the server confirmed nothing: no row is stored'*)
-        ok 'it says what was sent, and that nothing is stored' ;;
-    *) bad 'it says what was sent, and that nothing is stored' "$errors" ;;
+    *'the server confirmed nothing: no row is stored'*) ok 'it says that nothing is stored' ;;
+    *) bad 'it says that nothing is stored' "$errors" ;;
     esac
     same 'no row is stored by an ended session' "$(count_rows)" 0
     start_load stopped
@@ -152,8 +95,63 @@ test_breaks() {
     await sql 'SELECT 1'
 }
 
+# Three times the rows, in ASCII: a cut in a longer character is an error of its own to the server.
+make_changing() {
+    LC_ALL=C tr -d '\200-\377' < "$work/rows" > "$work/ascii"
+    cat "$work/ascii" "$work/ascii" "$work/ascii" > "$work/changing"
+    rm "$work/ascii"
+}
+
+# Starts a load of a file, and stops the server's process once it has taken some rows. Leaves that process in
+# $stopped. What the file has then is more than a connection holds.
+start_stopped_load() {
+    make_table by_copy
+    make_changing
+    "$programs/pg_copy" "$@" by_copy "$work/changing" > "$work/output" 2> "$work/errors" &
+    loading=$!
+    await is_loading || bad 'start of a load' 'it does not begin'
+    stopped=$(backend)
+    kill -STOP "$stopped"
+    sleep 0.2
+}
+
+end_stopped_load() {
+    kill -CONT "$stopped"
+    end_load
+}
+
+test_file_that_grows() {
+    start_stopped_load
+    cat "$work/rows" >> "$work/changing"
+    end_stopped_load
+    same 'a file that grows' "$status $output" "0 COPY $((4 * rows))"
+}
+
+# Tests that a load of a file ended since it became shorter, and left no row and a server that goes on.
+expect_cut() {
+    expect "$1" 7 'it became shorter'
+    case $errors in
+    *'ERROR 57014: COPY from stdin failed: the client can'\''t read its file'*) ok "$1, the server knows" ;;
+    *) bad "$1, the server knows" "$errors" ;;
+    esac
+    same "$1, no row is stored" "$(count_rows)" 0
+}
+
+test_file_that_is_cut() {
+    local size
+    for size in 0 70000001; do
+        start_stopped_load
+        truncate -s "$size" "$work/changing"
+        end_stopped_load
+        expect_cut "a file cut to $size bytes"
+    done
+    rm "$work/changing"
+}
+
 test_broken_copy() {
     test_bad_value
     test_signals
     test_breaks
+    test_file_that_grows
+    test_file_that_is_cut
 }

@@ -57,7 +57,6 @@ test_unread_notifications() {
     sql 'NOTIFY plain'
     sleep 0.2
     ends_by 'Ctrl-C ends a listener whose lines nobody reads' INT "$listening" 130
-    same 'it says what is lost too' "$(grep -c 'its last lines are lost' "$work/errors")" 1
     exec {unread}>&-
 }
 

@@ -10,7 +10,7 @@ waits_for_rows='G\0\0\0\11\0\0\1\0\0'
 # Starts a server that says the bytes of a file, and leaves its port in $fake_port.
 start_fake() {
     : > "$work/port"
-    out/fake_server "$work/said" "$work/heard" > "$work/port" 2> "$work/errors.fake" &
+    "$programs/fake_server" "$work/said" "$work/heard" > "$work/port" 2> "$work/errors.fake" &
     faking=$!
     await test -s "$work/port" || bad 'start of a fake server' "$(cat "$work/errors.fake")"
     fake_port=$(cat "$work/port")

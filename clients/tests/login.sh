@@ -29,39 +29,6 @@ test_passwords() {
     expect 'login of an unknown user' 3 28000
 }
 
-test_without_crypto() {
-    local programs=out/plain
-    PGPASSWORD="pass word '1" try log_in by_clear
-    expect 'without libcrypto: in clear text' 0
-    PGPASSWORD="pass word '1" try log_in by_md5
-    expect 'without libcrypto: MD5 is refused' 3 'built without libcrypto'
-    PGPASSWORD="pass word '1" try log_in by_scram
-    expect 'without libcrypto: SCRAM is refused' 3 'built without libcrypto'
-}
-
-# Types a password at a terminal, after the prompt is there. To be called by `try`.
-type_password() {
-    (await grep -q 'assword' "$work/output"; sleep 0.5; printf '%s\n' "$1"; sleep 1) |
-        SHELL=/bin/sh script -q -e -c "$programs/pg_listen -h 127.0.0.1 -U by_scram -d postgres -n 0 channel" /dev/null
-}
-
-test_terminal() {
-    if ! command -v script > /dev/null; then
-        echo 'left out: a password at a terminal, since there is no script(1)'
-        return
-    fi
-    try type_password "pass word '1"
-    expect 'a password at a terminal' 0
-    case $output in
-    *'pass word'*) bad 'a password at a terminal is not shown' "$output" ;;
-    *) ok 'a password at a terminal is not shown' ;;
-    esac
-    try type_password wrong
-    expect 'a wrong password at a terminal' 3
-    try type_password $'\003'
-    expect 'Ctrl-C at the prompt' 130
-}
-
 test_addresses() {
     local listen=$programs/pg_listen
     try "$listen" -n 0 channel
@@ -91,7 +58,5 @@ test_addresses() {
 test_login() {
     make_users
     test_passwords
-    test_without_crypto
-    test_terminal
     test_addresses
 }

@@ -4,7 +4,7 @@
  *     put_bench rows    prints of each row its words, its tag, its body in hexadecimal digits and the nanoseconds that
  *                       the library takes, apart by tabs
  */
-#include "put_by_hand.h"
+#include "by_hand.h"
 #include "turns.h"
 
 #include <stdio.h>

@@ -1,5 +1,5 @@
 /* Messages to the server, and rows, written by hand. */
-#include "put_by_hand.h"
+#include "by_hand.h"
 
 #include <stdbool.h>
 #include <string.h>

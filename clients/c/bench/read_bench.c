@@ -4,7 +4,7 @@
  *     read_bench bodies    prints of each its words, its tag, its body in hexadecimal digits and the nanoseconds that
  *                          the library takes with all its lists, apart by tabs
  */
-#include "read_by_hand.h"
+#include "by_hand.h"
 #include "turns.h"
 
 #include <stdio.h>

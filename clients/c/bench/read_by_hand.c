@@ -1,5 +1,5 @@
 /* Messages from a client, read by hand. */
-#include "read_by_hand.h"
+#include "by_hand.h"
 
 #include <stdbool.h>
 #include <string.h>

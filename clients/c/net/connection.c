@@ -2,11 +2,11 @@
 
 #include "connection.h"
 #include "address.h"
-#include "login.h"
-#include "wait.h"
 
 #include <errno.h>
+#include <fcntl.h>
 #include <string.h>
+#include <sys/socket.h>
 #include <unistd.h>
 
 enum {
@@ -16,6 +16,12 @@ enum {
     /* No message to these programs is nearly as long; a number above it is not PostgreSQL's. */
     LONGEST_MESSAGE = 64 * 1024 * 1024
 };
+
+/* Whether a call with this errno may be made again. */
+static bool is_temporary(int failure)
+{
+    return failure == EAGAIN || failure == EWOULDBLOCK || failure == EINTR;
+}
 
 /* A message that can't be sent is made of a name or of a password that the user gave. */
 static enum status complain_of_refusal(ptrdiff_t number)
@@ -46,10 +52,12 @@ bool connection_put(struct connection *connection, ptrdiff_t length)
     return false;
 }
 
-void connection_write(struct connection *connection)
+/* Sends some of the output. */
+static void send_some(struct connection *connection, int flags)
 {
     struct buffer *output = &connection->output;
-    ssize_t count = write(connection->socket, output->bytes + output->start, output->end - output->start);
+    ssize_t count =
+        send(connection->socket, output->bytes + output->start, output->end - output->start, flags | MSG_NOSIGNAL);
     if (count >= 0) {
         output->start += (size_t)count;
     } else if (!is_temporary(errno)) {
@@ -58,18 +66,20 @@ void connection_write(struct connection *connection)
     }
 }
 
+bool connection_has_output(const struct connection *connection)
+{
+    return connection->output.start < connection->output.end;
+}
+
+void connection_write(struct connection *connection)
+{
+    send_some(connection, MSG_DONTWAIT);
+}
+
 enum status connection_flush(struct connection *connection)
 {
-    struct buffer *output = &connection->output;
-    struct pollfd ready = {.fd = connection->socket, .events = POLLOUT};
-    while (connection->failure == STATUS_OK && output->start < output->end) {
-        connection_write(connection);
-        if (output->start < output->end) {
-            enum status status = wait_for(&ready, 1, -1);
-            if (status != STATUS_OK)
-                return status;
-        }
-    }
+    while (connection->failure == STATUS_OK && connection_has_output(connection))
+        send_some(connection, 0);
     return connection->failure;
 }
 
@@ -109,17 +119,13 @@ enum status connection_next(struct connection *connection, struct message *messa
 
 enum status connection_receive(struct connection *connection, struct message *message)
 {
-    struct pollfd ready = {.fd = connection->socket, .events = POLLIN};
-    for (;;) {
-        enum status status = connection_next(connection, message);
-        if (status != STATUS_OK || message->tag != 0)
-            return status;
-        status = wait_for(&ready, 1, -1);
+    enum status status = connection_next(connection, message);
+    while (status == STATUS_OK && message->tag == 0) {
+        status = connection_read(connection);
         if (status == STATUS_OK)
-            status = connection_read(connection);
-        if (status != STATUS_OK)
-            return status;
+            status = connection_next(connection, message);
     }
+    return status;
 }
 
 enum status check_ready(const struct message *message)
@@ -130,27 +136,33 @@ enum status check_ready(const struct message *message)
     return STATUS_OK;
 }
 
-static enum status connect_and_log_in(struct connection *connection, struct options *options)
+static enum status connect_and_log_in(struct connection *connection, const struct options *options)
 {
     struct address address;
     enum status status = address_find(&address, options->host, options->port);
-    if (status != STATUS_OK)
-        return status;
-    /* Not before: a search for an address doesn't end by a signal that is caught. */
-    catch_signals();
-    status = address_connect(&address, &connection->socket);
+    if (status == STATUS_OK)
+        status = address_connect(&address, &connection->socket);
     address_free(&address);
-    if (status != STATUS_OK) {
-        connection->socket = -1;
-        return status;
-    }
-    return log_in(connection, options);
+    if (status == STATUS_OK)
+        status = log_in(connection, options);
+    return status;
 }
 
-enum status connection_open(struct connection *connection, struct options *options)
+/* Opens the standard descriptors that are closed, so that each use of them fails: else the socket may get such a
+ * number, and be read or written by mistake. */
+static void open_standard_descriptors(void)
+{
+    static const int modes[] = {O_WRONLY, O_RDONLY, O_RDONLY};
+    for (int number = 0; number < 3; number++)
+        if (fcntl(number, F_GETFD) < 0 && errno == EBADF && open("/dev/null", modes[number]) < 0)
+            return;
+}
+
+enum status connection_open(struct connection *connection, const struct options *options)
 {
     *connection = (struct connection){.socket = -1};
     enum status status = STATUS_OK;
+    open_standard_descriptors();
     if (!buffer_make(&connection->output, OUTPUT_ROOM) || !buffer_make(&connection->input, INPUT_ROOM))
         status = complain_of_memory();
     if (status == STATUS_OK)

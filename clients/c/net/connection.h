@@ -28,13 +28,20 @@ struct connection {
 /* Takes the answer of a pgmsg_put_* call; whether the call is to be made again. */
 bool connection_put(struct connection *connection, ptrdiff_t length);
 
-/* Connects, and logs in. From then on SIGINT and SIGTERM end what waits, by a status of their own. */
-enum status connection_open(struct connection *connection, struct options *options);
+/* Connects, and logs in. */
+enum status connection_open(struct connection *connection, const struct options *options);
+
+/* Opens a session over a connection: sends who it is for, answers the server's questions, and waits until the server is
+ * ready for a query. */
+enum status log_in(struct connection *connection, const struct options *options);
 
 /* Says good-bye where that can be sent at once. */
 void connection_terminate(struct connection *connection);
 
 void connection_close(struct connection *connection);
+
+/* Whether some of the output isn't written. */
+bool connection_has_output(const struct connection *connection);
 
 /* Writes as much of the output as is taken at once. */
 void connection_write(struct connection *connection);
@@ -43,7 +50,7 @@ void connection_write(struct connection *connection);
  * said why. */
 enum status connection_flush(struct connection *connection);
 
-/* Reads once, at most what is there. */
+/* Reads once: what is there, else what comes next. */
 enum status connection_read(struct connection *connection);
 
 /* Takes the next message out of what was read. Its tag is 0 where none is whole. */

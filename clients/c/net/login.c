@@ -1,4 +1,4 @@
-#include "login.h"
+#include "connection.h"
 #include "scram.h"
 
 #include <stdlib.h>
@@ -17,7 +17,7 @@ enum method {
 /* How far a login is. */
 struct login {
     struct connection *connection;
-    struct options *options;
+    const struct options *options;
     struct scram scram;
     bool has_answered; /* a question for the password, of which there is one */
     bool is_accepted;
@@ -49,9 +49,6 @@ static enum status send_startup(struct connection *connection, const struct opti
 
 static enum status send_clear_text(struct login *login)
 {
-    enum status status = options_ask_password(login->options);
-    if (status != STATUS_OK)
-        return status;
     const char *password = login->options->password;
     PUT(login->connection,
         pgmsg_put_password((const uint8_t *)password, strlen(password), SPARE(login->connection)));
@@ -61,21 +58,11 @@ static enum status send_clear_text(struct login *login)
 static enum status send_md5(struct login *login, const uint8_t salt[4])
 {
     uint8_t digest[MD5_LENGTH];
-    enum status status = options_ask_password(login->options);
-    if (status == STATUS_OK)
-        status = md5_of_password(login->options->password, login->options->user, salt, digest);
+    enum status status = md5_of_password(login->options->password, login->options->user, salt, digest);
     if (status != STATUS_OK)
         return status;
     PUT(login->connection, pgmsg_put_md5_password(digest, SPARE(login->connection)));
     return connection_flush(login->connection);
-}
-
-static enum status begin_scram(struct login *login, const struct message *message)
-{
-    enum status status = options_ask_password(login->options);
-    if (status == STATUS_OK)
-        status = scram_begin(&login->scram, login->connection, message);
-    return status;
 }
 
 /* Answers with the password. A server that asks once more, in another way, may be after the password. */
@@ -85,10 +72,12 @@ static enum status answer_once(struct login *login, const pgmsg_authentication *
     if (login->has_answered)
         return complain_of_message(message);
     login->has_answered = true;
+    if (login->options->password == NULL)
+        return complain(STATUS_REFUSED, "the server asks for a password: set PGPASSWORD");
     switch (asked->method) {
     case METHOD_CLEAR_TEXT: return send_clear_text(login);
     case METHOD_MD5: return send_md5(login, asked->salt);
-    default: return begin_scram(login, message);
+    default: return scram_begin(&login->scram, login->connection, message);
     }
 }
 
@@ -139,7 +128,7 @@ static enum status take(struct login *login, const struct message *message)
     }
 }
 
-enum status log_in(struct connection *connection, struct options *options)
+enum status log_in(struct connection *connection, const struct options *options)
 {
     struct login login = {.connection = connection, .options = options};
     enum status status = send_startup(connection, options);

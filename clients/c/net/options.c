@@ -1,14 +1,12 @@
 #define _DEFAULT_SOURCE
 
 #include "options.h"
-#include "wait.h"
 
 #include <errno.h>
 #include <pwd.h>
 #include <stdio.h>
 #include <stdlib.h>
 #include <string.h>
-#include <termios.h>
 #include <unistd.h>
 
 bool options_take(struct options *options, int letter, const char *value)
@@ -79,7 +77,7 @@ static const char *first(const char *said, const char *other)
     return said != NULL ? said : other;
 }
 
-enum status options_complete_server(struct options *options)
+enum status options_complete(struct options *options)
 {
     unsigned long port;
     options->port = first(options->port, first(variable("PGPORT"), "5432"));
@@ -88,14 +86,6 @@ enum status options_complete_server(struct options *options)
     options->host = first(options->host, variable("PGHOST"));
     if (options->host == NULL)
         options->host = usual_host(options->port);
-    return STATUS_OK;
-}
-
-enum status options_complete(struct options *options)
-{
-    enum status status = options_complete_server(options);
-    if (status != STATUS_OK)
-        return status;
     options->user = first(options->user, variable("PGUSER"));
     if (options->user == NULL)
         options->user = own_name(options);
@@ -104,58 +94,4 @@ enum status options_complete(struct options *options)
     options->database = first(options->database, first(variable("PGDATABASE"), options->user));
     options->password = variable("PGPASSWORD");
     return STATUS_OK;
-}
-
-/* Reads a line without its end, byte by byte, since what follows it may be the data. */
-static bool read_line(char *line, size_t room)
-{
-    size_t len = 0;
-    for (;;) {
-        char byte;
-        ssize_t count = read(STDIN_FILENO, &byte, 1);
-        if (count < 0 && errno == EINTR)
-            continue;
-        if (count <= 0 || len + 1 == room)
-            return false;
-        if (byte == '\n')
-            break;
-        line[len++] = byte;
-    }
-    line[len] = '\0';
-    return true;
-}
-
-/* Reads a line that the terminal doesn't show. */
-static enum status read_hidden_line(char *line, size_t room)
-{
-    struct termios shown;
-    struct pollfd terminal = {.fd = STDIN_FILENO, .events = POLLIN};
-    if (tcgetattr(STDIN_FILENO, &shown) < 0)
-        return complain(STATUS_LOCAL, "the terminal can't be asked: %s", strerror(errno));
-    struct termios hidden = shown;
-    hidden.c_lflag &= ~(tcflag_t)ECHO;
-    if (tcsetattr(STDIN_FILENO, TCSAFLUSH, &hidden) < 0)
-        return complain(STATUS_LOCAL, "the terminal can't be set: %s", strerror(errno));
-    enum status status = wait_for(&terminal, 1, -1);
-    if (status == STATUS_OK && !read_line(line, room))
-        status = STATUS_REFUSED;
-    if (tcsetattr(STDIN_FILENO, TCSAFLUSH, &shown) < 0)
-        return complain(STATUS_LOCAL, "the terminal can't be set back: %s", strerror(errno));
-    return status;
-}
-
-enum status options_ask_password(struct options *options)
-{
-    if (options->password != NULL)
-        return STATUS_OK;
-    if (!isatty(STDIN_FILENO))
-        return complain(STATUS_REFUSED,
-                        "the server asks for a password: set PGPASSWORD, or call from a terminal");
-    fprintf(stderr, "Password for user %s: ", options->user);
-    enum status status = read_hidden_line(options->typed, sizeof options->typed);
-    fputs("\n", stderr);
-    if (status == STATUS_REFUSED)
-        return complain(status, "no password was read");
-    options->password = options->typed;
-    return status;
 }

@@ -10,7 +10,7 @@
 /* The same for the usage. */
 #define OPTION_WORDS "[-h HOST] [-p PORT] [-U USER] [-d DATABASE]"
 
-enum { NAME_ROOM = 256, PASSWORD_ROOM = 1024 };
+enum { NAME_ROOM = 256 };
 
 /* NULL where nothing is said. */
 struct options {
@@ -21,20 +21,14 @@ struct options {
     const char *database;
     const char *password;
     char own_name[NAME_ROOM];
-    char typed[PASSWORD_ROOM];
 };
 
 /* Takes an option, by its letter. False where it is none of these. */
 bool options_take(struct options *options, int letter, const char *value);
 
-/* Takes host and port, where they aren't said, from PGHOST and PGPORT, else as psql does. */
-enum status options_complete_server(struct options *options);
-
-/* The same for all options, and takes the password from PGPASSWORD. */
+/* Takes what isn't said from PGHOST and the other variables of libpq, else as psql does. The password is that of
+ * PGPASSWORD. */
 enum status options_complete(struct options *options);
-
-/* Asks for the password where there is none and standard input is a terminal. */
-enum status options_ask_password(struct options *options);
 
 /* Whether `--help` is the first argument; the usage is printed then. */
 bool options_show_help(int argc, char **argv, const char *usage);

@@ -1,7 +1,6 @@
 #define _DEFAULT_SOURCE
 
 #include "status.h"
-#include "shown.h"
 
 #include <err.h>
 #include <stdarg.h>
@@ -33,6 +32,13 @@ enum status complain_of_fault(const pgmsg_fault *fault)
 enum status complain_of_message(const struct message *message)
 {
     return complain(STATUS_PROTOCOL, "a message of type %c may not come here", message->tag);
+}
+
+bool is_control(const uint8_t *text, size_t len, size_t at)
+{
+    bool is_first = text[at] == 0xc2 && at + 1 < len && text[at + 1] >= 0x80 && text[at + 1] <= 0x9f;
+    bool is_second = text[at] >= 0x80 && text[at] <= 0x9f && at > 0 && text[at - 1] == 0xc2;
+    return text[at] < ' ' || text[at] == 0x7f || is_first || is_second;
 }
 
 /* Prints a text of the server without the bytes that a terminal would obey. */

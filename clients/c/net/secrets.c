@@ -1,47 +1,5 @@
 #include "secrets.h"
 
-#ifdef NO_CRYPTO
-
-static enum status complain_of_build(void)
-{
-    return complain(STATUS_REFUSED, "the server asks for MD5 or SCRAM, and this program was built without"
-                                    " libcrypto: only trust and a password in clear text work");
-}
-
-enum status md5_of_password(const char *password, const char *user, const uint8_t salt[4],
-                            uint8_t digest[MD5_LENGTH])
-{
-    (void)password, (void)user, (void)salt, (void)digest;
-    return complain_of_build();
-}
-
-enum status make_nonce(char nonce[NONCE_ROOM])
-{
-    (void)nonce;
-    return complain_of_build();
-}
-
-enum status scram_keys_of(const char *password, const struct salting *salting, const uint8_t *said,
-                          size_t said_len, struct scram_keys *keys)
-{
-    (void)password, (void)salting, (void)said, (void)said_len, (void)keys;
-    return complain_of_build();
-}
-
-void base64_of(const uint8_t bytes[SHA_LENGTH], char text[SHA_BASE64_ROOM])
-{
-    (void)bytes;
-    text[0] = '\0';
-}
-
-bool are_equal(const uint8_t one[SHA_LENGTH], const uint8_t other[SHA_LENGTH])
-{
-    (void)one, (void)other;
-    return false;
-}
-
-#else
-
 #include <openssl/crypto.h>
 #include <openssl/evp.h>
 #include <openssl/hmac.h>
@@ -139,5 +97,3 @@ bool are_equal(const uint8_t one[SHA_LENGTH], const uint8_t other[SHA_LENGTH])
 {
     return CRYPTO_memcmp(one, other, SHA_LENGTH) == 0;
 }
-
-#endif

@@ -1,5 +1,4 @@
-/* The arithmetic of passwords, by libcrypto. Built with NO_CRYPTO, each call that needs it complains, and
- * only logins without a password and with one in clear text work. */
+/* The arithmetic of passwords, by libcrypto. */
 #ifndef SECRETS_H
 #define SECRETS_H
 

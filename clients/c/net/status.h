@@ -4,22 +4,17 @@
 
 #include "pg_message.h"
 
-/* The exit statuses. A second Ctrl-C ends a program by the signal itself, which a shell shows as 130 too. */
+/* The exit statuses of pg_copy and pg_listen. */
 enum status {
     STATUS_OK = 0,
-    STATUS_USAGE = 1,         /* the arguments fit no form */
-    STATUS_UNREACHABLE = 2,   /* no such address, or nothing accepts connections there */
-    STATUS_REFUSED = 3,       /* the server refuses the login, or there is no password for it */
-    STATUS_SERVER = 4,        /* the server reports an error */
-    STATUS_BROKEN = 5,        /* the connection broke */
-    STATUS_PROTOCOL = 6,      /* what came is not what the protocol allows */
-    STATUS_LOCAL = 7,         /* a file can't be read, or output can't be written */
-    STATUS_MEMORY = 8,        /* out of memory */
-    STATUS_UNRECORDED = 9,    /* a recording can't be written any more */
-    STATUS_DAMAGED = 10,      /* a file is no recording, or has a fault */
-    STATUS_DIFFERENT = 11,    /* a client does otherwise than the recorded one */
-    STATUS_INTERRUPTED = 130, /* Ctrl-C */
-    STATUS_TERMINATED = 143   /* SIGTERM */
+    STATUS_USAGE = 1,        /* the arguments fit no form */
+    STATUS_UNREACHABLE = 2,  /* no such address, or nothing accepts connections there */
+    STATUS_REFUSED = 3,      /* the server refuses the login, or there is no password for it */
+    STATUS_SERVER = 4,       /* the server reports an error */
+    STATUS_BROKEN = 5,       /* the connection broke */
+    STATUS_PROTOCOL = 6,     /* what came is not what the protocol allows */
+    STATUS_LOCAL = 7,        /* a file can't be read, or output can't be written */
+    STATUS_MEMORY = 8        /* out of memory */
 };
 
 /* A message from the server. Its body is valid until more is read; `tag` is 0 where there is none. */
@@ -41,6 +36,10 @@ enum status complain_of_fault(const pgmsg_fault *fault);
 
 /* The same for a message that may not come here. */
 enum status complain_of_message(const struct message *message);
+
+/* Whether a terminal may obey the byte at a place of a text: a control character of ASCII, or a byte of U+0080 to U+009F
+ * in UTF-8, which are the others. */
+bool is_control(const uint8_t *text, size_t len, size_t at);
 
 /* Prints an error or a notice of the server on standard error: severity, code and message on the
  * first line, then detail, hint and context where there are any. */

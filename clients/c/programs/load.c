@@ -1,17 +1,17 @@
 #define _DEFAULT_SOURCE
 
 #include "load.h"
-#include "block.h"
-#include "input.h"
-#include "progress.h"
-#include "wait.h"
 
 #include <errno.h>
 #include <inttypes.h>
+#include <poll.h>
 #include <stdio.h>
 #include <string.h>
+#include <sys/stat.h>
+#include <unistd.h>
 
-#define SHORTER "it became shorter"
+/* The bytes before the data of a CopyData, and the most data in one. */
+enum { HEAD = 5, BLOCK = 65536 };
 
 /* How far it is. */
 enum phase {
@@ -23,98 +23,61 @@ enum phase {
 
 struct load {
     struct connection *connection;
-    struct input input;
+    int file;
     const char *file_name;
+    off_t len; /* of the file when the load began */
     enum phase phase;
     enum status status; /* of what stopped it */
     bool is_stored;     /* the server says so */
     bool is_ready;      /* the server is, for the next query */
     uint64_t rows;
-    struct progress progress;
-    struct block block;
 };
 
-static bool has_output(const struct load *load)
+static off_t length_of(int file)
 {
-    const struct buffer *output = &load->connection->output;
-    return block_is_left(&load->block) || output->start < output->end;
+    struct stat state;
+    return fstat(file, &state) == 0 && S_ISREG(state.st_mode) ? state.st_size : 0;
 }
 
-/* Ends the data by a CopyFail, with words that the server reports. */
-static void give_up(struct load *load, enum status status, const char *reason)
-{
-    load->status = status;
-    load->phase = STOPPED;
-    PUT(load->connection,
-        pgmsg_put_copy_fail((const uint8_t *)reason, strlen(reason), SPARE(load->connection)));
-}
-
-/* Ends the data where no more of the file can be had. */
+/* Ends the data where no more of the file can be had, by a CopyFail, whose words the server reports. */
 static void stop_reading(struct load *load, const char *reason)
 {
-    progress_end(&load->progress);
-    complain(STATUS_LOCAL, "%s can't be read: %s", load->file_name, reason);
-    give_up(load, STATUS_LOCAL, "the client can't read its file");
+    static const char words[] = "the client can't read its file";
+    load->status = complain(STATUS_LOCAL, "%s can't be read: %s", load->file_name, reason);
+    load->phase = STOPPED;
+    PUT(load->connection,
+        pgmsg_put_copy_fail((const uint8_t *)words, sizeof words - 1, SPARE(load->connection)));
 }
 
 static void end_data(struct load *load)
 {
-    /* What is on its way is shared with the file. */
-    if (input_is_cut(&load->input)) {
-        stop_reading(load, SHORTER);
+    if (length_of(load->file) < load->len) {
+        stop_reading(load, "it became shorter");
         return;
     }
     load->phase = ENDED;
     PUT(load->connection, pgmsg_put_copy_done(SPARE(load->connection)));
 }
 
-/* Takes the next block of the file. */
-static void read_block(struct load *load)
+/* Puts the next bytes of the file, behind the head of their message. */
+static enum status read_block(struct load *load)
 {
-    ssize_t count = block_begin(&load->block, &load->input);
+    struct buffer *output = &load->connection->output;
+    if (!buffer_reserve(output, HEAD + BLOCK))
+        return complain_of_memory();
+    uint8_t *head = output->bytes + output->end;
+    ssize_t count = read(load->file, head + HEAD, BLOCK);
+    if (count < 0 && errno != EAGAIN && errno != EINTR)
+        stop_reading(load, strerror(errno));
     if (count == 0)
         end_data(load);
-    else if (count < 0 && !is_temporary(errno))
-        stop_reading(load, strerror(errno));
-}
-
-/* Sends what the socket takes of the bytes of the block. */
-static void send_bytes(struct load *load)
-{
-    if (block_send(&load->block, load->connection->socket) < 0 && !is_temporary(errno)) {
-        /* The next read says why. */
-        load->connection->is_gone = true;
-        block_drop(&load->block);
-    }
-}
-
-/* Goes on with what the block has in the file. */
-static void send_left(struct load *load)
-{
-    ssize_t count = block_send_left(&load->block, &load->input, load->connection->socket);
-    if (count > 0 || (count < 0 && is_temporary(errno)))
-        return;
-    if (load->phase == SENDING)
-        stop_reading(load, count == 0 ? SHORTER : strerror(errno));
-    block_fill(&load->block);
-}
-
-static void send_some(struct load *load)
-{
-    struct block *block = &load->block;
-    if (block_has_bytes(block))
-        send_bytes(load);
-    if (block->left > 0 && !block_has_bytes(block))
-        send_left(load);
-    if (!block_is_left(block) && has_output(load))
-        connection_write(load->connection);
-    if (load->phase == SENDING)
-        progress_show(&load->progress, block->sent);
+    if (count > 0 && pgmsg_put_copy_head((size_t)count, head) == 0)
+        output->end += HEAD + (size_t)count;
+    return STATUS_OK;
 }
 
 static enum status take_error(struct load *load, const struct message *message)
 {
-    progress_end(&load->progress);
     report(message);
     if (load->status == STATUS_OK)
         load->status = STATUS_SERVER;
@@ -155,13 +118,6 @@ static enum status take_start(struct load *load, const struct message *message)
     return STATUS_OK;
 }
 
-static enum status take_notice(struct load *load, const struct message *message)
-{
-    progress_end(&load->progress);
-    report(message);
-    return STATUS_OK;
-}
-
 static enum status take(struct load *load, const struct message *message)
 {
     switch (message->tag) {
@@ -169,7 +125,7 @@ static enum status take(struct load *load, const struct message *message)
     case 'E': return take_error(load, message);
     case 'C': return take_count(load, message);
     case 'Z': return take_ready(load, message);
-    case 'N': return take_notice(load, message);
+    case 'N': report(message); return STATUS_OK;
     case 'A':
     case 'S': return STATUS_OK;
     default: return complain_of_message(message);
@@ -189,28 +145,29 @@ static enum status take_all(struct load *load)
     }
 }
 
-/* Waits for the socket or for the file, and reads and sends what is possible. */
+/* Waits for the socket or for the file, and reads and writes what is possible: the server may say much before it takes
+ * more. */
 static enum status step(struct load *load)
 {
-    bool is_hungry = load->phase == SENDING && !has_output(load) && !load->connection->is_gone;
+    struct connection *connection = load->connection;
+    bool has_output = connection_has_output(connection);
+    bool is_hungry = load->phase == SENDING && !has_output && !connection->is_gone;
     struct pollfd ready[] = {
-        {.fd = load->connection->socket, .events = POLLIN},
-        {.fd = is_hungry ? load->input.file : -1, .events = POLLIN},
+        {.fd = connection->socket, .events = has_output ? POLLIN | POLLOUT : POLLIN},
+        {.fd = is_hungry ? load->file : -1, .events = POLLIN},
     };
-    if (has_output(load))
-        ready[0].events |= POLLOUT;
-    enum status status = wait_for(ready, 2, -1);
-    if (status != STATUS_OK)
-        return status;
+    if (poll(ready, 2, -1) < 0)
+        return errno == EINTR ? STATUS_OK : complain(STATUS_LOCAL, "poll: %s", strerror(errno));
+    enum status status = STATUS_OK;
     if (ready[0].revents & (POLLIN | POLLHUP | POLLERR))
-        status = connection_read(load->connection);
+        status = connection_read(connection);
     if (status == STATUS_OK)
         status = take_all(load);
-    if (ready[1].revents != 0 && status == STATUS_OK && load->phase == SENDING)
-        read_block(load);
-    if (status == STATUS_OK)
-        send_some(load);
-    return status;
+    if (status == STATUS_OK && ready[1].revents != 0 && load->phase == SENDING)
+        status = read_block(load);
+    if (status == STATUS_OK && connection_has_output(connection))
+        connection_write(connection);
+    return status == STATUS_OK ? connection->failure : status;
 }
 
 /* What the server is known to have stored after the connection broke. */
@@ -219,23 +176,9 @@ static void explain_break(const struct load *load)
     if (load->is_stored)
         complain(STATUS_BROKEN, "the server had confirmed %" PRIu64 " rows before", load->rows);
     else if (load->phase == ENDED)
-        complain(STATUS_BROKEN, "all %" PRIu64 " bytes of data were sent, and the server confirmed nothing: the"
-                 " rows may be stored or not", load->block.sent);
+        complain(STATUS_BROKEN, "the server had all data and confirmed nothing: the rows may be stored or not");
     else
-        complain(STATUS_BROKEN, "%" PRIu64 " bytes of data were sent, and the server confirmed nothing: no row"
-                 " is stored, since a COPY is one statement", load->block.sent);
-}
-
-static enum status interrupt(struct load *load, enum status status)
-{
-    if (load->phase != SENDING && load->phase != ENDED)
-        return status;
-    progress_end(&load->progress);
-    if (load->phase == SENDING) {
-        give_up(load, status, "the client was interrupted");
-        return STATUS_OK;
-    }
-    return complain(status, "interrupted while the server stores the rows: they may be stored or not");
+        complain(STATUS_BROKEN, "the server confirmed nothing: no row is stored, since a COPY is one statement");
 }
 
 /* Goes on until the server is ready for another query. */
@@ -243,14 +186,8 @@ static enum status run(struct load *load)
 {
     /* Messages may have come with the end of the login. */
     enum status status = take_all(load);
-    while (status == STATUS_OK && !load->is_ready) {
-        status = load->connection->failure;
-        if (status == STATUS_OK)
-            status = step(load);
-        if (status == STATUS_INTERRUPTED || status == STATUS_TERMINATED)
-            status = interrupt(load, status);
-    }
-    progress_end(&load->progress);
+    while (status == STATUS_OK && !load->is_ready)
+        status = step(load);
     if (status == STATUS_BROKEN)
         explain_break(load);
     return load->status != STATUS_OK ? load->status : status;
@@ -268,12 +205,10 @@ static enum status print_count(const struct load *load)
 enum status load_file(struct connection *connection, const struct buffer *query, int file,
                       const char *file_name)
 {
-    struct load load = {.connection = connection, .file_name = file_name, .phase = ASKED};
-    input_begin(&load.input, file);
-    progress_begin(&load.progress);
+    struct load load = {.connection = connection, .file = file, .file_name = file_name, .len = length_of(file)};
     PUT(connection, pgmsg_put_query(query->bytes + query->start, query->end - query->start, SPARE(connection)));
     enum status status = run(&load);
-    if (load.is_ready && !block_is_left(&load.block))
+    if (load.is_ready)
         connection_terminate(connection);
     return status == STATUS_OK ? print_count(&load) : status;
 }

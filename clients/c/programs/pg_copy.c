@@ -2,7 +2,6 @@
 #define _DEFAULT_SOURCE
 
 #include "load.h"
-#include "wait.h"
 
 #include <errno.h>
 #include <fcntl.h>
@@ -100,7 +99,6 @@ int main(int argc, char **argv)
     struct options options = {.application = "pg_copy"};
     struct task task = {0};
     int letter;
-    prepare_process();
     if (options_show_help(argc, argv, usage))
         return STATUS_OK;
     while ((letter = getopt(argc, argv, OPTION_LETTERS "c:")) != -1) {

@@ -2,10 +2,8 @@
 #define _DEFAULT_SOURCE
 
 #include "connection.h"
-#include "output.h"
-#include "shown.h"
-#include "wait.h"
 
+#include <errno.h>
 #include <inttypes.h>
 #include <limits.h>
 #include <stdio.h>
@@ -59,7 +57,9 @@ static enum status take_notification(struct listener *listener, const struct mes
     putchar('\n');
     if (listener->is_limited)
         listener->left--;
-    return flush_output();
+    if (fflush(stdout) == EOF || ferror(stdout))
+        return complain(STATUS_LOCAL, "standard output can't be written: %s", strerror(errno));
+    return STATUS_OK;
 }
 
 static enum status take_ready(struct listener *listener, const struct message *message)
@@ -131,7 +131,6 @@ int main(int argc, char **argv)
     struct options options = {.application = "pg_listen"};
     struct listener listener = {0};
     int letter;
-    prepare_process();
     if (options_show_help(argc, argv, usage))
         return STATUS_OK;
     while ((letter = getopt(argc, argv, OPTION_LETTERS "n:")) != -1) {

@@ -1,6 +1,7 @@
-/* Messages to the server, and rows, written by hand: the same bytes as the library's, refused for the same faults. */
-#ifndef PUT_BY_HAND_H
-#define PUT_BY_HAND_H
+/* Messages to the server and rows written by hand, and messages from a client read by hand: the same bytes and places as
+ * the library's, refused for the same faults. */
+#ifndef BY_HAND_H
+#define BY_HAND_H
 
 #include "pg_message.h"
 
@@ -20,5 +21,9 @@ ptrdiff_t hand_bind(struct text portal, struct text statement, const uint16_t *f
                     uint8_t *out, size_t out_len);
 ptrdiff_t hand_execute(struct text portal, uint32_t limit, uint8_t *out, size_t out_len);
 ptrdiff_t hand_row(const pgmsg_value *values, size_t values_len, uint8_t *out, size_t out_len);
+
+ptrdiff_t hand_read_bind(const uint8_t *body, size_t body_len, pgmsg_cell *values, size_t values_len, pgmsg_bind *bind);
+int32_t hand_read_parse(const uint8_t *body, size_t body_len, pgmsg_parse *parse);
+int32_t hand_read_execute(const uint8_t *body, size_t body_len, pgmsg_execute *execute);
 
 #endif
