@@ -13,12 +13,13 @@ endless_rows() {
     done
 }
 
-# Starts a load of endless rows, and waits until the server takes them. Leaves its process in $loading.
+# Starts a load of endless rows, and waits until the server takes them. Leaves its process in $loading. What a script runs
+# beside itself ignores Ctrl-C else.
 start_load() {
     make_table by_copy
     mkfifo "$work/fifo.$1"
     endless_rows > "$work/fifo.$1" 2> /dev/null &
-    "$programs/pg_copy" "${@:2}" by_copy "$work/fifo.$1" > "$work/output" 2> "$work/errors" &
+    env --default-signal=INT "$programs/pg_copy" "${@:2}" by_copy "$work/fifo.$1" > "$work/output" 2> "$work/errors" &
     loading=$!
     await is_loading || bad "$1" 'the load does not begin'
 }

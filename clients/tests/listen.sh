@@ -1,9 +1,10 @@
 # Notifications. Sourced by `test`.
 
-# Starts pg_listen with its output to a file, and waits until it listens. Leaves its process in $listening.
+# Starts pg_listen with its output to a file, and waits until it listens. Leaves its process in $listening. What a script runs
+# beside itself ignores Ctrl-C else.
 start_listening() {
     : > "$work/errors"
-    "$programs/pg_listen" "${@:2}" > "$1" 2> "$work/errors" &
+    env --default-signal=INT "$programs/pg_listen" "${@:2}" > "$1" 2> "$work/errors" &
     listening=$!
     await grep -q '^listening$' "$work/errors" || bad 'listening' "$(cat "$work/errors")"
 }

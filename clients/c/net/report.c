@@ -41,12 +41,18 @@ bool is_control(const uint8_t *text, size_t len, size_t at)
     return text[at] < ' ' || text[at] == 0x7f || is_first || is_second;
 }
 
-/* Prints a text of the server without the bytes that a terminal would obey. */
+/* Prints a text of the server without the bytes that a terminal would obey. Standard error has no buffer of its own. */
 static void print_text(const uint8_t *text, size_t len)
 {
+    char shown[1024];
+    size_t used = 0;
     for (size_t i = 0; i < len; i++) {
         bool is_plain = !is_control(text, len, i) || text[i] == '\n' || text[i] == '\t';
-        putc(is_plain ? text[i] : '?', stderr);
+        shown[used++] = is_plain ? (char)text[i] : '?';
+        if (used == sizeof shown || i + 1 == len) {
+            fwrite(shown, 1, used, stderr);
+            used = 0;
+        }
     }
 }
 

@@ -167,7 +167,7 @@ static enum status step(struct load *load)
         status = read_block(load);
     if (status == STATUS_OK && connection_has_output(connection))
         connection_write(connection);
-    return status == STATUS_OK ? connection->failure : status;
+    return status;
 }
 
 /* What the server is known to have stored after the connection broke. */
@@ -186,8 +186,11 @@ static enum status run(struct load *load)
 {
     /* Messages may have come with the end of the login. */
     enum status status = take_all(load);
-    while (status == STATUS_OK && !load->is_ready)
-        status = step(load);
+    while (status == STATUS_OK && !load->is_ready) {
+        status = load->connection->failure;
+        if (status == STATUS_OK)
+            status = step(load);
+    }
     if (status == STATUS_BROKEN)
         explain_break(load);
     return load->status != STATUS_OK ? load->status : status;
