@@ -219,3 +219,59 @@ fn fill(file: &mut impl Read, room: &mut [u8]) -> io::Result<usize> {
     }
     Ok(count)
 }
+
+#[cfg(test)]
+mod tests {
+    use super::*;
+    use crate::{file_head, put_record};
+
+    /// A recording, and where its records begin and end.
+    fn recording() -> (Vec<u8>, Vec<usize>) {
+        let records: [(Kind, &[u8]); 5] = [
+            (Kind::Opened, b"[local]"),
+            (Kind::Bytes(Side::Client), b"\0\0\0\x08\x04\xd2\x16\x2f"),
+            (Kind::LeftOut(Side::Client), b"p\0\0\0\x0b"),
+            (Kind::Bytes(Side::Server), b"Z\0\0\0\x05I"),
+            (Kind::Closed, b"F"),
+        ];
+        let mut bytes = file_head(1).to_vec();
+        let mut places = vec![bytes.len()];
+        for (kind, content) in records {
+            put_record(&mut bytes, kind, 1, 2, content, crc32fast::hash(content));
+            places.push(bytes.len());
+        }
+        (bytes, places)
+    }
+
+    /// Reads to the end: up to where, and whether it ends within a record.
+    fn read_all(bytes: &[u8]) -> Result<(u64, bool), Damage> {
+        let mut reader = Reader::new(bytes)?;
+        while reader.read()?.is_some() {}
+        Ok((reader.at(), reader.is_cut()))
+    }
+
+    #[test]
+    fn each_changed_bit_is_refused_at_its_record() {
+        let (bytes, places) = recording();
+        for bit in 0..8 * bytes.len() {
+            let mut changed = bytes.clone();
+            changed[bit / 8] ^= 1 << (bit % 8);
+            let place = places.iter().rfind(|place| **place <= bit / 8);
+            match (read_all(&changed), place) {
+                (Err(Damage::Record { at, .. }), Some(place)) => assert_eq!(at, *place as u64),
+                (Err(Damage::Head | Damage::NoTape(_)), None) => {}
+                (read, _) => panic!("a change of bit {bit} is read as {read:?}"),
+            }
+        }
+    }
+
+    #[test]
+    fn each_length_is_read_to_its_last_whole_record() {
+        let (bytes, places) = recording();
+        for length in HEAD..=bytes.len() {
+            let last = places.iter().rfind(|place| **place <= length).unwrap();
+            let read = read_all(&bytes[..length]).unwrap();
+            assert_eq!(read, (*last as u64, *last < length));
+        }
+    }
+}
