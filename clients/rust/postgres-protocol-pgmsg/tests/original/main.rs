@@ -11,8 +11,8 @@ use bytes::BytesMut;
 use random::Random;
 use write::Arguments;
 
-const STREAMS: usize = 100_000;
-const ROUNDS: usize = 20_000;
+const STREAMS: usize = 20_000;
+const ROUNDS: usize = 4_000;
 
 /// The most that the original counts.
 const COUNTED: usize = i16::MAX as usize;
