@@ -2,7 +2,7 @@
 # connections say random and mutated bytes to each, RANDOM_SEED which.
 
 
-random_inputs=${RANDOM_INPUTS:-4000}
+random_inputs=${RANDOM_INPUTS:-3000}
 
 test_random_sessions() {
     try tests/random_bytes.py both "$programs/pg_record" "$work/random.tape" $random_inputs "${RANDOM_SEED:-$RANDOM}"

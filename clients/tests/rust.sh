@@ -1,88 +1,83 @@
-# The crates for Rust: their tests by each cargo that is there, and a program that takes them. Sourced by `test`.
+# The crates for Rust: their tests, documentation and packages, and a program that takes them. Sourced by `test`.
 
 oldest_rust=1.63
 
 # The folder of the examples of the crate, where they are built.
 rust_examples=
 
-# The folders of a rustc and a cargo that are new enough, with the version: the first of the PATH, and the system's.
-rust_folders() {
-    local folder version seen=
-    for folder in "$(dirname "$(command -v cargo 2> /dev/null)")" /usr/bin; do
-        version=$("$folder/rustc" --version 2> /dev/null | cut -d ' ' -f 2)
-        if [ -x "$folder/cargo" ] && [ -n "$version" ] && [[ " $seen " != *" $version "* ]] \
-            && [ "$(printf '%s\n' $oldest_rust "$version" | sort -V | head -n 1)" = $oldest_rust ]; then
-            echo "$folder $version"
-            seen+=" $version"
-        fi
-    done
+# Sets $cargo_folder and $version to the first cargo that is new enough, and what it takes: $features, where Debian's crates
+# are there that they need, else $source, which has empty ones, as $empty has. False where there is no cargo.
+find_rust() {
+    read -r cargo_folder version < <(rust_folders $oldest_rust) || return
+    [ -d "$work/registry" ] || write_registry "$work/registry"
+    empty=(--config "source.debian.directory='$work/registry'")
+    if has_crates bytes futures-util hmac sha2 tokio tokio-util; then
+        features=(--features pgmsg/codec,pgmsg/sha2) source=()
+    else
+        features=() source=("${empty[@]}")
+    fi
+}
+
+# Builds the crate, its examples and its tests, where that isn't done; false where there is no cargo.
+build_rust_examples() {
+    local cargo_folder version features source empty
+    if [ -z "$rust_examples" ] && find_rust; then
+        # What a newer cargo wrote an older one may not read.
+        rm -f rust/Cargo.lock
+        try by_strict_cargo rust test --no-run --workspace "${features[@]}" "${source[@]}"
+        expect 'the Rust crates, with their examples and tests' 0
+        rust_examples=out/cargo/debug/examples
+    fi
+    [ -n "$rust_examples" ]
 }
 
 test_rust() {
-    local folders folder version features=() source=() first=yes
-    folders=$(rust_folders)
-    if [ -z "$folders" ]; then
+    local cargo_folder version features source empty
+    if ! find_rust; then
         echo "left out: the tests of the Rust crates, which need rustc and cargo from $oldest_rust on"
         return
     fi
-    find_features
-    while read -r -u 3 folder version; do
-        # What a newer cargo wrote an older one may not read.
-        rm -f rust/Cargo.lock
-        by_cargo test --quiet --workspace "${features[@]}"
+    [ ${#features[@]} -gt 0 ] || echo "left out: the features of the Rust crate, which need$lacking"
+    try by_strict_cargo rust test --workspace "${features[@]}" "${source[@]}"
+    expect "the Rust crates, $version, without a warning" 0
+    test_rust_words
+    test_rust_package
+    test_rust_program
+    test_rust_versions
+    while read -r -u 3 cargo_folder version; do
+        try by_cargo_alone --workspace --lib
         expect "the Rust crates, $version" 0
-        if [ "$first" = yes ]; then
-            rust_examples=out/rust/$version/debug/examples
-            test_rust_words
-            test_rust_package
-            test_rust_versions
-        fi
-        test_rust_program
-        first=no
-    done 3<<< "$folders"
+    done 3< <(rust_folders $oldest_rust | tail -n +2)
 }
 
-# Takes the crates of Debian that the features and their tests need, where they are there.
-find_features() {
-    if ! has_crates bytes futures-util hmac sha2 tokio tokio-util; then
-        echo "left out: the features of the Rust crate, which need librust-$lacking-dev"
-        return
-    fi
-    source=(--config "source.beside.directory='$registry'")
-    features=(--features pgmsg/codec,pgmsg/sha2)
+# Runs tests of the crates without features, and without other crates. What one registry locks another may not have.
+by_cargo_alone() {
+    local answer
+    rm -f rust/Cargo.lock
+    by_cargo rust test "${empty[@]}" --target-dir "$PWD/out/cargo-alone" "$@"
+    answer=$?
+    rm -f rust/Cargo.lock
+    return $answer
 }
 
-# Runs cargo of the folder on the crates, over the library that is tested.
-by_cargo() {
-    try env -C rust PATH="$folder:$PATH" RUSTC="$folder/rustc" RUSTDOC="$folder/rustdoc" RUSTDOCFLAGS=-Dwarnings \
-        CARGO_INCREMENTAL=0 CARGO_PROFILE_DEV_DEBUG=0 CARGO_TARGET_DIR="$PWD/out/rust/$version" \
-        PGMSG_LIB_DIR="$(dirname "$(realpath "$LIBRARY")")" "$folder/cargo" "$1" --offline "${source[@]}" "${@:2}"
-}
-
-# No warning of the documentation or of clippy, and no library where there is none.
+# The documentation, and no library where there is none.
 test_rust_words() {
     try rust/declare --check
     expect 'the declarations of pgmsg-sys are those of the header' 0
-    by_cargo check --quiet --package pgmsg --no-default-features
+    try by_cargo rust check --package pgmsg --no-default-features "${source[@]}"
     expect 'the Rust crate without std' 0
-    by_cargo doc --quiet --no-deps "${features[@]}"
+    try by_cargo rust doc --no-deps "${features[@]}" "${source[@]}"
     expect 'the Rust crates: documentation without a warning' 0
-    if "$folder/cargo" clippy --version > /dev/null 2>&1; then
-        by_cargo clippy --quiet --all-targets "${features[@]}" -- -D warnings
-        expect 'the Rust crates: clippy without a warning' 0
-    else
-        echo 'left out: clippy, which is not there'
-    fi
     mkdir -p "$work/none"
-    LIBRARY=$work/none/libpg_message.a by_cargo check --quiet
+    LIBRARY=$work/none/libpg_message.a try by_cargo rust check "${source[@]}"
     expect 'the Rust crates: no library in the folder that is named' 101 'no libpg_message is in'
 }
 
 # What would be published, built from the packed files.
 test_rust_package() {
-    by_cargo package --quiet --allow-dirty --package pgmsg-sys
+    try by_cargo rust package --allow-dirty --package pgmsg-sys "${source[@]}"
     expect 'pgmsg-sys: packed, and built from that' 0
-    by_cargo package --quiet --allow-dirty --package pgmsg --config "patch.crates-io.pgmsg-sys.path='$PWD/rust/pgmsg-sys'"
+    try by_cargo rust package --allow-dirty --package pgmsg "${source[@]}" --config "patch.crates-io.pgmsg-sys.path='$PWD/rust/pgmsg-sys'"
     expect 'pgmsg: packed, and built from that' 0
 }
 
@@ -100,13 +95,13 @@ test_rust_versions() {
     local other=$work/other_version name='the Rust crates: a library of another version'
     try make_other_version "$other"
     expect "$name is made" 0
-    LIBRARY=$other/libpg_message.a by_cargo test --quiet --package pgmsg --test version --target-dir "$other/out" -- --nocapture
+    LIBRARY=$other/libpg_message.a try by_cargo_alone --package pgmsg --test version -- --nocapture
     expect "$name" 0 'linked is of version 99.0, and pgmsg of 0.1.0'
 }
 
 # A program that takes the crate by `cargo add`, and the library by pkg-config.
 test_rust_program() {
-    local program=$work/program.$version name="a Rust program by cargo add, $version"
+    local program=$work/program name='a Rust program by cargo add'
     if ! command -v pkg-config > /dev/null; then
         echo 'left out: a Rust program by pkg-config, which is not there'
         return
@@ -121,26 +116,21 @@ fn main() -> Result<(), pgmsg::Refusal> {
     Ok(())
 }
 END
-    try env "$folder/cargo" add --offline --quiet --manifest-path "$program/Cargo.toml" --path "$PWD/rust/pgmsg"
+    try "$cargo_folder/cargo" add --offline --quiet --manifest-path "$program/Cargo.toml" --path "$PWD/rust/pgmsg"
     expect "$name: is added" 0
-    try env -u PGMSG_LIB_DIR PATH="$folder:$PATH" RUSTC="$folder/rustc" CARGO_TARGET_DIR="$program/target" \
+    try env -u PGMSG_LIB_DIR PATH="$cargo_folder:$PATH" RUSTC="$cargo_folder/rustc" CARGO_TARGET_DIR="$program/target" \
         PKG_CONFIG_PATH="$work/installed/lib/pkgconfig" \
-        "$folder/cargo" run --offline --quiet --manifest-path "$program/Cargo.toml"
+        "$cargo_folder/cargo" run --offline --quiet --manifest-path "$program/Cargo.toml"
     same "$name" "$status $output" '0 14'
 }
 
-# Builds the examples of the crate by the first cargo, where they aren't there; false where there is no cargo.
-build_rust_examples() {
-    local folder version features=() source=()
-    read -r folder version < <(rust_folders)
-    if [ -z "$rust_examples" ] && [ -n "$folder" ]; then
-        rm -f rust/Cargo.lock
-        find_features
-        by_cargo build --quiet --package pgmsg --examples "${features[@]}"
-        expect 'the examples of the Rust crate' 0
-        rust_examples=out/rust/$version/debug/examples
-    fi
-    [ -n "$rust_examples" ]
+# The crates of the programs.
+test_tape() {
+    local cargo_folder count
+    read -r cargo_folder _ < <(rust_folders 1.65)
+    try by_strict_cargo tape test --workspace
+    count=$(grep -o '[0-9]* passed' <<< "$output" | awk '{ count += $1 } END { print count }')
+    expect "the crates of pg_record, without a warning: $count tests" 0
 }
 
 # Loads a table, and fails to, by the example of the crate.

@@ -1,8 +1,6 @@
 # The crate with the interface of postgres-protocol, and the tests of tokio-postgres on it and on the original.
 # Sourced by `test`. What it builds takes the crates of Debian.
 
-# The registry, and the crates that are taken from it.
-registry=/usr/share/cargo/registry
 drop_in_crates=(postgres-protocol bytes fallible-iterator)
 driver_crates=(tokio-postgres geo-types futures-executor bit-vec chrono env_logger eui48 serde_json time uuid)
 
@@ -12,79 +10,52 @@ driver_port=5433
 # The folder of the programs on the driver as it is, where they are built.
 on_original=
 
-# Answers whether the registry has some crates, else names the first that it lacks in $lacking.
-has_crates() {
-    for lacking in "$@"; do
-        compgen -G "$registry/$lacking-[0-9]*" > /dev/null || return 1
-    done
-}
-
-# Runs cargo of the folder in another one, over the library that is tested.
-by_debian() {
-    (
-        export PATH="$cargo_folder:$PATH" RUSTC="$cargo_folder/rustc" RUSTDOC="$cargo_folder/rustdoc" \
-            RUSTDOCFLAGS=-Dwarnings CARGO_INCREMENTAL=0 CARGO_PROFILE_DEV_DEBUG=0 CARGO_TARGET_DIR="$target" \
-            PGMSG_LIB_DIR="$(dirname "$(realpath "$LIBRARY")")"
-        cd "$1" || exit 1
-        "$cargo_folder/cargo" "$2" --offline "${@:3}"
-    )
-}
-
 # Builds the programs on the driver as it is, where there is what they need, and with them its tests, which ask for more
 # of the same crates.
 build_on_original() {
-    local cargo_folder version target=$PWD/out/drop-in
-    read -r cargo_folder version < <(rust_folders)
-    if [ -n "$cargo_folder" ] && has_crates "${drop_in_crates[@]}" "${driver_crates[@]}"; then
+    local cargo_folder
+    if read -r cargo_folder _ < <(rust_folders 1.63) && has_crates "${drop_in_crates[@]}" "${driver_crates[@]}"; then
         rust/tokio-postgres/prepare out/original
-        try by_debian out/original build --quiet --workspace --all-features --bins --tests
+        try by_cargo out/original build --workspace --all-features --bins --tests
         expect 'programs on tokio-postgres' 0
         # The driver's tests may build others of their names.
         mkdir -p out/on-original
-        cp "$target"/debug/{end-to-end,spoken} out/on-original
+        cp out/cargo/debug/{end-to-end,spoken} out/on-original
         on_original=out/on-original
     fi
 }
 
 test_drop_in() {
-    local cargo_folder version target=$PWD/out/drop-in source
-    read -r cargo_folder version < <(rust_folders)
-    if [ -z "$cargo_folder" ] || ! has_crates "${drop_in_crates[@]}"; then
+    local cargo_folder patches=(--config "patch.crates-io.pgmsg.path='$PWD/rust/pgmsg'" --config "patch.crates-io.pgmsg-sys.path='$PWD/rust/pgmsg-sys'")
+    if ! read -r cargo_folder _ < <(rust_folders 1.63) || ! has_crates "${drop_in_crates[@]}"; then
         echo 'left out: the crate postgres-protocol-pgmsg, which needs cargo and librust-postgres-protocol-dev'
         return
     fi
-    source=(--config "$PWD/rust/tokio-postgres/.cargo/config.toml")
-    try by_debian rust/postgres-protocol-pgmsg test "${source[@]}" -- --nocapture
-    expect 'postgres-protocol-pgmsg' 0
+    try by_strict_cargo rust/postgres-protocol-pgmsg test -- --nocapture
+    expect 'postgres-protocol-pgmsg, without a warning' 0
     grep -E 'alike' <<< "$output"
-    try by_debian rust/postgres-protocol-pgmsg doc --quiet --no-deps "${source[@]}"
+    try by_cargo rust/postgres-protocol-pgmsg doc --no-deps
     expect 'postgres-protocol-pgmsg: documentation without a warning' 0
-    if "$cargo_folder/cargo" clippy --version > /dev/null 2>&1; then
-        try by_debian rust/postgres-protocol-pgmsg clippy --quiet --all-targets "${source[@]}" -- -D warnings
-        expect 'postgres-protocol-pgmsg: clippy without a warning' 0
-    fi
-    try by_debian rust/postgres-protocol-pgmsg package --quiet --allow-dirty "${source[@]}" \
-        --config "patch.crates-io.pgmsg.path='$PWD/rust/pgmsg'" \
-        --config "patch.crates-io.pgmsg-sys.path='$PWD/rust/pgmsg-sys'"
+    try by_cargo rust/postgres-protocol-pgmsg package --allow-dirty "${patches[@]}"
     expect 'postgres-protocol-pgmsg: packed, and built from that' 0
 }
 
 # Runs the driver's tests in a workspace, and leaves how many passed in $count.
 run_driver() {
     local name=$1 workspace=$2
-    try by_debian "$workspace" test --quiet --all-features
+    try by_cargo "$workspace" test --all-features
     count=$(awk '/^test result:/ { passed += $4 } END { print passed + 0 }' <<< "$output")
     expect "tokio-postgres on $name: $count passed" 0
 }
 
 test_tokio_postgres() {
-    local cargo_folder version target=$PWD/out/drop-in ours
+    local cargo_folder ours
     if [ -z "$on_original" ]; then
         echo 'left out: the tests of tokio-postgres, which need cargo, librust-tokio-postgres-dev and' \
             'librust-futures-executor-dev, with the packages that they recommend'
         return
     fi
-    read -r cargo_folder version < <(rust_folders)
+    read -r cargo_folder _ < <(rust_folders 1.63)
     if (exec 3<> "/dev/tcp/127.0.0.1/$driver_port") 2> /dev/null; then
         echo "left out: the tests of tokio-postgres, which need port $driver_port of this machine"
         return

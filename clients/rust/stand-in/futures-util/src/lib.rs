@@ -1,1 +1,0 @@
-//! Stands in for the crate futures-util, where no registry is there.

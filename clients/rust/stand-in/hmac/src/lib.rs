@@ -1,1 +1,0 @@
-compile_error!("this stands in for the crate hmac: see clients/rust/README.md");

@@ -1,1 +1,0 @@
-compile_error!("this stands in for the crate tokio-util: see clients/rust/README.md");

@@ -1,1 +1,0 @@
-//! Stands in for the crate tokio, where no registry is there.

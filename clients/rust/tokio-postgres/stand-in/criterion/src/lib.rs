@@ -1,1 +1,0 @@
-//! In the place of the crate criterion, which what is built here never uses.

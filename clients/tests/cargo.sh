@@ -1,0 +1,107 @@
+# Cargo, and the crates of Debian's packages, for `build` and `test`. To be sourced.
+
+# What Debian's packages install, which .cargo/config.toml names.
+registry=/usr/share/cargo/registry
+
+# Prints the folders of a cargo and a rustc from a version on, with the version: the first of the PATH, and the system's.
+rust_folders() {
+    local folder version seen=
+    for folder in "$(dirname "$(command -v cargo 2> /dev/null)")" /usr/bin; do
+        version=$("$folder/rustc" --version 2> /dev/null | cut -d ' ' -f 2)
+        if [ -x "$folder/cargo" ] && [ -n "$version" ] && [[ " $seen " != *" $version "* ]] \
+            && [ "$(printf '%s\n' "$1" "$version" | sort -V | head -n 1)" = "$1" ]; then
+            echo "$folder $version"
+            seen+=" $version"
+        fi
+    done
+}
+
+# Answers whether the registry has some crates, else leaves the packages of those that it lacks in $lacking.
+has_crates() {
+    local crate
+    lacking=
+    for crate in "$@"; do
+        compgen -G "$registry/$crate[-.][0-9]*" > /dev/null || lacking+=" librust-$crate-dev"
+    done
+    [ -z "$lacking" ]
+}
+
+# Runs cargo of $cargo_folder in a folder on a library, without what only a debugger takes. What it builds is in one place
+# for all that take the same crates.
+by_cargo() {
+    env -C "$1" PATH="$cargo_folder:$PATH" RUSTC="$cargo_folder/rustc" RUSTDOC="$cargo_folder/rustdoc" \
+        RUSTDOCFLAGS=-Dwarnings CARGO_INCREMENTAL=0 CARGO_PROFILE_DEV_DEBUG=0 CARGO_TARGET_DIR="$PWD/out/cargo" \
+        PGMSG_LIB_DIR="$(dirname "$(realpath "$LIBRARY")")" "$cargo_folder/cargo" "$2" --offline --quiet "${@:3}"
+}
+
+# The same where each warning of the compiler and of clippy about the workspace's own crates is an error: they are compiled
+# by clippy's driver, where it is there.
+by_strict_cargo() {
+    local driver=out/cargo/strict
+    mkdir -p out/cargo
+    if "$cargo_folder/cargo" clippy --version > /dev/null 2>&1; then
+        printf '#!/bin/sh\nexec "%s" "$@" -Dwarnings\n' "$cargo_folder/clippy-driver" > $driver
+    else
+        printf '#!/bin/sh\nexec "$@" -Dwarnings\n' > $driver
+    fi
+    chmod +x $driver
+    RUSTC_WORKSPACE_WRAPPER=$PWD/$driver by_cargo "$@"
+}
+
+# Writes a registry of empty crates, of which cargo resolves what is optional, or only for tests: it looks for that also
+# where nothing asks for it.
+write_registry() {
+    local crate name version features feature
+    for crate in 'bytes 1.2.0' 'futures-util 0.3.0 sink' 'hmac 0.12.0' 'sha2 0.10.0' 'tokio 1.0.0 net rt' 'tokio-util 0.7.0 codec'; do
+        read -r name version features <<< "$crate"
+        mkdir -p "$1/$name/src"
+        : > "$1/$name/src/lib.rs"
+        echo '{"files":{}}' > "$1/$name/.cargo-checksum.json"
+        printf '[package]\nname = "%s"\nversion = "%s"\n[features]\n' "$name" "$version" > "$1/$name/Cargo.toml"
+        for feature in $features; do
+            echo "$feature = []" >> "$1/$name/Cargo.toml"
+        done
+    done
+}
+
+# Where the compiled crates of others are kept between clones, as `rt ci` keeps proofs: by all that they are compiled by and of.
+kept_crates() {
+    local folder
+    echo "${XDG_CACHE_HOME:-$HOME/.cache}/tarnwhisk/crates-$({
+        while read -r folder _; do
+            "$folder/rustc" --version --verbose
+            "$folder/cargo" --version
+        done < <(rust_folders 1.63)
+        ls -d "$registry"/*
+        cat tests/cargo.sh rust/*/Cargo.toml rust/tokio-postgres/*/Cargo.toml tape/Cargo.toml tape/*/Cargo.toml
+    } | sha256sum | cut -c -16)"
+}
+
+# Takes them where nothing is built yet.
+take_kept_crates() {
+    local kept
+    kept=$(kept_crates)
+    if [ ! -d out/cargo ] && [ -d "$kept" ]; then
+        mkdir -p out
+        cp -a "$kept" out/cargo
+        taken_crates=", with compiled crates that were kept in $kept"
+    fi
+}
+
+# Keeps those that were built, without what is of this clone: its own crates, and copies of others.
+keep_crates() {
+    local kept own name new
+    kept=$(kept_crates)
+    [ -d out/cargo/debug ] && [ ! -d "$kept" ] || return 0
+    new=$kept.$$
+    mkdir -p "$(dirname "$kept")"
+    cp -a out/cargo "$new"
+    rm -rf "$new"/{doc,package,release,tmp,debug/examples,debug/incremental}
+    mapfile -t own < <(sed -n 's/^name = "\(.*\)"/\1/p' rust/*/Cargo.toml rust/tokio-postgres/*/Cargo.toml tape/*/Cargo.toml)
+    for name in "${own[@]}"; do
+        rm -rf "$new"/debug/{.fingerprint,build}/"$name"-* "$new"/debug/deps/{,lib}"${name//-/_}"-*
+    done
+    find "$new/debug" -maxdepth 1 -type f -delete
+    find "$new/debug/deps" -type f -executable ! -name '*.so' -delete
+    mv -T "$new" "$kept" 2> /dev/null || rm -rf "$new"
+}
