@@ -1,7 +1,7 @@
 -- The settings of a Startup are given one by one.
 use Rattle.std.proofs.Common.{◌≡◌, ℕ, ◌+◌, ◌<◌, ◌≤◌, Some, List, [], ◌∷◌, ◌++◌, length, set, refl, sym, ap, ◌∙◌, arith, append_assoc, length-append}
 use Rattle.pg_format.specs.Messages.{setting}
-use Rattle.pg_server.specs.Frontend.Settings.{settings_in}
+use Rattle.pg_server.specs.Frontend.Lists.{settings_in}
 use Rattle.pg_server.proofs.FrontendSettingsLemmas.{first_setting}
 use Rattle.pg_c.specs.Client.Startup.{setting_in}
 use Rattle.pg_c.specs.declared.read.status.PgmsgParameterStatus.{PgmsgParameterStatus}

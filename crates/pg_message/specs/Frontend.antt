@@ -5,12 +5,8 @@ use Rattle.pg_send.specs.Message.{Message, body, CanRoundTrip}
 use Rattle.pg_send.specs.Page.{MeantByBind, Meant}
 use Rattle.pg_server.specs.declared.frontend.frontend_message_ref.FrontendMessageRef.{FrontendMessageRef}
 use Rattle.pg_server.specs.declared.frontend.frontend_message_ref.FrontendMessageRef.TheVariants as messages
-use Rattle.pg_server.specs.Frontend.Bind.{shown_bind}
-use Rattle.pg_server.specs.Frontend.Execute.{shown_execute}
+use Rattle.pg_server.specs.Frontend.Page.{shown_bind, shown_execute, shown_call, shown_parse, shown_targeted}
 use Rattle.pg_server.specs.Frontend.FrontendMessageRef.{Answer, Gives, ReadsTagged}
-use Rattle.pg_server.specs.Frontend.FunctionCall.{shown_call}
-use Rattle.pg_server.specs.Frontend.Parse.{shown_parse}
-use Rattle.pg_server.specs.Frontend.Target.{shown_targeted}
 
 -- a message of this case, whose value is so
 pub record IsRead {A V : Type 0} (case : A → FrontendMessageRef) (shown : A → V) (Is : V → Type 0) (result : Answer) : Type 0 where

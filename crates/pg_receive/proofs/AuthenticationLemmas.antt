@@ -20,9 +20,8 @@ use Rattle.pg_format.proofs.FormatLaws.Tests.{lawful_checked}
 use Rattle.pg_format.proofs.FormatLaws.Whole.{meaning_or_fault}
 use Rattle.pg_receive.specs.Authentication.Mechanisms.{BeginsWithName, AreMechanisms, mechanisms_in}
 use Rattle.pg_receive.specs.Authentication.SaslContinue.{ContinueValue, challenge_in, challenges, ChallengeNeedsNoMemory}
-use Rattle.pg_receive.specs.Authentication.SaslContinue.Shown.{continue_shown}
+use Rattle.pg_receive.specs.Authentication.Shown.{continue_shown, authentication_shown}
 use Rattle.pg_receive.specs.Authentication.SaslFinal.{verifier_in, verifiers, VerifierNeedsNoMemory}
-use Rattle.pg_receive.specs.Authentication.Shown.{authentication_shown}
 use Rattle.pg_receive.specs.Authentication.{sasl_continue, sasl_final, value_of, requests, RequestNeedsNoMemory}
 use Rattle.pg_receive.proofs.AuthenticationMechanismsLemmas.{are_mechanisms}
 

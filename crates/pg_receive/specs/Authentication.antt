@@ -1,5 +1,4 @@
 -- What an authentication request says to a client: of SASL data, what its items say.
-pub mod AuthenticationRef
 pub mod Base64Bytes
 pub mod Mechanisms
 pub mod Raw

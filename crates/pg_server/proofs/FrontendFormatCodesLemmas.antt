@@ -4,7 +4,7 @@ use Rattle.pg_base.specs.Numbers.{num}
 use Rattle.pg_base.specs.Reading.{Number}
 use Rattle.pg_format.specs.Format.Lists.{AreRead}
 use Rattle.pg_format.specs.Format.Parts.{be_u16}
-use Rattle.pg_server.specs.Frontend.FormatCodes.{codes_in}
+use Rattle.pg_server.specs.Frontend.Lists.{codes_in}
 
 pub length-codes_in : (bytes : List ℕ) → length (codes_in bytes) ≡ length bytes / 2
 length-codes_in [] = refl

@@ -10,8 +10,7 @@ use Rattle.pg_format.specs.Format.Parts.{be_u32}
 use Rattle.pg_format.specs.Format.Places.{IsReadAt}
 use Rattle.pg_format.specs.Format.Sequences.{BreaksAfter, ◌⨾◌}
 use Rattle.pg_server.specs.declared.frontend.error.FrontendFault.{FrontendFault}
-use Rattle.pg_server.specs.Frontend.Error.{IsOnPage}
-use Rattle.pg_server.specs.Frontend.Offsets.{TrailsAt}
+use Rattle.pg_server.specs.Frontend.Error.{IsOnPage, TrailsAt}
 
 -- a slice from an index on
 pub from_index : (n : ℕ) (bytes : List ℕ) → take (length bytes - n) (drop n bytes) ≡ drop n bytes

@@ -4,7 +4,7 @@ use Rattle.pg_base.specs.Numbers.{num}
 use Rattle.pg_base.specs.Reading.{Number}
 use Rattle.pg_format.specs.Format.Lists.{AreRead}
 use Rattle.pg_format.specs.Format.Parts.{be_u32}
-use Rattle.pg_server.specs.Frontend.ParameterTypes.{types_in}
+use Rattle.pg_server.specs.Frontend.Lists.{types_in}
 
 pub length-types_in : (bytes : List ℕ) → length (types_in bytes) ≡ length bytes / 4
 length-types_in [] = refl

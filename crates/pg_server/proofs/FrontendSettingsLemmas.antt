@@ -6,7 +6,7 @@ use Rattle.pg_base.specs.Reading.{HoldsNo, Text, BeginsWith}
 use Rattle.pg_format.specs.Format.Lists.{AreRead}
 use Rattle.pg_format.proofs.EndedTextsLemmas.{texts_in-none, texts_at}
 use Rattle.pg_format.specs.Messages.{setting}
-use Rattle.pg_server.specs.Frontend.Settings.{pairs_of, settings_in}
+use Rattle.pg_server.specs.Frontend.Lists.{pairs_of, settings_in}
 
 -- ---- what bytes hold
 

@@ -8,7 +8,7 @@ use Rattle.pg_format.specs.Format.Nullable.{value_after, value}
 use Rattle.pg_format.specs.Format.Parts.{be_i32, bytes_of}
 use Rattle.pg_format.specs.Format.Places.{IsReadAt}
 use Rattle.pg_format.proofs.FormatLaws.Nullable.{lawful_value}
-use Rattle.pg_server.specs.Frontend.Values.{value_of, rest_of, first_value, after_first, values_in, HoldsValues}
+use Rattle.pg_server.specs.Frontend.Lists.{value_of, rest_of, first_value, after_first, values_in, HoldsValues}
 
 pub length-values_in : (n : ℕ) (bytes : List ℕ) → length (values_in n bytes) ≡ n
 length-values_in zero bytes = refl

@@ -2,7 +2,7 @@
 
 ghost use Rattle.std.specs.Prelude.{◌≡◌, [], length, drop, IfSome, IfNone};
 ghost use Rattle.pg_format.specs.Messages.{setting};
-ghost use Rattle.pg_server.specs.Frontend.Settings.{settings_in};
+ghost use Rattle.pg_server.specs.Frontend.Lists.{settings_in};
 ghost use Rattle.pg_c.specs.Client.Startup.{setting_in};
 ghost use Rattle.pg_c.specs.Read.{AreGiven};
 

@@ -2,7 +2,7 @@
 
 ghost use Rattle.std.specs.Prelude.{◌≡◌, ◌≤◌, ◌<ℤ◌, ◌≤ℤ◌, pos, length};
 ghost use Rattle.pg_format.specs.Messages as page;
-ghost use Rattle.pg_server.specs.Frontend.Target.{shown_target};
+ghost use Rattle.pg_server.specs.Frontend.Page.{shown_target};
 ghost use Rattle.pg_format.specs.Received.{max_body};
 ghost use Rattle.pg_c.specs.Client.{RefusesClientBody};
 ghost use Rattle.pg_c.specs.Client.Target.{ReadsTarget};

@@ -1,6 +1,5 @@
 -- The challenge of a server in a SASL exchange. Documentation: "Message Formats",
 -- AuthenticationSASLContinue (B), and "SCRAM-SHA-256 Authentication".
-pub mod Shown
 use Rattle.std.specs.Prelude.{ℕ, List, [], length, unwrap_or}
 use Rattle.pg_format.specs.Format.{Format, IsBroken}
 use Rattle.pg_format.specs.Format.Parts.{remaining}

@@ -1,6 +1,5 @@
 -- The server-final-message of a SASL exchange. Documentation: "Message Formats",
 -- AuthenticationSASLFinal (B), and "SCRAM-SHA-256 Authentication".
-pub mod Shown
 use Rattle.std.specs.Prelude.{◌≡◌, ℕ, List, []}
 use Rattle.pg_format.specs.Format.{Format, Means}
 use Rattle.pg_format.specs.Format.Parts.{remaining}

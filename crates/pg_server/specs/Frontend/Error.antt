@@ -1,10 +1,11 @@
 -- Faults of messages from a client: their words, and what the page of all messages calls them.
-use Rattle.std.specs.Prelude.{◌≡◌, ℕ, List, ◌++◌, codes, decimal}
+use Rattle.std.specs.Prelude.{◌≡◌, ℕ, List, ◌++◌, codes, decimal, ◌<◌, length}
 use Rattle.std.specs.Fmt.{signed_decimal}
 use Rattle.pg_base.specs.declared.error.ProtocolFault.{ProtocolFault}
 use Rattle.pg_base.specs.declared.error.ProtocolFault.TheVariants as page
 use Rattle.pg_server.specs.declared.frontend.error.FrontendFault.{FrontendFault}
 use Rattle.pg_server.specs.declared.frontend.error.FrontendFault.TheVariants as faults
+use Rattle.pg_server.specs.declared.frontend.error.FrontendFault.TheVariants.{TrailingBytes}
 
 abbrev pub fault_words : FrontendFault → List ℕ
 fault_words (faults.UnknownTag tag) = codes "unknown message type: " ++ decimal tag
@@ -30,3 +31,8 @@ IsOnPage (faults.KeyLength length) fault = fault ≡ page.BadKeyLength length
 IsOnPage (faults.TrailingBytes at) fault = fault ≡ page.BodyTooLong at
 IsOnPage (faults.BadLength length) fault = ⊥
 IsOnPage (faults.FirstTooLong length limit) fault = ⊥
+
+-- bytes follow an offset
+pub record TrailsAt (body : List ℕ) (at : ℕ) (fault : FrontendFault) : Type 0 where
+  pub some : at < length body
+  pub is : fault ≡ TrailingBytes at

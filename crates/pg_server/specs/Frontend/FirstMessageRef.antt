@@ -4,7 +4,7 @@ use Rattle.pg_format.specs.Messages.{First, opening, cancelling, tls, gssapi, fi
 use Rattle.pg_server.specs.declared.frontend.error.FrontendFault.{FrontendFault}
 use Rattle.pg_server.specs.declared.frontend.first_message_ref.FirstMessageRef.{FirstMessageRef}
 use Rattle.pg_server.specs.declared.frontend.first_message_ref.FirstMessageRef.TheVariants as messages
-use Rattle.pg_server.specs.Frontend.CancelRequest.{shown_cancel}
+use Rattle.pg_server.specs.Frontend.Page.{shown_cancel}
 use Rattle.pg_server.specs.Frontend.Message.{ReadsBody}
 
 abbrev pub shown_first : FirstMessageRef → First

@@ -10,12 +10,8 @@ use Rattle.pg_server.specs.declared.frontend.error.FrontendFault.{FrontendFault}
 use Rattle.pg_server.specs.declared.frontend.error.FrontendFault.TheVariants.{UnknownTag}
 use Rattle.pg_server.specs.declared.frontend.frontend_message_ref.FrontendMessageRef.{FrontendMessageRef}
 use Rattle.pg_server.specs.declared.frontend.frontend_message_ref.FrontendMessageRef.TheVariants as messages
-use Rattle.pg_server.specs.Frontend.Bind.{shown_bind}
-use Rattle.pg_server.specs.Frontend.Execute.{shown_execute}
-use Rattle.pg_server.specs.Frontend.FunctionCall.{shown_call}
+use Rattle.pg_server.specs.Frontend.Page.{shown_bind, shown_execute, shown_call, shown_parse, shown_targeted}
 use Rattle.pg_server.specs.Frontend.Message.{ReadsBody}
-use Rattle.pg_server.specs.Frontend.Parse.{shown_parse}
-use Rattle.pg_server.specs.Frontend.Target.{shown_targeted}
 
 abbrev pub Answer : Type 0
 Answer = Result FrontendMessageRef FrontendFault

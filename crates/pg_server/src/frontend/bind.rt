@@ -1,7 +1,7 @@
 //! A portal that is made of a prepared statement.
 
 ghost use Rattle.pg_format.specs.Messages.{bind};
-ghost use Rattle.pg_server.specs.Frontend.Bind.{shown_bind};
+ghost use Rattle.pg_server.specs.Frontend.Page.{shown_bind};
 ghost use Rattle.pg_server.specs.Frontend.Message.{ReadsBody};
 
 use crate::frontend::error::FrontendFault;

@@ -2,7 +2,7 @@
 
 ghost use Rattle.std.specs.Prelude.{◌≤◌, length};
 ghost use Rattle.pg_format.specs.Messages.{cancel_request};
-ghost use Rattle.pg_server.specs.Frontend.CancelRequest.{shown_cancel};
+ghost use Rattle.pg_server.specs.Frontend.Page.{shown_cancel};
 ghost use Rattle.pg_server.specs.Frontend.Message.{ReadsRest};
 
 use crate::frontend::error::FrontendFault;

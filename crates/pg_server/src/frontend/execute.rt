@@ -1,7 +1,7 @@
 //! A portal that is run.
 
 ghost use Rattle.pg_format.specs.Messages.{execute};
-ghost use Rattle.pg_server.specs.Frontend.Execute.{shown_execute};
+ghost use Rattle.pg_server.specs.Frontend.Page.{shown_execute};
 ghost use Rattle.pg_server.specs.Frontend.Message.{ReadsBody};
 
 use crate::frontend::error::FrontendFault;

@@ -24,7 +24,7 @@ pub struct FormatCodes<'a> {
 
 impl<'a> Model for FormatCodes<'a> {
     ghost use Rattle.std.specs.Prelude.{ℕ, List};
-    ghost use Rattle.pg_server.specs.Frontend.FormatCodes.{codes_in};
+    ghost use Rattle.pg_server.specs.Frontend.Lists.{codes_in};
 
     ghost Value = { List ℕ };
 

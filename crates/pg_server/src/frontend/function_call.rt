@@ -1,7 +1,7 @@
 //! A call of a function by its object id.
 
 ghost use Rattle.pg_format.specs.Messages.{function_call};
-ghost use Rattle.pg_server.specs.Frontend.FunctionCall.{shown_call};
+ghost use Rattle.pg_server.specs.Frontend.Page.{shown_call};
 ghost use Rattle.pg_server.specs.Frontend.Message.{ReadsBody};
 
 use crate::frontend::error::FrontendFault;

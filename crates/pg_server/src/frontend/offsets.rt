@@ -4,7 +4,7 @@ ghost use Rattle.std.specs.Prelude.{◌≡◌, ◌-◌, ◌≤◌, length, IfOk,
 ghost use Rattle.pg_format.specs.Format.Parts.{until_nul, be_u16, be_u32, be_i32, bytes_of};
 ghost use Rattle.pg_server.specs.declared.frontend.error.FrontendFault.TheVariants.{Short};
 ghost use Rattle.pg_server.specs.Frontend.Message.{GivesAt};
-ghost use Rattle.pg_server.specs.Frontend.Offsets.{TrailsAt};
+ghost use Rattle.pg_server.specs.Frontend.Error.{TrailsAt};
 
 use crate::frontend::error::FrontendFault;
 use pg_base::io;

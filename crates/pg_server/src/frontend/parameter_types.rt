@@ -25,7 +25,7 @@ pub struct ParameterTypes<'a> {
 
 impl<'a> Model for ParameterTypes<'a> {
     ghost use Rattle.std.specs.Prelude.{ℕ, List};
-    ghost use Rattle.pg_server.specs.Frontend.ParameterTypes.{types_in};
+    ghost use Rattle.pg_server.specs.Frontend.Lists.{types_in};
 
     ghost Value = { List ℕ };
 

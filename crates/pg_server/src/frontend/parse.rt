@@ -2,7 +2,7 @@
 
 ghost use Rattle.pg_format.specs.Messages.{parse};
 ghost use Rattle.pg_server.specs.Frontend.Message.{ReadsBody};
-ghost use Rattle.pg_server.specs.Frontend.Parse.{shown_parse};
+ghost use Rattle.pg_server.specs.Frontend.Page.{shown_parse};
 
 use crate::frontend::error::FrontendFault;
 use crate::frontend::offsets::{end_at, text_at};

@@ -2,7 +2,7 @@
 
 ghost use Rattle.pg_format.specs.Messages.{sasl_initial_response};
 ghost use Rattle.pg_server.specs.Frontend.Message.{ReadsBody};
-ghost use Rattle.pg_server.specs.Frontend.SaslInitial.{shown_initial};
+ghost use Rattle.pg_server.specs.Frontend.Page.{shown_initial};
 
 use crate::frontend::error::FrontendFault;
 use crate::frontend::offsets::{end_at, text_at};

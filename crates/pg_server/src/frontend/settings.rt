@@ -22,7 +22,7 @@ pub struct Settings<'a> {
 
 impl<'a> Model for Settings<'a> {
     ghost use Rattle.std.specs.Prelude.{ℕ, List};
-    ghost use Rattle.pg_server.specs.Frontend.Settings.{settings_in};
+    ghost use Rattle.pg_server.specs.Frontend.Lists.{settings_in};
 
     ghost Value = { List (List ℕ × List ℕ) };
 

@@ -4,7 +4,7 @@ ghost use Rattle.pg_base.specs.declared.error.ProtocolFault.TheVariants.{Unknown
 ghost use Rattle.pg_format.specs.Format.Parts.{one_of};
 ghost use Rattle.pg_format.specs.Messages.{targeted, target_of, target_letter};
 ghost use Rattle.pg_server.specs.Frontend.Message.{GivesAt, ReadsBody};
-ghost use Rattle.pg_server.specs.Frontend.Target.{shown_target, shown_targeted};
+ghost use Rattle.pg_server.specs.Frontend.Page.{shown_target, shown_targeted};
 
 use crate::frontend::error::FrontendFault;
 use crate::frontend::offsets::{bytes_at, end_at, text_at};

@@ -25,7 +25,7 @@ pub struct Values<'a> {
 
 impl<'a> Model for Values<'a> {
     ghost use Rattle.std.specs.Prelude.{ℕ, List, Option};
-    ghost use Rattle.pg_server.specs.Frontend.Values.{values_in, HoldsValues};
+    ghost use Rattle.pg_server.specs.Frontend.Lists.{values_in, HoldsValues};
 
     ghost Value = { List (Option (List ℕ)) };
 

@@ -2,7 +2,7 @@
 
 ghost use Rattle.pg_format.specs.Format.{ReadsAs};
 ghost use Rattle.pg_receive.specs.Authentication.{requests};
-ghost use Rattle.pg_receive.specs.Authentication.AuthenticationRef.{authentication_borrowed};
+ghost use Rattle.pg_receive.specs.Authentication.Shown.{authentication_borrowed};
 
 use super::{
     AuthenticationMd5Password, AuthenticationSaslContinueRef, AuthenticationSaslFinalRef,

@@ -11,7 +11,7 @@ ghost use Rattle.pg_format.proofs.FormatLaws.Whole.{one_meaning, meaning_or_faul
 ghost use Rattle.pg_format.proofs.FormatLaws.Parts.{lawful_remaining};
 ghost use Rattle.pg_format.proofs.FormatLaws.Sequences.{lawful_viewed};
 ghost use Rattle.pg_format.proofs.FormatLaws.Tests.{lawful_checked};
-ghost use Rattle.pg_receive.specs.Authentication.SaslContinue.Shown.{continue_shown, continue_borrowed};
+ghost use Rattle.pg_receive.specs.Authentication.Shown.{continue_shown, continue_borrowed};
 
 use crate::message::authentication::base64_bytes::Base64Bytes;
 use crate::message::authentication::sasl_items::{SaslItems, split_key};

@@ -9,7 +9,7 @@ ghost use Rattle.pg_format.proofs.FormatLaws.Sequences.{lawful_viewed};
 ghost use Rattle.pg_format.proofs.FormatLaws.Tests.{lawful_checked};
 ghost use Rattle.pg_format.specs.Sasl.{final_message_fault};
 ghost use Rattle.pg_receive.specs.Authentication.SaslFinal.{verifier_in, verifiers, VerifierNeedsNoMemory};
-ghost use Rattle.pg_receive.specs.Authentication.SaslFinal.Shown.{final_shown};
+ghost use Rattle.pg_receive.specs.Authentication.Shown.{final_shown};
 
 use crate::message::authentication::base64_bytes::Base64Bytes;
 use crate::message::authentication::sasl_items::{SaslItems, split_key};

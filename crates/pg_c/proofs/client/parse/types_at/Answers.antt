@@ -1,5 +1,5 @@
 use Rattle.std.proofs.Common.{refl, arith, drop}
-use Rattle.pg_server.specs.Frontend.ParameterTypes.{types_in}
+use Rattle.pg_server.specs.Frontend.Lists.{types_in}
 use Rattle.pg_server.proofs.FrontendParameterTypesLemmas.{types_are_read}
 use Rattle.pg_c.proofs.client.parse.types_at.Goals as goal
 

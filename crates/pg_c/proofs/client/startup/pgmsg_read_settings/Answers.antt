@@ -1,7 +1,7 @@
 use Rattle.std.proofs.Common.{◌≡◌, ℕ, ◌-◌, ◌<◌, ◌≤◌, List, [], length, take, drop, refl, sym, arith}
 use Rattle.std.specs.Prelude.{slice_range}
 use Rattle.std.proofs.lemmas.List.{take-append-drop, length-take-le, length-drop, take_all, drop_all}
-use Rattle.pg_server.specs.Frontend.Settings.{settings_in}
+use Rattle.pg_server.specs.Frontend.Lists.{settings_in}
 use Rattle.pg_server.proofs.FrontendSettingsLemmas.{no_name}
 use Rattle.pg_c.specs.Client.Startup.{setting_in}
 use Rattle.pg_c.proofs.ReadLemmas.{none_given}

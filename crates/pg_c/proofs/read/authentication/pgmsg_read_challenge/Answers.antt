@@ -1,4 +1,4 @@
-use Rattle.pg_receive.specs.Authentication.SaslContinue.Shown.{continue_borrowed}
+use Rattle.pg_receive.specs.Authentication.Shown.{continue_borrowed}
 use Rattle.pg_c.proofs.read.authentication.pgmsg_read_challenge.Goals as goal
 
 pub returns-in-Ok-clause-value : goal.returns-in-Ok-clause-value

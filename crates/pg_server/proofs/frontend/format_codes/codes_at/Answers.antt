@@ -1,5 +1,5 @@
 use Rattle.std.proofs.Common.{refl, arith, drop}
-use Rattle.pg_server.specs.Frontend.FormatCodes.{codes_in}
+use Rattle.pg_server.specs.Frontend.Lists.{codes_in}
 use Rattle.pg_server.proofs.FrontendFormatCodesLemmas.{codes_are_read}
 use Rattle.pg_server.proofs.frontend.format_codes.codes_at.Goals as goal
 

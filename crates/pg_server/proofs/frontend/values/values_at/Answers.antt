@@ -2,7 +2,7 @@ use Rattle.std.proofs.Common.{◌≡◌, ◌<◌, ◌∷◌, [], ◌++◌, ℕ, 
 use Rattle.std.proofs.lemmas.Result.{err_from_is_err_and}
 use Rattle.pg_format.specs.Format.Nullable.{value}
 use Rattle.pg_format.proofs.FormatLaws.Places.{one_more_at, items_then_fault}
-use Rattle.pg_server.specs.Frontend.Values.{values_in}
+use Rattle.pg_server.specs.Frontend.Lists.{values_in}
 use Rattle.pg_server.proofs.FrontendMessageLemmas.{from_index}
 use Rattle.pg_server.proofs.FrontendValuesLemmas.{values_in-read}
 use Rattle.pg_server.proofs.frontend.values.values_at.Goals as goal

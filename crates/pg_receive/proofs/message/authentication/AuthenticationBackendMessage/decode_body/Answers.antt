@@ -4,7 +4,7 @@ use Rattle.std.proofs.lemmas.Result.{err_from_is_err_and}
 use Rattle.pg_format.specs.Format.Parts.{be_u32}
 use Rattle.pg_format.specs.Messages as page
 use Rattle.pg_receive.specs.Authentication.Mechanisms.{mechanisms_in}
-use Rattle.pg_receive.specs.Authentication.SaslContinue.Shown.{continue_shown}
+use Rattle.pg_receive.specs.Authentication.Shown.{continue_shown}
 use Rattle.pg_receive.proofs.AuthenticationLemmas.{request_means, request_breaks, names_read, challenge_request, challenge_error, verifier_request, verifier_error}
 use Rattle.pg_receive.proofs.message.authentication.AuthenticationBackendMessage.decode_body.Goals as goal
 

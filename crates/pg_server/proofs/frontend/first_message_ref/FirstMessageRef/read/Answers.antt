@@ -2,7 +2,7 @@ use Rattle.std.proofs.Common.{◌≡◌, length, drop, refl, inl, arith}
 use Rattle.std.proofs.lemmas.Result.{err_from_is_err_and}
 use Rattle.pg_base.specs.declared.error.ProtocolFault.TheVariants.{UnknownCode}
 use Rattle.pg_format.specs.Messages.{opening, cancelling, tls, gssapi}
-use Rattle.pg_server.specs.Frontend.CancelRequest.{shown_cancel}
+use Rattle.pg_server.specs.Frontend.Page.{shown_cancel}
 use Rattle.pg_server.proofs.FrontendFirstMessageRefLemmas.{means_first, breaks_first, cancel_means, cancel_breaks, tls_means, tls_breaks, gssapi_means, gssapi_breaks, startup_means, startup_breaks, no_message}
 use Rattle.pg_server.proofs.frontend.first_message_ref.FirstMessageRef.read.Goals as goal
 

@@ -1,7 +1,7 @@
 use Rattle.std.proofs.Common.{drop, inl, inr}
 use Rattle.std.proofs.lemmas.Result.{err_from_is_err_and}
 use Rattle.pg_format.specs.Messages.{Targeted}
-use Rattle.pg_server.specs.Frontend.Target.{shown_target}
+use Rattle.pg_server.specs.Frontend.Page.{shown_target}
 use Rattle.pg_server.proofs.FrontendMessageLemmas.{after, ◌then◌, whole, trailing}
 use Rattle.pg_server.proofs.frontend.target.TargetRef.read.Goals as goal
 

@@ -1,5 +1,5 @@
 use Rattle.std.proofs.Common.{◌≡◌, suc, ◌-◌, ◌∷◌, length, drop, sym, ap, ◌∙◌, arith, option_copied}
-use Rattle.pg_server.specs.Frontend.Values.{values_in}
+use Rattle.pg_server.specs.Frontend.Lists.{values_in}
 use Rattle.pg_server.proofs.FrontendMessageLemmas.{from_index}
 use Rattle.pg_server.proofs.FrontendValuesLemmas.{first_and_others, none_is_broken}
 use Rattle.pg_server.proofs.frontend.values.ValuesIterator.next.Goals as goal
