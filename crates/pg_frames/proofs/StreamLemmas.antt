@@ -146,7 +146,7 @@ taken bytes tag body rest end p is =
     let same : end ≡ 5 + length body = omega (arith, is, begins_fits bytes tag body rest p) in
     rw (same, at.0, at.1) p
 
--- the same of bytes that are shared, with what the reader then is
-pub taken_shared : (old shared left new contents : List ℕ) (tag : ℕ) (body rest : List ℕ) (end : ℕ) → Begins shared tag body rest → end ≡ length shared - length rest → old ≡ shared → contents ≡ drop 5 (take end shared) → left ≡ drop end shared → new ≡ left ++ [] → Begins old tag contents new
-taken_shared old shared left new contents tag body rest end p is same c l n =
-    rw (n, append-nil left, l, c, same) (taken shared tag body rest end p is)
+-- the same of the bytes that a reader holds
+pub taken_from : (old stream contents left : List ℕ) (tag : ℕ) (body rest : List ℕ) (end : ℕ) → Begins stream tag body rest → end ≡ length stream - length rest → stream ≡ old → contents ≡ drop 5 (take end old) → left ≡ drop end old → Begins old tag contents left
+taken_from old stream contents left tag body rest end p is same c l =
+    rw (c, l) (taken old tag body rest end (rw same at p) (rw same at is))

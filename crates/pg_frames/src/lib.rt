@@ -2,6 +2,7 @@
 //! [`frontend`]; and the core of a proxy between the two in [`relay`].
 #![tactic(auto)]
 
+mod block;
 mod frame;
 pub mod frontend;
 mod head;

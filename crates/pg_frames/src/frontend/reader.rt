@@ -7,29 +7,24 @@ ghost use Rattle.pg_frames.specs.declared.frontend.frame.Expects.TheVariants.{Fi
 ghost use Rattle.pg_frames.specs.Frontend.Frame.{Whole, WantsMore, IsStreamFault};
 ghost use Rattle.pg_frames.specs.Frontend.Reader.{Takes, IsReaderError, fed, header};
 
+use crate::block::Block;
 use crate::frontend::error::FrontendError;
 use crate::frontend::frame::{Expects, FrontendFrame, next_frontend_frame};
 use crate::frontend::message::{ClientMessage, ClientMessageKind};
 use crate::head::{HEADER, LENGTH};
-use bytes::BytesMut;
 use std::alloc::{AllocError, Global};
 use std::marker::Model;
-
-// The most spare bytes of a block that a reader keeps when all is handed out.
-const MAX_KEPT: usize = 64 * 1024;
 
 /// Takes the bytes of a stream from a client in pieces of any length, and hands out its messages, each as
 /// soon as its last byte has come. Documentation: "Messaging Overview".
 ///
-/// A body that it hands out shares the block of memory that its bytes were fed into, and keeps that block
-/// until it is dropped. The reader asks for memory as bytes are fed and never for a length that a message
-/// announces. Of a block with more than 64 KiB to spare it lets go once all is handed out.
+/// Its memory is as that of a [`FrameReader`](crate::FrameReader): a body that it hands out shares the block of
+/// memory that its bytes were fed into, and no memory is asked for because of a length that a message announces.
 #[derive(Drop)]
 pub struct FrontendFrameReader {
-    alloc: Global,
     limit: usize,
     expects: Expects,
-    buffer: BytesMut,
+    block: Block,
 }
 
 impl Model for FrontendFrameReader {
@@ -37,7 +32,7 @@ impl Model for FrontendFrameReader {
 
     ghost Value = { Reading };
 
-    ghost view = { λ reader. record { limit = reader.limit; expects = reader.expects; bytes = reader.buffer.items } };
+    ghost view = { λ reader. record { limit = reader.limit; expects = reader.expects; bytes = reader.block } };
 }
 
 impl FrontendFrameReader {
@@ -47,10 +42,9 @@ impl FrontendFrameReader {
         ensures { result ≡ record { limit = limit; expects = First; bytes = [] } }
     {
         FrontendFrameReader {
-            alloc,
             limit,
             expects: Expects::First,
-            buffer: BytesMut::new(alloc),
+            block: Block::new(alloc),
         }
     }
 
@@ -58,14 +52,14 @@ impl FrontendFrameReader {
     pub fn len(&self) -> usize
         ensures { result ≡ length self.now.bytes }
     {
-        self.buffer.len()
+        self.block.bytes().len()
     }
 
     /// Whether all bytes that were fed are taken.
     pub fn is_empty(&self) -> bool
         ensures { result ≡ (length self.now.bytes == 0) }
     {
-        self.buffer.is_empty()
+        self.len() == 0
     }
 
     /// Which message comes next.
@@ -82,7 +76,7 @@ impl FrontendFrameReader {
         ensures err { OnErr result (self.new ≡ self.old) }
         ensures some { OnErr result (bytes.now ≢ []) }
     {
-        self.buffer.extend_from_slice(bytes)
+        self.block.feed(bytes)
     }
 
     /// Takes the message at the front of what was fed, or gives `None` where it isn't whole yet.
@@ -120,7 +114,7 @@ impl FrontendFrameReader {
         ensures error { IfErr result (IsReaderError self.old) }
         ensures err { OnErr result (self.new ≡ self.old) }
     {
-        let stream = self.buffer.as_slice();
+        let stream = self.block.bytes();
         let Some(
             FrontendFrame {
                 kind,
@@ -133,20 +127,9 @@ impl FrontendFrameReader {
             return Ok(None);
         };
         let end = stream.len() - rest.len();
-        let mut contents = self.buffer.freeze_to(end)?;
-        contents.advance(header_of(kind));
+        let contents = self.block.take(header_of(kind), end)?;
         self.expects = next;
-        self.give_back();
         Ok(Some(ClientMessage { kind, contents }))
-    }
-
-    // Where all is handed out, lets go of a block that has much to spare.
-    fn give_back(&mut self)
-        ensures { self.new ≡ self.old }
-    {
-        if self.buffer.is_empty() && self.buffer.capacity() > MAX_KEPT {
-            self.buffer = BytesMut::new(self.alloc);
-        }
     }
 }
 
