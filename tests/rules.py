@@ -511,7 +511,7 @@ def of_values(body):
         yield from (("value", *span, it) for it in defaults(of, said) if it != said)
         if of == "&str" and said != '""':
             yield "bytes", *span, '""'
-        if of.startswith("&["):
+        if of.startswith("&[") and not said.startswith("&mut "):
             bare = said.removeprefix("&")
             yield "bytes", *span, "&[]"
             yield "bytes", *span, f"{bare}.get(1..).unwrap_or(&[])"
@@ -537,7 +537,7 @@ def of_parameters(body):
     place = body.end(0)
     for name, of in body.parameters.items():
         cut = ["{0}.saturating_sub(1)", "{0}.saturating_add(1)"] * (of in NUMBERS) + ["&mut {0}[..0]"] * (of == "&mut [u8]")
-        if of.startswith("&["):
+        if of.startswith("&[") and not said.startswith("&mut "):
             cut = ["&{0}[..0]", "{0}.get(1..).unwrap_or(&[])", "&{0}[..{0}.len().saturating_sub(1)]"]
         yield from (("parameter", place, place, f" let {name} = {it.format(name)};") for it in cut)
         for other in body.parameters:
