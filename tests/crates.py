@@ -1,5 +1,6 @@
 """The crates of the repository, what they are made of, and how one is checked with some of its texts changed."""
 
+import argparse
 import contextlib
 import fcntl
 import functools
@@ -16,6 +17,18 @@ TOP = pathlib.Path(__file__).resolve().parent.parent
 
 # The folders that a check reads.
 PARTS = ("src", "specs", "proofs")
+
+
+def arguments(about):
+    """A parser of a script's arguments, whose help is what the script says about itself."""
+    return argparse.ArgumentParser(description=about, formatter_class=argparse.RawDescriptionHelpFormatter)
+
+
+def named(name):
+    """The crate of a name that a script was given."""
+    if name not in known():
+        raise argparse.ArgumentTypeError(f"no crate is called {name}")
+    return known()[name]
 
 
 class Crate:
