@@ -116,7 +116,7 @@ def parameters_of(head):
     for at, sign in enumerate(head if head.startswith("<") else ""):
         level += (sign == "<") - (sign == ">" and head[at - 1] != "-")
         if not level:
-            return re.findall(r"(?:<|, )(\w+)(?=[:,>])", head[: at + 1]), head[at + 1:].strip()
+            return re.findall(r"(?:<|, )(?:const )?(\w+)(?=[:,>])", head[: at + 1]), head[at + 1:].strip()
     return [], head
 
 
