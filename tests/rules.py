@@ -536,8 +536,10 @@ def of_parameters(body):
     """Parameters that change as the function begins: one that is cut, or two that are exchanged."""
     place = body.end(0)
     for name, of in body.parameters.items():
+        if name.startswith("_"):
+            continue
         cut = ["{0}.saturating_sub(1)", "{0}.saturating_add(1)"] * (of in NUMBERS) + ["&mut {0}[..0]"] * (of == "&mut [u8]")
-        if of.startswith("&[") and not said.startswith("&mut "):
+        if of.startswith("&["):
             cut = ["&{0}[..0]", "{0}.get(1..).unwrap_or(&[])", "&{0}[..{0}.len().saturating_sub(1)]"]
         yield from (("parameter", place, place, f" let {name} = {it.format(name)};") for it in cut)
         for other in body.parameters:
