@@ -19,6 +19,7 @@ pub same_faults : (a b : ProtocolFault) → faults-eq.ghosts.eq a b ≡ true →
 same_faults (faults.TooManyParamFormats n) (faults.TooManyParamFormats m) e = search rules
 same_faults (faults.TooManyResultFormats n) (faults.TooManyResultFormats m) e = search rules
 same_faults (faults.TooManyParamTypes n) (faults.TooManyParamTypes m) e = search rules
+same_faults (faults.TooMany n) (faults.TooMany m) e = search rules
 same_faults (faults.MessageTooLong n) (faults.MessageTooLong m) e = search rules
 same_faults (faults.WrongFormat f g) (faults.WrongFormat h i) e =
     let parts = and_parts (formats-eq.ghosts.eq f h) (formats-eq.ghosts.eq g i) e in

@@ -6,3 +6,4 @@ pub mod IdLemmas
 pub mod NumbersLemmas
 pub mod ReadingLemmas
 pub mod RoundTripLemmas
+pub mod TaggedLemmas

@@ -11,6 +11,7 @@ abbrev pub fault_words : ProtocolFault → List ℕ
 fault_words (faults.TooManyParamFormats count) = codes "too many parameter format codes (" ++ decimal count ++ codes ")"
 fault_words (faults.TooManyResultFormats count) = codes "too many result format codes (" ++ decimal count ++ codes ")"
 fault_words (faults.TooManyParamTypes count) = codes "param_types.len() too large for binary protocol: " ++ decimal count
+fault_words (faults.TooMany count) = codes "too many items for a message: " ++ decimal count
 fault_words (faults.MessageTooLong length) = codes "message size out of range for protocol: " ++ decimal length
 fault_words (faults.WrongFormat expected got) = codes "Postgres protocol error: expected " ++ format_name expected ++ codes ", got " ++ format_name got
 fault_words (faults.BodyTooLong length) = codes "message body out of range for protocol: " ++ decimal length

@@ -12,4 +12,5 @@ pub mod Numbers
 pub mod Part
 pub mod Reading
 pub mod Sink
+pub mod Tagged
 pub mod Text

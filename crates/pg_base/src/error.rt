@@ -18,6 +18,8 @@ pub enum ProtocolFault {
     TooManyResultFormats(usize),
     /// More parameter types than a message can count: how many there are.
     TooManyParamTypes(usize),
+    /// More items than a message to a client can count: how many there are.
+    TooMany(usize),
     /// The length of the message, which counts itself and the body, doesn't fit its field; or that
     /// of a value of a Bind with the four bytes before it. It saturates at the greatest `usize`.
     MessageTooLong(usize),
@@ -61,7 +63,8 @@ pub enum ProtocolFault {
     Base64,
     /// The length of a received frame doesn't even count itself: below 4.
     BadLength(i32),
-    /// A text that the protocol ends with a NUL holds one, or the name of a setting is empty.
+    /// A text that the protocol ends with a NUL holds one; or what would end its list stands in it: a
+    /// setting or a mechanism of authentication without a name, or a field of a notice with the letter 0.
     TextHoldsNul,
     /// The parameters of a Bind are not as many values as it says.
     BadParams,
@@ -95,6 +98,7 @@ impl fmt::Display for ProtocolFault {
                     "param_types.len() too large for binary protocol: {count}"
                 )
             }
+            ProtocolFault::TooMany(count) => write!(f, "too many items for a message: {count}"),
             ProtocolFault::MessageTooLong(length) => {
                 write!(f, "message size out of range for protocol: {length}")
             }

@@ -8,8 +8,6 @@ use Rattle.pg_base.specs.declared.error.Error.TheVariants.{Protocol, OutOfMemory
 use Rattle.pg_server.specs.Frontend.Error.{fault_words}
 use Rattle.pg_server.specs.declared.frontend.error.FrontendFault.{FrontendFault}
 use Rattle.pg_server.specs.declared.frontend.error.FrontendFault.TheVariants as client
-use Rattle.pg_server.specs.declared.backend.error.BackendFault.{BackendFault}
-use Rattle.pg_server.specs.declared.backend.error.BackendFault.TheVariants as backend
 use Rattle.pg_c.specs.declared.refusal.PgmsgFault.{PgmsgFault}
 
 -- the number of any message or value that is too long
@@ -21,6 +19,7 @@ abbrev pub fault_number : ProtocolFault → ℤ
 fault_number (faults.TooManyParamFormats count) = negsuc 1
 fault_number (faults.TooManyResultFormats count) = negsuc 2
 fault_number (faults.TooManyParamTypes count) = negsuc 3
+fault_number (faults.TooMany count) = negsuc 26
 fault_number (faults.MessageTooLong length) = too_long_number
 fault_number (faults.WrongFormat expected got) = negsuc 5
 fault_number (faults.BodyTooLong length) = negsuc 6
@@ -55,13 +54,6 @@ place_in fault = 0
 abbrev pub fault_place : Error → ℕ
 fault_place (Protocol reading fault) = place_in fault
 fault_place OutOfMemory = 0
-
--- the same of what is wrong with a message to a client
-abbrev pub backend_number : BackendFault → ℤ
-backend_number (backend.TooMany count) = negsuc 26
-backend_number backend.TextHoldsNul = negsuc 18
-backend_number (backend.KeyLength length) = negsuc 20
-backend_number (backend.TooLong length) = too_long_number
 
 -- the same of what is wrong with a message from a client
 abbrev pub client_number : FrontendFault → ℤ

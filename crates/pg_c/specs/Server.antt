@@ -6,18 +6,17 @@ use Rattle.std.specs.Prelude.{◌≡◌, ◌≢◌, ◌≤◌, ℕ, ℤ, pos, Li
 use Rattle.pg_base.specs.declared.error.ProtocolFault.{ProtocolFault}
 use Rattle.pg_server.specs.Backend.BackendText.{IsWritten}
 use Rattle.pg_server.specs.Backend.Message.{Message, law_of, IsRead}
-use Rattle.pg_server.specs.declared.backend.error.BackendFault.{BackendFault}
 use Rattle.pg_c.specs.Put.{IsRefused}
-use Rattle.pg_c.specs.Refusal.{backend_number}
+use Rattle.pg_c.specs.Refusal.{fault_number}
 
-abbrev pub number_of_answer : Result ℕ BackendFault → ℤ
+abbrev pub number_of_answer : Result ℕ ProtocolFault → ℤ
 number_of_answer (Ok len) = pos len
-number_of_answer (Err fault) = backend_number fault
+number_of_answer (Err fault) = fault_number fault
 
 -- the length of the message, which is given where the room is that long; or the number of its first
 -- fault, and the room is as it was; what was given is read back as what the message says
 pub record PutsServerMessage (m : Message) (old new : List ℕ) (result : ℤ) : Type 0 where
-  pub answer : Result ℕ BackendFault
+  pub answer : Result ℕ ProtocolFault
   pub is : IsWritten (law_of m) old new answer
   pub number : result ≡ number_of_answer answer
   pub read : IfOk answer (λ len. len ≤ length old → IsRead m)

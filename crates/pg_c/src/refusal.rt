@@ -2,10 +2,9 @@
 
 ghost use Rattle.std.specs.Prelude.{◌≡◌, ◌<ℤ◌, ℕ, List, pos, IfOk, string_bytes};
 ghost use Rattle.pg_c.specs.Refusal.{fault_number, refusal_number, fault_place, IsReport, IsReportOf};
-ghost use Rattle.pg_c.specs.Refusal.{backend_number, client_number, client_place, IsClientReport};
+ghost use Rattle.pg_c.specs.Refusal.{client_number, client_place, IsClientReport};
 
 use pg_base::{Error, ProtocolFault};
-use pg_server::backend::BackendFault;
 use pg_server::frontend::FrontendFault;
 use std::alloc::{AllocError, Global};
 
@@ -118,13 +117,16 @@ pub fn number_of(error: Error) -> i32
     }
 }
 
-fn number_of_fault(fault: ProtocolFault) -> i32
-    ensures { result ≡ fault_number fault }
+/// The number of a fault.
+pub fn number_of_fault(fault: ProtocolFault) -> i32
+    ensures number { result ≡ fault_number fault }
+    ensures below { result <ℤ pos 0 }
 {
     match fault {
         ProtocolFault::TooManyParamFormats(_) => TOO_MANY_PARAM_FORMATS,
         ProtocolFault::TooManyResultFormats(_) => TOO_MANY_RESULT_FORMATS,
         ProtocolFault::TooManyParamTypes(_) => TOO_MANY_PARAM_TYPES,
+        ProtocolFault::TooMany(_) => TOO_MANY,
         ProtocolFault::MessageTooLong(_) => MESSAGE_TOO_LONG,
         ProtocolFault::WrongFormat { .. } => WRONG_FORMAT,
         ProtocolFault::BodyTooLong(_) => BODY_TOO_LONG,
@@ -169,19 +171,6 @@ pub fn report(alloc: Global, error: Error, fault: &mut PgmsgFault) -> i32
 {
     let words = error.to_string(alloc);
     fill(number_of(error), place_of(error), &words, fault)
-}
-
-/// The number of what is wrong with a message to a client.
-pub fn number_of_backend(fault: BackendFault) -> i32
-    ensures number { result ≡ backend_number fault }
-    ensures below { result <ℤ pos 0 }
-{
-    match fault {
-        BackendFault::TooMany(_) => TOO_MANY,
-        BackendFault::TextHoldsNul => TEXT_HOLDS_NUL,
-        BackendFault::KeyLength(_) => BAD_KEY_LENGTH,
-        BackendFault::TooLong(_) => MESSAGE_TOO_LONG,
-    }
 }
 
 // The number of what is wrong with a message from a client.

@@ -8,5 +8,6 @@ pub mod items;
 pub mod laws;
 mod received;
 pub mod text;
+pub mod value;
 
 pub use received::{BackendMessage, ReceivedMessage};

@@ -34,7 +34,7 @@ use Rattle.pg_server.specs.declared.backend.no_body.NoBodyText.{NoBodyText}
 use Rattle.pg_server.specs.declared.backend.no_body.NoBodyText.TheVariants as bare
 use Rattle.pg_server.specs.declared.backend.notice.NoticeKind.{NoticeKind}
 use Rattle.pg_server.specs.declared.backend.notice.NoticeKind.TheVariants as kinds
-use Rattle.pg_server.proofs.BackendTextLemmas.{len_fits}
+use Rattle.pg_base.proofs.TaggedLemmas.{len_fits}
 use Rattle.pg_server.proofs.BackendMessageLemmas.{own_message}
 use Rattle.pg_message.specs.Backend.{IsDecoded, IsCopyDecoded, IsBareDecoded, IsNoticeDecoded, IsDecodedBack, noticed, numbered}
 
@@ -73,12 +73,7 @@ decoded_copy directions.Both m response e t is = tt
 
 decoded_bare : (kind : NoBodyText) → fault (message.NoBody kind) ≡ None → Means page.no_body (body (message.NoBody kind)) tt → IsBareDecoded kind (message.NoBody kind)
 decoded_bare bare.CopyDone e is = decoded copy_done.ghosts tt (message.NoBody bare.CopyDone) e refl is
-decoded_bare bare.ParseComplete e is = tt
-decoded_bare bare.BindComplete e is = tt
-decoded_bare bare.CloseComplete e is = tt
-decoded_bare bare.EmptyQueryResponse e is = tt
-decoded_bare bare.NoData e is = tt
-decoded_bare bare.PortalSuspended e is = tt
+decoded_bare other e is = tt
 
 decoded_notice : (kind : NoticeKind) (fields : List Field) → fault (message.Notice kind fields) ≡ None → Means page.notice (body (message.Notice kind fields)) fields → IsNoticeDecoded kind (noticed fields) (message.Notice kind fields)
 decoded_notice kinds.Error fields e is = decoded error_response.ghosts (noticed fields) (message.Notice kinds.Error fields) e refl (fields, is, refl)
@@ -91,16 +86,14 @@ decoded_by_kind (message.CommandComplete command) e is = decoded command_complet
 decoded_by_kind (message.CopyData bytes) e is = decoded copy_data.ghosts bytes (message.CopyData bytes) e refl is
 decoded_by_kind (message.CopyResponse direction format codes) e is = decoded_copy direction (message.CopyResponse direction format codes) (response_of format codes) e refl is
 decoded_by_kind (message.DataRow cells) e is = decoded data_row.ghosts cells (message.DataRow cells) e refl is
-decoded_by_kind (message.FunctionCallResponse value) e is = tt
-decoded_by_kind (message.NegotiateProtocolVersion n) e is = tt
 decoded_by_kind (message.NoBody kind) e is = decoded_bare kind e is
 decoded_by_kind (message.Notice kind fields) e is = decoded_notice kind fields e is
 decoded_by_kind (message.Notification n) e is = decoded notification.ghosts n (message.Notification n) e refl is
 decoded_by_kind (message.ParameterDescription types) e is = decoded parameter_description.ghosts types (message.ParameterDescription types) e refl is
 decoded_by_kind (message.ParameterStatus setting) e is = decoded parameter_status.ghosts setting (message.ParameterStatus setting) e refl is
-decoded_by_kind (message.Raw tag bytes) e is = tt
 decoded_by_kind (message.ReadyForQuery ready) e is = decoded ready_for_query.ghosts _ (message.ReadyForQuery ready) e refl is
 decoded_by_kind (message.RowDescription columns) e is = decoded row_description.ghosts columns (message.RowDescription columns) e refl is
+decoded_by_kind other e is = tt
 
 pub decoded_back : (m : Message) → fault m ≡ None → IsInRange m → IsReadable m → IsDecodedBack m
 decoded_back m e r h = decoded_by_kind m e (means m e r h)

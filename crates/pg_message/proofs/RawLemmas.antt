@@ -1,11 +1,9 @@
 -- A message that is written is read whatever the encoding of its texts.
 use Rattle.std.proofs.Common.{◌≡◌, ◌↔◌, ℕ, Bool, false, All, List, [], ◌∷◌, ◌++◌, length, None, refl, sym, ap, ◌∙◌, arith}
-use Rattle.std.specs.Prelude.{◌||◌}
-use Rattle.std.specs.List.{flat_map, list_any}
+use Rattle.std.specs.List.{list_any}
 use Rattle.std.proofs.lemmas.List.{append-nil}
 use Rattle.std.proofs.lemmas.List.Elements.{All-head, All-tail}
 use Rattle.pg_base.specs.Numbers.{num}
-use Rattle.pg_base.specs.Text.{ended}
 use Rattle.pg_format.specs.Format.{Format, Lawful, Means}
 use Rattle.pg_format.specs.Format.Lists.{AreInOrder, AllFit, many}
 use Rattle.pg_format.specs.Messages as page
@@ -26,10 +24,10 @@ use Rattle.pg_server.specs.Backend.Message as message
 use Rattle.pg_server.specs.Backend.Message.{Message, law_of, body, fault, IsInRange}
 use Rattle.pg_server.specs.Backend.Notice.{breaks_fields}
 use Rattle.pg_server.specs.Backend.RowDescription.{IsColumnInRange}
-use Rattle.pg_server.proofs.BackendFitsLemmas.{fields_fit, key_fits}
-use Rattle.pg_server.proofs.BackendTextLemmas.{no_part_fault}
-use Rattle.pg_server.proofs.BackendItemLemmas.{few, neither, neither_is, no_nul_fault, clean}
-use Rattle.pg_message.specs.Backend.{IsMeant, IsReadRaw}
+use Rattle.pg_server.proofs.BackendFitsLemmas.{fields_fit}
+use Rattle.pg_base.proofs.TaggedLemmas.{no_part_fault}
+use Rattle.pg_server.proofs.BackendItemLemmas.{few, neither, neither_is, both_clean, no_nul_fault, clean}
+use Rattle.pg_message.specs.Backend.{IsReadRaw}
 
 parts : (m : Message) → fault m ≡ None → (law_of m).part_fault ≡ None
 parts m e = no_part_fault (law_of m).part_fault (length (body m)) e
@@ -113,26 +111,16 @@ fields_are fields fits =
 -- ---- by kind
 
 pub read_raw : (m : Message) → fault m ≡ None → IsInRange m → IsReadRaw m
-read_raw (message.Authentication request) e r = tt
-read_raw (message.BackendKeyData key) e r = meant lawful_backend_key key (r, (refl, key_fits (length key.secret_key) (parts (message.BackendKeyData key) e)))
+read_raw (message.BackendKeyData key) e r = meant lawful_backend_key key (r, (refl, parts (message.BackendKeyData key) e))
 read_raw (message.CommandComplete command) e r = meant lawful_tag command (clean command (no_nul_fault (holds_nul command) (parts (message.CommandComplete command) e)), refl)
-read_raw (message.CopyData bytes) e r = tt
-read_raw (message.CopyResponse direction format codes) e r = tt
-read_raw (message.DataRow cells) e r = tt
-read_raw (message.FunctionCallResponse value) e r = tt
-read_raw (message.NegotiateProtocolVersion n) e r = tt
-read_raw (message.NoBody kind) e r = tt
 read_raw (message.Notice kind fields) e r =
     fields_are fields (fields_fit fields (0 ∷ []) (no_nul_fault (list_any breaks_fields fields) (parts (message.Notice kind fields) e)) r, refl)
-read_raw (message.Notification n) e r = tt
-read_raw (message.ParameterDescription types) e r = tt
 read_raw (message.ParameterStatus s) e r =
-    let free = neither_is (holds_nul s.name) (holds_nul s.value) (no_nul_fault (holds_nul s.name || holds_nul s.value) (parts (message.ParameterStatus s) e)) in
+    let free = both_clean (holds_nul s.name) (holds_nul s.value) (parts (message.ParameterStatus s) e) in
     meant lawful_setting s ((clean s.name free.0, clean s.value free.1), refl)
-read_raw (message.Raw tag bytes) e r = tt
-read_raw (message.ReadyForQuery ready) e r = tt
 read_raw (message.RowDescription columns) e r =
     let holds = list_any (λ (column : page.Column). holds_nul column.name) columns in
     let both = neither (too_many max_unsigned (length columns)) (nul_fault holds) (parts (message.RowDescription columns) e) in
     let count = few max_unsigned (length columns) both.0 in
     meant lawful_columns columns (((omega (arith, count), (refl, columns_fit columns [] (no_nul_fault holds both.1) r)), refl), refl)
+read_raw other e r = tt

@@ -64,12 +64,7 @@ IsCopyDecoded directions.Both response m = Unit {0}
 
 abbrev pub IsBareDecoded : NoBodyText → Message → Type 0
 IsBareDecoded bare.CopyDone m = IsDecoded copy_done.ghosts tt m
-IsBareDecoded bare.ParseComplete m = Unit {0}
-IsBareDecoded bare.BindComplete m = Unit {0}
-IsBareDecoded bare.CloseComplete m = Unit {0}
-IsBareDecoded bare.EmptyQueryResponse m = Unit {0}
-IsBareDecoded bare.NoData m = Unit {0}
-IsBareDecoded bare.PortalSuspended m = Unit {0}
+IsBareDecoded other m = Unit {0}
 
 abbrev pub IsNoticeDecoded : NoticeKind → NoticeValue → Message → Type 0
 IsNoticeDecoded kinds.Error notice m = IsDecoded error_response.ghosts notice m
@@ -83,16 +78,14 @@ IsDecodedBack (message.CommandComplete command) = IsDecoded command_complete.gho
 IsDecodedBack (message.CopyData bytes) = IsDecoded copy_data.ghosts bytes (message.CopyData bytes)
 IsDecodedBack (message.CopyResponse direction format codes) = IsCopyDecoded direction (response_of format codes) (message.CopyResponse direction format codes)
 IsDecodedBack (message.DataRow cells) = IsDecoded data_row.ghosts cells (message.DataRow cells)
-IsDecodedBack (message.FunctionCallResponse value) = Unit {0}
-IsDecodedBack (message.NegotiateProtocolVersion n) = Unit {0}
 IsDecodedBack (message.NoBody kind) = IsBareDecoded kind (message.NoBody kind)
 IsDecodedBack (message.Notice kind fields) = IsNoticeDecoded kind (noticed fields) (message.Notice kind fields)
 IsDecodedBack (message.Notification n) = IsDecoded notification.ghosts n (message.Notification n)
 IsDecodedBack (message.ParameterDescription types) = IsDecoded parameter_description.ghosts types (message.ParameterDescription types)
 IsDecodedBack (message.ParameterStatus setting) = IsDecoded parameter_status.ghosts setting (message.ParameterStatus setting)
-IsDecodedBack (message.Raw tag bytes) = Unit {0}
 IsDecodedBack (message.ReadyForQuery ready) = IsDecoded ready_for_query.ghosts (status_of ready) (message.ReadyForQuery ready)
 IsDecodedBack (message.RowDescription columns) = IsDecoded row_description.ghosts columns (message.RowDescription columns)
+IsDecodedBack other = Unit {0}
 
 -- ---- texts in any encoding, and what has a fault of its own
 
@@ -102,19 +95,9 @@ IsMeant {V} line value m = (read : V) → Means line (body m) read ↔ (read ≡
 
 -- what it says, where its reader asks for no UTF-8 and tests nothing
 abbrev pub IsReadRaw : Message → Type 0
-IsReadRaw (message.Authentication request) = Unit {0}
 IsReadRaw (message.BackendKeyData key) = IsMeant raw_key_data key (message.BackendKeyData key)
 IsReadRaw (message.CommandComplete command) = IsMeant tag_text command (message.CommandComplete command)
-IsReadRaw (message.CopyData bytes) = Unit {0}
-IsReadRaw (message.CopyResponse direction format codes) = Unit {0}
-IsReadRaw (message.DataRow cells) = Unit {0}
-IsReadRaw (message.FunctionCallResponse value) = Unit {0}
-IsReadRaw (message.NegotiateProtocolVersion n) = Unit {0}
-IsReadRaw (message.NoBody kind) = Unit {0}
 IsReadRaw (message.Notice kind fields) = fields_in (body (message.Notice kind fields)) ≡ fields
-IsReadRaw (message.Notification n) = Unit {0}
-IsReadRaw (message.ParameterDescription types) = Unit {0}
 IsReadRaw (message.ParameterStatus setting) = IsMeant raw_parameter_status setting (message.ParameterStatus setting)
-IsReadRaw (message.Raw tag bytes) = Unit {0}
-IsReadRaw (message.ReadyForQuery ready) = Unit {0}
 IsReadRaw (message.RowDescription columns) = IsMeant raw_row_description columns (message.RowDescription columns)
+IsReadRaw other = Unit {0}

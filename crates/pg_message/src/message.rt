@@ -18,7 +18,7 @@ pub use pg_receive::message::{
     command_tag, raw_column_at, rows_affected, severity_in, split_field, split_name,
 };
 pub use pg_send::message::{
-    Bind, BindValues, CODE_LENGTH, CancelRequest, Close, CopyFail, CopyFailRef, Describe,
+    Bind, BindValues, BodyOf, CODE_LENGTH, CancelRequest, Close, CopyFail, CopyFailRef, Describe,
     EncodeMessage, Execute, Flush, Framed, FrontendMessage, FunctionCall, GssEncRequest,
     PROTOCOL_VERSION, Parse, Password, Query, RawBind, RawClose, RawDescribe, RawExecute, RawParse,
     SaslInitial, SaslInitialResponse, SaslResponse, SslRequest, Startup, Sync, TaggedMessage,

@@ -10,7 +10,7 @@ use Rattle.pg_base.specs.Reading.{Number, Numbers, Counted}
 use Rattle.pg_base.proofs.RoundTripLemmas.{number_of_be16, number_of_be32}
 use Rattle.std.proofs.lemmas.Bool.{leb-true}
 use Rattle.pg_send.specs.Counted.{counted16, counted32, too_many}
-use Rattle.pg_send.proofs.FrontendMessageLemmas.{passed}
+use Rattle.pg_base.proofs.TaggedLemmas.{passed}
 use Rattle.std.proofs.lemmas.List.{take_more, map_push, flat_map_more}
 use Rattle.std.proofs.lemmas.List.Elements.{All-push, All-head, All-tail}
 use Rattle.std.proofs.lemmas.List.Folds.{flat_map-map, length-flat_map-take}

@@ -20,7 +20,8 @@ use Rattle.pg_send.specs.SaslInitialResponse.{mechanism}
 use Rattle.pg_send.proofs.BindLemmas.{read_bind, one_bind}
 use Rattle.pg_send.proofs.CountedLemmas.{few, neither}
 use Rattle.pg_send.proofs.ExecuteLemmas.{read_execute, one_execute}
-use Rattle.pg_send.proofs.FrontendMessageLemmas.{len_fits, no_count_fault, accepted_fits}
+use Rattle.pg_base.proofs.TaggedLemmas.{len_fits, no_part_fault}
+use Rattle.pg_send.proofs.FrontendMessageLemmas.{accepted_fits}
 use Rattle.pg_send.proofs.ParseLemmas.{read_parse, one_parse}
 use Rattle.pg_send.proofs.PasswordLemmas.{read_md5, one_md5}
 use Rattle.pg_send.proofs.RawLemmas.{read_raw_parse, read_raw_bind, read_function_call, read_raw_execute, read_raw_target, read_any_sasl}
@@ -35,7 +36,7 @@ read_text text h = record { clean = h; parts = refl }
 
 pub reads_itself : (m : Message) → fault m ≡ None → IsInRange m → CanRoundTrip m → (law_of m).Reads (body m)
 reads_itself (message.Bind b) f r k =
-    let counts = neither (too_many TooManyParamFormats (length b.formats)) (too_many TooManyResultFormats (length b.result_formats)) (no_count_fault (bind_count_fault b) (length (body (message.Bind b))) f) in
+    let counts = neither (too_many TooManyParamFormats (length b.formats)) (too_many TooManyResultFormats (length b.result_formats)) (no_part_fault (bind_count_fault b) (length (body (message.Bind b))) f) in
     read_bind b r (few TooManyParamFormats (length b.formats) counts.0) (few TooManyResultFormats (length b.result_formats) counts.1) k
 reads_itself (message.CleartextPassword text) f r k = read_text text k
 reads_itself (message.Close target) f r k = read_target target r
@@ -48,7 +49,7 @@ reads_itself message.Flush f r k = refl
 reads_itself (message.FunctionCall c) f r k = read_function_call c f r
 reads_itself (message.Md5Password digest) f r k = read_md5 digest r
 reads_itself (message.Parse p) f r k =
-    read_parse p r (few TooManyParamTypes (length p.param_types) (no_count_fault (parse_count_fault p) (length (body (message.Parse p))) f)) k
+    read_parse p r (few TooManyParamTypes (length p.param_types) (no_part_fault (parse_count_fault p) (length (body (message.Parse p))) f)) k
 reads_itself (message.Query text) f r k = read_text text k
 reads_itself (message.RawBind b) f r k = read_raw_bind b f r k
 reads_itself (message.RawClose target) f r k = read_raw_target target k

@@ -19,7 +19,7 @@ use Rattle.pg_send.specs.RawParse.{raw_parse_body, raw_parse_count_fault, raw_pa
 use Rattle.pg_send.specs.SaslInitial.{any_sasl_body, any_sasl_law}
 use Rattle.pg_send.specs.Values.{value_text, counted_values}
 use Rattle.pg_send.proofs.CountedLemmas.{few, neither, length-counted16}
-use Rattle.pg_send.proofs.FrontendMessageLemmas.{len_fits, no_count_fault}
+use Rattle.pg_base.proofs.TaggedLemmas.{len_fits, no_part_fault}
 use Rattle.pg_send.proofs.ValuesLemmas.{itself, codes_fit, types_fit, value_fits, values_fit, length-counted_values}
 
 length-ended : (text : List ℕ) → length (ended text) ≡ length text + 1
@@ -29,7 +29,7 @@ length-ended text = length-append text (0 ∷ [])
 
 pub read_raw_parse : (p : page.Parse) → fault (raw_parse_law p) ≡ None → All (λ n. n < 2 ^ 32) p.types → CanParseRoundTrip p → Means page.parse (raw_parse_body p) p
 read_raw_parse p f r k =
-    let count = few TooManyParamTypes (length p.types) (no_count_fault (raw_parse_count_fault p) (length (raw_parse_body p)) f) in
+    let count = few TooManyParamTypes (length p.types) (no_part_fault (raw_parse_count_fault p) (length (raw_parse_body p)) f) in
     itself client.lawful_parse p ((k.statement, (k.query, types_fit p.types [] count r)), refl)
 
 -- ---- a Bind
@@ -61,7 +61,7 @@ read_raw_bind b f r k =
     let formats_fault = too_many TooManyParamFormats (length b.formats) in
     let results_fault = too_many TooManyResultFormats (length b.result_formats) in
     let values_fault = too_many (λ _. BadParams) (length b.values) in
-    let counts = neither formats_fault (option_or results_fault values_fault) (no_count_fault (raw_bind_count_fault b) (length (raw_bind_body b)) f) in
+    let counts = neither formats_fault (option_or results_fault values_fault) (no_part_fault (raw_bind_count_fault b) (length (raw_bind_body b)) f) in
     let later = neither results_fault values_fault counts.1 in
     let formats = few TooManyParamFormats (length b.formats) counts.0 in
     let results = few TooManyResultFormats (length b.result_formats) later.0 in
@@ -94,7 +94,7 @@ values_of_function_call f e = omega (arith, length-function_call_body f, len_fit
 
 pub read_function_call : (f : page.FunctionCall) → fault (function_call_law f) ≡ None → IsFunctionCallInRange f → Means page.function_call (function_call_body f) f
 read_function_call f e r =
-    let counts = neither (too_many TooManyParamFormats (length f.formats)) (too_many (λ _. BadParams) (length f.arguments)) (no_count_fault (function_call_count_fault f) (length (function_call_body f)) e) in
+    let counts = neither (too_many TooManyParamFormats (length f.formats)) (too_many (λ _. BadParams) (length f.arguments)) (no_part_fault (function_call_count_fault f) (length (function_call_body f)) e) in
     let formats = few TooManyParamFormats (length f.formats) counts.0 in
     let arguments = few (λ _. BadParams) (length f.arguments) counts.1 in
     itself client.lawful_function_call f (

@@ -1,6 +1,6 @@
 -- A run goes on by one message and its answer.
-use Rattle.std.proofs.Common.{add-zero, ◌≡◌, ℕ, suc, ◌+◌, ◌<◌, ◌≤◌, true, false, List, [], ◌∷◌, ◌++◌, length, take, drop, get_or, Option, MatchOption, Bool, Some, None, Ok, Err, OnOk, OnErr, IsErrOf, refl, sym, ap, ◌∙◌, arith, append_assoc, length-append, Vec, Global, vec_len, vec_capacity}
-use Rattle.std.proofs.Math.Seq.{drop-append_seam}
+use Rattle.std.proofs.Common.{add-zero, ◌≡◌, ℕ, suc, ◌+◌, ◌<◌, ◌≤◌, true, false, List, [], ◌∷◌, ◌++◌, length, take, drop, set, get_or, Option, MatchOption, Bool, Some, None, Ok, Err, OnOk, OnErr, IsErrOf, refl, sym, ap, ◌∙◌, arith, append_assoc, length-append, Vec, Global, vec_len, vec_capacity}
+use Rattle.std.proofs.Math.Seq.{drop-append_seam, take-append_seam}
 use Rattle.std.proofs.lemmas.List.{append-nil, map_push, take_more}
 use Rattle.pg_base.specs.declared.error.ProtocolFault.{ProtocolFault}
 use Rattle.pg_base.specs.declared.error.Error.TheVariants.{Protocol, OutOfMemory}
@@ -17,7 +17,8 @@ use Rattle.pg_send.proofs.PageLemmas.{means}
 use Rattle.pg_send.specs.Run.{IsAnswerOf, IsStrictAnswer, EachRoundTrips, Answer, added, added_by, accepted, run_room, EncodesOne, EncodesRun, AreAnswers, AllRoundTrip, NoneRanOut, RanOutWhereShort, IsMeantByTag, IsMeantIfItCan, AreFrames, AreReadByTag}
 use Rattle.pg_send.specs.declared.message.tagged.TaggedMessage.{TaggedMessage}
 use Rattle.pg_send.specs.TaggedMessage.{message_of, messages_of}
-use Rattle.pg_send.proofs.FrontendMessageLemmas.{len_fits, accepted_fits}
+use Rattle.pg_base.proofs.TaggedLemmas.{len_fits}
+use Rattle.pg_send.proofs.FrontendMessageLemmas.{accepted_fits}
 use Rattle.pg_send.proofs.MessageLemmas.{hint_covers, round_trips_if_ok}
 
 -- memory ran out for a message only where there was less room than its hint and five
@@ -25,6 +26,16 @@ abbrev pub RanOutIfShort : ℕ → ℕ → Message → Answer → Type 0
 RanOutIfShort capacity len m (Ok _) = Unit {0}
 RanOutIfShort capacity len m (Err (Protocol _ _)) = Unit {0}
 RanOutIfShort capacity len m (Err OutOfMemory) = capacity < len + (hint m + 5)
+
+-- the answer at an index is found
+pub record AnswersOne (IsAnswerTo : Message → Answer → Type 0) (m : Message) (index : ℕ) (answers found : List Answer) (old new : Vec ℕ Global) : Type 0 where
+  pub answer : Answer
+  pub sets : found ≡ set answers index answer
+  pub encodes : EncodesOne IsAnswerTo m answer old new
+
+-- what was written over the front of a list that was as long
+pub written_back : (n : ℕ) (new rest : List Answer) → length new ≡ n → take n (new ++ rest) ≡ new
+written_back n new rest long = rw (← long) (take-append_seam new rest)
 
 -- a message that is accepted is within the limits
 abbrev pub FitsIfOk : (Message → Answer → Type 0) → Type 0

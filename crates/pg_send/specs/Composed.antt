@@ -3,13 +3,12 @@ use Rattle.std.specs.Prelude.{◌≡◌, ◌≤◌, length, Option, None}
 use Rattle.std.proofs.Common.{ℕ, arith}
 use Rattle.pg_base.specs.declared.error.ProtocolFault.{ProtocolFault}
 use Rattle.pg_base.specs.Part.{PartLaw, saturated}
-use Rattle.pg_send.specs.FrontendMessage.{Law, first_fault, fault, hint}
+use Rattle.pg_base.specs.Tagged.{first_fault, IsSame}
+use Rattle.pg_send.specs.FrontendMessage.{Law, part_of, fault, hint}
 
 -- the parts are the body, and break the limits on counts that the message breaks
-pub record IsBodyOf (part : PartLaw) (law : Law) : Type 0 where
-  pub text : part.text ≡ law.body
-  pub fault : part.fault ≡ law.count_fault
-  pub range : part.IsInRange → law.IsInRange
+abbrev pub IsBodyOf : PartLaw → Law → Type 0
+IsBodyOf part law = IsSame part (part_of law)
 
 -- a body within the limits is shorter than what a `usize` holds
 fits_snugly : (counts : Option ProtocolFault) (len : ℕ) → first_fault counts len ≡ None → len ≤ saturated len

@@ -1,23 +1,18 @@
 -- What defines a message to the server, the limits on one, and its frame. Documentation: "Messaging
 -- Overview" and "Message Formats".
-use Rattle.std.specs.Prelude.{◌≡◌, ℕ, ◌+◌, List, length, Option, Some, None, Result, Ok, Err, MatchOption, Vec, nat_le, if◌then◌else◌}
+use Rattle.std.specs.Prelude.{◌≡◌, ℕ, ◌+◌, List, length, Option, Some, None, Result, Ok, Err, MatchOption, Vec}
 use Rattle.std.specs.declared.alloc.Global.{Global}
 use Rattle.pg_base.specs.declared.error.ProtocolFault.{ProtocolFault}
-use Rattle.pg_base.specs.declared.error.ProtocolFault.TheVariants.{MessageTooLong}
 use Rattle.pg_base.specs.declared.error.Error.{Error}
 use Rattle.pg_base.specs.declared.error.Error.TheVariants.{Protocol, OutOfMemory}
 use Rattle.pg_base.specs.declared.format.FrontendMessageFormat.{FrontendMessageFormat}
-use Rattle.pg_base.specs.Cutting.{max_length, frame}
+use Rattle.pg_base.specs.Cutting.{frame}
 use Rattle.pg_base.specs.Encode.{EncodesFrame}
 use Rattle.pg_base.specs.Format.{frontend_tag}
-use Rattle.pg_base.specs.Part.{saturated}
+use Rattle.pg_base.specs.Part.{PartLaw, saturated}
+use Rattle.pg_base.specs.Tagged as tagged
+use Rattle.pg_base.specs.Tagged.{first_fault}
 use Rattle.pg_send.specs.Kind.{Kind}
-
--- the first limit that a message breaks: one on its counts, else that on its length, which counts
--- the four bytes of the length field
-abbrev pub first_fault : Option ProtocolFault → ℕ → Option ProtocolFault
-first_fault (Some fault) len = Some fault
-first_fault None len = if nat_le (len + 4) max_length then None else Some (MessageTooLong (saturated (len + 4)))
 
 -- the length of a body within the limits
 abbrev pub checked_len : Option ProtocolFault → ℕ → Result ℕ Error
@@ -39,6 +34,10 @@ pub record Law : Type 1 where
   pub CanRoundTrip : Type 0
   pub round_trip_fault : Option ProtocolFault
 
+-- its body, as a part
+abbrev pub part_of : Law → PartLaw
+part_of law = record { text = law.body; fault = law.count_fault; IsInRange = law.IsInRange }
+
 -- the first byte
 abbrev pub tag : Law → ℕ
 tag law = frontend_tag law.format
@@ -56,9 +55,8 @@ abbrev pub text : Law → List ℕ
 text law = frame (tag law) law.body
 
 -- the message breaks no limit, and its body is that long
-pub record IsMeasured (law : Law) (len : ℕ) : Type 0 where
-  pub limits : fault law ≡ None
-  pub long : len ≡ length law.body
+abbrev pub IsMeasured : Law → ℕ → Type 0
+IsMeasured law len = tagged.IsMeasured (part_of law) len
 
 -- what a call answers that encodes the message
 abbrev pub EncodesMessage : Law → Vec ℕ Global → Vec ℕ Global → Result (Unit {0}) Error → Type 0

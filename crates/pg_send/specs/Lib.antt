@@ -2,12 +2,8 @@ pub mod Bind
 pub mod BindValues
 pub mod CancelRequest
 pub mod Composed
-pub mod CopyData
-pub mod CopyDone
-pub mod CopyFail
 pub mod Counted
 pub mod Execute
-pub mod Flush
 pub mod FrontendMessage
 pub mod FunctionCall
 pub mod GssEncRequest
@@ -16,7 +12,6 @@ pub mod Message
 pub mod Page
 pub mod Parse
 pub mod Password
-pub mod Query
 pub mod RawBind
 pub mod RawExecute
 pub mod RawParse
@@ -24,14 +19,11 @@ pub mod RawTarget
 pub mod Run
 pub mod SaslInitial
 pub mod SaslInitialResponse
-pub mod SaslResponse
 pub mod Shapes
 pub mod SslRequest
 pub mod Startup
-pub mod Sync
 pub mod TaggedMessage
 pub mod TaggedVisitor
 pub mod Target
-pub mod Terminate
 pub mod Untagged
 pub mod Values

@@ -5,28 +5,21 @@ use Rattle.pg_format.specs.Messages as page
 use Rattle.pg_send.specs.declared.message.password.Password.{Password}
 use Rattle.pg_send.specs.declared.message.password.Password.TheVariants as password
 use Rattle.pg_send.specs.Bind.{BindFields, bind_law}
-use Rattle.pg_send.specs.CopyData.{copy_data_law}
-use Rattle.pg_send.specs.CopyDone.{copy_done_law}
-use Rattle.pg_send.specs.CopyFail.{copy_fail_law}
+use Rattle.pg_send.specs.Shapes.{copy_data_law, copy_done_law, copy_fail_law, flush_law, query_law, sasl_response_law, sync_law, terminate_law}
 use Rattle.pg_send.specs.Execute.{ExecuteFields, execute_law}
-use Rattle.pg_send.specs.Flush.{flush_law}
 use Rattle.pg_send.specs.FunctionCall.{function_call_law}
 use Rattle.pg_send.specs.FrontendMessage as law
 use Rattle.pg_send.specs.FrontendMessage.{Law}
 use Rattle.pg_send.specs.Kind.{Kind}
 use Rattle.pg_send.specs.Parse.{ParseFields, parse_law}
 use Rattle.pg_send.specs.Password.{cleartext_law, md5_law}
-use Rattle.pg_send.specs.Query.{query_law}
 use Rattle.pg_send.specs.RawBind.{raw_bind_law}
 use Rattle.pg_send.specs.RawExecute.{raw_execute_law}
 use Rattle.pg_send.specs.RawParse.{raw_parse_law}
 use Rattle.pg_send.specs.RawTarget.{raw_close_law, raw_describe_law}
 use Rattle.pg_send.specs.SaslInitial.{any_sasl_law}
 use Rattle.pg_send.specs.SaslInitialResponse.{SaslInitialFields, sasl_initial_law}
-use Rattle.pg_send.specs.SaslResponse.{sasl_response_law}
-use Rattle.pg_send.specs.Sync.{sync_law}
 use Rattle.pg_send.specs.Target.{Target, close_law, describe_law}
-use Rattle.pg_send.specs.Terminate.{terminate_law}
 
 pub data Message : Type 0 where
   Bind : BindFields → Message

@@ -1,25 +1,21 @@
 -- What a message without a fault says fits the line of the page by which it is written.
-use Rattle.std.proofs.Common.{◌≡◌, ◌≢◌, ℕ, ◌+◌, ◌^◌, ◌<◌, ◌≤◌, eqb, ℤ, Bool, true, false, cond, leb, All, List, [], ◌∷◌, ◌++◌, length, Option, Some, None, refl, sym, ap, ◌∙◌, arith, length-append, ◌&&◌, ◌||◌}
+use Rattle.std.proofs.Common.{◌≡◌, ◌≢◌, ℕ, ◌+◌, ◌^◌, ◌<◌, ◌≤◌, eqb, ℤ, Bool, true, false, All, List, [], ◌∷◌, ◌++◌, length, Option, Some, None, refl, sym, ◌∙◌, arith, length-append}
 use Rattle.std.specs.Prelude.{IsUtf8}
 use Rattle.std.specs.List.{flat_map, list_any}
 use Rattle.std.proofs.lemmas.Bool.{eq-eqb}
 use Rattle.std.proofs.lemmas.List.Elements.{All-head, All-tail}
 use Rattle.pg_base.specs.Cutting.{max_length}
-use Rattle.pg_base.specs.Reading.{HoldsNo}
+use Rattle.pg_base.specs.Numbers.{be32}
 use Rattle.pg_base.specs.Text.{ended}
-use Rattle.pg_base.specs.declared.error.ProtocolFault.TheVariants.{BadKeyLength}
 use Rattle.pg_format.specs.Format.Lists.{AllFit}
 use Rattle.pg_format.specs.Format.Nullable.{cell}
-use Rattle.pg_format.specs.Format.Parts.{unsigned, be_i16, be_u32, until_nul, FitsSigned}
+use Rattle.pg_format.specs.Format.Parts.{be_i16, be_u32, until_nul, FitsSigned}
 use Rattle.pg_format.specs.Format.Tests.{only}
 use Rattle.pg_format.specs.Messages as page
 use Rattle.pg_format.specs.Notices.{Field}
-use Rattle.pg_server.specs.Backend.BackendKeyData.{key_fault}
-use Rattle.pg_server.specs.declared.backend.error.BackendFault.TheVariants.{KeyLength}
-use Rattle.pg_server.specs.Backend.Item.{holds_nul, is_empty}
+use Rattle.pg_server.specs.Backend.Item.{holds_nul, is_empty, breaks_names}
 use Rattle.pg_server.specs.Backend.Notice.{breaks_fields}
 use Rattle.pg_server.specs.Backend.RowDescription.{IsColumnInRange}
-use Rattle.pg_server.proofs.BackendTextLemmas.{passed}
 use Rattle.pg_server.proofs.BackendItemLemmas.{neither_is, clean}
 
 -- ---- lists
@@ -49,9 +45,12 @@ texts_fit (text ∷ texts) rest e =
     (clean text both.0, texts_fit texts rest both.1)
 
 -- each text takes a byte or more
-pub no_more_texts : (texts : List (List ℕ)) → length texts ≤ length (flat_map until_nul.Writes texts)
+no_more_texts : (texts : List (List ℕ)) → length texts ≤ length (flat_map until_nul.Writes texts)
 no_more_texts [] = omega arith
 no_more_texts (text ∷ texts) = omega (arith, no_more_texts texts, length-append (ended text) (flat_map until_nul.Writes texts), length-append text (0 ∷ []))
+
+pub few_names : (names : List (List ℕ)) → length (be32 (length names) ++ flat_map until_nul.Writes names) ≤ max_length → length names < 2 ^ 32
+few_names names small = omega (arith, length-append (be32 (length names)) (flat_map until_nul.Writes names), no_more_texts names, small)
 
 -- ---- mechanisms
 
@@ -59,13 +58,13 @@ not_empty : (name : List ℕ) → is_empty name ≡ false → name ≢ []
 not_empty [] e is = absurd (let clash : true ≡ false = e in cc)
 not_empty (b ∷ bytes) e is = absurd cc
 
-pub names_fit : (names : List (List ℕ)) (rest : List ℕ) → list_any is_empty names ≡ false → list_any holds_nul names ≡ false → All IsUtf8 names → AllFit (only (λ n. (n ≢ []) × IsUtf8 n) until_nul) names rest
-names_fit [] rest e f h = tt
-names_fit (name ∷ names) rest e f h =
-    let full = neither_is (is_empty name) (list_any is_empty names) e in
-    let free = neither_is (holds_nul name) (list_any holds_nul names) f in (
-      (clean name free.0, (not_empty name full.0, All-head IsUtf8 name names h)),
-      names_fit names rest full.1 free.1 (All-tail IsUtf8 name names h),
+pub names_fit : (names : List (List ℕ)) (rest : List ℕ) → list_any breaks_names names ≡ false → All IsUtf8 names → AllFit (only (λ n. (n ≢ []) × IsUtf8 n) until_nul) names rest
+names_fit [] rest e h = tt
+names_fit (name ∷ names) rest e h =
+    let both = neither_is (breaks_names name) (list_any breaks_names names) e in
+    let parts = neither_is (is_empty name) (holds_nul name) both.0 in (
+      (clean name parts.1, (not_empty name parts.0, All-head IsUtf8 name names h)),
+      names_fit names rest both.1 (All-tail IsUtf8 name names h),
     )
 
 -- ---- fields
@@ -106,12 +105,3 @@ columns_fit (column ∷ columns) rest e r h =
       column_fits column (flat_map page.column.Writes columns ++ rest) both.0 (All-head IsColumnInRange column columns r) (All-head IsNamedInUtf8 column columns h),
       columns_fit columns rest both.1 (All-tail IsColumnInRange column columns r) (All-tail IsNamedInUtf8 column columns h),
     )
-
--- ---- a key
-
-key_by : (b : Bool) (length : ℕ) → cond b None (Some (KeyLength length)) ≡ None → cond b None (Some (BadKeyLength length)) ≡ None
-key_by true length e = refl
-key_by false length e = absurd (let clash : Some (KeyLength length) ≡ None = e in cc)
-
-pub key_fits : (length : ℕ) → key_fault length ≡ None → page.key_fault length ≡ None
-key_fits length e = key_by (leb 4 length && leb length 256) length e

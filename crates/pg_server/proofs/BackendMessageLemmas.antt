@@ -1,26 +1,25 @@
 -- What a message without a fault says is read back from its body.
-use Rattle.std.proofs.Common.{◌≡◌, ◌↔◌, ℕ, ◌+◌, ◌^◌, ◌<◌, ◌≤◌, ℤ, pos, Bool, List, [], ◌∷◌, ◌++◌, length, Option, Some, None, Ok, refl, arith, length-append}
-use Rattle.std.specs.Prelude.{◌||◌}
+use Rattle.std.proofs.Common.{◌≡◌, ℕ, ◌+◌, ◌^◌, ◌<◌, ◌≤◌, [], ◌∷◌, ◌++◌, length, None, Ok, refl, arith, length-append}
 use Rattle.std.specs.List.{flat_map, list_any}
 use Rattle.std.proofs.lemmas.List.{append-nil}
 use Rattle.pg_base.specs.Cutting.{max_length}
 use Rattle.pg_base.specs.Numbers.{be16, be32}
+use Rattle.pg_base.specs.Part.{PartLaw}
+use Rattle.pg_base.specs.Tagged.{fault_of, checked_len, IsSame}
 use Rattle.pg_format.specs.Format.{Lawful, Means}
 use Rattle.pg_format.specs.Format.Nullable.{cell}
 use Rattle.pg_format.specs.Format.Parts.{until_nul}
 use Rattle.pg_format.specs.Messages as page
 use Rattle.pg_format.proofs.FormatLaws.FromServer as server
 use Rattle.pg_format.proofs.FormatLaws.Parts.{lawful_remaining}
-use Rattle.pg_server.specs.Backend.BackendText.{body, fault, checked_len}
-use Rattle.pg_server.specs.Backend.Item.{too_many, max_unsigned, max_signed, nul_fault, holds_nul, is_empty}
+use Rattle.pg_server.specs.Backend.BackendText.{part_of, body, fault}
+use Rattle.pg_server.specs.Backend.Item.{too_many, max_unsigned, max_signed, nul_fault, holds_nul, breaks_names}
 use Rattle.pg_server.specs.Backend.Message as message
 use Rattle.pg_server.specs.Backend.Message.{Message, law_of, IsReadable, IsRead}
-use Rattle.pg_server.specs.Backend.NegotiateProtocolVersion.{negotiation_law}
 use Rattle.pg_server.specs.Backend.Notice.{breaks_fields}
-use Rattle.pg_server.specs.declared.backend.error.BackendFault.{BackendFault}
-use Rattle.pg_server.proofs.BackendFitsLemmas.{numbers_fit, codes_fit, cell_fits, cells_fit, texts_fit, no_more_texts, names_fit, fields_fit, columns_fit, key_fits}
-use Rattle.pg_server.proofs.BackendTextLemmas.{len_fits, no_part_fault}
-use Rattle.pg_server.proofs.BackendItemLemmas.{few, neither, neither_is, no_nul_fault, clean}
+use Rattle.pg_server.proofs.BackendFitsLemmas.{numbers_fit, codes_fit, cell_fits, cells_fit, texts_fit, few_names, names_fit, fields_fit, columns_fit}
+use Rattle.pg_base.proofs.TaggedLemmas.{len_fits, no_part_fault, no_fault}
+use Rattle.pg_server.proofs.BackendItemLemmas.{few, neither, both_clean, no_nul_fault, clean}
 
 -- no part of it has a fault, and its body is within the limit
 parts : (m : Message) → fault (law_of m) ≡ None → (law_of m).part_fault ≡ None
@@ -30,24 +29,24 @@ small : (m : Message) → fault (law_of m) ≡ None → 4 + length (body (law_of
 small m e = len_fits (law_of m).part_fault (length (body (law_of m))) e
 
 -- its options can be counted where their length can be said
-pub few_options : (n : page.Negotiation) → fault (negotiation_law n) ≡ None → length n.options < 2 ^ 32
+pub few_options : (n : page.Negotiation) → fault (law_of (message.NegotiateProtocolVersion n)) ≡ None → length n.options < 2 ^ 32
 few_options n e =
-    let texts = flat_map until_nul.Writes n.options in
-    omega (arith, length-append (be16 n.major ++ be16 n.minor) (be32 (length n.options) ++ texts), length-append (be32 (length n.options)) texts, no_more_texts n.options, small (message.NegotiateProtocolVersion n) e)
+    let options = be32 (length n.options) ++ flat_map until_nul.Writes n.options in
+    few_names n.options (omega (arith, length-append (be16 n.major ++ be16 n.minor) options, small (message.NegotiateProtocolVersion n) e))
 
 fits_request : (request : page.Authentication) → fault (law_of (message.Authentication request)) ≡ None → (law_of (message.Authentication request)).IsInRange → IsReadable (message.Authentication request) → page.authentication.Fits request []
 fits_request page.ok e r h = (((omega arith, refl), refl), refl)
 fits_request page.cleartext_password e r h = (((omega arith, refl), refl), refl)
 fits_request (page.md5_password salt) e r h = (((omega arith, (r, refl)), refl), refl)
 fits_request (page.sasl names) e r h =
-    let free = neither_is (list_any is_empty names) (list_any holds_nul names) (no_nul_fault (list_any is_empty names || list_any holds_nul names) (parts (message.Authentication (page.sasl names)) e)) in
-    (((omega arith, ((names_fit names (0 ∷ []) free.0 free.1 h, refl), refl)), refl), refl)
+    let free = no_nul_fault (list_any breaks_names names) (parts (message.Authentication (page.sasl names)) e) in
+    (((omega arith, ((names_fit names (0 ∷ []) free h, refl), refl)), refl), refl)
 fits_request (page.sasl_continue content) e r h = (((omega arith, ((refl, h), refl)), refl), refl)
 fits_request (page.sasl_final content) e r h = (((omega arith, ((refl, h), refl)), refl), refl)
 
 fits : (m : Message) → fault (law_of m) ≡ None → (law_of m).IsInRange → IsReadable m → (law_of m).line.Fits (law_of m).value []
 fits (message.Authentication request) e r h = fits_request request e r h
-fits (message.BackendKeyData key) e r h = (r, (refl, key_fits (length key.secret_key) (parts (message.BackendKeyData key) e)))
+fits (message.BackendKeyData key) e r h = (r, (refl, parts (message.BackendKeyData key) e))
 fits (message.CommandComplete command) e r h = refl
 fits (message.CopyData bytes) e r h = refl
 fits (message.CopyResponse direction format codes) e r h =
@@ -66,13 +65,13 @@ fits (message.NoBody kind) e r h = (refl, refl)
 fits (message.Notice kind fields) e r h =
     ((fields_fit fields (0 ∷ []) (no_nul_fault (list_any breaks_fields fields) (parts (message.Notice kind fields) e)) r, refl), h)
 fits (message.Notification n) e r h =
-    let free = neither_is (holds_nul n.channel) (holds_nul n.payload) (no_nul_fault (holds_nul n.channel || holds_nul n.payload) (parts (message.Notification n) e)) in
+    let free = both_clean (holds_nul n.channel) (holds_nul n.payload) (parts (message.Notification n) e) in
     ((r, (clean n.channel free.0, clean n.payload free.1)), refl)
 fits (message.ParameterDescription types) e r h =
     let count = few max_unsigned (length types) (parts (message.ParameterDescription types) e) in
     (((omega (arith, count), (refl, numbers_fit types [] r)), refl), refl)
 fits (message.ParameterStatus s) e r h =
-    let free = neither_is (holds_nul s.name) (holds_nul s.value) (no_nul_fault (holds_nul s.name || holds_nul s.value) (parts (message.ParameterStatus s) e)) in
+    let free = both_clean (holds_nul s.name) (holds_nul s.value) (parts (message.ParameterStatus s) e) in
     (((clean s.name free.0, h.name), (clean s.value free.1, h.value)), refl)
 fits (message.Raw tag bytes) e r h = refl
 fits (message.ReadyForQuery ready) e r h = (tt, refl)
@@ -110,10 +109,8 @@ own_message m e r h read =
       (λ e. rw e itself),
     )
 
-no_fault : (fault : Option BackendFault) (len real : ℕ) → checked_len fault real ≡ Ok len → fault ≡ None
-no_fault None len real e = refl
-no_fault (Some f) len real e = absurd cc
-
--- a message whose length was given has no fault
-pub accepted : (m : Message) (len : ℕ) → checked_len (fault (law_of m)) (length (body (law_of m))) ≡ Ok len → fault (law_of m) ≡ None
-accepted m len e = no_fault (fault (law_of m)) len (length (body (law_of m))) e
+-- a message has no fault whose parts were given a length
+pub accepted : (part : PartLaw) (m : Message) (len : ℕ) → IsSame part (part_of (law_of m)) → checked_len (fault_of part) (length part.text) ≡ Ok len → fault (law_of m) ≡ None
+accepted part m len same e =
+    let none = no_fault (fault_of part) (length part.text) len e in
+    rw (same.text, same.fault) at none

@@ -1,11 +1,11 @@
 -- A signed number is written by the bytes of an unsigned one, and a number of none is 0.
-use Rattle.std.proofs.Common.{◌≡◌, ℕ, zero, suc, length, ◌-◌, ◌%◌, ◌∷◌, [], ℤ, pos, negsuc, Bool, true, false, Some, None, refl, sym, ap, arith}
+use Rattle.std.proofs.Common.{◌≡◌, ℕ, zero, suc, ◌-◌, ◌%◌, ◌∷◌, [], ℤ, pos, negsuc, Bool, true, false, Some, None, refl, sym, ap, arith}
 use Rattle.std.proofs.lemmas.Bool.{eqb-true}
 use Rattle.std.specs.Prelude.{◌==◌, if◌then◌else◌}
 use Rattle.std.specs.Int.{w8, w16, w32}
 use mir.Val.{SFits, of_z}
 use Rattle.pg_base.specs.Numbers.{be16, be32}
-use Rattle.pg_format.specs.Format.Parts.{complement}
+use Rattle.pg_format.specs.Format.Parts.{complement, FitsSigned}
 use Rattle.pg_format.specs.Messages.{table, table_number, attribute, attribute_number}
 
 pub complement_8 : (z : ℤ) → SFits w8 z → of_z w8 z ∷ [] ≡ complement 1 z
@@ -20,17 +20,18 @@ pub complement_32 : (z : ℤ) → be32 (of_z w32 z) ≡ complement 4 z
 complement_32 (pos n) = refl
 complement_32 (negsuc n) = refl
 
-pub length_16 : (z : ℤ) → length (complement 2 z) ≡ 2
-length_16 (pos n) = refl
-length_16 (negsuc n) = refl
+-- a number of a type is in the range of its bytes
+pub fits_8 : (z : ℤ) → SFits w8 z → FitsSigned 1 z
+fits_8 (pos n) fits = omega (arith, fits.sfits)
+fits_8 (negsuc n) fits = omega (arith, fits.sfits)
 
-pub length_32 : (z : ℤ) → length (complement 4 z) ≡ 4
-length_32 (pos n) = refl
-length_32 (negsuc n) = refl
+pub fits_16 : (z : ℤ) → SFits w16 z → FitsSigned 2 z
+fits_16 (pos n) fits = omega (arith, fits.sfits)
+fits_16 (negsuc n) fits = omega (arith, fits.sfits)
 
-pub length_8 : (z : ℤ) → length (complement 1 z) ≡ 1
-length_8 (pos n) = refl
-length_8 (negsuc n) = refl
+pub fits_32 : (z : ℤ) → SFits w32 z → FitsSigned 4 z
+fits_32 (pos n) fits = omega (arith, fits.sfits)
+fits_32 (negsuc n) fits = omega (arith, fits.sfits)
 
 -- ---- numbers whose 0 is of none
 

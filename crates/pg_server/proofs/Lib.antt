@@ -2,8 +2,6 @@ pub mod BackendFitsLemmas
 pub mod BackendItemLemmas
 pub mod BackendMessageLemmas
 pub mod BackendNumbersLemmas
-pub mod BackendRoomLemmas
-pub mod BackendTextLemmas
 pub mod FrontendErrorLemmas
 pub mod FrontendFirstMessageRefLemmas
 pub mod FrontendFormatCodesLemmas

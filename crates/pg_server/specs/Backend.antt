@@ -1,20 +1,11 @@
 -- What a server sends, as it writes it.
 pub mod Authentication
-pub mod BackendKeyData
 pub mod BackendText
-pub mod CommandComplete
 pub mod Copy
-pub mod DataRow
-pub mod Error
-pub mod FunctionCallResponse
 pub mod Item
 pub mod Message
 pub mod NegotiateProtocolVersion
 pub mod NoBody
 pub mod Notice
-pub mod Notification
-pub mod ParameterDescription
-pub mod ParameterStatus
-pub mod Raw
 pub mod ReadyForQuery
 pub mod RowDescription

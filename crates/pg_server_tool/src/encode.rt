@@ -2,8 +2,8 @@
 
 use crate::frame::push_frame;
 use crate::reply_line::reply_of;
+use pg_base::Error;
 use pg_lines::{Fault, Lines, push_frames};
-use pg_server::backend::BackendError;
 use std::alloc::{AllocError, Global};
 
 /// The answers to the messages that the lines name, a line each, and then their frames.
@@ -37,14 +37,14 @@ fn push_frame_of(
     line: &[u8],
     bad: Fault,
     frames: &mut Vec<u8>,
-) -> Result<Result<(), BackendError>, Fault> {
+) -> Result<Result<(), Error>, Fault> {
     let reply = reply_of(alloc, line, bad)?;
     Ok(push_frame(alloc, &reply, frames))
 }
 
 fn push_answer(
     number: usize,
-    answer: Result<(), BackendError>,
+    answer: Result<(), Error>,
     output: &mut String,
 ) -> Result<(), AllocError> {
     match answer {

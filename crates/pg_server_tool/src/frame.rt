@@ -1,15 +1,16 @@
 //! The frame that a message becomes.
 
 use crate::reply::{Column, Field, Negotiation, Notice, Reply, Request};
+use pg_base::Error;
 use pg_server::backend::{
-    AuthenticationText, BackendError, ColumnText, CommandCompleteText, CopyDataText, DataRowText,
+    AuthenticationText, ColumnText, CommandCompleteText, CopyDataText, DataRowText,
     FunctionCallResponseText, NegotiateProtocolVersionText, NoticeFieldText, NoticeText,
     ParameterDescriptionText, RowDescriptionText, encode,
 };
 use std::alloc::{AllocError, Global};
 
 /// Adds the frame of a message to others, which stay as they were where it is refused.
-pub fn push_frame(alloc: Global, reply: &Reply, frames: &mut Vec<u8>) -> Result<(), BackendError> {
+pub fn push_frame(alloc: Global, reply: &Reply, frames: &mut Vec<u8>) -> Result<(), Error> {
     match reply {
         Reply::Authentication(request) => push_request(alloc, request, frames),
         Reply::BackendKeyData(key) => encode(&key.text(), frames),
@@ -32,11 +33,7 @@ pub fn push_frame(alloc: Global, reply: &Reply, frames: &mut Vec<u8>) -> Result<
     }
 }
 
-fn push_request(
-    alloc: Global,
-    request: &Request,
-    frames: &mut Vec<u8>,
-) -> Result<(), BackendError> {
+fn push_request(alloc: Global, request: &Request, frames: &mut Vec<u8>) -> Result<(), Error> {
     match request {
         Request::Ok => encode(&AuthenticationText::Ok, frames),
         Request::CleartextPassword => encode(&AuthenticationText::CleartextPassword, frames),
@@ -57,48 +54,36 @@ fn push_request(
     }
 }
 
-fn push_command(command: &[u8], frames: &mut Vec<u8>) -> Result<(), BackendError> {
+fn push_command(command: &[u8], frames: &mut Vec<u8>) -> Result<(), Error> {
     encode(&CommandCompleteText { command }, frames)
 }
 
-fn push_row(
-    alloc: Global,
-    values: &[Option<Vec<u8>>],
-    frames: &mut Vec<u8>,
-) -> Result<(), BackendError> {
+fn push_row(alloc: Global, values: &[Option<Vec<u8>>], frames: &mut Vec<u8>) -> Result<(), Error> {
     let values: Vec<Option<&[u8]>> = values.iter().map(borrowed_value).collect(alloc)?;
     let values = values.as_slice();
     encode(&DataRowText { values }, frames)
 }
 
-fn push_result(value: &Option<Vec<u8>>, frames: &mut Vec<u8>) -> Result<(), BackendError> {
+fn push_result(value: &Option<Vec<u8>>, frames: &mut Vec<u8>) -> Result<(), Error> {
     let value = borrowed_value(value);
     encode(&FunctionCallResponseText { value }, frames)
 }
 
-fn push_version(
-    alloc: Global,
-    version: &Negotiation,
-    frames: &mut Vec<u8>,
-) -> Result<(), BackendError> {
+fn push_version(alloc: Global, version: &Negotiation, frames: &mut Vec<u8>) -> Result<(), Error> {
     let minor = version.minor;
     let options = borrowed(alloc, version.options.as_slice())?;
     let options = options.as_slice();
     encode(&NegotiateProtocolVersionText { minor, options }, frames)
 }
 
-fn push_notice(alloc: Global, notice: &Notice, frames: &mut Vec<u8>) -> Result<(), BackendError> {
+fn push_notice(alloc: Global, notice: &Notice, frames: &mut Vec<u8>) -> Result<(), Error> {
     let kind = notice.kind;
     let fields: Vec<NoticeFieldText<'_>> = notice.fields.iter().map(Field::text).collect(alloc)?;
     let fields = fields.as_slice();
     encode(&NoticeText { kind, fields }, frames)
 }
 
-fn push_columns(
-    alloc: Global,
-    columns: &[Column],
-    frames: &mut Vec<u8>,
-) -> Result<(), BackendError> {
+fn push_columns(alloc: Global, columns: &[Column], frames: &mut Vec<u8>) -> Result<(), Error> {
     let columns: Vec<ColumnText<'_>> = columns.iter().map(Column::text).collect(alloc)?;
     let columns = columns.as_slice();
     encode(&RowDescriptionText { columns }, frames)

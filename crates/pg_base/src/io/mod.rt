@@ -11,6 +11,7 @@ mod name;
 mod numbers;
 pub mod part;
 mod sink;
+mod tagged;
 
 pub use atoi::{atoi_u32, atoi_u64, atoi_usize};
 pub use buf_mut::PgBufMutExt;
@@ -21,6 +22,7 @@ pub use id::{DisplayId, PortalId, StatementId};
 pub use name::{Ended, Name};
 pub use numbers::{bytes_at, i8_at, i16_at, i32_at, u16_at, u32_at};
 pub use sink::{Cursor, Sink, Text, write_text};
+pub use tagged::{HEADER, Tagged, checked_len};
 
 /// The greatest length that a message's length field can say, in bytes: it is a signed number of
 /// four bytes. Documentation: "Message Data Types".

@@ -65,6 +65,8 @@ impl<A: Text, B: Text> Text for Then<A, B> {
 
     ghost can = { λ both. A.can both.0 × B.can both.1 };
 
+    ghost IsInRange = { λ both. A.IsInRange both.0 × B.IsInRange both.1 };
+
     #[inline(always)]
     fn put<S: Sink>(&self, sink: &mut S) {
         self.0.put(sink);

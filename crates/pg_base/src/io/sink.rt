@@ -186,13 +186,17 @@ pub trait Text {
     /// When they may be written.
     ghost can: { Self → Type 0 };
 
+    /// That its numbers are in the ranges of their types.
+    ghost IsInRange: { Self → Type 0 };
+
     /// Adds them, in room that is there.
     fn put<S: Sink>(&self, sink: &mut S)
         requires can { can self.now }
         requires room { length (S.written sink.old) + length (text self.now) ≤ S.capacity sink.old }
         ensures written { S.written sink.new ≡ S.written sink.old ++ text self.now }
         ensures capacity { S.capacity sink.old ≤ S.capacity sink.new }
-        ensures loan { S.loan sink.new ≡ S.loan sink.old };
+        ensures loan { S.loan sink.new ≡ S.loan sink.old }
+        ensures range { IsInRange self.now };
 }
 
 /// Writes a text of `len` bytes at the front of `out` where it is that long; else `out` stays.
@@ -200,7 +204,8 @@ pub trait Text {
 pub fn write_text<T: Text>(text: &T, len: usize, out: &mut [u8])
     requires can { T.can text.now }
     requires len { len ≡ length (T.text text.now) }
-    ensures { IsGiven (T.text text.now) out.old out.new }
+    ensures given { IsGiven (T.text text.now) out.old out.new }
+    ensures range { len ≤ length out.old → T.IsInRange text.now }
 {
     if len <= out.len() {
         fill(text, &mut out[..len]);
@@ -212,7 +217,8 @@ pub fn write_text<T: Text>(text: &T, len: usize, out: &mut [u8])
 fn fill<T: Text>(text: &T, out: &mut [u8])
     requires can { T.can text.now }
     requires room { length out.old ≡ length (T.text text.now) }
-    ensures { out.new ≡ T.text text.now }
+    ensures written { out.new ≡ T.text text.now }
+    ensures range { T.IsInRange text.now }
 {
     let mut cursor = Cursor::new(out);
     text.put(&mut cursor);

@@ -6,7 +6,7 @@ use Rattle.pg_base.specs.declared.error.Error.{Error}
 use Rattle.pg_base.specs.declared.error.Error.TheVariants.{Protocol, OutOfMemory}
 use Rattle.pg_base.specs.declared.error.ProtocolFault.{ProtocolFault}
 use Rattle.pg_base.specs.declared.error.ProtocolFault.TheVariants.{TextHoldsNul}
-use Rattle.pg_send.specs.FrontendMessage.{first_fault}
+use Rattle.pg_base.specs.Tagged.{first_fault}
 use Rattle.pg_send.specs.Startup.{StartupFields, StartupCanRoundTrip, startup_body, startup_text}
 use Rattle.pg_c.specs.Put.{number_of_answer}
 use Rattle.pg_c.specs.declared.put.session.PgmsgSetting.{PgmsgSetting}

@@ -9,7 +9,8 @@ ghost use Rattle.pg_c.specs.Refusal.{fault_number, too_long_number};
 use crate::put::prepared::PgmsgValue;
 use pg_base::ProtocolFault;
 use pg_base::io::MAX_BODY;
-use pg_send::message::values::{AsValue, LENGTH_SIZE};
+use pg_format::value::LENGTH_SIZE;
+use pg_send::message::values::AsValue;
 
 // The most values that a Bind can count.
 const MAX_VALUES: usize = u16::MAX as usize;

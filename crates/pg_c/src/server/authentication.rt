@@ -7,7 +7,7 @@ ghost use Rattle.pg_c.specs.Server.{PutsServerMessage};
 ghost use Rattle.pg_c.specs.Server.Lists.{bytes_of};
 
 use crate::server::put;
-use pg_server::backend::{AsItem, AuthenticationText, SaslText};
+use pg_server::backend::{AsItem, AuthenticationText, Mechanism, SaslText};
 
 /// Some bytes.
 #[repr(C)]
@@ -22,6 +22,17 @@ impl<'a> AsItem<&'a [u8]> for PgmsgBytes<'a> {
     #[inline(always)]
     fn as_item(&self) -> &'a [u8] {
         self.bytes
+    }
+}
+
+impl<'a> AsItem<Mechanism<'a>> for PgmsgBytes<'a> {
+    ghost use Rattle.pg_server.specs.declared.backend.sasl.Mechanism.{Mechanism};
+
+    ghost item = { λ text. record { 0 = text.bytes } };
+
+    #[inline(always)]
+    fn as_item(&self) -> Mechanism<'a> {
+        Mechanism(self.bytes)
     }
 }
 

@@ -10,7 +10,7 @@ pub mod session;
 
 ghost use Rattle.pg_c.specs.Server.{PutsServerMessage};
 
-use crate::refusal::number_of_backend;
+use crate::refusal::number_of_fault;
 use pg_server::backend::{BackendText, write};
 
 /// Writes a message.
@@ -20,6 +20,6 @@ pub(crate) fn put<M: BackendText>(message: &M, out: &mut [u8]) -> isize
 {
     match write(message, out) {
         Ok(len) => len as isize,
-        Err(fault) => number_of_backend(fault) as isize,
+        Err(fault) => number_of_fault(fault) as isize,
     }
 }

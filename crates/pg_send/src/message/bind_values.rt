@@ -5,11 +5,11 @@ ghost use Rattle.pg_base.specs.declared.error.Error.TheVariants.{OutOfMemory};
 ghost use Rattle.pg_base.specs.Encode.{IsAnswer};
 ghost use Rattle.pg_base.specs.Reading.{Values};
 ghost use Rattle.pg_send.specs.BindValues.{no_values, HasOneMore};
-ghost use Rattle.pg_send.specs.FrontendMessage.{first_fault};
+ghost use Rattle.pg_base.specs.Tagged.{first_fault};
 
-use crate::message::values::{LENGTH_SIZE, NULL_LENGTH};
 use pg_base::io::{MAX_BODY, Sink};
 use pg_base::{Error, ProtocolFault};
+use pg_format::value::{LENGTH_SIZE, NULL_LENGTH};
 use std::alloc::Global;
 use std::marker::Model;
 

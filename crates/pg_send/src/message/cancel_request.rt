@@ -66,6 +66,8 @@ impl Text for CancelRequest<'_> {
 
     ghost can = { λ cancel. key_fault (length cancel.secret_key.now) ≡ None };
 
+    ghost IsInRange = { λ _. Unit {0} };
+
     #[inline(always)]
     fn put<S: Sink>(&self, sink: &mut S) {
         let parts = Then(

@@ -1,9 +1,7 @@
 //! The client's part of a COPY.
 
 ghost use Rattle.std.specs.Prelude.{◌≡◌, string_bytes};
-ghost use Rattle.pg_send.specs.CopyData.{copy_data_law};
-ghost use Rattle.pg_send.specs.CopyDone.{copy_done_law};
-ghost use Rattle.pg_send.specs.CopyFail.{copy_fail_law};
+ghost use Rattle.pg_send.specs.Shapes.{copy_data_law, copy_done_law, copy_fail_law};
 
 use crate::message::FrontendMessage;
 use crate::message::composed::Composed;

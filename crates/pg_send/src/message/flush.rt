@@ -1,6 +1,6 @@
 //! A request for what the server still holds back.
 
-ghost use Rattle.pg_send.specs.Flush.{flush_law};
+ghost use Rattle.pg_send.specs.Shapes.{flush_law};
 
 use crate::message::composed::Composed;
 use pg_base::io::part::Nothing;

@@ -5,15 +5,13 @@ ghost use Rattle.std.specs.Bool.{OnTrue, OnFalse};
 ghost use Rattle.pg_base.specs.declared.error.Error.TheVariants.{OutOfMemory};
 ghost use Rattle.pg_base.specs.declared.error.ProtocolFault.{ProtocolFault};
 ghost use Rattle.pg_base.specs.Sink.{IsGiven};
-ghost use Rattle.pg_base.specs.Cutting.{IsCutInto};
+ghost use Rattle.pg_base.specs.Cutting.{max_length};
 ghost use Rattle.pg_base.specs.Part.{saturated};
 ghost use Rattle.pg_send.specs.FrontendMessage.{Law, CannotRoundTrip, tag, fault, hint, text, checked_len, room_or_fault, EncodesMessage};
 
-use pg_base::io::{MAX_BODY, ProtocolEncode, Sink, Text, write_text};
+use pg_base::io::part::Part;
+use pg_base::io::{HEADER, ProtocolEncode, Sink, Tagged, Text, checked_len, write_text};
 use pg_base::{Error, FrontendMessageFormat, ProtocolFault};
-
-// The bytes before a body: the tag and the length.
-const HEADER: usize = 5;
 
 /// A message that a client sends, after a tag and a length.
 ///
@@ -53,7 +51,8 @@ pub trait FrontendMessage: Sized + Drop {
 
     /// Adds the body of a message within the limits, in room that is there.
     fn put_body<S: Sink>(&self, sink: &mut S)
-        requires limits { fault (law self.now) ≡ None }
+        requires counted { (law self.now).count_fault ≡ None }
+        requires small { length (law self.now).body ≤ max_length }
         requires room { length (S.written sink.old) + length (law self.now).body ≤ S.capacity sink.old }
         ensures written { S.written sink.new ≡ S.written sink.old ++ (law self.now).body }
         ensures capacity { S.capacity sink.old ≤ S.capacity sink.new }
@@ -76,14 +75,7 @@ pub trait FrontendMessage: Sized + Drop {
     final fn checked_body_len(&self) -> Result<usize, Error>
         ensures { result ≡ checked_len (fault (law self.now)) (length (law self.now).body) }
     {
-        if let Some(fault) = self.count_fault() {
-            return Err(fault.into());
-        }
-        let len = self.body_len();
-        if len > MAX_BODY {
-            return Err(ProtocolFault::MessageTooLong(len.saturating_add(4)).into());
-        }
-        Ok(len)
+        Ok(checked_len(&BodyOf(self))?)
     }
 
     /// The spare room in bytes with which the message is encoded without asking for memory, or the
@@ -110,22 +102,6 @@ pub trait FrontendMessage: Sized + Drop {
         buf.reserve(len)?;
         self.put_body(buf);
         Ok(())
-    }
-
-    /// Adds tag, length and body of a message within the limits, in room that is there. `len` is
-    /// the length of the body in bytes.
-    #[inline(always)]
-    final fn put_frame<S: Sink>(&self, len: usize, sink: &mut S)
-        requires limits { fault (law self.now) ≡ None }
-        requires len { len ≡ length (law self.now).body }
-        requires room { length (S.written sink.old) + (length (law self.now).body + 5) ≤ S.capacity sink.old }
-        ensures written { S.written sink.new ≡ S.written sink.old ++ text (law self.now) }
-        ensures capacity { S.capacity sink.old ≤ S.capacity sink.new }
-        ensures loan { S.loan sink.new ≡ S.loan sink.old }
-        ensures range { (law self.now).IsInRange }
-    {
-        sink.put_head(self.tag(), len);
-        self.put_body(sink);
     }
 
     /// Adds the whole message to the buffer, as [`encode_frame`] does.
@@ -163,16 +139,16 @@ pub fn put_if_fits<F: FrontendMessage>(message: &F, buf: &mut Vec<u8>) -> bool
     ensures range { OnTrue result (F.law message.now).IsInRange }
     ensures same { OnFalse result (buf.new ≡ buf.old) }
     // It is false only where a limit is broken or the spare room is short.
-    ensures short { OnFalse result (fault (F.law message.now) ≡ None → vec_capacity buf.old < vec_len buf.old + (hint (F.law message.now) + 5)) }
+    ensures short { OnFalse result (fault (F.law message.now) ≡ None
+        → vec_capacity buf.old < vec_len buf.old + (hint (F.law message.now) + 5)) }
 {
-    let len = message.body_len();
-    if message.count_fault().is_some() || len > MAX_BODY {
+    let Ok(len) = checked_len(&BodyOf(message)) else {
         return false;
-    }
+    };
     if buf.capacity() - buf.len() < message.room_for(len).saturating_add(HEADER) {
         return false;
     }
-    message.put_frame(len, buf);
+    Framed { message, len }.put(buf);
     true
 }
 
@@ -185,7 +161,7 @@ fn encode_or_refuse<F: FrontendMessage>(message: &F, buf: &mut Vec<u8>) -> Resul
 {
     let len = message.checked_body_len()?;
     buf.reserve(message.room_for(len).saturating_add(HEADER))?;
-    message.put_frame(len, buf);
+    Framed { message, len }.put(buf);
     Ok(())
 }
 
@@ -214,9 +190,41 @@ impl<F: FrontendMessage> Text for Framed<'_, F> {
 
     ghost can = { λ framed. IsMeasured (F.law framed.message.now) framed.len };
 
+    ghost IsInRange = { λ framed. (F.law framed.message.now).IsInRange };
+
     #[inline(always)]
     fn put<S: Sink>(&self, sink: &mut S) {
-        self.message.put_frame(self.len, sink);
+        let tagged = Tagged {
+            tag: self.message.tag(),
+            parts: &BodyOf(self.message),
+            len: self.len,
+        };
+        tagged.put(sink);
+    }
+}
+
+/// The body of a message, as a part.
+#[derive_where(Clone, Copy)]
+pub struct BodyOf<'a, F>(pub &'a F);
+
+impl<F: FrontendMessage> Part for BodyOf<'_, F> {
+    ghost use Rattle.pg_send.specs.FrontendMessage.{part_of};
+
+    ghost part = { λ it. part_of (F.law it.0.now) };
+
+    #[inline(always)]
+    fn len(&self) -> usize {
+        self.0.body_len()
+    }
+
+    #[inline(always)]
+    fn fault(&self) -> Option<ProtocolFault> {
+        self.0.count_fault()
+    }
+
+    #[inline(always)]
+    fn put<S: Sink>(&self, sink: &mut S) {
+        self.0.put_body(sink);
     }
 }
 

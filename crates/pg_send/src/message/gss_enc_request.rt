@@ -32,6 +32,8 @@ impl Text for GssEncRequest {
 
     ghost can = { λ _. Unit {0} };
 
+    ghost IsInRange = { λ _. Unit {0} };
+
     #[inline(always)]
     fn put<S: Sink>(&self, sink: &mut S) {
         put_code(GSS_ENC_REQUEST, sink);

@@ -40,7 +40,7 @@ pub use copy::{CopyFail, CopyFailRef};
 pub use execute::Execute;
 pub use flush::Flush;
 pub use frontend_message::{
-    EncodeMessage, Framed, FrontendMessage, encode_frame, put_if_fits, write_frame,
+    BodyOf, EncodeMessage, Framed, FrontendMessage, encode_frame, put_if_fits, write_frame,
 };
 pub use function_call::FunctionCall;
 pub use gss_enc_request::GssEncRequest;

@@ -1,6 +1,6 @@
 //! A simple query.
 
-ghost use Rattle.pg_send.specs.Query.{query_law};
+ghost use Rattle.pg_send.specs.Shapes.{query_law};
 
 use crate::message::composed::Composed;
 use crate::message::round_trip::check_text;

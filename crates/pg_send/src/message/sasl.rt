@@ -2,13 +2,13 @@
 
 ghost use Rattle.std.specs.Prelude.{◌≡◌};
 ghost use Rattle.pg_send.specs.SaslInitialResponse.{mechanism, sasl_initial_law, sasl_initial_fields};
-ghost use Rattle.pg_send.specs.SaslResponse.{sasl_response_law};
+ghost use Rattle.pg_send.specs.Shapes.{sasl_response_law};
 
 use crate::message::composed::Composed;
-use crate::message::values::Value;
 use pg_base::io::Ended;
 use pg_base::io::part::{Slice, Then};
 use pg_base::{FrontendMessageFormat, ProtocolFault};
+use pg_format::value::Value;
 
 /// Chooses SCRAM with SHA-256, and begins it. Documentation: "Message Formats",
 /// SASLInitialResponse (F).

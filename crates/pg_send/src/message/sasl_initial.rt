@@ -4,10 +4,10 @@ ghost use Rattle.pg_send.specs.SaslInitial.{any_sasl_law, any_sasl_fields};
 
 use crate::message::composed::Composed;
 use crate::message::round_trip::check_ended;
-use crate::message::values::Value;
 use pg_base::io::Ended;
 use pg_base::io::part::Then;
 use pg_base::{FrontendMessageFormat, ProtocolFault};
+use pg_format::value::Value;
 
 /// Chooses any mechanism of SASL, and may begin it. With a NUL in the name the message doesn't make
 /// the round trip. Documentation: "Message Formats", SASLInitialResponse (F).

@@ -35,6 +35,8 @@ impl Text for SslRequest {
 
     ghost can = { λ _. Unit {0} };
 
+    ghost IsInRange = { λ _. Unit {0} };
+
     #[inline(always)]
     fn put<S: Sink>(&self, sink: &mut S) {
         put_code(SSL_REQUEST, sink);

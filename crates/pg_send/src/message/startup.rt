@@ -2,7 +2,7 @@
 
 ghost use Rattle.std.specs.Prelude.{◌≡◌, None, IfErr, OnOk, length, option_copied};
 ghost use Rattle.pg_base.specs.declared.error.ProtocolFault.TheVariants.{TextHoldsNul};
-ghost use Rattle.pg_send.specs.FrontendMessage.{first_fault};
+ghost use Rattle.pg_base.specs.Tagged.{first_fault};
 ghost use Rattle.pg_send.specs.Startup.{setting_where_there, startup_body, startup_text, IsReadableWhereThere, StartupCanRoundTrip};
 
 use crate::message::round_trip::check_text;

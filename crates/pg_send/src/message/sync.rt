@@ -1,6 +1,6 @@
 //! The end of an extended query.
 
-ghost use Rattle.pg_send.specs.Sync.{sync_law};
+ghost use Rattle.pg_send.specs.Shapes.{sync_law};
 
 use crate::message::composed::Composed;
 use pg_base::io::part::Nothing;

@@ -4,8 +4,8 @@ ghost use Rattle.std.specs.Prelude.{◌≡◌};
 ghost use Rattle.pg_send.specs.FrontendMessage.{Law, fault, hint, room_or_fault};
 ghost use Rattle.pg_send.specs.TaggedVisitor.{PutsIfFits, PutsIfReadBack, IsRoundTripCheck, EncodesInRange, HasRoom, PutsFrame};
 
-use crate::message::{FrontendMessage, encode_frame, put_if_fits};
-use pg_base::io::Sink;
+use crate::message::{Framed, FrontendMessage, encode_frame, put_if_fits};
+use pg_base::io::{Sink, Text};
 use pg_base::{Error, ProtocolFault};
 
 /// Takes a message of any type and what it works on, for [`TaggedMessage::visit`].
@@ -119,6 +119,7 @@ impl<S: Sink> TaggedVisitor<S> for PutFrame {
 
     #[inline(always)]
     fn visit<M: FrontendMessage>(message: &M, sink: &mut S) {
-        message.put_frame(message.body_len(), sink);
+        let len = message.body_len();
+        Framed { message, len }.put(sink);
     }
 }

@@ -1,6 +1,6 @@
 //! The end of a session.
 
-ghost use Rattle.pg_send.specs.Terminate.{terminate_law};
+ghost use Rattle.pg_send.specs.Shapes.{terminate_law};
 
 use crate::message::composed::Composed;
 use pg_base::io::part::Nothing;

@@ -4,35 +4,30 @@ ghost use Rattle.std.specs.Prelude.{◌≡◌, ◌+◌, ◌≤◌, length, IfOk,
 ghost use Rattle.pg_base.specs.BufMut.{prefixed};
 ghost use Rattle.pg_base.specs.Cutting.{max_length};
 ghost use Rattle.pg_base.specs.Encode.{Encodes};
-ghost use Rattle.pg_send.specs.FrontendMessage.{first_fault};
+ghost use Rattle.pg_base.specs.Tagged.{fault_of};
 
 use pg_base::io::part::Part;
-use pg_base::io::{MAX_LENGTH, Sink, Text};
+use pg_base::io::{Sink, Text, checked_len};
 use pg_base::{Error, ProtocolFault};
 
 /// The length of the whole message, which counts its own four bytes, or the first limit that it breaks.
 #[inline]
 pub fn untagged_len<P: Part>(parts: &P) -> Result<usize, ProtocolFault>
-    ensures sound { IfOk result (λ _. first_fault (P.part parts.now).fault (length (P.part parts.now).text) ≡ None) }
+    ensures sound { IfOk result (λ _. fault_of (P.part parts.now) ≡ None) }
     ensures counts { IfOk result (λ _. (P.part parts.now).fault ≡ None) }
     ensures len { IfOk result (λ len. len ≡ length (P.part parts.now).text + 4) }
     ensures small { IfOk result (λ len. len ≤ max_length) }
-    ensures fault { IfErr result (λ fault. first_fault (P.part parts.now).fault (length (P.part parts.now).text) ≡ Some fault) }
+    ensures fault { IfErr result (λ fault. fault_of (P.part parts.now) ≡ Some fault) }
 {
-    if let Some(fault) = parts.fault() {
-        return Err(fault);
-    }
-    let len = parts.len().saturating_add(4);
-    if len > MAX_LENGTH {
-        return Err(ProtocolFault::MessageTooLong(len));
-    }
-    Ok(len)
+    let len = checked_len(parts)?;
+    Ok(len + 4)
 }
 
 /// Adds parts after the length of it all, or refuses them for the first limit that they break, or with
 /// `OutOfMemory`.
 pub fn encode_untagged<P: Part>(parts: P, buf: &mut Vec<u8>) -> Result<(), Error>
-    ensures { Encodes (prefixed (P.part parts).text) (first_fault (P.part parts).fault (length (P.part parts).text)) (length (P.part parts).text + 4) buf.old buf.new result }
+    ensures { Encodes (prefixed (P.part parts).text) (fault_of (P.part parts))
+        (length (P.part parts).text + 4) buf.old buf.new result }
 {
     let len = untagged_len(&parts)?;
     buf.reserve(len)?;
@@ -53,6 +48,8 @@ impl<P: Part> Text for Untagged<P> {
     ghost text = { λ it. prefixed (P.part it.parts).text };
 
     ghost can = { λ it. IsUntagged (P.part it.parts) it.len };
+
+    ghost IsInRange = { λ it. (P.part it.parts).IsInRange };
 
     #[inline(always)]
     fn put<S: Sink>(&self, sink: &mut S) {

@@ -1,12 +1,10 @@
 -- CopyInResponse, CopyOutResponse, CopyBothResponse and CopyData. Documentation: "Message Formats", the
 -- messages of these names marked (B).
-use Rattle.std.specs.Prelude.{ℕ, ℤ, pos, List, length, All, None}
+use Rattle.std.specs.Prelude.{ℕ, ℤ, pos, List, length, All}
 use Rattle.pg_base.specs.Format.{backend_tag}
 use Rattle.pg_base.specs.declared.format.BackendMessageFormat.TheVariants as formats
 use Rattle.pg_format.specs.Format.Parts.{FitsSigned}
 use Rattle.pg_format.specs.Messages as page
-use Rattle.pg_server.specs.Backend.BackendText.{Law}
-use Rattle.pg_server.specs.Backend.Item.{too_many, max_signed}
 use Rattle.pg_server.specs.declared.backend.copy.CopyDirection.{CopyDirection}
 use Rattle.pg_server.specs.declared.backend.copy.CopyDirection.TheVariants as directions
 
@@ -23,24 +21,3 @@ response_of format codes = record { format = format; num_columns = pos (length c
 pub record IsCopyInRange (format : ℤ) (codes : List ℤ) : Type 0 where
   pub whole : FitsSigned 1 format
   pub columns : All (FitsSigned 2) codes
-
--- the count is signed
-abbrev pub copy_response_law : CopyDirection → ℤ → List ℤ → Law
-copy_response_law direction format codes = record {
-  tag = direction_tag direction;
-  Value = page.CopyResponse;
-  line = page.copy_response;
-  value = response_of format codes;
-  part_fault = too_many max_signed (length codes);
-  IsInRange = IsCopyInRange format codes;
-}
-
-abbrev pub copy_data_law : List ℕ → Law
-copy_data_law bytes = record {
-  tag = backend_tag formats.CopyData;
-  Value = List ℕ;
-  line = page.copy_data;
-  value = bytes;
-  part_fault = None;
-  IsInRange = Unit {0};
-}

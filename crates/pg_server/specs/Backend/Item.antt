@@ -1,8 +1,12 @@
 -- Lists in a body, and what is wrong with them.
-use Rattle.std.specs.Prelude.{ℕ, ◌==◌, Bool, true, false, List, [], ◌∷◌, Option, Some, None, nat_le, if◌then◌else◌}
-use Rattle.std.specs.List.{list_any}
-use Rattle.pg_server.specs.declared.backend.error.BackendFault.{BackendFault}
-use Rattle.pg_server.specs.declared.backend.error.BackendFault.TheVariants.{TooMany, TextHoldsNul}
+use Rattle.std.specs.Prelude.{ℕ, ◌==◌, ◌||◌, Bool, true, false, List, [], ◌∷◌, All, Option, Some, None, nat_le, if◌then◌else◌}
+use Rattle.std.specs.List.{flat_map, list_any}
+use Rattle.pg_base.specs.Numbers.{be16}
+use Rattle.pg_base.specs.Part.{PartLaw}
+use Rattle.pg_base.specs.Text.{ended}
+use Rattle.pg_base.specs.declared.error.ProtocolFault.{ProtocolFault}
+use Rattle.pg_base.specs.declared.error.ProtocolFault.TheVariants.{TooMany, TextHoldsNul}
+use Rattle.pg_format.specs.Format.{Format}
 
 -- the most that an unsigned count of two bytes can say, and a signed one
 abbrev pub max_unsigned : ℕ
@@ -12,7 +16,7 @@ abbrev pub max_signed : ℕ
 max_signed = 32767
 
 -- the fault of a list that is longer, of which it tells the length
-abbrev pub too_many : ℕ → ℕ → Option BackendFault
+abbrev pub too_many : ℕ → ℕ → Option ProtocolFault
 too_many most count = if nat_le count most then None else Some (TooMany count)
 
 -- a NUL is among the bytes
@@ -20,9 +24,34 @@ abbrev pub holds_nul : List ℕ → Bool
 holds_nul bytes = list_any (λ byte. byte == 0) bytes
 
 -- the fault of texts of which one holds a NUL
-abbrev pub nul_fault : Bool → Option BackendFault
+abbrev pub nul_fault : Bool → Option ProtocolFault
 nul_fault holds = if holds then Some TextHoldsNul else None
+
+abbrev pub text_fault : List ℕ → Option ProtocolFault
+text_fault text = nul_fault (holds_nul text)
 
 abbrev pub is_empty : List ℕ → Bool
 is_empty [] = true
 is_empty (byte ∷ bytes) = false
+
+-- it would end a list of names
+abbrev pub breaks_names : List ℕ → Bool
+breaks_names name = is_empty name || holds_nul name
+
+-- ---- parts
+
+-- a text and the NUL that ends it, which holds no other
+abbrev pub text_part : List ℕ → PartLaw
+text_part text = record { text = ended text; fault = text_fault text; IsInRange = Unit {0} }
+
+-- an item, which may be broken
+abbrev pub item_part : {V : Type 0} → Format V → (V → Bool) → (V → Type 0) → V → PartLaw
+item_part format is_broken IsInRange value = record { text = format.Writes value; fault = nul_fault (is_broken value); IsInRange = IsInRange value }
+
+-- items, one after the other
+abbrev pub items_part : {V : Type 0} → Format V → (V → Bool) → (V → Type 0) → List V → PartLaw
+items_part format is_broken IsInRange values = record { text = flat_map format.Writes values; fault = nul_fault (list_any is_broken values); IsInRange = All IsInRange values }
+
+-- how many items follow, at most so many
+abbrev pub count_part : ℕ → ℕ → PartLaw
+count_part most count = record { text = be16 count; fault = too_many most count; IsInRange = Unit {0} }

@@ -1,27 +1,27 @@
--- Any message to a client as a plain value, what its law says of it, and what a reader makes of it.
-use Rattle.std.specs.Prelude.{◌≡◌, ◌↔◌, ℕ, ℤ, List, Option, None, All, IsUtf8}
-use Rattle.pg_format.specs.Format.{Means}
+-- Any message to a client as a plain value, what its law says of it, and what a reader makes of it. Documentation:
+-- "Message Formats", the messages marked (B).
+use Rattle.std.specs.Prelude.{◌≡◌, ◌↔◌, ℕ, ◌^◌, ◌<◌, ℤ, List, length, Option, None, All, IsUtf8}
+use Rattle.std.specs.List.{list_any}
+use Rattle.std.specs.Option.{option_or}
+use Rattle.pg_base.specs.Format.{backend_tag}
+use Rattle.pg_base.specs.Text.{ended}
+use Rattle.pg_base.specs.declared.error.ProtocolFault.{ProtocolFault}
+use Rattle.pg_base.specs.declared.format.BackendMessageFormat.{BackendMessageFormat}
+use Rattle.pg_base.specs.declared.format.BackendMessageFormat.TheVariants as formats
+use Rattle.pg_format.specs.Format.{Format, Means}
+use Rattle.pg_format.specs.Format.Parts.{remaining}
 use Rattle.pg_format.specs.Messages as page
 use Rattle.pg_format.specs.Notices.{Field, notice_fault}
 use Rattle.pg_format.specs.Sasl.{first_message_fault, final_message_fault}
-use Rattle.pg_server.specs.Backend.Authentication.{authentication_law}
-use Rattle.pg_server.specs.Backend.BackendKeyData.{backend_key_data_law}
-use Rattle.pg_server.specs.Backend.CommandComplete.{command_complete_law}
-use Rattle.pg_server.specs.Backend.Copy.{copy_response_law, copy_data_law}
-use Rattle.pg_server.specs.Backend.DataRow.{data_row_law}
+use Rattle.pg_server.specs.Backend.Authentication.{names_fault, IsSalted}
 use Rattle.pg_server.specs.Backend.BackendText as law
 use Rattle.pg_server.specs.Backend.BackendText.{Law}
-use Rattle.pg_server.specs.Backend.FunctionCallResponse.{function_call_response_law}
-use Rattle.pg_server.specs.Backend.NegotiateProtocolVersion.{negotiation_law}
-use Rattle.pg_server.specs.Backend.NoBody.{no_body_law}
-use Rattle.pg_server.specs.Backend.Notice.{notice_law}
-use Rattle.pg_server.specs.Backend.Notification.{notification_law}
-use Rattle.pg_server.specs.Backend.ParameterDescription.{parameter_description_law}
-use Rattle.pg_server.specs.Backend.ParameterStatus.{parameter_status_law}
-use Rattle.pg_server.specs.Backend.Raw.{raw_law}
-use Rattle.pg_server.specs.Backend.ReadyForQuery.{ready_for_query_law}
-use Rattle.pg_server.specs.Backend.RowDescription.{row_description_law}
-use Rattle.pg_server.specs.declared.backend.error.BackendFault.{BackendFault}
+use Rattle.pg_server.specs.Backend.Copy.{direction_tag, response_of, IsCopyInRange}
+use Rattle.pg_server.specs.Backend.Item.{too_many, max_unsigned, max_signed, holds_nul, nul_fault, text_fault}
+use Rattle.pg_server.specs.Backend.NoBody.{no_body_kind}
+use Rattle.pg_server.specs.Backend.Notice.{notice_tag, breaks_fields}
+use Rattle.pg_server.specs.Backend.ReadyForQuery.{status_of}
+use Rattle.pg_server.specs.Backend.RowDescription.{IsColumnInRange}
 use Rattle.pg_server.specs.declared.backend.copy.CopyDirection.{CopyDirection}
 use Rattle.pg_server.specs.declared.backend.no_body.NoBodyText.{NoBodyText}
 use Rattle.pg_server.specs.declared.backend.notice.NoticeKind.{NoticeKind}
@@ -45,23 +45,36 @@ pub data Message : Type 0 where
   ReadyForQuery : ReadyForQueryText → Message
   RowDescription : List page.Column → Message
 
+-- a message by its tag, the line of the page that writes it, what it says, the first fault of its parts, and
+-- that its numbers are in their ranges
+abbrev pub by_line : {V : Type 0} → ℕ → Format V → V → Option ProtocolFault → Type 0 → Law
+by_line {V} tag line value part_fault IsInRange = record { tag = tag; Value = V; line = line; value = value; part_fault = part_fault; IsInRange = IsInRange }
+
+abbrev pub of_kind : {V : Type 0} → BackendMessageFormat → Format V → V → Option ProtocolFault → Type 0 → Law
+of_kind kind line value part_fault IsInRange = by_line (backend_tag kind) line value part_fault IsInRange
+
+-- Of a CommandComplete the page has the whole body for what it says, with the NUL. A COPY's count is signed. 86 is
+-- `V`, and 118 is `v`.
 abbrev pub law_of : Message → Law
-law_of (Authentication request) = authentication_law request
-law_of (BackendKeyData key) = backend_key_data_law key
-law_of (CommandComplete command) = command_complete_law command
-law_of (CopyData bytes) = copy_data_law bytes
-law_of (CopyResponse direction format codes) = copy_response_law direction format codes
-law_of (DataRow cells) = data_row_law cells
-law_of (FunctionCallResponse value) = function_call_response_law value
-law_of (NegotiateProtocolVersion negotiation) = negotiation_law negotiation
-law_of (NoBody message) = no_body_law message
-law_of (Notice kind fields) = notice_law kind fields
-law_of (Notification notification) = notification_law notification
-law_of (ParameterDescription types) = parameter_description_law types
-law_of (ParameterStatus setting) = parameter_status_law setting
-law_of (Raw tag body) = raw_law tag body
-law_of (ReadyForQuery ready) = ready_for_query_law ready
-law_of (RowDescription columns) = row_description_law columns
+law_of (Authentication request) = of_kind formats.Authentication page.authentication request (names_fault request) (IsSalted request)
+law_of (BackendKeyData key) = of_kind formats.BackendKeyData page.backend_key key (page.key_fault (length key.secret_key)) (key.process_id < 2 ^ 32)
+law_of (CommandComplete command) = of_kind formats.CommandComplete page.command_complete (ended command) (text_fault command) (Unit {0})
+law_of (CopyData bytes) = of_kind formats.CopyData page.copy_data bytes None (Unit {0})
+law_of (CopyResponse direction format codes) = by_line (direction_tag direction) page.copy_response (response_of format codes) (too_many max_signed (length codes)) (IsCopyInRange format codes)
+law_of (DataRow cells) = of_kind formats.DataRow page.data_row cells (too_many max_unsigned (length cells)) (Unit {0})
+law_of (FunctionCallResponse value) = by_line 86 page.function_call_response value None (Unit {0})
+law_of (NegotiateProtocolVersion n) = by_line 118 page.negotiate_protocol_version n (nul_fault (list_any holds_nul n.options)) ((n.major < 2 ^ 16) × (n.minor < 2 ^ 16))
+law_of (NoBody message) = of_kind (no_body_kind message) page.no_body tt None (Unit {0})
+law_of (Notice kind fields) = by_line (notice_tag kind) page.notice fields (nul_fault (list_any breaks_fields fields)) (All (λ (field : Field). field.0 < 256) fields)
+law_of (Notification n) = of_kind formats.NotificationResponse page.notification n (option_or (text_fault n.channel) (text_fault n.payload)) (n.process_id < 2 ^ 32)
+law_of (ParameterDescription types) = of_kind formats.ParameterDescription page.parameter_description types (too_many max_unsigned (length types)) (All (λ n. n < 2 ^ 32) types)
+law_of (ParameterStatus setting) = of_kind formats.ParameterStatus page.parameter_status setting (option_or (text_fault setting.name) (text_fault setting.value)) (Unit {0})
+law_of (Raw tag body) = by_line tag remaining body None (Unit {0})
+law_of (ReadyForQuery ready) = of_kind formats.ReadyForQuery page.ready_for_query (status_of ready) None (Unit {0})
+law_of (RowDescription columns) =
+    of_kind formats.RowDescription page.row_description columns
+    (option_or (too_many max_unsigned (length columns)) (nul_fault (list_any (λ (column : page.Column). holds_nul column.name) columns)))
+    (All IsColumnInRange columns)
 
 -- ---- what its law says of a message
 
@@ -71,10 +84,10 @@ tag m = (law_of m).tag
 abbrev pub body : Message → List ℕ
 body m = law.body (law_of m)
 
-abbrev pub part_fault : Message → Option BackendFault
+abbrev pub part_fault : Message → Option ProtocolFault
 part_fault m = (law_of m).part_fault
 
-abbrev pub fault : Message → Option BackendFault
+abbrev pub fault : Message → Option ProtocolFault
 fault m = law.fault (law_of m)
 
 abbrev pub text : Message → List ℕ
@@ -86,12 +99,10 @@ IsInRange m = (law_of m).IsInRange
 -- ---- what a reader asks of it beside: texts of UTF-8, and data without a fault of its own
 
 abbrev pub IsRequestReadable : page.Authentication → Type 0
-IsRequestReadable page.ok = Unit {0}
-IsRequestReadable page.cleartext_password = Unit {0}
-IsRequestReadable (page.md5_password salt) = Unit {0}
 IsRequestReadable (page.sasl names) = All IsUtf8 names
 IsRequestReadable (page.sasl_continue content) = first_message_fault content ≡ None
 IsRequestReadable (page.sasl_final content) = final_message_fault content ≡ None
+IsRequestReadable other = Unit {0}
 
 pub record IsSettingReadable (setting : page.Setting) : Type 0 where
   pub name : IsUtf8 setting.name
@@ -99,21 +110,10 @@ pub record IsSettingReadable (setting : page.Setting) : Type 0 where
 
 abbrev pub IsReadable : Message → Type 0
 IsReadable (Authentication request) = IsRequestReadable request
-IsReadable (BackendKeyData key) = Unit {0}
-IsReadable (CommandComplete command) = Unit {0}
-IsReadable (CopyData bytes) = Unit {0}
-IsReadable (CopyResponse direction format codes) = Unit {0}
-IsReadable (DataRow cells) = Unit {0}
-IsReadable (FunctionCallResponse value) = Unit {0}
-IsReadable (NegotiateProtocolVersion negotiation) = Unit {0}
-IsReadable (NoBody message) = Unit {0}
 IsReadable (Notice kind fields) = notice_fault fields ≡ None
-IsReadable (Notification notification) = Unit {0}
-IsReadable (ParameterDescription types) = Unit {0}
 IsReadable (ParameterStatus setting) = IsSettingReadable setting
-IsReadable (Raw tag body) = Unit {0}
-IsReadable (ReadyForQuery ready) = Unit {0}
 IsReadable (RowDescription columns) = All (λ (column : page.Column). IsUtf8 column.name) columns
+IsReadable other = Unit {0}
 
 -- ---- reading
 

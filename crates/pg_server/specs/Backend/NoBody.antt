@@ -1,10 +1,6 @@
 -- The messages without a body: a tag alone.
-use Rattle.std.specs.Prelude.{ℕ, None}
-use Rattle.pg_base.specs.Format.{backend_tag}
 use Rattle.pg_base.specs.declared.format.BackendMessageFormat.{BackendMessageFormat}
 use Rattle.pg_base.specs.declared.format.BackendMessageFormat.TheVariants as formats
-use Rattle.pg_format.specs.Messages as page
-use Rattle.pg_server.specs.Backend.BackendText.{Law}
 use Rattle.pg_server.specs.declared.backend.no_body.NoBodyText.{NoBodyText}
 use Rattle.pg_server.specs.declared.backend.no_body.NoBodyText.TheVariants as messages
 
@@ -16,13 +12,3 @@ no_body_kind messages.EmptyQueryResponse = formats.EmptyQueryResponse
 no_body_kind messages.CopyDone = formats.CopyDone
 no_body_kind messages.NoData = formats.NoData
 no_body_kind messages.PortalSuspended = formats.PortalSuspended
-
-abbrev pub no_body_law : NoBodyText → Law
-no_body_law message = record {
-  tag = backend_tag (no_body_kind message);
-  Value = Unit {0};
-  line = page.no_body;
-  value = tt;
-  part_fault = None;
-  IsInRange = Unit {0};
-}

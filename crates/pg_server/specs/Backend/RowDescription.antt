@@ -1,13 +1,7 @@
 -- RowDescription: the columns of a result. Documentation: "Message Formats", RowDescription (B).
-use Rattle.std.specs.Prelude.{◌≡◌, ◌^◌, ◌<◌, List, length, All}
-use Rattle.std.specs.List.{list_any}
-use Rattle.std.specs.Option.{option_or}
-use Rattle.pg_base.specs.Format.{backend_tag}
-use Rattle.pg_base.specs.declared.format.BackendMessageFormat.TheVariants as formats
+use Rattle.std.specs.Prelude.{◌≡◌, ◌^◌, ◌<◌}
 use Rattle.pg_format.specs.Format.Parts.{FitsSigned}
 use Rattle.pg_format.specs.Messages as page
-use Rattle.pg_server.specs.Backend.BackendText.{Law}
-use Rattle.pg_server.specs.Backend.Item.{too_many, max_unsigned, holds_nul, nul_fault}
 use Rattle.pg_server.specs.declared.backend.row_description.ColumnText.{ColumnText}
 
 -- 0 is the number of no table, and of no attribute of one
@@ -32,13 +26,3 @@ pub record IsColumnInRange (column : page.Column) : Type 0 where
   pub data_type_size : FitsSigned 2 column.data_type_size
   pub type_modifier : FitsSigned 4 column.type_modifier
   pub format : FitsSigned 2 column.format
-
-abbrev pub row_description_law : List page.Column → Law
-row_description_law columns = record {
-  tag = backend_tag formats.RowDescription;
-  Value = List page.Column;
-  line = page.row_description;
-  value = columns;
-  part_fault = option_or (too_many max_unsigned (length columns)) (nul_fault (list_any (λ (column : page.Column). holds_nul column.name) columns));
-  IsInRange = All IsColumnInRange columns;
-}

@@ -1,14 +1,16 @@
 //! Requests for authentication.
 
-ghost use Rattle.std.specs.Prelude.{◌≡◌, ◌+◌, length};
+ghost use Rattle.std.specs.Prelude.{◌≡◌};
 ghost use Rattle.pg_server.specs.Backend.Authentication.{request_of};
-ghost use Rattle.pg_server.specs.Backend.BackendText.{saturated};
 ghost use Rattle.pg_server.specs.Backend.Message as messages;
 
 use crate::backend::BackendText;
-use crate::backend::error::BackendFault;
-use crate::backend::sasl::SaslText;
+use crate::backend::item::Items;
+use crate::backend::sasl::{Mechanisms, SASL};
+use pg_base::ProtocolFault;
 use pg_base::io::Sink;
+use pg_base::io::part::{Byte, Either, Number32, Part, Slice, Then, ThenFirst};
+use std::marker::PhantomData;
 
 // The numbers of methods.
 const OK: u32 = 0;
@@ -20,9 +22,6 @@ const MD5_PASSWORD: u32 = 5;
 const SASL_CONTINUE: u32 = 11;
 
 const SASL_FINAL: u32 = 12;
-
-/// The bytes of a method's number.
-pub(crate) const METHOD: usize = 4;
 
 /// What a client is asked for, or that it needs no more. Documentation: "Message Formats",
 /// AuthenticationOk (B) and those after it.
@@ -43,56 +42,64 @@ pub enum AuthenticationText<'a> {
     SaslFinal(&'a [u8]),
 }
 
-impl BackendText for AuthenticationText<'_> {
+/// What follows the number of a method: a salt, the names of mechanisms, or other bytes.
+pub type Asked<'a> = Either<Slice<'a>, Either<Salt, Mechanisms<'a, &'a [u8]>>>;
+
+impl<'a> BackendText for AuthenticationText<'a> {
+    type Body = Then<Number32, Asked<'a>>;
+
     ghost message = { λ request. messages.Authentication (request_of request) };
 
     fn tag(&self) -> u8 {
         b'R'
     }
 
-    fn body_len(&self) -> usize {
-        match self {
-            AuthenticationText::Ok | AuthenticationText::CleartextPassword => METHOD,
-            AuthenticationText::Md5Password(salt) => content_len(salt),
-            AuthenticationText::Sasl(mechanisms) => SaslText { mechanisms }.body_len(),
-            AuthenticationText::SaslContinue(content) | AuthenticationText::SaslFinal(content) => {
-                content_len(content)
-            }
-        }
-    }
-
-    fn part_fault(&self) -> Option<BackendFault> {
-        match self {
-            AuthenticationText::Sasl(mechanisms) => SaslText { mechanisms }.part_fault(),
-            _ => None,
-        }
-    }
-
     #[inline(always)]
-    fn put_body<S: Sink>(&self, sink: &mut S) {
+    fn parts(&self) -> Self::Body {
         match self {
-            AuthenticationText::Ok => sink.put_u32(OK),
-            AuthenticationText::CleartextPassword => sink.put_u32(CLEARTEXT_PASSWORD),
-            AuthenticationText::Md5Password(salt) => {
-                sink.put_u32(MD5_PASSWORD);
-                sink.put_slice(salt);
+            AuthenticationText::Ok => Then(Number32(OK), Either::First(Slice(&[]))),
+            AuthenticationText::CleartextPassword => {
+                Then(Number32(CLEARTEXT_PASSWORD), Either::First(Slice(&[])))
             }
-            AuthenticationText::Sasl(mechanisms) => SaslText { mechanisms }.put_body(sink),
+            AuthenticationText::Md5Password(salt) => Then(
+                Number32(MD5_PASSWORD),
+                Either::Second(Either::First(Salt(*salt))),
+            ),
+            AuthenticationText::Sasl(names) => {
+                let names = ThenFirst(Items(PhantomData, *names), Byte(0));
+                Then(Number32(SASL), Either::Second(Either::Second(names)))
+            }
             AuthenticationText::SaslContinue(content) => {
-                sink.put_u32(SASL_CONTINUE);
-                sink.put_slice(content);
+                Then(Number32(SASL_CONTINUE), Either::First(Slice(content)))
             }
             AuthenticationText::SaslFinal(content) => {
-                sink.put_u32(SASL_FINAL);
-                sink.put_slice(content);
+                Then(Number32(SASL_FINAL), Either::First(Slice(content)))
             }
         }
     }
 }
 
-// The length of a method's number and of what follows it, in bytes; it saturates.
-fn content_len(content: &[u8]) -> usize
-    ensures { result ≡ saturated (4 + length content.now) }
-{
-    content.len().saturating_add(METHOD)
+/// The salt of a digest.
+#[derive(Clone, Copy)]
+pub struct Salt(pub [u8; 4]);
+
+impl Part for Salt {
+    ghost use Rattle.std.specs.Prelude.{◌≡◌, None, length};
+
+    ghost part = { λ it. record { text = it.0; fault = None; IsInRange = length it.0 ≡ 4 } };
+
+    #[inline(always)]
+    fn len(&self) -> usize {
+        self.0.len()
+    }
+
+    #[inline(always)]
+    fn fault(&self) -> Option<ProtocolFault> {
+        None
+    }
+
+    #[inline(always)]
+    fn put<S: Sink>(&self, sink: &mut S) {
+        sink.put_slice(&self.0);
+    }
 }

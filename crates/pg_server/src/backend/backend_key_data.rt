@@ -1,12 +1,12 @@
 //! What a cancel request has to name.
 
-ghost use Rattle.std.specs.Prelude.{◌≡◌, length};
-ghost use Rattle.pg_server.specs.Backend.BackendKeyData.{key_fault};
+ghost use Rattle.pg_format.specs.Messages.{key_fault};
 ghost use Rattle.pg_server.specs.Backend.Message as messages;
 
 use crate::backend::BackendText;
-use crate::backend::error::BackendFault;
+use pg_base::ProtocolFault;
 use pg_base::io::Sink;
+use pg_base::io::part::{Number32, Part, Then};
 
 // The least and the greatest length of a key.
 const MIN_KEY: usize = 4;
@@ -20,38 +20,57 @@ pub struct BackendKeyDataText<'a> {
     /// The process.
     pub process_id: u32,
     /// The secret: 4 bytes in protocol 3.0, up to 256 from 3.2 on. Another length is refused with
-    /// `KeyLength`.
+    /// `BadKeyLength`.
     pub secret_key: &'a [u8],
 }
 
-impl BackendText for BackendKeyDataText<'_> {
-    ghost message = { λ key. messages.BackendKeyData (record { process_id = key.process_id; secret_key = key.secret_key.now }) };
+impl<'a> BackendText for BackendKeyDataText<'a> {
+    type Body = Then<Number32, Key<'a>>;
+
+    ghost message = { λ key. messages.BackendKeyData (record {
+      process_id = key.process_id;
+      secret_key = key.secret_key.now;
+    }) };
 
     fn tag(&self) -> u8 {
         b'K'
     }
 
-    fn body_len(&self) -> usize {
-        self.secret_key.len().saturating_add(4)
-    }
-
-    fn part_fault(&self) -> Option<BackendFault> {
-        fault_of_key(self.secret_key.len())
-    }
-
     #[inline(always)]
-    fn put_body<S: Sink>(&self, sink: &mut S) {
-        sink.put_u32(self.process_id);
-        sink.put_slice(self.secret_key);
+    fn parts(&self) -> Self::Body {
+        Then(Number32(self.process_id), Key(self.secret_key))
     }
 }
 
-// The fault of a key with so many bytes.
-fn fault_of_key(length: usize) -> Option<BackendFault>
-    ensures { result ≡ key_fault length }
-{
-    if length < MIN_KEY || length > MAX_KEY {
-        return Some(BackendFault::KeyLength(length));
+/// The secret of a session. Another length than 4 to 256 bytes is refused with `BadKeyLength`.
+#[derive(Clone, Copy)]
+pub struct Key<'a>(pub &'a [u8]);
+
+impl Part for Key<'_> {
+    ghost use Rattle.std.specs.Prelude.{length};
+
+    ghost part = { λ it. record {
+      text = it.0.now;
+      fault = key_fault (length it.0.now);
+      IsInRange = Unit {0};
+    } };
+
+    #[inline(always)]
+    fn len(&self) -> usize {
+        self.0.len()
     }
-    None
+
+    #[inline(always)]
+    fn fault(&self) -> Option<ProtocolFault> {
+        let length = self.0.len();
+        if length < MIN_KEY || length > MAX_KEY {
+            return Some(ProtocolFault::BadKeyLength(length));
+        }
+        None
+    }
+
+    #[inline(always)]
+    fn put<S: Sink>(&self, sink: &mut S) {
+        sink.put_slice(self.0);
+    }
 }

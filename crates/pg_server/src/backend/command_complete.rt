@@ -3,9 +3,7 @@
 ghost use Rattle.pg_server.specs.Backend.Message as messages;
 
 use crate::backend::BackendText;
-use crate::backend::error::BackendFault;
-use crate::backend::item::{holds_nul, nul_fault};
-use pg_base::io::Sink;
+use crate::backend::text::NulEnded;
 
 /// A command has ended. Documentation: "Message Formats", CommandComplete (B).
 #[derive(Drop)]
@@ -14,23 +12,17 @@ pub struct CommandCompleteText<'a> {
     pub command: &'a [u8],
 }
 
-impl BackendText for CommandCompleteText<'_> {
+impl<'a> BackendText for CommandCompleteText<'a> {
+    type Body = NulEnded<'a>;
+
     ghost message = { λ complete. messages.CommandComplete complete.command.now };
 
     fn tag(&self) -> u8 {
         b'C'
     }
 
-    fn body_len(&self) -> usize {
-        self.command.len().saturating_add(1)
-    }
-
-    fn part_fault(&self) -> Option<BackendFault> {
-        nul_fault(holds_nul(self.command))
-    }
-
     #[inline(always)]
-    fn put_body<S: Sink>(&self, sink: &mut S) {
-        sink.put_text(self.command);
+    fn parts(&self) -> Self::Body {
+        NulEnded(self.command)
     }
 }

@@ -1,13 +1,14 @@
 //! The messages of a COPY.
 
-ghost use Rattle.std.specs.Prelude.{ℤ, false};
+ghost use Rattle.std.specs.Prelude.{false};
 ghost use Rattle.pg_server.specs.Backend.Message as messages;
 
 use crate::backend::BackendText;
-use crate::backend::error::BackendFault;
-use crate::backend::item::{Item, items_len, put_items, too_many};
-use crate::backend::numbers::{put_i8, put_i16};
+use crate::backend::item::{Item, Items, too_many};
+use pg_base::ProtocolFault;
 use pg_base::io::Sink;
+use pg_base::io::part::{Byte, Number16, Part, Slice, Then};
+use std::marker::PhantomData;
 
 // The most columns that a COPY can count: the count is signed, and a reader takes one below 0 for none.
 const MAX_COLUMNS: usize = i16::MAX as usize;
@@ -36,30 +37,52 @@ pub struct CopyResponseText<'a> {
     pub format_codes: &'a [i16],
 }
 
-impl BackendText for CopyResponseText<'_> {
-    ghost message = { λ response. messages.CopyResponse response.direction response.format response.format_codes.now };
+impl<'a> BackendText for CopyResponseText<'a> {
+    type Body = Then<Byte, Then<ColumnCount, Items<'a, i16, i16>>>;
+
+    ghost message = { λ response. messages.CopyResponse response.direction response.format
+        response.format_codes.now };
 
     fn tag(&self) -> u8 {
         self.direction as u8
     }
 
-    fn body_len(&self) -> usize {
-        items_len(self.format_codes).saturating_add(3)
+    #[inline(always)]
+    fn parts(&self) -> Self::Body {
+        let count = ColumnCount(self.format_codes.len());
+        let columns = Then(count, Items(PhantomData, self.format_codes));
+        Then(Byte(self.format.cast_unsigned()), columns)
     }
+}
 
-    fn part_fault(&self) -> Option<BackendFault> {
-        too_many(self.format_codes.len(), MAX_COLUMNS)
+/// How many columns follow, as a signed number of two bytes. More than 32767 are refused with `TooMany`.
+#[derive(Clone, Copy)]
+pub struct ColumnCount(pub usize);
+
+impl Part for ColumnCount {
+    ghost use Rattle.pg_server.specs.Backend.Item.{count_part, max_signed};
+
+    ghost part = { λ it. count_part max_signed it.0 };
+
+    #[inline(always)]
+    fn len(&self) -> usize {
+        2
     }
 
     #[inline(always)]
-    fn put_body<S: Sink>(&self, sink: &mut S) {
-        put_i8(self.format, sink);
-        sink.put_u16(self.format_codes.len() as u16);
-        put_items(self.format_codes, sink);
+    fn fault(&self) -> Option<ProtocolFault> {
+        too_many(self.0, MAX_COLUMNS)
+    }
+
+    #[inline(always)]
+    fn put<S: Sink>(&self, sink: &mut S) {
+        sink.put_u16(self.0 as u16);
     }
 }
 
 impl Item for i16 {
+    type Parts = Number16;
+
     ghost use Rattle.std.specs.Prelude.{ℤ};
     ghost use Rattle.pg_format.specs.Format.Parts.{be_i16, FitsSigned};
 
@@ -73,17 +96,9 @@ impl Item for i16 {
 
     ghost IsInRange = { λ number. FitsSigned 2 number };
 
-    fn len(&self) -> usize {
-        2
-    }
-
-    fn is_broken(&self) -> bool {
-        false
-    }
-
     #[inline(always)]
-    fn put<S: Sink>(&self, sink: &mut S) {
-        put_i16(*self, sink);
+    fn parts(&self) -> Number16 {
+        Number16(self.cast_unsigned())
     }
 }
 
@@ -91,23 +106,17 @@ impl Item for i16 {
 #[derive(Drop)]
 pub struct CopyDataText<'a>(pub &'a [u8]);
 
-impl BackendText for CopyDataText<'_> {
+impl<'a> BackendText for CopyDataText<'a> {
+    type Body = Slice<'a>;
+
     ghost message = { λ copied. messages.CopyData copied.0.now };
 
     fn tag(&self) -> u8 {
         b'd'
     }
 
-    fn body_len(&self) -> usize {
-        self.0.len()
-    }
-
-    fn part_fault(&self) -> Option<BackendFault> {
-        None
-    }
-
     #[inline(always)]
-    fn put_body<S: Sink>(&self, sink: &mut S) {
-        sink.put_slice(self.0);
+    fn parts(&self) -> Self::Body {
+        Slice(self.0)
     }
 }

@@ -4,9 +4,7 @@ ghost use Rattle.std.specs.Prelude.{option_copied};
 ghost use Rattle.pg_server.specs.Backend.Message as messages;
 
 use crate::backend::BackendText;
-use crate::backend::error::BackendFault;
-use crate::backend::item::Item;
-use pg_base::io::Sink;
+use pg_format::value::Value;
 
 /// The result of a function that was called, `None` for NULL. Documentation: "Message Formats",
 /// FunctionCallResponse (B).
@@ -15,23 +13,17 @@ pub struct FunctionCallResponseText<'a> {
     pub value: Option<&'a [u8]>,
 }
 
-impl BackendText for FunctionCallResponseText<'_> {
+impl<'a> BackendText for FunctionCallResponseText<'a> {
+    type Body = Value<'a>;
+
     ghost message = { λ response. messages.FunctionCallResponse (option_copied response.value) };
 
     fn tag(&self) -> u8 {
         b'V'
     }
 
-    fn body_len(&self) -> usize {
-        self.value.len()
-    }
-
-    fn part_fault(&self) -> Option<BackendFault> {
-        None
-    }
-
     #[inline(always)]
-    fn put_body<S: Sink>(&self, sink: &mut S) {
-        self.value.put(sink);
+    fn parts(&self) -> Self::Body {
+        Value(self.value)
     }
 }

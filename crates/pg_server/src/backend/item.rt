@@ -1,20 +1,23 @@
 //! Lists in a body, one item after the other.
 
-ghost use Rattle.std.specs.Prelude.{◌≡◌, ℕ, ◌+◌, ◌≤◌, Bool, List, ◌++◌, length, map, All, Some, None, nat_le, if◌then◌else◌};
-ghost use Rattle.std.specs.List.{flat_map, list_any};
-ghost use Rattle.pg_base.specs.Cutting.{max_length};
+ghost use Rattle.std.specs.Prelude.{◌≡◌, Bool, map};
+ghost use Rattle.pg_base.specs.Tagged.{IsSame};
 ghost use Rattle.pg_format.specs.Format.{Format};
-ghost use Rattle.pg_server.specs.Backend.BackendText.{saturated};
-ghost use Rattle.pg_server.specs.Backend.Item.{too_many, nul_fault, holds_nul};
+ghost use Rattle.pg_server.specs.Backend.Item.{item_part, too_many, max_unsigned, nul_fault};
 
-use crate::backend::error::BackendFault;
+use pg_base::ProtocolFault;
 use pg_base::io::Sink;
+use pg_base::io::part::{Part, Then};
+use std::marker::PhantomData;
 
-/// The most items that an unsigned count of two bytes can say.
-pub(crate) const MAX_UNSIGNED: usize = u16::MAX as usize;
+// The most items that an unsigned count of two bytes can say.
+const MAX_UNSIGNED: usize = u16::MAX as usize;
 
 /// What stands in a list of a body.
 pub trait Item: Copy {
+    /// Its parts.
+    type Parts: Part;
+
     ghost Value: { Type 0 };
 
     /// What it says.
@@ -29,22 +32,10 @@ pub trait Item: Copy {
     /// Its numbers are in the ranges of their types.
     ghost IsInRange: { Value → Type 0 };
 
-    /// Its length in bytes; sums saturate.
-    fn len(&self) -> usize
-        ensures { result ≡ saturated (length (format.Writes (value self.now))) };
-
-    /// Whether a text of it holds a NUL, or it would end the list.
-    fn is_broken(&self) -> bool
-        ensures { result ≡ is_broken (value self.now) };
-
-    /// Adds it, in room that is there.
-    fn put<S: Sink>(&self, sink: &mut S)
-        requires small { length (format.Writes (value self.now)) ≤ max_length }
-        requires room { length (S.written sink.old) + length (format.Writes (value self.now)) ≤ S.capacity sink.old }
-        ensures written { S.written sink.new ≡ S.written sink.old ++ format.Writes (value self.now) }
-        ensures capacity { S.capacity sink.old ≤ S.capacity sink.new }
-        ensures loan { S.loan sink.new ≡ S.loan sink.old }
-        ensures range { IsInRange (value self.now) };
+    /// Its parts, which have a fault where it is broken.
+    fn parts(&self) -> Self::Parts
+        ensures { IsSame (Self.Parts.part result)
+            (item_part format is_broken IsInRange (value self.now)) };
 }
 
 /// What a caller has in the place of an item.
@@ -66,67 +57,87 @@ impl<I: Item> AsItem<I> for I {
     }
 }
 
-/// The length of all of them in bytes; sums saturate.
-pub(crate) fn items_len<I: Item, T: AsItem<I>>(items: &[T]) -> usize
-    ensures { result ≡ saturated (length (flat_map I.format.Writes (map (λ x. I.value (T.item x)) items.now))) }
-{
-    let mut len: usize = 0;
-    for item in items {
-        len = len.saturating_add(item.as_item().len());
-    }
-    len
-}
+/// Items, one after the other.
+#[derive_where(Clone, Copy)]
+pub struct Items<'a, I, T>(pub PhantomData<I>, pub &'a [T]);
 
-/// Whether one of them is broken.
-pub(crate) fn any_broken<I: Item, T: AsItem<I>>(items: &[T]) -> bool
-    ensures { result ≡ list_any I.is_broken (map (λ x. I.value (T.item x)) items.now) }
-{
-    for item in items {
-        if item.as_item().is_broken() {
-            return true;
+impl<I: Item, T: AsItem<I>> Part for Items<'_, I, T> {
+    ghost use Rattle.pg_server.specs.Backend.Item.{items_part};
+
+    ghost part = { λ it. items_part I.format I.is_broken I.IsInRange
+        (map (λ x. I.value (T.item x)) it.1.now) };
+
+    fn len(&self) -> usize {
+        let mut len: usize = 0;
+        for item in self.1 {
+            len = len.saturating_add(item.as_item().parts().len());
+        }
+        len
+    }
+
+    fn fault(&self) -> Option<ProtocolFault> {
+        for item in self.1 {
+            if item.as_item().parts().fault().is_some() {
+                return Some(ProtocolFault::TextHoldsNul);
+            }
+        }
+        None
+    }
+
+    #[inline(always)]
+    fn put<S: Sink>(&self, sink: &mut S) {
+        for item in self.1 {
+            item.as_item().parts().put(sink);
         }
     }
-    false
 }
 
-/// Adds all of them, in room that is there.
-#[inline(always)]
-pub(crate) fn put_items<I: Item, T: AsItem<I>, S: Sink>(items: &[T], sink: &mut S)
-    requires small { length (flat_map I.format.Writes (map (λ x. I.value (T.item x)) items.now)) ≤ max_length }
-    requires room { length (S.written sink.old) + length (flat_map I.format.Writes (map (λ x. I.value (T.item x)) items.now)) ≤ S.capacity sink.old }
-    ensures written { S.written sink.new ≡ S.written sink.old ++ flat_map I.format.Writes (map (λ x. I.value (T.item x)) items.now) }
-    ensures capacity { S.capacity sink.old ≤ S.capacity sink.new }
-    ensures loan { S.loan sink.new ≡ S.loan sink.old }
-    ensures range { All I.IsInRange (map (λ x. I.value (T.item x)) items.now) }
-{
-    for item in items {
-        item.as_item().put(sink);
+/// Items after their count.
+pub type Counted<'a, I, T> = Then<Count, Items<'a, I, T>>;
+
+/// How many items follow, in two bytes. More than 65535 are refused with `TooMany`.
+#[derive(Clone, Copy)]
+pub struct Count(pub usize);
+
+impl Part for Count {
+    ghost use Rattle.pg_server.specs.Backend.Item.{count_part};
+
+    ghost part = { λ it. count_part max_unsigned it.0 };
+
+    #[inline(always)]
+    fn len(&self) -> usize {
+        2
+    }
+
+    #[inline(always)]
+    fn fault(&self) -> Option<ProtocolFault> {
+        too_many(self.0, MAX_UNSIGNED)
+    }
+
+    #[inline(always)]
+    fn put<S: Sink>(&self, sink: &mut S) {
+        sink.put_u16(self.0 as u16);
     }
 }
 
 /// The fault of a list that has more items than can be counted.
-pub(crate) fn too_many(count: usize, most: usize) -> Option<BackendFault>
+#[inline(always)]
+pub(crate) fn too_many(count: usize, most: usize) -> Option<ProtocolFault>
     ensures { result ≡ too_many most count }
 {
     if count > most {
-        return Some(BackendFault::TooMany(count));
+        return Some(ProtocolFault::TooMany(count));
     }
     None
 }
 
 /// The fault of texts of which one holds a NUL.
-pub(crate) fn nul_fault(holds: bool) -> Option<BackendFault>
+#[inline(always)]
+pub(crate) fn nul_fault(holds: bool) -> Option<ProtocolFault>
     ensures { result ≡ nul_fault holds }
 {
     if holds {
-        return Some(BackendFault::TextHoldsNul);
+        return Some(ProtocolFault::TextHoldsNul);
     }
     None
-}
-
-/// Whether a NUL is among the bytes.
-pub(crate) fn holds_nul(bytes: &[u8]) -> bool
-    ensures { result ≡ holds_nul bytes.now }
-{
-    bytes.contains(&0)
 }

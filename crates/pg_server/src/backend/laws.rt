@@ -1,15 +1,12 @@
 //! Laws of messages to a client. Each is a function whose contract is the law.
 
 ghost use Rattle.std.specs.Prelude.{◌≡◌, None, Decides};
-ghost use Rattle.pg_server.specs.declared.backend.error.BackendFault.{BackendFault};
-ghost use Rattle.pg_server.specs.declared.backend.error.BackendError.{BackendError};
 ghost use Rattle.pg_server.specs.declared.backend.copy.CopyDirection.{CopyDirection};
 ghost use Rattle.pg_server.specs.declared.backend.notice.NoticeKind.{NoticeKind};
 ghost use Rattle.pg_server.specs.declared.backend.no_body.NoBodyText.{NoBodyText};
 ghost use Rattle.pg_server.specs.declared.backend.ready_for_query.ReadyForQueryText.{ReadyForQueryText};
 ghost use Rattle.pg_server.specs.Backend.Message.{Message, fault, IsInRange, IsRead};
 
-use crate::backend::error::{BackendError, BackendFault};
 use crate::backend::{CopyDirection, NoBodyText, NoticeKind, ReadyForQueryText};
 
 /// What a message without a fault says is what the page of all messages means by its body, and nothing
@@ -20,18 +17,15 @@ pub fn own_messages_are_read()
 
 /// Values are equal where they are the same.
 pub fn values_are_equal_where_they_are_the_same()
-    ensures faults { (a b : BackendFault) → Decides (⟦<BackendFault as PartialEq>⟧.eq a b) (a ≡ b) }
-    ensures errors { (a b : BackendError) → Decides (⟦<BackendError as PartialEq>⟧.eq a b) (a ≡ b) }
     ensures directions { (a b : CopyDirection) → Decides (⟦<CopyDirection as PartialEq>⟧.eq a b) (a ≡ b) }
     ensures notices { (a b : NoticeKind) → Decides (⟦<NoticeKind as PartialEq>⟧.eq a b) (a ≡ b) }
     ensures bodies { (a b : NoBodyText) → Decides (⟦<NoBodyText as PartialEq>⟧.eq a b) (a ≡ b) }
-    ensures statuses { (a b : ReadyForQueryText) → Decides (⟦<ReadyForQueryText as PartialEq>⟧.eq a b) (a ≡ b) }
+    ensures statuses { (a b : ReadyForQueryText)
+        → Decides (⟦<ReadyForQueryText as PartialEq>⟧.eq a b) (a ≡ b) }
 {}
 
 /// A clone is the value that was cloned.
 pub fn clones_are_equal()
-    ensures faults { (a b : BackendFault) → ⟦<BackendFault as Clone>⟧.is_clone a b → b ≡ a }
-    ensures errors { (a b : BackendError) → ⟦<BackendError as Clone>⟧.is_clone a b → b ≡ a }
     ensures directions { (a b : CopyDirection) → ⟦<CopyDirection as Clone>⟧.is_clone a b → b ≡ a }
     ensures notices { (a b : NoticeKind) → ⟦<NoticeKind as Clone>⟧.is_clone a b → b ≡ a }
     ensures bodies { (a b : NoBodyText) → ⟦<NoBodyText as Clone>⟧.is_clone a b → b ≡ a }

@@ -1,12 +1,14 @@
 //! What of the protocol the server doesn't speak.
 
-ghost use Rattle.std.specs.Prelude.{◌≡◌, map};
+ghost use Rattle.std.specs.Prelude.{map};
 ghost use Rattle.pg_server.specs.Backend.Message as messages;
 
 use crate::backend::BackendText;
-use crate::backend::error::BackendFault;
-use crate::backend::item::{AsItem, Item, any_broken, holds_nul, items_len, nul_fault, put_items};
+use crate::backend::item::{AsItem, Items};
+use pg_base::ProtocolFault;
 use pg_base::io::Sink;
+use pg_base::io::part::{Number16, Part, Then};
+use std::marker::PhantomData;
 
 // The version of the protocol, without the minor one.
 const MAJOR: u16 = 3;
@@ -22,6 +24,8 @@ pub struct NegotiateProtocolVersionText<'a, N = &'a [u8]> {
 }
 
 impl<'a, N: AsItem<&'a [u8]>> BackendText for NegotiateProtocolVersionText<'a, N> {
+    type Body = Then<Then<Number16, Number16>, Options<'a, N>>;
+
     ghost message = { λ version. messages.NegotiateProtocolVersion (record {
       major = 3;
       minor = version.minor;
@@ -32,50 +36,36 @@ impl<'a, N: AsItem<&'a [u8]>> BackendText for NegotiateProtocolVersionText<'a, N
         b'v'
     }
 
-    fn body_len(&self) -> usize {
-        items_len(self.options).saturating_add(8)
-    }
-
-    fn part_fault(&self) -> Option<BackendFault> {
-        nul_fault(any_broken(self.options))
-    }
-
     #[inline(always)]
-    fn put_body<S: Sink>(&self, sink: &mut S) {
-        sink.put_u16(MAJOR);
-        sink.put_u16(self.minor);
-        // Each has a byte or more, so that they can be counted where their length can be said.
-        sink.put_u32(self.options.len() as u32);
-        put_items(self.options, sink);
+    fn parts(&self) -> Self::Body {
+        let version = Then(Number16(MAJOR), Number16(self.minor));
+        Then(version, Options(Items(PhantomData, self.options)))
     }
 }
 
-// A text and its NUL.
-impl Item for &[u8] {
-    ghost use Rattle.std.specs.Prelude.{ℕ, List};
-    ghost use Rattle.pg_format.specs.Format.Parts.{until_nul};
-    ghost use Rattle.pg_server.specs.Backend.Item as items;
+/// The names of options after their count. Each has a byte or more, so that they can be counted where their
+/// length can be said.
+#[derive_where(Clone, Copy)]
+pub struct Options<'a, N>(pub Items<'a, &'a [u8], N>);
 
-    ghost Value = { List ℕ };
+impl<'a, N: AsItem<&'a [u8]>> Part for Options<'a, N> {
+    ghost use Rattle.pg_server.specs.Backend.NegotiateProtocolVersion.{options_part};
 
-    ghost value = { λ text. text.now };
+    ghost part = { λ it. options_part (map (λ name. (N.item name).now) it.0.1.now) };
 
-    ghost format = { until_nul };
-
-    ghost is_broken = { items.holds_nul };
-
-    ghost IsInRange = { λ _. Unit {0} };
-
+    #[inline(always)]
     fn len(&self) -> usize {
-        <[u8]>::len(self).saturating_add(1)
+        self.0.len().saturating_add(4)
     }
 
-    fn is_broken(&self) -> bool {
-        holds_nul(self)
+    #[inline(always)]
+    fn fault(&self) -> Option<ProtocolFault> {
+        self.0.fault()
     }
 
     #[inline(always)]
     fn put<S: Sink>(&self, sink: &mut S) {
-        sink.put_text(self);
+        sink.put_u32(self.0.1.len() as u32);
+        self.0.put(sink);
     }
 }

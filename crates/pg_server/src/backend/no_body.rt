@@ -3,8 +3,7 @@
 ghost use Rattle.pg_server.specs.Backend.Message as messages;
 
 use crate::backend::BackendText;
-use crate::backend::error::BackendFault;
-use pg_base::io::Sink;
+use pg_base::io::part::Nothing;
 
 /// A message without a body. As a number it is the tag. Documentation: "Message Formats", the messages
 /// of these names marked (B).
@@ -20,20 +19,16 @@ pub enum NoBodyText {
 }
 
 impl BackendText for NoBodyText {
+    type Body = Nothing;
+
     ghost message = { messages.NoBody };
 
     fn tag(&self) -> u8 {
         *self as u8
     }
 
-    fn body_len(&self) -> usize {
-        0
-    }
-
-    fn part_fault(&self) -> Option<BackendFault> {
-        None
-    }
-
     #[inline(always)]
-    fn put_body<S: Sink>(&self, _sink: &mut S) {}
+    fn parts(&self) -> Nothing {
+        Nothing
+    }
 }

@@ -5,9 +5,12 @@ ghost use Rattle.pg_server.specs.Backend.Message as messages;
 ghost use Rattle.pg_server.specs.Backend.Notice.{field_of};
 
 use crate::backend::BackendText;
-use crate::backend::error::BackendFault;
-use crate::backend::item::{AsItem, Item, any_broken, holds_nul, items_len, nul_fault, put_items};
+use crate::backend::item::{AsItem, Item, Items, nul_fault};
+use crate::backend::text::NulEnded;
+use pg_base::ProtocolFault;
 use pg_base::io::Sink;
+use pg_base::io::part::{Byte, Part, Then, ThenFirst};
+use std::marker::PhantomData;
 
 /// Whether it ends the command. As a number it is the tag of the message.
 #[derive(Clone, Copy, Debug, PartialEq, Eq)]
@@ -39,28 +42,24 @@ pub struct NoticeText<'a, F = NoticeFieldText<'a>> {
 }
 
 impl<'a, F: AsItem<NoticeFieldText<'a>>> BackendText for NoticeText<'a, F> {
-    ghost message = { λ notice. messages.Notice notice.kind (map (λ field. field_of (F.item field)) notice.fields.now) };
+    type Body = ThenFirst<Items<'a, NoticeFieldText<'a>, F>, Byte>;
+
+    ghost message = { λ notice. messages.Notice notice.kind
+        (map (λ field. field_of (F.item field)) notice.fields.now) };
 
     fn tag(&self) -> u8 {
         self.kind as u8
     }
 
-    fn body_len(&self) -> usize {
-        items_len(self.fields).saturating_add(1)
-    }
-
-    fn part_fault(&self) -> Option<BackendFault> {
-        nul_fault(any_broken(self.fields))
-    }
-
     #[inline(always)]
-    fn put_body<S: Sink>(&self, sink: &mut S) {
-        put_items(self.fields, sink);
-        sink.put_u8(0);
+    fn parts(&self) -> Self::Body {
+        ThenFirst(Items(PhantomData, self.fields), Byte(0))
     }
 }
 
-impl Item for NoticeFieldText<'_> {
+impl<'a> Item for NoticeFieldText<'a> {
+    type Parts = Then<Letter, NulEnded<'a>>;
+
     ghost use Rattle.std.specs.Prelude.{◌<◌};
     ghost use Rattle.pg_format.specs.Messages as page;
     ghost use Rattle.pg_format.specs.Notices.{Field};
@@ -76,17 +75,33 @@ impl Item for NoticeFieldText<'_> {
 
     ghost IsInRange = { λ field. field.0 < 256 };
 
+    #[inline(always)]
+    fn parts(&self) -> Self::Parts {
+        Then(Letter(self.letter), NulEnded(self.text))
+    }
+}
+
+/// The letter of a field. A 0 is refused with `TextHoldsNul`.
+#[derive(Clone, Copy)]
+pub struct Letter(pub u8);
+
+impl Part for Letter {
+    ghost use Rattle.pg_server.specs.Backend.Notice.{letter_part};
+
+    ghost part = { λ it. letter_part it.0 };
+
+    #[inline(always)]
     fn len(&self) -> usize {
-        self.text.len().saturating_add(2)
+        1
     }
 
-    fn is_broken(&self) -> bool {
-        self.letter == 0 || holds_nul(self.text)
+    #[inline(always)]
+    fn fault(&self) -> Option<ProtocolFault> {
+        nul_fault(self.0 == 0)
     }
 
     #[inline(always)]
     fn put<S: Sink>(&self, sink: &mut S) {
-        sink.put_u8(self.letter);
-        sink.put_text(self.text);
+        sink.put_u8(self.0);
     }
 }

@@ -3,9 +3,8 @@
 ghost use Rattle.pg_server.specs.Backend.Message as messages;
 
 use crate::backend::BackendText;
-use crate::backend::error::BackendFault;
-use crate::backend::item::{holds_nul, nul_fault};
-use pg_base::io::Sink;
+use crate::backend::text::NulEnded;
+use pg_base::io::part::{Number32, Then};
 
 /// What a session was notified of. A NUL in a text is refused with `TextHoldsNul`. Documentation:
 /// "Message Formats", NotificationResponse (B).
@@ -19,28 +18,22 @@ pub struct NotificationText<'a> {
     pub payload: &'a [u8],
 }
 
-impl BackendText for NotificationText<'_> {
-    ghost message = { λ notification. messages.Notification (record { process_id = notification.process_id; channel = notification.channel.now; payload = notification.payload.now }) };
+impl<'a> BackendText for NotificationText<'a> {
+    type Body = Then<Number32, Then<NulEnded<'a>, NulEnded<'a>>>;
+
+    ghost message = { λ notification. messages.Notification (record {
+      process_id = notification.process_id;
+      channel = notification.channel.now;
+      payload = notification.payload.now;
+    }) };
 
     fn tag(&self) -> u8 {
         b'A'
     }
 
-    fn body_len(&self) -> usize {
-        self.channel
-            .len()
-            .saturating_add(self.payload.len())
-            .saturating_add(6)
-    }
-
-    fn part_fault(&self) -> Option<BackendFault> {
-        nul_fault(holds_nul(self.channel) || holds_nul(self.payload))
-    }
-
     #[inline(always)]
-    fn put_body<S: Sink>(&self, sink: &mut S) {
-        sink.put_u32(self.process_id);
-        sink.put_text(self.channel);
-        sink.put_text(self.payload);
+    fn parts(&self) -> Self::Body {
+        let texts = Then(NulEnded(self.channel), NulEnded(self.payload));
+        Then(Number32(self.process_id), texts)
     }
 }

@@ -4,9 +4,10 @@ ghost use Rattle.std.specs.Prelude.{false, map};
 ghost use Rattle.pg_server.specs.Backend.Message as messages;
 
 use crate::backend::BackendText;
-use crate::backend::error::BackendFault;
-use crate::backend::item::{AsItem, Item, MAX_UNSIGNED, items_len, put_items, too_many};
-use pg_base::io::{Oid, Sink};
+use crate::backend::item::{AsItem, Count, Counted, Item, Items};
+use pg_base::io::Oid;
+use pg_base::io::part::{Number32, Then};
+use std::marker::PhantomData;
 
 /// The types of the parameters of a statement. More than 65535 are refused with `TooMany`.
 /// Documentation: "Message Formats", ParameterDescription (B).
@@ -15,29 +16,25 @@ pub struct ParameterDescriptionText<'a, T = Oid> {
     pub types: &'a [T],
 }
 
-impl<T: AsItem<Oid>> BackendText for ParameterDescriptionText<'_, T> {
-    ghost message = { λ description. messages.ParameterDescription (map (λ number. (T.item number).0) description.types.now) };
+impl<'a, T: AsItem<Oid>> BackendText for ParameterDescriptionText<'a, T> {
+    type Body = Counted<'a, Oid, T>;
+
+    ghost message = { λ description. messages.ParameterDescription
+        (map (λ number. (T.item number).0) description.types.now) };
 
     fn tag(&self) -> u8 {
         b't'
     }
 
-    fn body_len(&self) -> usize {
-        items_len(self.types).saturating_add(2)
-    }
-
-    fn part_fault(&self) -> Option<BackendFault> {
-        too_many(self.types.len(), MAX_UNSIGNED)
-    }
-
     #[inline(always)]
-    fn put_body<S: Sink>(&self, sink: &mut S) {
-        sink.put_u16(self.types.len() as u16);
-        put_items(self.types, sink);
+    fn parts(&self) -> Self::Body {
+        Then(Count(self.types.len()), Items(PhantomData, self.types))
     }
 }
 
 impl Item for Oid {
+    type Parts = Number32;
+
     ghost use Rattle.std.specs.Prelude.{ℕ, ◌^◌, ◌<◌};
     ghost use Rattle.pg_format.specs.Format.Parts.{be_u32};
 
@@ -51,17 +48,9 @@ impl Item for Oid {
 
     ghost IsInRange = { λ n. n < 2 ^ 32 };
 
-    fn len(&self) -> usize {
-        4
-    }
-
-    fn is_broken(&self) -> bool {
-        false
-    }
-
     #[inline(always)]
-    fn put<S: Sink>(&self, sink: &mut S) {
-        sink.put_u32(self.0);
+    fn parts(&self) -> Number32 {
+        Number32(self.0)
     }
 }
 

@@ -3,9 +3,8 @@
 ghost use Rattle.pg_server.specs.Backend.Message as messages;
 
 use crate::backend::BackendText;
-use crate::backend::error::BackendFault;
-use crate::backend::item::{holds_nul, nul_fault};
-use pg_base::io::Sink;
+use crate::backend::text::NulEnded;
+use pg_base::io::part::Then;
 
 /// The value of a setting, at the start of a session and whenever it changes. A NUL in a text is refused
 /// with `TextHoldsNul`. Documentation: "Message Formats", ParameterStatus (B).
@@ -17,26 +16,20 @@ pub struct ParameterStatusText<'a> {
     pub value: &'a [u8],
 }
 
-impl BackendText for ParameterStatusText<'_> {
-    ghost message = { λ status. messages.ParameterStatus (record { name = status.name.now; value = status.value.now }) };
+impl<'a> BackendText for ParameterStatusText<'a> {
+    type Body = Then<NulEnded<'a>, NulEnded<'a>>;
+
+    ghost message = { λ status. messages.ParameterStatus (record {
+      name = status.name.now;
+      value = status.value.now;
+    }) };
 
     fn tag(&self) -> u8 {
         b'S'
     }
 
-    fn body_len(&self) -> usize {
-        let name = self.name.len().saturating_add(1);
-        let value = self.value.len().saturating_add(1);
-        name.saturating_add(value)
-    }
-
-    fn part_fault(&self) -> Option<BackendFault> {
-        nul_fault(holds_nul(self.name) || holds_nul(self.value))
-    }
-
     #[inline(always)]
-    fn put_body<S: Sink>(&self, sink: &mut S) {
-        sink.put_text(self.name);
-        sink.put_text(self.value);
+    fn parts(&self) -> Self::Body {
+        Then(NulEnded(self.name), NulEnded(self.value))
     }
 }

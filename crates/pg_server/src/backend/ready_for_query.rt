@@ -3,8 +3,7 @@
 ghost use Rattle.pg_server.specs.Backend.Message as messages;
 
 use crate::backend::BackendText;
-use crate::backend::error::BackendFault;
-use pg_base::io::Sink;
+use pg_base::io::part::Byte;
 
 /// The server is ready for the next query. As a number it is the letter of the message. Documentation:
 /// "Message Formats", ReadyForQuery (B).
@@ -19,22 +18,16 @@ pub enum ReadyForQueryText {
 }
 
 impl BackendText for ReadyForQueryText {
+    type Body = Byte;
+
     ghost message = { messages.ReadyForQuery };
 
     fn tag(&self) -> u8 {
         b'Z'
     }
 
-    fn body_len(&self) -> usize {
-        1
-    }
-
-    fn part_fault(&self) -> Option<BackendFault> {
-        None
-    }
-
     #[inline(always)]
-    fn put_body<S: Sink>(&self, sink: &mut S) {
-        sink.put_u8(*self as u8);
+    fn parts(&self) -> Byte {
+        Byte(*self as u8)
     }
 }

@@ -5,15 +5,11 @@ ghost use Rattle.pg_server.specs.Backend.Message as messages;
 ghost use Rattle.pg_server.specs.Backend.RowDescription.{column_of};
 
 use crate::backend::BackendText;
-use crate::backend::error::BackendFault;
-use crate::backend::item::{
-    AsItem, Item, MAX_UNSIGNED, any_broken, holds_nul, items_len, nul_fault, put_items, too_many,
-};
-use crate::backend::numbers::{put_i16, put_i32};
-use pg_base::io::{Oid, Sink};
-
-// The bytes of the NUL of a column's name and of the numbers after it.
-const AFTER_NAME: usize = 19;
+use crate::backend::item::{AsItem, Count, Counted, Item, Items};
+use crate::backend::text::NulEnded;
+use pg_base::io::Oid;
+use pg_base::io::part::{Number16, Number32, Then, ThenFirst};
+use std::marker::PhantomData;
 
 /// A column of a result. Documentation: "Message Formats", RowDescription (B).
 #[derive(Clone, Copy, Drop)]
@@ -42,31 +38,27 @@ pub struct RowDescriptionText<'a, C = ColumnText<'a>> {
 }
 
 impl<'a, C: AsItem<ColumnText<'a>>> BackendText for RowDescriptionText<'a, C> {
-    ghost message = { λ description. messages.RowDescription (map (λ column. column_of (C.item column)) description.columns.now) };
+    type Body = Counted<'a, ColumnText<'a>, C>;
+
+    ghost message = { λ description. messages.RowDescription
+        (map (λ column. column_of (C.item column)) description.columns.now) };
 
     fn tag(&self) -> u8 {
         b'T'
     }
 
-    fn body_len(&self) -> usize {
-        items_len(self.columns).saturating_add(2)
-    }
-
-    fn part_fault(&self) -> Option<BackendFault> {
-        if let Some(fault) = too_many(self.columns.len(), MAX_UNSIGNED) {
-            return Some(fault);
-        }
-        nul_fault(any_broken(self.columns))
-    }
-
     #[inline(always)]
-    fn put_body<S: Sink>(&self, sink: &mut S) {
-        sink.put_u16(self.columns.len() as u16);
-        put_items(self.columns, sink);
+    fn parts(&self) -> Self::Body {
+        Then(Count(self.columns.len()), Items(PhantomData, self.columns))
     }
 }
 
-impl Item for ColumnText<'_> {
+/// The parts of a column from its type on: the number, the size and the modifier of the type, and the format.
+pub type TypeParts = Then<Number32, Then<Number16, Then<Number32, Number16>>>;
+
+impl<'a> Item for ColumnText<'a> {
+    type Parts = ThenFirst<NulEnded<'a>, Then<Number32, Then<Number16, TypeParts>>>;
+
     ghost use Rattle.pg_format.specs.Messages as page;
     ghost use Rattle.pg_server.specs.Backend.Item as items;
     ghost use Rattle.pg_server.specs.Backend.RowDescription.{column_of, IsColumnInRange};
@@ -81,22 +73,17 @@ impl Item for ColumnText<'_> {
 
     ghost IsInRange = { IsColumnInRange };
 
-    fn len(&self) -> usize {
-        self.name.len().saturating_add(AFTER_NAME)
-    }
-
-    fn is_broken(&self) -> bool {
-        holds_nul(self.name)
-    }
-
     #[inline(always)]
-    fn put<S: Sink>(&self, sink: &mut S) {
-        sink.put_text(self.name);
-        sink.put_u32(self.table.0);
-        put_i16(self.attribute, sink);
-        sink.put_u32(self.data_type.0);
-        put_i16(self.size, sink);
-        put_i32(self.modifier, sink);
-        put_i16(self.format, sink);
+    fn parts(&self) -> Self::Parts {
+        let modifier = Number32(self.modifier.cast_unsigned());
+        let format = Number16(self.format.cast_unsigned());
+        let size = Number16(self.size.cast_unsigned());
+        let data_type = Then(
+            Number32(self.data_type.0),
+            Then(size, Then(modifier, format)),
+        );
+        let attribute = Number16(self.attribute.cast_unsigned());
+        let table = Then(Number32(self.table.0), Then(attribute, data_type));
+        ThenFirst(NulEnded(self.name), table)
     }
 }

@@ -1,19 +1,19 @@
 //! The mechanisms by which a client may say who it is.
 
-ghost use Rattle.std.specs.Prelude.{◌≡◌, map};
-ghost use Rattle.std.specs.List.{list_any};
+ghost use Rattle.std.specs.Prelude.{map};
 ghost use Rattle.pg_format.specs.Messages.{sasl};
-ghost use Rattle.pg_server.specs.Backend.Item.{is_empty};
 ghost use Rattle.pg_server.specs.Backend.Message as messages;
 
 use crate::backend::BackendText;
-use crate::backend::authentication::METHOD;
-use crate::backend::error::BackendFault;
-use crate::backend::item::{AsItem, any_broken, items_len, nul_fault, put_items};
-use pg_base::io::Sink;
+use crate::backend::item::{AsItem, Item, Items, nul_fault};
+use crate::backend::text::holds_nul;
+use pg_base::ProtocolFault;
+use pg_base::io::part::{Byte, Number32, Part, Then, ThenFirst};
+use pg_base::io::{Ended, Sink};
+use std::marker::PhantomData;
 
-// The number of the method.
-const SASL: u32 = 10;
+/// The number of the method.
+pub(crate) const SASL: u32 = 10;
 
 /// An exchange of SASL by one of these mechanisms, the best first, as [`AuthenticationText`] has it. A name
 /// that is empty or holds a NUL is refused with `TextHoldsNul`. Documentation: "Message Formats",
@@ -25,44 +25,87 @@ pub struct SaslText<'a, N = &'a [u8]> {
     pub mechanisms: &'a [N],
 }
 
-impl<'a, N: AsItem<&'a [u8]>> BackendText for SaslText<'a, N> {
-    ghost message = { λ request. messages.Authentication (sasl (map (λ name. (N.item name).now) request.mechanisms.now)) };
+/// The names of mechanisms, and the byte that ends them.
+pub type Mechanisms<'a, N> = ThenFirst<Items<'a, Mechanism<'a>, N>, Byte>;
+
+impl<'a, N: AsItem<Mechanism<'a>>> BackendText for SaslText<'a, N> {
+    type Body = Then<Number32, Mechanisms<'a, N>>;
+
+    ghost message = { λ request. messages.Authentication
+        (sasl (map (λ name. (N.item name).0.now) request.mechanisms.now)) };
 
     fn tag(&self) -> u8 {
         b'R'
     }
 
-    fn body_len(&self) -> usize {
-        items_len(self.mechanisms).saturating_add(METHOD + 1)
+    #[inline(always)]
+    fn parts(&self) -> Self::Body {
+        let names = ThenFirst(Items(PhantomData, self.mechanisms), Byte(0));
+        Then(Number32(SASL), names)
     }
+}
 
-    fn part_fault(&self) -> Option<BackendFault> {
-        nul_fault(any_empty(self.mechanisms) || any_broken(self.mechanisms))
+/// The name of a mechanism and the NUL that ends it. One that is empty, which would end the names, or holds a
+/// NUL is refused with `TextHoldsNul`.
+#[derive(Clone, Copy)]
+pub struct Mechanism<'a>(pub &'a [u8]);
+
+impl<'a> AsItem<Mechanism<'a>> for &'a [u8] {
+    ghost use Rattle.pg_server.specs.declared.backend.sasl.Mechanism.{Mechanism};
+
+    ghost item = { λ name. record { 0 = name } };
+
+    #[inline(always)]
+    fn as_item(&self) -> Mechanism<'a> {
+        Mechanism(self)
+    }
+}
+
+impl<'a> Item for Mechanism<'a> {
+    type Parts = Mechanism<'a>;
+
+    ghost use Rattle.std.specs.Prelude.{ℕ, List};
+    ghost use Rattle.pg_format.specs.Format.Parts.{until_nul};
+    ghost use Rattle.pg_server.specs.Backend.Item.{breaks_names};
+
+    ghost Value = { List ℕ };
+
+    ghost value = { λ name. name.0.now };
+
+    ghost format = { until_nul };
+
+    ghost is_broken = { breaks_names };
+
+    ghost IsInRange = { λ _. Unit {0} };
+
+    #[inline(always)]
+    fn parts(&self) -> Mechanism<'a> {
+        *self
+    }
+}
+
+impl Part for Mechanism<'_> {
+    ghost use Rattle.pg_base.specs.Text.{ended};
+    ghost use Rattle.pg_server.specs.Backend.Item.{breaks_names, nul_fault};
+
+    ghost part = { λ it. record {
+      text = ended it.0.now;
+      fault = nul_fault (breaks_names it.0.now);
+      IsInRange = Unit {0};
+    } };
+
+    #[inline(always)]
+    fn len(&self) -> usize {
+        Ended(self.0).len()
     }
 
     #[inline(always)]
-    fn put_body<S: Sink>(&self, sink: &mut S) {
-        sink.put_u32(SASL);
-        put_items(self.mechanisms, sink);
-        sink.put_u8(0);
+    fn fault(&self) -> Option<ProtocolFault> {
+        nul_fault(self.0.is_empty() || holds_nul(self.0))
     }
-}
 
-// Whether a name is empty.
-fn is_empty(name: &[u8]) -> bool
-    ensures { result ≡ is_empty name.now }
-{
-    name.is_empty()
-}
-
-// Whether one of the names is empty.
-fn any_empty<'a, N: AsItem<&'a [u8]>>(names: &[N]) -> bool
-    ensures { result ≡ list_any is_empty (map (λ name. (N.item name).now) names.now) }
-{
-    for name in names {
-        if is_empty(name.as_item()) {
-            return true;
-        }
+    #[inline(always)]
+    fn put<S: Sink>(&self, sink: &mut S) {
+        sink.put_text(self.0);
     }
-    false
 }
