@@ -1,6 +1,5 @@
 //! The messages of both directions, and the stream that brings those of a server.
 
-pub use crate::run::{encode_all, encode_strict};
 pub use pg_base::io::{CopyData, CopyDone};
 pub use pg_base::{BackendMessageFormat, FrontendMessageFormat};
 pub use pg_frames::{
@@ -22,7 +21,7 @@ pub use pg_send::message::{
     EncodeMessage, Execute, Flush, Framed, FrontendMessage, FunctionCall, GssEncRequest,
     PROTOCOL_VERSION, Parse, Password, Query, RawBind, RawClose, RawDescribe, RawExecute, RawParse,
     SaslInitial, SaslInitialResponse, SaslResponse, SslRequest, Startup, Sync, TaggedMessage,
-    Terminate, encode_frame, put_if_fits, write_frame,
+    Terminate, encode_all, encode_frame, encode_strict, put_if_fits, write_frame,
 };
 
 // What a message to the server is made of.

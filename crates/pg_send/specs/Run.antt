@@ -1,5 +1,5 @@
 -- A run of messages into one buffer, each with its answer.
-use Rattle.std.specs.Prelude.{◌≡◌, ℕ, ◌+◌, ◌<◌, ◌≤◌, Vec, vec_len, vec_capacity, List, [], ◌∷◌, ◌++◌, length, set, Bool, true, false, Result, Ok, Err, OnOk, OnErr, IsErrOf}
+use Rattle.std.specs.Prelude.{◌≡◌, ℕ, ◌+◌, ◌<◌, ◌≤◌, Vec, vec_len, vec_capacity, List, [], ◌∷◌, ◌++◌, length, Bool, true, false, Result, Ok, Err, OnOk, OnErr, IsErrOf}
 use Rattle.pg_base.specs.declared.error.Error.{Error}
 use Rattle.pg_base.specs.declared.error.Error.TheVariants.{Protocol, OutOfMemory}
 use Rattle.std.specs.declared.alloc.Global.{Global}
@@ -101,12 +101,6 @@ pub record EncodesOne (IsAnswerTo : Message → Answer → Type 0) (m : Message)
   pub round_trip : OnOk answer (CanRoundTrip m → RoundTrips m)
   pub memory : IsErrOf answer OutOfMemory → vec_capacity old < vec_len old + (hint m + 5)
   pub capacity : vec_capacity old ≤ vec_capacity new
-
--- the answer at an index is found
-pub record AnswersOne (IsAnswerTo : Message → Answer → Type 0) (m : Message) (index : ℕ) (answers found : List Answer) (old new : Vec ℕ Global) : Type 0 where
-  pub answer : Answer
-  pub sets : found ≡ set answers index answer
-  pub encodes : EncodesOne IsAnswerTo m answer old new
 
 -- What a run gives. The buffer gains the texts of exactly the accepted messages; each message has its
 -- answer; tags and lengths cut what was added into the accepted messages, and into no others; a reader

@@ -1,10 +1,10 @@
 //! Runs of messages into one buffer.
 
-ghost use Rattle.std.specs.Prelude.{◌≡◌, ◌+◌, ◌<◌, ◌≤◌, [], ◌∷◌, ◌++◌, length, drop, replicate, slice_index_or, Ok, OnOk, OnErr, IfOk, IsErrOf, IsOkUnless, vec_len, vec_capacity};
+ghost use Rattle.std.specs.Prelude.{◌≡◌, ◌+◌, ◌<◌, ◌≤◌, [], ◌∷◌, length, drop, replicate, Ok, OnErr, IfOk, IsOkUnless, vec_len, vec_capacity};
 ghost use Rattle.std.specs.Bool.{OnTrue, OnFalse};
 ghost use Rattle.pg_base.specs.declared.error.Error.TheVariants.{OutOfMemory};
-ghost use Rattle.pg_send.specs.Message.{hint, text, CanRoundTrip, RoundTrips};
-ghost use Rattle.pg_send.specs.Run.{IsLimitAnswer, IsStrictAnswer, IsAnswerOf, EachRoundTrips, NoneRanOut, EncodesOne, AnswersOne, EncodesRun, IsMeantByTag, IsMeantIfItCan, AreReadByTag};
+ghost use Rattle.pg_send.specs.Message.{hint};
+ghost use Rattle.pg_send.specs.Run.{IsLimitAnswer, IsStrictAnswer, IsAnswerOf, EachRoundTrips, NoneRanOut, EncodesOne, EncodesRun, IsMeantByTag, IsMeantIfItCan, AreReadByTag};
 ghost use Rattle.pg_send.specs.TaggedMessage.{message_of, messages_of};
 
 use crate::message::TaggedMessage;
@@ -25,14 +25,18 @@ pub fn encode_all(
     messages: &[TaggedMessage<'_>],
     buf: &mut Vec<u8>,
 ) -> Result<Vec<Result<(), Error>>, Error>
-    ensures run { IfOk result (λ answers. EncodesRun IsLimitAnswer (messages_of messages.now) answers.items buf.old buf.new) }
+    ensures run { IfOk result (λ answers.
+        EncodesRun IsLimitAnswer (messages_of messages.now) answers.items buf.old buf.new) }
     // By the tag and the body of its frame alone, the page means each accepted message that can make the round trip.
-    ensures by_tag { IfOk result (λ answers. AreReadByTag IsMeantIfItCan (messages_of messages.now) answers.items (drop (length buf.old.items) buf.new.items)) }
+    ensures by_tag { IfOk result (λ answers. AreReadByTag IsMeantIfItCan (messages_of messages.now)
+        answers.items (drop (length buf.old.items) buf.new.items)) }
     ensures memory { IsOkUnless result OutOfMemory }
     ensures some { OnErr result (0 < length messages.now) }
     ensures err { OnErr result (buf.new ≡ buf.old) }
 {
-    encode_run(alloc, messages, false, buf)
+    let mut answers = all_accepted(alloc, messages.len())?;
+    encode_each(messages, false, answers.as_mut_slice(), buf);
+    Ok(answers)
 }
 
 /// As [`encode_all`], and refuses also each message that a reader wouldn't get back from its bytes,
@@ -42,40 +46,38 @@ pub fn encode_strict(
     messages: &[TaggedMessage<'_>],
     buf: &mut Vec<u8>,
 ) -> Result<Vec<Result<(), Error>>, Error>
-    ensures run { IfOk result (λ answers. EncodesRun IsStrictAnswer (messages_of messages.now) answers.items buf.old buf.new) }
+    ensures run { IfOk result (λ answers.
+        EncodesRun IsStrictAnswer (messages_of messages.now) answers.items buf.old buf.new) }
     // A reader that is given the kinds gets back each accepted message.
     ensures round_trip { IfOk result (λ answers. EachRoundTrips (messages_of messages.now) answers.items) }
     // And the page means each by the tag and the body of its frame alone.
-    ensures by_tag { IfOk result (λ answers. AreReadByTag IsMeantByTag (messages_of messages.now) answers.items (drop (length buf.old.items) buf.new.items)) }
+    ensures by_tag { IfOk result (λ answers. AreReadByTag IsMeantByTag (messages_of messages.now)
+        answers.items (drop (length buf.old.items) buf.new.items)) }
     ensures memory { IsOkUnless result OutOfMemory }
     ensures some { OnErr result (0 < length messages.now) }
     ensures err { OnErr result (buf.new ≡ buf.old) }
 {
-    encode_run(alloc, messages, true, buf)
-}
-
-// The run that both make, which is strict or not.
-#[inline(always)]
-fn encode_run(
-    alloc: Global,
-    messages: &[TaggedMessage<'_>],
-    strict: bool,
-    buf: &mut Vec<u8>,
-) -> Result<Vec<Result<(), Error>>, Error>
-    ensures run { IfOk result (λ answers. EncodesRun (IsAnswerOf strict) (messages_of messages.now) answers.items buf.old buf.new) }
-    ensures memory { IsOkUnless result OutOfMemory }
-    ensures some { OnErr result (0 < length messages.now) }
-    ensures err { OnErr result (buf.new ≡ buf.old) }
-{
-    let mut answers = Vec::with_capacity(alloc, messages.len())?;
-    let filled = answers.resize(messages.len(), Ok(()));
-    prove!(filled.is_ok());
-    encode_each(messages, strict, answers.as_mut_slice(), buf);
+    let mut answers = all_accepted(alloc, messages.len())?;
+    encode_each(messages, true, answers.as_mut_slice(), buf);
     Ok(answers)
 }
 
-// Adds each message, and sets the answers of those that aren't added. The first that is within the
-// limits and doesn't fit asks for the room of all that are left.
+// So many answers that accept.
+#[inline(always)]
+fn all_accepted(alloc: Global, count: usize) -> Result<Vec<Result<(), Error>>, Error>
+    ensures all { IfOk result (λ answers. answers.items ≡ replicate count (Ok tt)) }
+    ensures memory { IsOkUnless result OutOfMemory }
+    ensures some { OnErr result (0 < count) }
+{
+    let mut answers = Vec::with_capacity(alloc, count)?;
+    let filled = answers.resize(count, Ok(()));
+    prove!(filled.is_ok());
+    Ok(answers)
+}
+
+// Adds each message, and sets the answers of those that aren't added. An accepted one is not written, since it
+// is there: it would be copied through memory. The first message that is within the limits and doesn't fit
+// asks for the room of all that are left.
 #[inline(always)]
 fn encode_each(
     messages: &[TaggedMessage<'_>],
@@ -89,46 +91,22 @@ fn encode_each(
     let mut asked = false;
     for index in 0..messages.len() {
         let message = &messages[index];
-        encode_one(
-            message,
-            &messages[index..],
-            strict,
-            &mut asked,
-            index,
-            answers,
-            buf,
-        );
-    }
-}
-
-// Adds a message, or sets its answer. An accepted one is not written, since it is there: it would be
-// copied through memory.
-#[inline(always)]
-fn encode_one(
-    message: &TaggedMessage<'_>,
-    rest: &[TaggedMessage<'_>],
-    strict: bool,
-    asked: &mut bool,
-    index: usize,
-    answers: &mut [Result<(), Error>],
-    buf: &mut Vec<u8>,
-)
-    requires index { index < length answers.old }
-    requires accepted { slice_index_or answers.old index (Ok tt) ≡ Ok tt }
-    ensures { AnswersOne (IsAnswerOf strict) (message_of message.now) index answers.old answers.new buf.old buf.new }
-{
-    if !put_by_rule(message, strict, buf) {
-        encode_unfit(message, rest, strict, asked, index, answers, buf);
+        if !put_by_rule(message, strict, buf) {
+            let rest = &messages[index..];
+            answers[index] = encode_unfit(message, rest, strict, &mut asked, buf);
+        }
     }
 }
 
 // Adds a message that the rule accepts where the spare room holds it, and says whether it did.
 #[inline(always)]
 fn put_by_rule(message: &TaggedMessage<'_>, strict: bool, buf: &mut Vec<u8>) -> bool
-    ensures put { OnTrue result (EncodesOne (IsAnswerOf strict) (message_of message.now) (Ok tt) buf.old buf.new) }
+    ensures put { OnTrue result
+        (EncodesOne (IsAnswerOf strict) (message_of message.now) (Ok tt) buf.old buf.new) }
     ensures same { OnFalse result (buf.new ≡ buf.old) }
     // It is false only where the rule refuses the message or the spare room is short.
-    ensures short { OnFalse result (IsAnswerOf strict (message_of message.now) (Ok tt) → vec_capacity buf.old < vec_len buf.old + (hint (message_of message.now) + 5)) }
+    ensures short { OnFalse result (IsAnswerOf strict (message_of message.now) (Ok tt)
+        → vec_capacity buf.old < vec_len buf.old + (hint (message_of message.now) + 5)) }
 {
     if strict {
         return message.put_if_read_back(buf);
@@ -144,29 +122,9 @@ fn encode_unfit(
     rest: &[TaggedMessage<'_>],
     strict: bool,
     asked: &mut bool,
-    index: usize,
-    answers: &mut [Result<(), Error>],
-    buf: &mut Vec<u8>,
-)
-    requires { index < length answers.old }
-    ensures { AnswersOne (IsAnswerOf strict) (message_of message.now) index answers.old answers.new buf.old buf.new }
-{
-    answers[index] = encode_by_rule(message, rest, strict, asked, buf);
-}
-
-fn encode_by_rule(
-    message: &TaggedMessage<'_>,
-    rest: &[TaggedMessage<'_>],
-    strict: bool,
-    asked: &mut bool,
     buf: &mut Vec<u8>,
 ) -> Result<(), Error>
-    ensures ok { OnOk result (buf.new.items ≡ buf.old.items ++ text (message_of message.now)) }
-    ensures err { OnErr result (buf.new.items ≡ buf.old.items) }
-    ensures answer { IsAnswerOf strict (message_of message.now) result }
-    ensures round_trip { OnOk result (CanRoundTrip (message_of message.now) → RoundTrips (message_of message.now)) }
-    ensures memory { IsErrOf result OutOfMemory → vec_capacity buf.old < vec_len buf.old + (hint (message_of message.now) + 5) }
-    ensures capacity { vec_capacity buf.old ≤ vec_capacity buf.new }
+    ensures { EncodesOne (IsAnswerOf strict) (message_of message.now) result buf.old buf.new }
 {
     refuse_by_rule(message, strict)?;
     if !*asked {

@@ -1,24 +1,43 @@
-use Rattle.std.proofs.Common.{◌≡◌, ◌+◌, ◌<◌, ◌∷◌, [], ◌++◌, length, take, get_or, Ok, refl, ap, ◌∙◌, arith}
+use Rattle.std.proofs.Common.{◌≡◌, ℕ, ◌+◌, ◌<◌, List, ◌∷◌, [], ◌++◌, length, take, set, get_or, Ok, refl, sym, subst, ap, ◌∙◌, arith, Vec, Global}
+use Rattle.std.proofs.lemmas.Bool.{OnTrue_at, OnFalse_at}
 use Rattle.std.proofs.lemmas.Grind.{take-set_at}
-use Rattle.std.proofs.lemmas.List.{take_all, length-set, get_or-set_other}
-use Rattle.pg_send.specs.Run.{IsAnswerOf}
-use Rattle.pg_send.specs.TaggedMessage.{messages_of}
-use Rattle.pg_send.proofs.RunLemmas.{answers_fit, ran_at, run_ran}
+use Rattle.std.proofs.lemmas.List.{take_all, length-set, set-get_or, get_or-set_other}
+use Rattle.pg_send.specs.Run.{Answer, IsAnswerOf, EncodesOne}
+use Rattle.pg_send.specs.TaggedMessage.{message_of, messages_of}
+use Rattle.pg_send.proofs.RunLemmas.{AnswersOne, answers_fit, ran_at, run_ran}
 use Rattle.pg_send.proofs.message.run.encode_each.Goals as goal
+use Rattle.pg_send.proofs.message.run.encode_each.Goals.{then-not-put_by_rule, else-not-put_by_rule}
+
+-- an answer that accepts is set where one stood
+set_accepted : (answers : List Answer) (i : ℕ) → get_or answers i (Ok (tt {0})) ≡ Ok (tt {0}) → set answers i (Ok (tt {0})) ≡ answers
+set_accepted answers i is = ap (set answers i) (sym is) ∙ set-get_or answers i (Ok (tt {0}))
 
 pub loop-index-preserved : goal.loop-index-preserved
 loop-index-preserved c =
     let before = c.loop-index.invariant in
-    let one = c.encode_one.ensures in
-    let encodes = one.encodes in
     let i = c.loop-index.index in
     let answers = c.loop-index.answers in
+    let m = message_of c.index-messages-index.result in
     let within : i < length answers = omega (arith, c.loop-index-test.true, before.one_each) in
-    let found : take (i + 1) c.encode_one.new.answers ≡ take i answers ++ one.answer ∷ [] = ap (take (i + 1)) one.sets ∙ take-set_at answers i (i + 1) one.answer refl within in
+    let one : AnswersOne (IsAnswerOf c.args.strict) m i answers c.if-not-put_by_rule.answers c.loop-index.buf c.if-not-put_by_rule.buf = elim c.if-not-put_by_rule.branch [
+      | then-not-put_by_rule w ↦ record {
+        answer = w.encode_unfit.result;
+        sets = w.answers-is;
+        encodes = subst (λ (new : Vec ℕ Global). EncodesOne (IsAnswerOf c.args.strict) m w.encode_unfit.result c.loop-index.buf new) (sym w.buf-is)
+            (subst (λ (old : Vec ℕ Global). EncodesOne (IsAnswerOf c.args.strict) m w.encode_unfit.result old w.encode_unfit.new.buf) (OnFalse_at w.if-not-put_by_rule.true c.put_by_rule.ensures.same) w.encode_unfit.ensures);
+      }
+      | else-not-put_by_rule w ↦ record {
+        answer = Ok tt;
+        sets = w.answers-is ∙ sym (set_accepted answers i (before.accepted i (omega arith) within));
+        encodes = subst (λ (new : Vec ℕ Global). EncodesOne (IsAnswerOf c.args.strict) m (Ok tt) c.loop-index.buf new) (sym w.buf-is) (OnTrue_at w.if-not-put_by_rule.false c.put_by_rule.ensures.put);
+      }
+    ] in
+    let encodes = one.encodes in
+    let found : take (i + 1) c.if-not-put_by_rule.answers ≡ take i answers ++ one.answer ∷ [] = ap (take (i + 1)) one.sets ∙ take-set_at answers i (i + 1) one.answer refl within in
     record {
       run = rw found
           (ran_at (IsAnswerOf c.args.strict) (answers_fit c.args.strict) c.args.messages.now i c.index-messages-index.result c.loop-index-test.true c.index-messages-index.is
-          (take i answers) one.answer c.args.buf.now.items c.loop-index.buf.items c.encode_one.new.buf.items _ _ _
+          (take i answers) one.answer c.args.buf.now.items c.loop-index.buf.items c.if-not-put_by_rule.buf.items _ _ _
           (record { ok = encodes.ok; err = encodes.err; answer = encodes.is; reads = encodes.round_trip; short = λ e. omega (arith, encodes.memory e, c.loop-index.buf.ok.0) })
           (omega (arith, c.args.buf.now.ok.0)) before.grows before.run);
       grows = omega (arith, before.grows, encodes.capacity);
