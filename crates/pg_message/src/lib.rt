@@ -6,9 +6,9 @@
 //! each message that is complete, and read it by [`message::ServerMessage::decode`]. A server, a proxy or a pooler
 //! finds the other side in [`frontend`] and [`backend`], and the core of a proxy in [`relay`].
 //!
-//! All but the laws of both sides stands in a crate below, where its contract is: `pg_base`, `pg_format`, `pg_send`, `pg_receive`, `pg_server` and `pg_frames`. The words of
-//! the contracts of `pg_base` are named from here as `Rattle.pg_message.specs.pg_base`, and so are those of
-//! the others.
+//! Except for the laws of both sides, everything stands in a crate below, where its contract is: `pg_base`,
+//! `pg_format`, `pg_send`, `pg_receive`, `pg_server` and `pg_frames`. The words of the contracts of `pg_base` are
+//! named from here as `Rattle.pg_message.specs.pg_base`, and so are those of the others.
 #![tactic(auto)]
 
 pub mod backend;
