@@ -12,8 +12,8 @@
 
 #include <string.h>
 
-/* The cells that there is room for at first, and the bytes. */
-enum { FEW = 64, SHORT_MESSAGE = 512 };
+/* The cells that there is room for at first, and the bytes; the bytes of a tag and a length. */
+enum { FEW = 64, SHORT_MESSAGE = 512, HEADER = 5 };
 
 /* Raises what pgmsg.fault makes of a refusal. */
 static void *refuse(int32_t number, const pgmsg_fault *fault)
@@ -66,10 +66,11 @@ static bool take_stream(struct stream *stream, PyObject *bytes, PyObject *at)
 /* Whose messages a stream has: a server's, a client's first ones, or a client's after these. */
 enum { OF_SERVER, FIRST_OF_CLIENT, OF_CLIENT };
 
-/* The tags of a server's messages that the header's calls for a known tag don't know. */
-static bool is_newer(uint8_t tag)
+/* Whether a server sends messages of this tag, which are refused before their bodies come: those that the library knows,
+ * and the newer ones, of which it knows no end. */
+static bool is_known(uint8_t tag, pgmsg_fault *fault)
 {
-    return tag == 'V' || tag == 'W' || tag == 'v';
+    return tag == 'V' || tag == 'W' || tag == 'v' || pgmsg_read_end(tag, NULL, 0, fault) != PGMSG_UNKNOWN_MESSAGE_TYPE;
 }
 
 static int32_t cut(const struct stream *stream, long side, size_t limit, pgmsg_frame *frame, pgmsg_fault *fault)
@@ -80,8 +81,8 @@ static int32_t cut(const struct stream *stream, long side, size_t limit, pgmsg_f
         return pgmsg_next_first_frame(front, len, limit, frame, fault);
     if (side == OF_CLIENT)
         return pgmsg_next_frontend_frame(front, len, frame, fault);
-    if (len > 0 && is_newer(*front))
-        return pgmsg_next_raw_frame(front, len, frame, fault);
+    if (len >= HEADER && *front != 'D' && !is_known(*front, fault))
+        return PGMSG_UNKNOWN_MESSAGE_TYPE;
     return pgmsg_next_frame(front, len, frame, fault);
 }
 
@@ -341,14 +342,14 @@ static bool hold(struct values *values, PyObject *item, pgmsg_value *place)
     if (PyObject_GetBuffer(item, buffer, PyBUF_SIMPLE) < 0)
         return false;
     values->held_count++;
-    place->bytes = buffer->buf == NULL ? (const uint8_t *)"" : buffer->buf;
+    place->bytes = buffer->buf;
     place->bytes_len = (size_t)buffer->len;
     return true;
 }
 
 static bool take_value(struct values *values, PyObject *item, pgmsg_value *place)
 {
-    pgmsg_bytes text = {(const uint8_t *)"", 0};
+    pgmsg_bytes text = {NULL, 0};
     place->is_null = item == Py_None;
     if (!place->is_null && !PyUnicode_Check(item) && !PyBytes_Check(item))
         return hold(values, item, place);
@@ -429,14 +430,14 @@ typedef ptrdiff_t put_call(const struct said *said, uint8_t *out, size_t room);
 
 static ptrdiff_t put_bind(const struct said *said, uint8_t *out, size_t room)
 {
-    return pgmsg_put_raw_bind(said->portal.bytes, said->portal.bytes_len, said->statement.bytes, said->statement.bytes_len,
+    return pgmsg_put_bind(said->portal.bytes, said->portal.bytes_len, said->statement.bytes, said->statement.bytes_len,
         said->formats.items, (size_t)said->formats.count, said->values.places, (size_t)said->values.count,
         said->result_formats.items, (size_t)said->result_formats.count, out, room);
 }
 
 static ptrdiff_t put_execute(const struct said *said, uint8_t *out, size_t room)
 {
-    return pgmsg_put_raw_execute(said->portal.bytes, said->portal.bytes_len, said->limit, out, room);
+    return pgmsg_put_execute(said->portal.bytes, said->portal.bytes_len, said->limit, out, room);
 }
 
 static ptrdiff_t put_row(const struct said *said, uint8_t *out, size_t room)
@@ -522,11 +523,11 @@ static PyObject *data_rows(PyObject *module, PyObject *many)
 
 static int check_version(PyObject *module)
 {
-    pgmsg_text version = pgmsg_version();
+    const char *version = pgmsg_version();
     (void)module;
-    if (strcmp(version.text, PGMSG_VERSION) == 0)
+    if (strcmp(version, PGMSG_VERSION) == 0)
         return PyModule_AddStringConstant(module, "VERSION", PGMSG_VERSION);
-    PyErr_Format(PyExc_ImportError, "the library is of version %s, and its header of " PGMSG_VERSION, version.text);
+    PyErr_Format(PyExc_ImportError, "the library is of version %s, and its header of " PGMSG_VERSION, version);
     return -1;
 }
 

@@ -28,7 +28,7 @@ test_install() {
     try cc -std=c11 "-I$prefix/include" -o "$program" c/tests/installed.c "$prefix/lib/libpg_message.a"
     expect 'install: a program with the static library is built' 0
     try "$program"
-    same 'install: a program with the static library' "$status $output" '0 0.1.0'
+    same 'install: a program with the static library' "$status $output" '0 0.2.0'
     test_pkg_config
     test_cmake
     if ! command -v rt > /dev/null; then
@@ -53,7 +53,7 @@ test_pkg_config() {
     try cc -std=c11 -o "$program" c/tests/installed.c $(PKG_CONFIG_PATH=$prefix/lib/pkgconfig pkg-config --cflags --libs pg_message)
     expect 'install: a program by pkg-config is built' 0
     try env LD_LIBRARY_PATH="$prefix/lib" "$program"
-    same 'install: a program by pkg-config' "$status $output" '0 0.1.0'
+    same 'install: a program by pkg-config' "$status $output" '0 0.2.0'
 }
 
 test_cmake() {
@@ -74,5 +74,5 @@ END
     try cmake --build "$work/cmake/out"
     expect 'install: a program by CMake is built' 0
     try "$work/cmake/out/installed"
-    same 'install: a program by CMake' "$status $output" '0 0.1.0'
+    same 'install: a program by CMake' "$status $output" '0 0.2.0'
 }

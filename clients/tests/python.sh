@@ -97,7 +97,7 @@ test_pip() {
         try "$work/venv/bin/python" -m pip install --no-index --quiet --disable-pip-version-check "$1"
         expect "python: pip installs the wheel, $each" 0
         try "$work/venv/bin/python" -B -c 'import pgmsg; print(pgmsg.__version__, pgmsg.Sync().write())'
-        same "python: the package that pip installed, $each" "$status $output" '0 0.1.0 b'\''S\x00\x00\x00\x04'\'''
+        same "python: the package that pip installed, $each" "$status $output" '0 0.2.0 b'\''S\x00\x00\x00\x04'\'''
         rm -r "$work/venv"
     done
 }

@@ -86,7 +86,7 @@ make_other_version() {
     mkdir -p "$1"
     objcopy --redefine-sym pgmsg_version=pgmsg_own_version "$LIBRARY" "$1/libpg_message.a" \
         && cc -Ic/include -x c -c -o "$1/version.o" - <<< '#include "pg_message.h"
-pgmsg_text pgmsg_version(void) { return (pgmsg_text){"99.0"}; }' \
+const char *pgmsg_version(void) { return "99.0"; }' \
         && ar rs "$1/libpg_message.a" "$1/version.o"
 }
 
@@ -96,7 +96,7 @@ test_rust_versions() {
     try make_other_version "$other"
     expect "$name is made" 0
     LIBRARY=$other/libpg_message.a try by_cargo_alone --package pgmsg --test version -- --nocapture
-    expect "$name" 0 'linked is of version 99.0, and pgmsg of 0.1.0'
+    expect "$name" 0 'linked is of version 99.0, and pgmsg of 0.2.0'
 }
 
 # A program that takes the crate by `cargo add`, and the library by pkg-config.

@@ -41,16 +41,16 @@ typedef ptrdiff_t put(uint8_t *out, size_t out_len);
 
 #define TEXT(text) (text).bytes, (text).len
 
-MESSAGE(sync, pgmsg_put_sync(out, out_len), hand_sync(out, out_len))
+MESSAGE(sync, pgmsg_put_no_body('S', out, out_len), hand_sync(out, out_len))
 MESSAGE(query, pgmsg_put_query(TEXT(query), out, out_len), hand_query(query, out, out_len))
 MESSAGE(copy_data, pgmsg_put_copy_data(TEXT(part), out, out_len), hand_copy_data(part, out, out_len))
-MESSAGE(parse, pgmsg_put_raw_parse(TEXT(name), TEXT(query), types, 8, out, out_len),
+MESSAGE(parse, pgmsg_put_parse(TEXT(name), TEXT(query), types, 8, out, out_len),
         hand_parse(name, query, types, 8, out, out_len))
-MESSAGE(bind, pgmsg_put_raw_bind(TEXT(nothing), TEXT(name), &binary, 1, short_values, 8, &binary, 1, out, out_len),
+MESSAGE(bind, pgmsg_put_bind(TEXT(nothing), TEXT(name), &binary, 1, short_values, 8, &binary, 1, out, out_len),
         hand_bind(nothing, name, &binary, 1, short_values, 8, &binary, 1, out, out_len))
-MESSAGE(long_bind, pgmsg_put_raw_bind(TEXT(nothing), TEXT(name), &binary, 1, long_values, 2, &binary, 1, out, out_len),
+MESSAGE(long_bind, pgmsg_put_bind(TEXT(nothing), TEXT(name), &binary, 1, long_values, 2, &binary, 1, out, out_len),
         hand_bind(nothing, name, &binary, 1, long_values, 2, &binary, 1, out, out_len))
-MESSAGE(execute, pgmsg_put_raw_execute(TEXT(nothing), 0, out, out_len), hand_execute(nothing, 0, out, out_len))
+MESSAGE(execute, pgmsg_put_execute(TEXT(nothing), 0, out, out_len), hand_execute(nothing, 0, out, out_len))
 MESSAGE(short_row, pgmsg_put_row(cells, 5, out, out_len), hand_row(cells, 5, out, out_len))
 MESSAGE(long_row, pgmsg_put_row(cells, CELLS, out, out_len), hand_row(cells, CELLS, out, out_len))
 MESSAGE(short_numbers, pgmsg_put_row(numbers, 5, out, out_len), hand_row(numbers, 5, out, out_len))

@@ -104,17 +104,17 @@ static ptrdiff_t put_bind(uint8_t *out, size_t count, size_t len)
     pgmsg_value values[MOST_VALUES];
     for (size_t i = 0; i < count; i++)
         values[i] = (pgmsg_value){bytes, len, false};
-    return pgmsg_put_raw_bind(bytes, 0, bytes, 9, &binary, 1, values, count, &binary, 1, out, ROOM);
+    return pgmsg_put_bind(bytes, 0, bytes, 9, &binary, 1, values, count, &binary, 1, out, ROOM);
 }
 
 static ptrdiff_t put_parse(uint8_t *out, size_t count, size_t len)
 {
-    return pgmsg_put_raw_parse(bytes, 9, bytes, len, types, count, out, ROOM);
+    return pgmsg_put_parse(bytes, 9, bytes, len, types, count, out, ROOM);
 }
 
 static ptrdiff_t put_execute(uint8_t *out, size_t count, size_t len)
 {
-    return pgmsg_put_raw_execute(bytes, len, (uint32_t)count, out, ROOM);
+    return pgmsg_put_execute(bytes, len, (uint32_t)count, out, ROOM);
 }
 
 /* A message of so many items, of so many bytes; how it is read by the library, by hand, and by the library with all

@@ -1,10 +1,10 @@
-/* The messages of the PostgreSQL wire protocol, version 3.0, for C and for what calls C.
+/* The messages of the PostgreSQL wire protocol, version 3, for C and for what calls C.
  *
- * clients/header makes this file of crates/pg_c/src: change it there.
+ * clients/header makes this file of crates/pg_c/src and clients/c/library: change it there.
  *
  * No call keeps a pointer, opens anything, or waits. Each pointer is valid for its length for the time of the
- * call, aligned, and never NULL, also where the length is 0. What a call writes overlaps nothing that it
- * reads. Calls may run at once in several threads, each on memory of its own; none may run in a signal
+ * call, and aligned; where the length is 0 it may be NULL, also in a struct. What a call writes overlaps nothing
+ * that it reads. Calls may run at once in several threads, each on memory of its own; none may run in a signal
  * handler.
  *
  * A call that writes a message returns the length of the message in bytes, and has written it at the front
@@ -12,6 +12,10 @@
  * it was passed. Both refuse by one of the numbers below 0. One that reads then fills `fault` too, which only a
  * refusal writes; an array of places holds at most the items before the one that is broken, and all else is as
  * it was.
+ *
+ * Names and texts are any bytes, in the encoding of who wrote them; a NUL ends one in a message, and so one that
+ * holds a NUL is refused where it is to be written, with PGMSG_TEXT_HOLDS_NUL. `pgmsg_check_utf8` says whether
+ * one is UTF-8.
  *
  * No call needs memory. The words of a fault alone ask for some, and are left out where there is none. */
 
@@ -23,7 +27,7 @@
 #include <stdint.h>
 
 /* The version of this header. `pgmsg_version` has that of the library. */
-#define PGMSG_VERSION "0.1.0"
+#define PGMSG_VERSION "0.2.0"
 
 #ifdef __cplusplus
 extern "C" {
@@ -116,11 +120,6 @@ typedef struct {
     uint8_t words[256];
 } pgmsg_fault;
 
-/* A text of ASCII, and zeros after it. */
-typedef struct {
-    char text[64];
-} pgmsg_text;
-
 /* A place in the bytes that were passed: `len` of them from `at` on. */
 typedef struct {
     size_t at;
@@ -133,7 +132,7 @@ typedef struct {
     size_t count;
 } pgmsg_list;
 
-/* The name of a setting and its value, in UTF-8. */
+/* The name of a setting and its value. */
 typedef struct {
     const uint8_t *name;
     size_t name_len;
@@ -141,7 +140,7 @@ typedef struct {
     size_t value_len;
 } pgmsg_setting;
 
-/* The value of a parameter, or of a row. */
+/* The value of a parameter, or of a row. Where `is_null`, its bytes aren't looked at. */
 typedef struct {
     const uint8_t *bytes;
     size_t bytes_len;
@@ -194,23 +193,19 @@ typedef struct {
     pgmsg_span value;
 } pgmsg_parameter_status;
 
-/* What a request to cancel has to name. */
-typedef struct {
-    uint32_t process_id;
-    uint32_t secret_key;
-} pgmsg_key_data;
-
-/* A request for authentication by any method: its number, and what follows it. */
-typedef struct {
-    uint32_t method;
-    pgmsg_span content;
-} pgmsg_raw_authentication;
-
-/* What a request to cancel has to name, with a key of 4 to 256 bytes. */
+/* The process that serves a session, and the key that a request to cancel has to name too, of 4 to
+ * 256 bytes. */
 typedef struct {
     uint32_t process_id;
     pgmsg_span secret_key;
-} pgmsg_raw_key_data;
+} pgmsg_key_data;
+
+/* What a command has done: the text of its tag, such as `INSERT 0 1`, and how many rows it had to
+ * do with, which is the number after the last space, and 0 where there is none. */
+typedef struct {
+    pgmsg_span tag;
+    uint64_t rows;
+} pgmsg_command;
 
 /* How the data of a COPY is spelled: 0 for text, 1 for binary. `columns` may be below 0, which
  * means none. */
@@ -219,11 +214,13 @@ typedef struct {
     int16_t columns;
 } pgmsg_copy_response;
 
-/* What the server asks for: 0 nothing more, 3 a password in clear, 5 an MD5 digest with this salt,
- * 10 SASL, 11 and 12 what follows in a SASL exchange. */
+/* What the server asks for, by the number of a method, and what follows it: 0 nothing more, 3 a
+ * password in clear, 5 an MD5 digest with the salt of four bytes that follows, 7, 8 and 9 an
+ * exchange of GSSAPI or SSPI, 10 SASL by one of the mechanisms that `pgmsg_read_mechanisms` gives,
+ * 11 and 12 the next and the last of a SASL exchange. */
 typedef struct {
     uint32_t method;
-    uint8_t salt[4];
+    pgmsg_span content;
 } pgmsg_authentication;
 
 /* The challenge of a SASL exchange: how long its salt and its nonce are, in bytes. */
@@ -232,6 +229,13 @@ typedef struct {
     size_t salt_len;
     size_t nonce_len;
 } pgmsg_challenge;
+
+/* The newest version of the protocol that a server speaks, by its two halves: `major` is 3 of
+ * PostgreSQL's servers, and 0 where the server sends the minor version alone. */
+typedef struct {
+    uint16_t major;
+    uint16_t minor;
+} pgmsg_negotiation;
 
 /* A first message of the kind that `kind` says, by one of the numbers PGMSG_FIRST_STARTUP and so
  * on. A Startup has the minor version of the protocol's version 3 and its settings: names and
@@ -340,168 +344,135 @@ typedef struct {
     size_t length;
 } pgmsg_passage;
 
-/* Why a call refused, by the number below 0 that it returned, in a few words; those of its fault
- * say more. They are "no error" for 0 and above, and "unknown error" for a number that no call
- * returns. */
-pgmsg_text pgmsg_strerror(int32_t number);
+/* Why a call refused, by the number below 0 that it returned, in a few words that last as long as
+ * the program; those of its fault say more. They are "no error" for 0 and above, and "unknown
+ * error" for a number that no call returns. */
+const char *pgmsg_strerror(int32_t number);
 
-/* The version of the library, for comparison with `PGMSG_VERSION` of the header. */
-pgmsg_text pgmsg_version(void);
+/* The version of the library, for comparison with `PGMSG_VERSION` of the header. It lasts as long
+ * as the program. */
+const char *pgmsg_version(void);
 
-/* Opens a session with these settings, of which `user` is required by the server. A name or a value
- * that holds a NUL, or an empty name, is refused as a text that holds a NUL: the server would read
- * other settings. */
-ptrdiff_t pgmsg_put_startup(const pgmsg_setting *settings, size_t settings_len, uint8_t *out,
-    size_t out_len);
-
-/* Asks for an encrypted connection, before the session is opened. */
-ptrdiff_t pgmsg_put_ssl_request(uint8_t *out, size_t out_len);
-
-/* Answers a request for a password with the password, in UTF-8. */
-ptrdiff_t pgmsg_put_password(const uint8_t *password, size_t password_len, uint8_t *out,
-    size_t out_len);
-
-/* Answers a request for an MD5 digest with it: the digest of the salt after the digest, in
- * hexadecimal, of the user's name after the password. */
-ptrdiff_t pgmsg_put_md5_password(const uint8_t digest[16], uint8_t *out, size_t out_len);
-
-/* Chooses SCRAM-SHA-256, or SCRAM-SHA-256-PLUS where `plus`, and begins it with `response`, in
- * UTF-8. */
-ptrdiff_t pgmsg_put_sasl_initial(const uint8_t *response, size_t response_len, bool plus,
+/* A StartupMessage: opens a session by a minor version of the protocol's version 3, 0 or 2, with
+ * these settings, of which `user` is required by the server. A name or a value that holds a NUL, or
+ * an empty name, is refused as a text that holds a NUL: the server would read other settings. */
+ptrdiff_t pgmsg_put_startup(uint16_t minor, const pgmsg_setting *settings, size_t settings_len,
     uint8_t *out, size_t out_len);
 
-/* Answers a challenge of the SASL exchange, in UTF-8. */
-ptrdiff_t pgmsg_put_sasl_response(const uint8_t *response, size_t response_len, uint8_t *out,
-    size_t out_len);
+/* An SSLRequest: asks for TLS, before the session is opened. The server answers with one byte, `S`
+ * or `N`. */
+ptrdiff_t pgmsg_put_ssl_request(uint8_t *out, size_t out_len);
 
-/* Ends the session. */
-ptrdiff_t pgmsg_put_terminate(uint8_t *out, size_t out_len);
+/* A GSSENCRequest: asks for encryption by GSSAPI, before the session is opened. The server answers
+ * with one byte, `G` or `N`. */
+ptrdiff_t pgmsg_put_gss_enc_request(uint8_t *out, size_t out_len);
 
-/* Runs the statements of a text, in UTF-8. */
-ptrdiff_t pgmsg_put_query(const uint8_t *query, size_t query_len, uint8_t *out, size_t out_len);
-
-/* Describes the prepared statement `sqlx_s_N`, by its number N; 0 is the unnamed one. */
-ptrdiff_t pgmsg_put_describe_statement(uint32_t statement, uint8_t *out, size_t out_len);
-
-/* Describes the portal `sqlx_p_N`, by its number N; 0 is the unnamed one. */
-ptrdiff_t pgmsg_put_describe_portal(uint32_t portal, uint8_t *out, size_t out_len);
-
-/* Closes the prepared statement `sqlx_s_N`, by its number N; 0 is the unnamed one. */
-ptrdiff_t pgmsg_put_close_statement(uint32_t statement, uint8_t *out, size_t out_len);
-
-/* Closes the portal `sqlx_p_N`, by its number N; 0 is the unnamed one. */
-ptrdiff_t pgmsg_put_close_portal(uint32_t portal, uint8_t *out, size_t out_len);
-
-/* Runs the portal `sqlx_p_N`, by its number N; 0 is the unnamed one. `limit` is the most rows to
- * send back, 0 for all of them. */
-ptrdiff_t pgmsg_put_execute(uint32_t portal, uint32_t limit, uint8_t *out, size_t out_len);
-
-/* Asks for the answers that the server still has to send. */
-ptrdiff_t pgmsg_put_flush(uint8_t *out, size_t out_len);
-
-/* Ends a run of messages: the server answers that it is ready. */
-ptrdiff_t pgmsg_put_sync(uint8_t *out, size_t out_len);
-
-/* Prepares a statement: the number N names it `sqlx_s_N` on the wire, and 0 is the unnamed one. The
- * query is in UTF-8. `types` are those of the parameters from the first on; the server infers those
- * that are 0 or missing. */
-ptrdiff_t pgmsg_put_parse(uint32_t statement, const uint8_t *query, size_t query_len,
-    const uint32_t *types, size_t types_len, uint8_t *out, size_t out_len);
-
-/* Makes a portal of a prepared statement and the values of its parameters. The number N names the
- * portal `sqlx_p_N` on the wire, and the statement `sqlx_s_N`; 0 is the unnamed one of each.
- * Formats: 0 is text, anything else binary; none where all are text, one for all, or one each. */
-ptrdiff_t pgmsg_put_bind(uint32_t portal, uint32_t statement, const uint8_t *formats,
-    size_t formats_len, const pgmsg_value *values, size_t values_len, const uint8_t *result_formats,
-    size_t result_formats_len, uint8_t *out, size_t out_len);
-
-/* A batch: Parse of the unnamed statement, Bind of the unnamed portal, Describe of it, Execute, and
- * Sync. The query is in UTF-8. Formats are as in `pgmsg_put_bind`. */
-ptrdiff_t pgmsg_put_batch(const uint8_t *query, size_t query_len, const uint8_t *formats,
-    size_t formats_len, const pgmsg_value *values, size_t values_len, const uint8_t *result_formats,
-    size_t result_formats_len, uint8_t *out, size_t out_len);
-
-/* Asks the server to stop what a session does, by the two numbers of its BackendKeyData. It goes
- * alone on a connection of its own. The key has 4 bytes in protocol 3.0, and up to 256 from 3.2
- * on. */
+/* A CancelRequest: asks the server to stop what a session does, by the process and the key of its
+ * BackendKeyData. It goes alone on a connection of its own. The key has 4 bytes in protocol 3.0,
+ * and up to 256 from 3.2 on; one of another length is refused with PGMSG_BAD_KEY_LENGTH. */
 ptrdiff_t pgmsg_put_cancel_request(uint32_t process_id, const uint8_t *secret_key,
     size_t secret_key_len, uint8_t *out, size_t out_len);
 
-/* Asks for a connection that GSSAPI encrypts, before the session is opened. */
-ptrdiff_t pgmsg_put_gss_enc_request(uint8_t *out, size_t out_len);
-
-/* Answers a request for a password with any bytes, before the NUL that ends them. */
-ptrdiff_t pgmsg_put_password_bytes(const uint8_t *password, size_t password_len, uint8_t *out,
+/* A PasswordMessage: answers a request for a password with any bytes, before the NUL that ends
+ * them. A password that holds a NUL is refused. */
+ptrdiff_t pgmsg_put_password(const uint8_t *password, size_t password_len, uint8_t *out,
     size_t out_len);
 
-/* Chooses any mechanism of SASL. Where not `has_response`, the server begins. */
-ptrdiff_t pgmsg_put_sasl_mechanism(const uint8_t *mechanism, size_t mechanism_len,
-    bool has_response, const uint8_t *response, size_t response_len, uint8_t *out, size_t out_len);
+/* A PasswordMessage that answers a request for an MD5 digest: the digest of the salt after the
+ * digest, in hexadecimal, of the user's name after the password. */
+ptrdiff_t pgmsg_put_md5_password(const uint8_t digest[16], uint8_t *out, size_t out_len);
 
-/* Prepares a statement of any name. `types` are those of the parameters from the first on; the
- * server infers those that are 0 or missing. */
-ptrdiff_t pgmsg_put_raw_parse(const uint8_t *statement, size_t statement_len, const uint8_t *query,
+/* A SASLInitialResponse: chooses a mechanism of SASL, such as `SCRAM-SHA-256`, and begins it with
+ * `response`. Where not `has_response`, the server begins. A mechanism that holds a NUL is
+ * refused. */
+ptrdiff_t pgmsg_put_sasl_initial(const uint8_t *mechanism, size_t mechanism_len, bool has_response,
+    const uint8_t *response, size_t response_len, uint8_t *out, size_t out_len);
+
+/* A SASLResponse: answers a challenge of the SASL exchange. A GSSResponse has the same form. */
+ptrdiff_t pgmsg_put_sasl_response(const uint8_t *response, size_t response_len, uint8_t *out,
+    size_t out_len);
+
+/* A Query: runs the statements of a text. One that holds a NUL is refused. */
+ptrdiff_t pgmsg_put_query(const uint8_t *query, size_t query_len, uint8_t *out, size_t out_len);
+
+/* A CopyFail: fails a COPY, and says why. A reason that holds a NUL is refused. */
+ptrdiff_t pgmsg_put_copy_fail(const uint8_t *reason, size_t reason_len, uint8_t *out,
+    size_t out_len);
+
+/* A Parse: prepares a statement. `types` are those of the parameters from the first on; the server
+ * infers those that are 0 or missing. A name or a query that holds a NUL is refused. */
+ptrdiff_t pgmsg_put_parse(const uint8_t *statement, size_t statement_len, const uint8_t *query,
     size_t query_len, const uint32_t *types, size_t types_len, uint8_t *out, size_t out_len);
 
-/* Makes a portal of any name of a prepared statement of any name and the values of its parameters.
- * Formats are codes, 0 for text and 1 for binary: none where all are text, one for all, or one
- * each. */
-ptrdiff_t pgmsg_put_raw_bind(const uint8_t *portal, size_t portal_len, const uint8_t *statement,
+/* A Bind: makes a portal of a prepared statement and the values of its parameters. Formats are
+ * codes, 0 for text and 1 for binary: none where all are text, one for all, or one each. A name
+ * that holds a NUL is refused. */
+ptrdiff_t pgmsg_put_bind(const uint8_t *portal, size_t portal_len, const uint8_t *statement,
     size_t statement_len, const uint16_t *formats, size_t formats_len, const pgmsg_value *values,
     size_t values_len, const uint16_t *result_formats, size_t result_formats_len, uint8_t *out,
     size_t out_len);
 
-/* Describes the prepared statement of any name. */
-ptrdiff_t pgmsg_put_raw_describe_statement(const uint8_t *statement, size_t statement_len,
-    uint8_t *out, size_t out_len);
-
-/* Describes the portal of any name. */
-ptrdiff_t pgmsg_put_raw_describe_portal(const uint8_t *portal, size_t portal_len, uint8_t *out,
+/* A Describe of a prepared statement, where `kind` is `S`, or of a portal, where it is `P`; of
+ * others it is refused with PGMSG_UNKNOWN_TARGET. So is then a name that holds a NUL, as a text
+ * that holds one. */
+ptrdiff_t pgmsg_put_describe(uint8_t kind, const uint8_t *name, size_t name_len, uint8_t *out,
     size_t out_len);
 
-/* Closes the prepared statement of any name. */
-ptrdiff_t pgmsg_put_raw_close_statement(const uint8_t *statement, size_t statement_len,
-    uint8_t *out, size_t out_len);
-
-/* Closes the portal of any name. */
-ptrdiff_t pgmsg_put_raw_close_portal(const uint8_t *portal, size_t portal_len, uint8_t *out,
+/* A Close of a prepared statement or a portal, with `kind`, `name` and refusals as in
+ * `pgmsg_put_describe`. */
+ptrdiff_t pgmsg_put_close(uint8_t kind, const uint8_t *name, size_t name_len, uint8_t *out,
     size_t out_len);
 
-/* Runs the portal of any name. `limit` is the most rows to send back, 0 for all of them. */
-ptrdiff_t pgmsg_put_raw_execute(const uint8_t *portal, size_t portal_len, uint32_t limit,
-    uint8_t *out, size_t out_len);
+/* An Execute: runs a portal. `limit` is the most rows to send back, 0 for all of them; a server
+ * takes a number from 2147483648 on for all of them too. A name that holds a NUL is refused. */
+ptrdiff_t pgmsg_put_execute(const uint8_t *portal, size_t portal_len, uint32_t limit, uint8_t *out,
+    size_t out_len);
 
-/* Calls a function by its object id. Formats are as in `pgmsg_put_raw_bind`. The answer is a
- * FunctionCallResponse, which this library doesn't read. */
+/* A FunctionCall: calls a function by its object id. Formats are as in `pgmsg_put_bind`. The answer
+ * is a FunctionCallResponse, for `pgmsg_read_function_result`. */
 ptrdiff_t pgmsg_put_function_call(uint32_t object_id, const uint16_t *formats, size_t formats_len,
     const pgmsg_value *arguments, size_t arguments_len, uint16_t result_format, uint8_t *out,
     size_t out_len);
 
-/* A part of the data of a COPY. */
+/* A CopyData: a part of the data of a COPY, from a client or a server. */
 ptrdiff_t pgmsg_put_copy_data(const uint8_t *data, size_t data_len, uint8_t *out, size_t out_len);
 
 /* The five bytes before `len` bytes of the data of a COPY, which the caller sends after them. 0, or
  * why there are none. */
 int32_t pgmsg_put_copy_head(size_t len, uint8_t head[5]);
 
-/* The end of the data of a COPY. */
-ptrdiff_t pgmsg_put_copy_done(uint8_t *out, size_t out_len);
+/* A message without a body, by its tag. Of a client `H` is Flush, `S` Sync and `X` Terminate; of a
+ * server `1` is ParseComplete, `2` BindComplete, `3` CloseComplete, `I` EmptyQueryResponse, `n`
+ * NoData and `s` PortalSuspended; of both `c` is CopyDone. Of other tags it is refused with
+ * PGMSG_UNKNOWN_MESSAGE_TYPE. */
+ptrdiff_t pgmsg_put_no_body(uint8_t tag, uint8_t *out, size_t out_len);
 
-/* Fails a COPY, and says why, in UTF-8. */
-ptrdiff_t pgmsg_put_copy_fail(const uint8_t *reason, size_t reason_len, uint8_t *out,
-    size_t out_len);
+/* The name of the prepared statement of a number N, which is `sqlx_s_N`, and no byte for 0: its
+ * length without a NUL. It is written with the NUL that ends it, where `out` is longer than the
+ * name. */
+size_t pgmsg_put_statement_name(uint32_t number, uint8_t *out, size_t out_len);
 
-/* The message at the front of a stream: 1 where it is whole, 0 where more bytes are needed. Refused
- * where no message from a server has this tag, or its length is below 4: then, whatever comes
- * next. */
-int32_t pgmsg_next_frame(const uint8_t *stream, size_t stream_len, pgmsg_frame *frame,
-    pgmsg_fault *fault);
+/* The name of the portal of a number N, which is `sqlx_p_N`, and no byte for 0, as
+ * `pgmsg_put_statement_name` writes that of a statement. */
+size_t pgmsg_put_portal_name(uint32_t number, uint8_t *out, size_t out_len);
+
+/* How many bytes at the front of a text are UTF-8: its length where all of it is, else where the
+ * first character begins that isn't. */
+size_t pgmsg_check_utf8(const uint8_t *text, size_t text_len);
 
 /* The message at the front of a stream, of any tag: 1 where it is whole, 0 where more bytes are
  * needed. Then `tag` is given as soon as there is a byte. Refused where its length is below 4:
  * then, whatever comes next. */
-int32_t pgmsg_next_raw_frame(const uint8_t *stream, size_t stream_len, pgmsg_frame *frame,
+int32_t pgmsg_next_frame(const uint8_t *stream, size_t stream_len, pgmsg_frame *frame,
     pgmsg_fault *fault);
+
+/* The messages at the front of a stream, of any tag, each as `pgmsg_next_frame` gives it, with
+ * places in the whole stream: how many are given. As many as are whole and there is room for are
+ * written; the first of the others begins where the lengths of these end. Refused where there is
+ * room for a message, and the length of the very first is below 4; such a length after others only
+ * ends them. */
+ptrdiff_t pgmsg_next_frames(const uint8_t *stream, size_t stream_len, pgmsg_frame *frames,
+    size_t frames_len, pgmsg_fault *fault);
 
 /* The cells of a row, by the body of its DataRow: how many it has. As many as there is room for are
  * written; the rest are read too, so a row is refused for any of its cells. */
@@ -517,11 +488,6 @@ ptrdiff_t pgmsg_read_columns(const uint8_t *body, size_t body_len, pgmsg_column 
  * are. As many as there is room for are written. */
 ptrdiff_t pgmsg_read_parameter_types(const uint8_t *body, size_t body_len, uint32_t *types,
     size_t types_len, pgmsg_fault *fault);
-
-/* The columns of a result, by the body of its RowDescription, as `pgmsg_read_columns` reads them,
- * but in the server's encoding: their names need not be UTF-8. */
-ptrdiff_t pgmsg_read_raw_columns(const uint8_t *body, size_t body_len, pgmsg_column *columns,
-    size_t columns_len, pgmsg_fault *fault);
 
 /* The fields of an error or a notice, in order: how many there are. As many as there is room for
  * are written. */
@@ -540,55 +506,26 @@ int32_t pgmsg_read_notification(const uint8_t *body, size_t body_len,
 int32_t pgmsg_read_parameter_status(const uint8_t *body, size_t body_len,
     pgmsg_parameter_status *status, pgmsg_fault *fault);
 
-/* What a request to cancel has to name, by the body of a BackendKeyData. 0, or why it is
- * refused. */
+/* What a request to cancel has to name, by the body of a BackendKeyData of any version: its key has
+ * 4 bytes in protocol 3.0, and up to 256 from 3.2 on. 0, or why it is refused. */
 int32_t pgmsg_read_key_data(const uint8_t *body, size_t body_len, pgmsg_key_data *key,
     pgmsg_fault *fault);
 
-/* How many rows a command had to do with, by the body of its CommandComplete: the number after the
- * last space, and 0 where there is none. */
-uint64_t pgmsg_read_rows_affected(const uint8_t *body, size_t body_len);
+/* What a command has done, by the body of its CommandComplete. 0, or why it is refused. */
+int32_t pgmsg_read_command_complete(const uint8_t *body, size_t body_len, pgmsg_command *command,
+    pgmsg_fault *fault);
 
 /* The letter of the transaction's status, by the body of a ReadyForQuery: I where none is open, T
  * in one, E in one that has failed. */
 int32_t pgmsg_read_ready(const uint8_t *body, size_t body_len, pgmsg_fault *fault);
-
-/* The text of a command's tag, by the body of its CommandComplete: the bytes before its NUL. 0, or
- * why it is refused. */
-int32_t pgmsg_read_command_tag(const uint8_t *body, size_t body_len, pgmsg_span *tag,
-    pgmsg_fault *fault);
-
-/* A request for authentication by any method, by the body of an Authentication. A method that
- * `pgmsg_read_authentication` doesn't know is no fault, and what follows its number isn't looked
- * at. 0, or why it is refused. */
-int32_t pgmsg_read_raw_authentication(const uint8_t *body, size_t body_len,
-    pgmsg_raw_authentication *authentication, pgmsg_fault *fault);
-
-/* The mechanisms that the server offers, by the body of an Authentication of method 10, in the
- * server's encoding: their names need not be UTF-8. As many as there is room for are written. */
-size_t pgmsg_read_raw_mechanisms(const uint8_t *body, size_t body_len, pgmsg_span *mechanisms,
-    size_t mechanisms_len);
-
-/* What a request to cancel has to name, by the body of a BackendKeyData of any version: its key has
- * 4 bytes in protocol 3.0, and up to 256 from 3.2 on. 0, or why it is refused. */
-int32_t pgmsg_read_raw_key_data(const uint8_t *body, size_t body_len, pgmsg_raw_key_data *key,
-    pgmsg_fault *fault);
-
-/* A setting of the server, by the body of its ParameterStatus, in the server's encoding: its texts
- * need not be UTF-8. 0, or why it is refused. */
-int32_t pgmsg_read_raw_parameter_status(const uint8_t *body, size_t body_len,
-    pgmsg_parameter_status *status, pgmsg_fault *fault);
-
-/* Whether a message has no body, such as a BindComplete or a NoData: 0, or PGMSG_BODY_TOO_LONG
- * where it has one. */
-int32_t pgmsg_read_no_body(const uint8_t *body, size_t body_len, pgmsg_fault *fault);
 
 /* How the data of a COPY is spelled, by the body of a CopyInResponse or CopyOutResponse: how many
  * columns have a code. As many codes as there is room for are written. */
 ptrdiff_t pgmsg_read_copy_response(const uint8_t *body, size_t body_len,
     pgmsg_copy_response *response, int16_t *codes, size_t codes_len, pgmsg_fault *fault);
 
-/* What the server asks for, by the body of its Authentication. 0, or why it is refused. */
+/* What the server asks for, by the body of its Authentication. Any method is read, and what follows
+ * its number isn't looked at. 0, or why it is refused. */
 int32_t pgmsg_read_authentication(const uint8_t *body, size_t body_len,
     pgmsg_authentication *authentication, pgmsg_fault *fault);
 
@@ -606,6 +543,17 @@ int32_t pgmsg_read_challenge(const uint8_t *body, size_t body_len, pgmsg_challen
  * in bytes. It is written where its room is that long. */
 ptrdiff_t pgmsg_read_verifier(const uint8_t *body, size_t body_len, uint8_t *verifier,
     size_t verifier_len, pgmsg_fault *fault);
+
+/* The result of a function, by the body of its FunctionCallResponse: its `len` is -1 where it is
+ * NULL. 0, or why it is refused. */
+int32_t pgmsg_read_function_result(const uint8_t *body, size_t body_len, pgmsg_cell *value,
+    pgmsg_fault *fault);
+
+/* What a server doesn't speak, by the body of its NegotiateProtocolVersion: how many options of the
+ * Startup it doesn't know. As many of their names as there is room for are written; the rest are
+ * read too. */
+ptrdiff_t pgmsg_read_negotiate_version(const uint8_t *body, size_t body_len,
+    pgmsg_negotiation *version, pgmsg_span *options, size_t options_len, pgmsg_fault *fault);
 
 /* The offset after the last part of a body, by the tag of its message: `body_len` where nothing
  * follows the parts that the documentation lists. A body is refused where a part can't be read or a
@@ -633,9 +581,9 @@ int32_t pgmsg_read_first(const uint8_t *body, size_t body_len, pgmsg_first *firs
  * or why it is refused. */
 int32_t pgmsg_read_text(const uint8_t *body, size_t body_len, pgmsg_span *text, pgmsg_fault *fault);
 
-/* Whether a CopyDone, a Flush, a Sync or a Terminate has no body: 0, or PGMSG_TRAILING_BYTES where
- * it has one. */
-int32_t pgmsg_read_empty(const uint8_t *body, size_t body_len, pgmsg_fault *fault);
+/* Whether a message has no body, as those of `pgmsg_put_no_body` have none: 0, or
+ * PGMSG_TRAILING_BYTES where it has one. */
+int32_t pgmsg_read_no_body(const uint8_t *body, size_t body_len, pgmsg_fault *fault);
 
 /* A Parse, by its body. 0, or why it is refused. */
 int32_t pgmsg_read_parse(const uint8_t *body, size_t body_len, pgmsg_parse *parse,
@@ -681,28 +629,19 @@ size_t pgmsg_read_types(const uint8_t *body, size_t body_len, pgmsg_list list, u
 size_t pgmsg_read_settings(const uint8_t *body, size_t body_len, pgmsg_parameter_status *settings,
     size_t settings_len);
 
-/* Says to the client that it is who it says. */
-ptrdiff_t pgmsg_put_authentication_ok(uint8_t *out, size_t out_len);
-
-/* Asks the client for its password as it is. */
-ptrdiff_t pgmsg_put_authentication_cleartext(uint8_t *out, size_t out_len);
-
-/* Asks the client for the MD5 digest of its password, with this salt. */
-ptrdiff_t pgmsg_put_authentication_md5(const uint8_t salt[4], uint8_t *out, size_t out_len);
-
-/* Asks the client for an exchange of SASL by one of these mechanisms, the best first. A name that
- * is empty or holds a NUL is refused as a text that holds a NUL: the client would read other
- * names. */
-ptrdiff_t pgmsg_put_authentication_sasl(const pgmsg_bytes *mechanisms, size_t mechanisms_len,
+/* A request for authentication, by the number of its method and what follows it. 0 says that the
+ * client is who it says, and 3 asks for its password as it is: nothing follows. 5 asks for the MD5
+ * digest of its password, with the salt of four bytes that follows. 11 and 12 are the next and the
+ * last of a SASL exchange, whose data follows; 10 begins one, by `pgmsg_put_authentication_sasl`.
+ * Of other numbers, or with another count of bytes, it is refused with
+ * PGMSG_UNKNOWN_AUTHENTICATION. */
+ptrdiff_t pgmsg_put_authentication(uint32_t method, const uint8_t *content, size_t content_len,
     uint8_t *out, size_t out_len);
 
-/* The next of the exchange of SASL. */
-ptrdiff_t pgmsg_put_authentication_continue(const uint8_t *data, size_t data_len, uint8_t *out,
-    size_t out_len);
-
-/* The last of the exchange of SASL, before `pgmsg_put_authentication_ok`. */
-ptrdiff_t pgmsg_put_authentication_final(const uint8_t *data, size_t data_len, uint8_t *out,
-    size_t out_len);
+/* A request for an exchange of SASL by one of these mechanisms, the best first. A name that is
+ * empty or holds a NUL is refused as a text that holds a NUL: the client would read other names. */
+ptrdiff_t pgmsg_put_authentication_sasl(const pgmsg_bytes *mechanisms, size_t mechanisms_len,
+    uint8_t *out, size_t out_len);
 
 /* The newest minor version of the protocol's version 3 that the server speaks, and the names of the
  * options that it doesn't know. A NUL in one is refused. The message has the whole version, as
@@ -735,41 +674,36 @@ ptrdiff_t pgmsg_put_row(const pgmsg_value *values, size_t values_len, uint8_t *o
 ptrdiff_t pgmsg_put_parameter_types(const uint32_t *types, size_t types_len, uint8_t *out,
     size_t out_len);
 
-/* A message without a body: `1` is ParseComplete, `2` BindComplete, `3` CloseComplete, `I`
- * EmptyQueryResponse, `c` CopyDone, `n` NoData and `s` PortalSuspended. */
-ptrdiff_t pgmsg_put_no_body(uint8_t tag, uint8_t *out, size_t out_len);
-
-/* A command has ended. `command` is its tag, as `INSERT 0 1`; a NUL in it is refused. */
+/* A CommandComplete: a command has ended. `command` is its tag, as `INSERT 0 1`; a NUL in it is
+ * refused. */
 ptrdiff_t pgmsg_put_command_complete(const uint8_t *command, size_t command_len, uint8_t *out,
     size_t out_len);
 
-/* Where the data of a COPY goes: to the server by `G`, from it by `H`, and both ways by `W`.
- * `format` is that of the data as a whole, and `codes` are those of the columns: 0 is text and 1
- * binary. */
+/* Where the data of a COPY goes: to the server by a CopyInResponse, whose tag is `G`, from it by a
+ * CopyOutResponse, `H`, and both ways by a CopyBothResponse, `W`; of other tags it is refused with
+ * PGMSG_UNKNOWN_MESSAGE_TYPE. `format` is that of the data as a whole, and `codes` are those of the
+ * columns: 0 is text and 1 binary. */
 ptrdiff_t pgmsg_put_copy_response(uint8_t tag, int8_t format, const int16_t *codes,
     size_t codes_len, uint8_t *out, size_t out_len);
 
-/* The result of a function that was called, or NULL. */
+/* A FunctionCallResponse: the result of a function that was called, or NULL. */
 ptrdiff_t pgmsg_put_function_result(const uint8_t *value, size_t value_len, bool is_null,
     uint8_t *out, size_t out_len);
 
 /* A message with any tag and any body: what only passes through, or what this library doesn't
  * know. */
-ptrdiff_t pgmsg_put_raw_frame(uint8_t tag, const uint8_t *body, size_t body_len, uint8_t *out,
+ptrdiff_t pgmsg_put_frame(uint8_t tag, const uint8_t *body, size_t body_len, uint8_t *out,
     size_t out_len);
 
-/* An error, by its fields in order: a client asks for `S`, its severity, `C`, its code, and `M`,
- * its message. A field of the letter 0, or a text that holds a NUL, is refused: it would end the
- * fields. */
-ptrdiff_t pgmsg_put_error(const pgmsg_field_text *fields, size_t fields_len, uint8_t *out,
-    size_t out_len);
+/* An ErrorResponse, whose tag is `E`, or a NoticeResponse, `N`, by its fields in order: a client
+ * asks for `S`, the severity, `C`, the code, and `M`, the message. A field of the letter 0, or a
+ * text that holds a NUL, is refused: it would end the fields. Of other tags it is refused with
+ * PGMSG_UNKNOWN_MESSAGE_TYPE. */
+ptrdiff_t pgmsg_put_notice(uint8_t tag, const pgmsg_field_text *fields, size_t fields_len,
+    uint8_t *out, size_t out_len);
 
-/* A notice, with fields as in `pgmsg_put_error`. */
-ptrdiff_t pgmsg_put_notice(const pgmsg_field_text *fields, size_t fields_len, uint8_t *out,
-    size_t out_len);
-
-/* What the session was notified of: by which process, on which channel, and what was said. A NUL in
- * a text is refused. */
+/* A NotificationResponse: what the session was notified of, by which process, on which channel, and
+ * what was said. A NUL in a text is refused. */
 ptrdiff_t pgmsg_put_notification(uint32_t process_id, const uint8_t *channel, size_t channel_len,
     const uint8_t *payload, size_t payload_len, uint8_t *out, size_t out_len);
 

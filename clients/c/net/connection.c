@@ -105,8 +105,10 @@ enum status connection_next(struct connection *connection, struct message *messa
     pgmsg_frame frame;
     pgmsg_fault fault;
     *message = (struct message){.body = front};
+    if (input->end == input->start)
+        return STATUS_OK;
     int32_t is_whole = pgmsg_next_frame(front, input->end - input->start, &frame, &fault);
-    if (is_whole < 0)
+    if (is_whole < 0 || pgmsg_read_end(frame.tag, NULL, 0, &fault) == PGMSG_UNKNOWN_MESSAGE_TYPE)
         return complain_of_fault(&fault);
     if (frame.length > LONGEST_MESSAGE)
         return complain(STATUS_PROTOCOL, "a message of %zu bytes is too long", frame.length);
@@ -174,7 +176,7 @@ enum status connection_open(struct connection *connection, const struct options 
 
 void connection_terminate(struct connection *connection)
 {
-    PUT(connection, pgmsg_put_terminate(SPARE(connection)));
+    PUT(connection, pgmsg_put_no_body('X', SPARE(connection)));
     connection_write(connection);
 }
 

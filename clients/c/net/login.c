@@ -43,7 +43,7 @@ static enum status send_startup(struct connection *connection, const struct opti
         setting("application_name", options->application),
         setting("client_encoding", encoding != NULL && *encoding != '\0' ? encoding : "UTF8"),
     };
-    PUT(connection, pgmsg_put_startup(settings, sizeof settings / sizeof *settings, SPARE(connection)));
+    PUT(connection, pgmsg_put_startup(0, settings, sizeof settings / sizeof *settings, SPARE(connection)));
     return connection_flush(connection);
 }
 
@@ -55,9 +55,13 @@ static enum status send_clear_text(struct login *login)
     return connection_flush(login->connection);
 }
 
-static enum status send_md5(struct login *login, const uint8_t salt[4])
+static enum status send_md5(struct login *login, const pgmsg_authentication *asked, const struct message *message)
 {
     uint8_t digest[MD5_LENGTH];
+    pgmsg_fault fault;
+    if (pgmsg_read_end(message->tag, message->body, message->len, &fault) < 0)
+        return complain_of_fault(&fault);
+    const uint8_t *salt = message->body + asked->content.at;
     enum status status = md5_of_password(login->options->password, login->options->user, salt, digest);
     if (status != STATUS_OK)
         return status;
@@ -76,7 +80,7 @@ static enum status answer_once(struct login *login, const pgmsg_authentication *
         return complain(STATUS_REFUSED, "the server asks for a password: set PGPASSWORD");
     switch (asked->method) {
     case METHOD_CLEAR_TEXT: return send_clear_text(login);
-    case METHOD_MD5: return send_md5(login, asked->salt);
+    case METHOD_MD5: return send_md5(login, asked, message);
     default: return scram_begin(&login->scram, login->connection, message);
     }
 }
@@ -93,10 +97,8 @@ static enum status answer(struct login *login, const struct message *message)
 {
     pgmsg_authentication asked;
     pgmsg_fault fault;
-    if (pgmsg_read_authentication(message->body, message->len, &asked, &fault) < 0) {
-        enum status status = complain_of_fault(&fault);
-        return fault.number == PGMSG_UNKNOWN_AUTHENTICATION ? STATUS_REFUSED : status;
-    }
+    if (pgmsg_read_authentication(message->body, message->len, &asked, &fault) < 0)
+        return complain_of_fault(&fault);
     if (login->is_accepted)
         return complain_of_message(message);
     switch (asked.method) {
@@ -107,7 +109,7 @@ static enum status answer(struct login *login, const struct message *message)
     case METHOD_SASL_CHALLENGE:
         return scram_answer(&login->scram, login->connection, login->options->password, message);
     case METHOD_SASL_VERIFIER: return scram_verify(&login->scram, message);
-    default: return complain_of_message(message);
+    default: return complain(STATUS_REFUSED, "unknown authentication method: %u", (unsigned)asked.method);
     }
 }
 

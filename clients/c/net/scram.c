@@ -18,9 +18,10 @@ enum {
 /* Without a user's name, as the server takes that of the session. */
 #define FIRST_BARE "n=,r=%s"
 
+static const char wanted[] = "SCRAM-SHA-256";
+
 static bool is_offered(const struct message *message)
 {
-    static const char wanted[] = "SCRAM-SHA-256";
     pgmsg_span offered[MECHANISMS];
     size_t count = pgmsg_read_mechanisms(message->body, message->len, offered, MECHANISMS);
     for (size_t i = 0; i < count && i < MECHANISMS; i++)
@@ -41,7 +42,8 @@ enum status scram_begin(struct scram *scram, struct connection *connection, cons
     if (status != STATUS_OK)
         return status;
     int len = snprintf(first, sizeof first, "n,," FIRST_BARE, scram->nonce);
-    PUT(connection, pgmsg_put_sasl_initial((const uint8_t *)first, (size_t)len, false, SPARE(connection)));
+    PUT(connection, pgmsg_put_sasl_initial((const uint8_t *)wanted, sizeof wanted - 1, true, (const uint8_t *)first, (size_t)len,
+                                           SPARE(connection)));
     scram->stage = SCRAM_BEGUN;
     return connection_flush(connection);
 }

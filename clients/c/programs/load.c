@@ -56,7 +56,7 @@ static void end_data(struct load *load)
         return;
     }
     load->phase = ENDED;
-    PUT(load->connection, pgmsg_put_copy_done(SPARE(load->connection)));
+    PUT(load->connection, pgmsg_put_no_body('c', SPARE(load->connection)));
 }
 
 /* Puts the next bytes of the file, behind the head of their message. */
@@ -89,8 +89,12 @@ static enum status take_count(struct load *load, const struct message *message)
 {
     if (load->phase != ENDED)
         return complain_of_message(message);
+    pgmsg_command command;
+    pgmsg_fault fault;
+    if (pgmsg_read_command_complete(message->body, message->len, &command, &fault) < 0)
+        return complain_of_fault(&fault);
     load->is_stored = true;
-    load->rows = pgmsg_read_rows_affected(message->body, message->len);
+    load->rows = command.rows;
     return STATUS_OK;
 }
 

@@ -44,9 +44,6 @@ SAME(offsetof(pgmsg_fault, at), 8);
 SAME(offsetof(pgmsg_fault, words_len), 16);
 SAME(offsetof(pgmsg_fault, words), 24);
 
-SAME(sizeof(pgmsg_text), 64);
-SAME(offsetof(pgmsg_text, text), 0);
-
 SAME(sizeof(pgmsg_span), 16);
 SAME(offsetof(pgmsg_span, at), 0);
 SAME(offsetof(pgmsg_span, len), 8);
@@ -97,25 +94,25 @@ SAME(sizeof(pgmsg_parameter_status), 32);
 SAME(offsetof(pgmsg_parameter_status, name), 0);
 SAME(offsetof(pgmsg_parameter_status, value), 16);
 
-SAME(sizeof(pgmsg_key_data), 8);
+SAME(sizeof(pgmsg_key_data), 24);
 SAME(offsetof(pgmsg_key_data, process_id), 0);
-SAME(offsetof(pgmsg_key_data, secret_key), 4);
+SAME(offsetof(pgmsg_key_data, secret_key), 8);
 
-SAME(sizeof(pgmsg_raw_authentication), 24);
-SAME(offsetof(pgmsg_raw_authentication, method), 0);
-SAME(offsetof(pgmsg_raw_authentication, content), 8);
+SAME(sizeof(pgmsg_command), 24);
+SAME(offsetof(pgmsg_command, tag), 0);
+SAME(offsetof(pgmsg_command, rows), 16);
 
-SAME(sizeof(pgmsg_raw_key_data), 24);
-SAME(offsetof(pgmsg_raw_key_data, process_id), 0);
-SAME(offsetof(pgmsg_raw_key_data, secret_key), 8);
+SAME(sizeof(pgmsg_negotiation), 4);
+SAME(offsetof(pgmsg_negotiation, major), 0);
+SAME(offsetof(pgmsg_negotiation, minor), 2);
+
+SAME(sizeof(pgmsg_authentication), 24);
+SAME(offsetof(pgmsg_authentication, method), 0);
+SAME(offsetof(pgmsg_authentication, content), 8);
 
 SAME(sizeof(pgmsg_copy_response), 4);
 SAME(offsetof(pgmsg_copy_response, format), 0);
 SAME(offsetof(pgmsg_copy_response, columns), 2);
-
-SAME(sizeof(pgmsg_authentication), 8);
-SAME(offsetof(pgmsg_authentication, method), 0);
-SAME(offsetof(pgmsg_authentication, salt), 4);
 
 SAME(sizeof(pgmsg_challenge), 24);
 SAME(offsetof(pgmsg_challenge, iterations), 0);

@@ -167,9 +167,9 @@ static void test_texts(struct tally *tally)
     CHECK(tally, pgmsg_read_text(BYTES("a"), &text, &fault) == PGMSG_MISSING_NUL && fault.at == 0);
     CHECK(tally, pgmsg_read_text(BYTES(""), &text, &fault) == PGMSG_MISSING_NUL && fault.at == 0);
     CHECK(tally, pgmsg_read_text(BYTES("a\0b\0"), &text, &fault) == PGMSG_TRAILING_BYTES && fault.at == 2);
-    CHECK(tally, pgmsg_read_empty(BYTES(""), &fault) == 0);
-    CHECK(tally, pgmsg_read_empty(BYTES("\0"), &fault) == PGMSG_TRAILING_BYTES && fault.at == 0);
-    CHECK(tally, pgmsg_read_empty(BYTES("ab"), &fault) == PGMSG_TRAILING_BYTES && fault.at == 0);
+    CHECK(tally, pgmsg_read_no_body(BYTES(""), &fault) == 0);
+    CHECK(tally, pgmsg_read_no_body(BYTES("\0"), &fault) == PGMSG_TRAILING_BYTES && fault.at == 0);
+    CHECK(tally, pgmsg_read_no_body(BYTES("ab"), &fault) == PGMSG_TRAILING_BYTES && fault.at == 0);
 }
 
 static void test_sasl(struct tally *tally)

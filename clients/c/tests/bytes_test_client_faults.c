@@ -84,7 +84,7 @@ static void words_of_bodies(struct tally *tally)
     REFUSES(tally, PGMSG_TRAILING_BYTES, 2, "expected the end of the message at offset 2",
             pgmsg_read_text(BYTES("a\0b\0"), &text, &fault));
     REFUSES(tally, PGMSG_TRAILING_BYTES, 0, "expected the end of the message at offset 0",
-            pgmsg_read_empty(BYTES("\0"), &fault));
+            pgmsg_read_no_body(BYTES("\0"), &fault));
     REFUSES(tally, PGMSG_BAD_VALUE_LENGTH, 2, "bad value length at offset 2: -2",
             pgmsg_read_sasl_initial(BYTES("A\0" "\377\377\377\376"), &initial, &fault));
     REFUSES(tally, PGMSG_SHORT, 6, "expected 4 bytes at offset 6, got 3",
@@ -149,7 +149,7 @@ static void words_of_long_bodies(struct tally *tally, const uint8_t *body)
     REFUSES_LONG(pgmsg_read_target(body, TOO_LONG, &target, &fault));
     REFUSES_LONG(pgmsg_read_execute(body, TOO_LONG, &execute, &fault));
     REFUSES_LONG(pgmsg_read_text(body, TOO_LONG, &text, &fault));
-    REFUSES_LONG(pgmsg_read_empty(body, TOO_LONG, &fault));
+    REFUSES_LONG(pgmsg_read_no_body(body, TOO_LONG, &fault));
     REFUSES_LONG(pgmsg_read_sasl_initial(body, TOO_LONG, &initial, &fault));
     REFUSES_LONG(pgmsg_read_bind(body, TOO_LONG, values, 1, &bind, &fault));
     REFUSES_LONG(pgmsg_read_function_call(body, TOO_LONG, values, 1, &call, &fault));
@@ -207,7 +207,7 @@ static void what_has_no_fault(struct tally *tally)
     NAMES_NO_FAULT(tally, pgmsg_target, 0, pgmsg_read_target(BYTES("Ss\0"), &given, &fault));
     NAMES_NO_FAULT(tally, pgmsg_execute, 0, pgmsg_read_execute(BYTES("p\0" "\0\0\0\1"), &given, &fault));
     NAMES_NO_FAULT(tally, pgmsg_span, 0, pgmsg_read_text(BYTES("q\0"), &given, &fault));
-    NAMES_NO_FAULT(tally, int, 0, pgmsg_read_empty(BYTES(""), &fault));
+    NAMES_NO_FAULT(tally, int, 0, pgmsg_read_no_body(BYTES(""), &fault));
     NAMES_NO_FAULT(tally, pgmsg_sasl_initial, 0, pgmsg_read_sasl_initial(BYTES("A\0" "\0\0\0\1" "a"), &given, &fault));
     NAMES_NO_FAULT(tally, pgmsg_bind, 1,
                    pgmsg_read_bind(BYTES("\0\0" "\0\0" "\0\1" "\0\0\0\0" "\0\0"), &value, 1, &given, &fault));

@@ -6,133 +6,113 @@ enum { ROOM = 320, MIN_KEY = 4, MAX_KEY = 256 };
 static const pgmsg_setting settings[] = {
     {(const uint8_t *)"user", 4, (const uint8_t *)"ann", 3},
     {(const uint8_t *)"database", 8, (const uint8_t *)"d", 1},
+    {(const uint8_t *)"\377", 1, NULL, 0},
 };
 
 static const uint8_t digest[16] = {0, 1, 2, 3, 4, 5, 6, 7, 8, 9, 10, 11, 12, 13, 14, 255};
 
-static const uint8_t no_format[1];
-static const uint8_t text_format[] = {0};
-static const uint8_t mixed_formats[] = {1, 0};
 static const uint16_t codes[] = {1, 0, 258};
 static const uint32_t types[] = {23, UINT32_MAX};
 
+/* A place of no bytes may be NULL, as an argument and in a struct. */
 static const pgmsg_value values[] = {
     {(const uint8_t *)"ab", 2, false},
-    {(const uint8_t *)"", 0, true},
-    {(const uint8_t *)"", 0, false},
+    {NULL, 0, true},
+    {NULL, 0, false},
 };
 
-static const pgmsg_value five = {(const uint8_t *)"5", 1, false};
+#define NO_BYTES NULL, 0
 
-MESSAGE(startup, pgmsg_put_startup(settings, 2, out, out_len))
-MESSAGE(bare_startup, pgmsg_put_startup(settings, 0, out, out_len))
+MESSAGE(startup, pgmsg_put_startup(0, settings, 2, out, out_len))
+MESSAGE(newer_startup, pgmsg_put_startup(2, settings + 2, 1, out, out_len))
+MESSAGE(newest_startup, pgmsg_put_startup(UINT16_MAX, NO_BYTES, out, out_len))
 MESSAGE(ssl_request, pgmsg_put_ssl_request(out, out_len))
-MESSAGE(password, pgmsg_put_password(BYTES("pw"), out, out_len))
-MESSAGE(md5_password, pgmsg_put_md5_password(digest, out, out_len))
-MESSAGE(sasl_initial, pgmsg_put_sasl_initial(BYTES("n,,n=,r=x"), false, out, out_len))
-MESSAGE(sasl_plus, pgmsg_put_sasl_initial(BYTES("y"), true, out, out_len))
-MESSAGE(sasl_response, pgmsg_put_sasl_response(BYTES("c=biws"), out, out_len))
-MESSAGE(terminate, pgmsg_put_terminate(out, out_len))
-MESSAGE(query, pgmsg_put_query(BYTES("SELECT 1"), out, out_len))
-MESSAGE(empty_query, pgmsg_put_query(BYTES(""), out, out_len))
-MESSAGE(describe_statement, pgmsg_put_describe_statement(12, out, out_len))
-MESSAGE(describe_portal, pgmsg_put_describe_portal(0, out, out_len))
-MESSAGE(close_statement, pgmsg_put_close_statement(0, out, out_len))
-MESSAGE(close_portal, pgmsg_put_close_portal(UINT32_MAX, out, out_len))
-MESSAGE(execute, pgmsg_put_execute(0, 100, out, out_len))
-MESSAGE(flush, pgmsg_put_flush(out, out_len))
-MESSAGE(sync, pgmsg_put_sync(out, out_len))
-MESSAGE(parse, pgmsg_put_parse(2, BYTES("SELECT $1"), types, 1, out, out_len))
-MESSAGE(bare_parse, pgmsg_put_parse(0, BYTES(""), types, 0, out, out_len))
-MESSAGE(bind, pgmsg_put_bind(0, 1, text_format, 1, values, 3, mixed_formats, 2, out, out_len))
-MESSAGE(bare_bind, pgmsg_put_bind(3, 0, no_format, 0, values, 0, no_format, 0, out, out_len))
-MESSAGE(batch, pgmsg_put_batch(BYTES("SELECT $1"), no_format, 0, &five, 1, no_format, 0, out, out_len))
-MESSAGE(copy_data, pgmsg_put_copy_data(BYTES("1\t2\n"), out, out_len))
-MESSAGE(empty_copy_data, pgmsg_put_copy_data(BYTES(""), out, out_len))
-MESSAGE(copy_done, pgmsg_put_copy_done(out, out_len))
-MESSAGE(copy_fail, pgmsg_put_copy_fail(BYTES("no"), out, out_len))
+MESSAGE(gss_enc_request, pgmsg_put_gss_enc_request(out, out_len))
 MESSAGE(cancel_request, pgmsg_put_cancel_request(1234, BYTES("\377\0\0\1"), out, out_len))
 MESSAGE(long_cancel_request, pgmsg_put_cancel_request(UINT32_MAX, BYTES("a key of 28 bytes, not of 4\0"), out, out_len))
-MESSAGE(gss_enc_request, pgmsg_put_gss_enc_request(out, out_len))
-MESSAGE(password_bytes, pgmsg_put_password_bytes(BYTES("p\377w"), out, out_len))
-MESSAGE(no_password_bytes, pgmsg_put_password_bytes(BYTES(""), out, out_len))
-MESSAGE(mechanism, pgmsg_put_sasl_mechanism(BYTES("OAUTHBEARER"), true, BYTES("n,,\1a\0\377"), out, out_len))
-MESSAGE(bare_mechanism, pgmsg_put_sasl_mechanism(BYTES("\377"), false, BYTES("not sent"), out, out_len))
-MESSAGE(empty_response, pgmsg_put_sasl_mechanism(BYTES(""), true, BYTES(""), out, out_len))
-MESSAGE(raw_parse, pgmsg_put_raw_parse(BYTES("st\377"), BYTES("SELECT $1, $2"), types, 2, out, out_len))
-MESSAGE(bare_raw_parse, pgmsg_put_raw_parse(BYTES(""), BYTES(""), types, 0, out, out_len))
-MESSAGE(raw_bind, pgmsg_put_raw_bind(BYTES("po\377"), BYTES("st"), codes, 3, values, 3, &codes[2], 1, out, out_len))
-MESSAGE(bare_raw_bind, pgmsg_put_raw_bind(BYTES(""), BYTES(""), codes, 0, values, 0, codes, 0, out, out_len))
-MESSAGE(raw_describe_statement, pgmsg_put_raw_describe_statement(BYTES("st\377"), out, out_len))
-MESSAGE(bare_raw_describe_statement, pgmsg_put_raw_describe_statement(BYTES(""), out, out_len))
-MESSAGE(raw_describe_portal, pgmsg_put_raw_describe_portal(BYTES("po"), out, out_len))
-MESSAGE(bare_raw_describe_portal, pgmsg_put_raw_describe_portal(BYTES(""), out, out_len))
-MESSAGE(raw_close_statement, pgmsg_put_raw_close_statement(BYTES("st"), out, out_len))
-MESSAGE(bare_raw_close_statement, pgmsg_put_raw_close_statement(BYTES(""), out, out_len))
-MESSAGE(raw_close_portal, pgmsg_put_raw_close_portal(BYTES("po\377"), out, out_len))
-MESSAGE(bare_raw_close_portal, pgmsg_put_raw_close_portal(BYTES(""), out, out_len))
-MESSAGE(raw_execute, pgmsg_put_raw_execute(BYTES("po"), UINT32_MAX, out, out_len))
-MESSAGE(bare_raw_execute, pgmsg_put_raw_execute(BYTES(""), 0, out, out_len))
+MESSAGE(password, pgmsg_put_password(BYTES("p\377w"), out, out_len))
+MESSAGE(no_password, pgmsg_put_password(NO_BYTES, out, out_len))
+MESSAGE(md5_password, pgmsg_put_md5_password(digest, out, out_len))
+MESSAGE(sasl_initial, pgmsg_put_sasl_initial(BYTES("OAUTHBEARER"), true, BYTES("n,,\1a\0\377"), out, out_len))
+MESSAGE(bare_initial, pgmsg_put_sasl_initial(BYTES("\377"), false, BYTES("not sent"), out, out_len))
+MESSAGE(empty_initial, pgmsg_put_sasl_initial(NO_BYTES, true, NO_BYTES, out, out_len))
+MESSAGE(sasl_response, pgmsg_put_sasl_response(BYTES("c=bi\377\0"), out, out_len))
+MESSAGE(empty_response, pgmsg_put_sasl_response(NO_BYTES, out, out_len))
+MESSAGE(query, pgmsg_put_query(BYTES("SELECT '\377'"), out, out_len))
+MESSAGE(empty_query, pgmsg_put_query(NO_BYTES, out, out_len))
+MESSAGE(copy_fail, pgmsg_put_copy_fail(BYTES("no\377"), out, out_len))
+MESSAGE(bare_copy_fail, pgmsg_put_copy_fail(NO_BYTES, out, out_len))
+MESSAGE(parse, pgmsg_put_parse(BYTES("st\377"), BYTES("SELECT $1, $2"), types, 2, out, out_len))
+MESSAGE(bare_parse, pgmsg_put_parse(NO_BYTES, NO_BYTES, NO_BYTES, out, out_len))
+MESSAGE(bind, pgmsg_put_bind(BYTES("po\377"), BYTES("st"), codes, 3, values, 3, &codes[2], 1, out, out_len))
+MESSAGE(bare_bind, pgmsg_put_bind(NO_BYTES, NO_BYTES, NO_BYTES, NO_BYTES, NO_BYTES, out, out_len))
+MESSAGE(describe_statement, pgmsg_put_describe('S', BYTES("st\377"), out, out_len))
+MESSAGE(describe_portal, pgmsg_put_describe('P', NO_BYTES, out, out_len))
+MESSAGE(close_statement, pgmsg_put_close('S', NO_BYTES, out, out_len))
+MESSAGE(close_portal, pgmsg_put_close('P', BYTES("po\377"), out, out_len))
+MESSAGE(execute, pgmsg_put_execute(BYTES("po"), UINT32_MAX, out, out_len))
+MESSAGE(bare_execute, pgmsg_put_execute(NO_BYTES, 0, out, out_len))
 MESSAGE(function_call, pgmsg_put_function_call(0x80000001, codes, 3, values, 3, 1, out, out_len))
-MESSAGE(bare_function_call, pgmsg_put_function_call(0, codes, 0, values, 0, 258, out, out_len))
+MESSAGE(bare_function_call, pgmsg_put_function_call(0, NO_BYTES, NO_BYTES, 258, out, out_len))
+MESSAGE(copy_data, pgmsg_put_copy_data(BYTES("1\t2\n"), out, out_len))
+MESSAGE(empty_copy_data, pgmsg_put_copy_data(NO_BYTES, out, out_len))
+MESSAGE(parse_complete, pgmsg_put_no_body('1', out, out_len))
+MESSAGE(bind_complete, pgmsg_put_no_body('2', out, out_len))
+MESSAGE(close_complete, pgmsg_put_no_body('3', out, out_len))
+MESSAGE(flush, pgmsg_put_no_body('H', out, out_len))
+MESSAGE(empty_query_response, pgmsg_put_no_body('I', out, out_len))
+MESSAGE(sync, pgmsg_put_no_body('S', out, out_len))
+MESSAGE(terminate, pgmsg_put_no_body('X', out, out_len))
+MESSAGE(copy_done, pgmsg_put_no_body('c', out, out_len))
+MESSAGE(no_data, pgmsg_put_no_body('n', out, out_len))
+MESSAGE(suspended, pgmsg_put_no_body('s', out, out_len))
 
 static const struct sample samples[] = {
     SAMPLE(startup, "\0\0\0\35" "\0\3\0\0" "user\0" "ann\0" "database\0" "d\0" "\0"),
-    SAMPLE(bare_startup, "\0\0\0\11" "\0\3\0\0" "\0"),
+    SAMPLE(newer_startup, "\0\0\0\14" "\0\3\0\2" "\377\0" "\0" "\0"),
+    SAMPLE(newest_startup, "\0\0\0\11" "\0\3\377\377" "\0"),
     SAMPLE(ssl_request, "\0\0\0\10" "\4\322\26\57"),
-    SAMPLE(password, "p\0\0\0\7" "pw\0"),
-    SAMPLE(md5_password, "p\0\0\0\50" "md5" "000102030405060708090a0b0c0d0eff\0"),
-    SAMPLE(sasl_initial, "p\0\0\0\37" "SCRAM-SHA-256\0" "\0\0\0\11" "n,,n=,r=x"),
-    SAMPLE(sasl_plus, "p\0\0\0\34" "SCRAM-SHA-256-PLUS\0" "\0\0\0\1" "y"),
-    SAMPLE(sasl_response, "p\0\0\0\12" "c=biws"),
-    SAMPLE(terminate, "X\0\0\0\4"),
-    SAMPLE(query, "Q\0\0\0\15" "SELECT 1\0"),
-    SAMPLE(empty_query, "Q\0\0\0\5" "\0"),
-    SAMPLE(describe_statement, "D\0\0\0\17" "S" "sqlx_s_12\0"),
-    SAMPLE(describe_portal, "D\0\0\0\6" "P" "\0"),
-    SAMPLE(close_statement, "C\0\0\0\6" "S" "\0"),
-    SAMPLE(close_portal, "C\0\0\0\27" "P" "sqlx_p_4294967295\0"),
-    SAMPLE(execute, "E\0\0\0\11" "\0" "\0\0\0\144"),
-    SAMPLE(flush, "H\0\0\0\4"),
-    SAMPLE(sync, "S\0\0\0\4"),
-    SAMPLE(parse, "P\0\0\0\35" "sqlx_s_2\0" "SELECT $1\0" "\0\1" "\0\0\0\27"),
-    SAMPLE(bare_parse, "P\0\0\0\10" "\0" "\0" "\0\0"),
-    SAMPLE(bind, "B\0\0\0\50" "\0" "sqlx_s_1\0" "\0\1" "\0\0" "\0\3" "\0\0\0\2" "ab" "\377\377\377\377"
-                 "\0\0\0\0" "\0\2" "\0\1" "\0\0"),
-    SAMPLE(bare_bind, "B\0\0\0\24" "sqlx_p_3\0" "\0" "\0\0" "\0\0" "\0\0"),
-    SAMPLE(batch, "P\0\0\0\21" "\0" "SELECT $1\0" "\0\0"
-                  "B\0\0\0\21" "\0" "\0" "\0\0" "\0\1" "\0\0\0\1" "5" "\0\0"
-                  "D\0\0\0\6" "P" "\0" "E\0\0\0\11" "\0" "\0\0\0\0" "S\0\0\0\4"),
-    SAMPLE(copy_data, "d\0\0\0\10" "1\t2\n"),
-    SAMPLE(empty_copy_data, "d\0\0\0\4"),
-    SAMPLE(copy_done, "c\0\0\0\4"),
-    SAMPLE(copy_fail, "f\0\0\0\7" "no\0"),
+    SAMPLE(gss_enc_request, "\0\0\0\10" "\4\322\26\60"),
     SAMPLE(cancel_request, "\0\0\0\20" "\4\322\26\56" "\0\0\4\322" "\377\0\0\1"),
     SAMPLE(long_cancel_request, "\0\0\0\50" "\4\322\26\56" "\377\377\377\377" "a key of 28 bytes, not of 4\0"),
-    SAMPLE(gss_enc_request, "\0\0\0\10" "\4\322\26\60"),
-    SAMPLE(password_bytes, "p\0\0\0\10" "p\377w\0"),
-    SAMPLE(no_password_bytes, "p\0\0\0\5" "\0"),
-    SAMPLE(mechanism, "p\0\0\0\33" "OAUTHBEARER\0" "\0\0\0\7" "n,,\1a\0\377"),
-    SAMPLE(bare_mechanism, "p\0\0\0\12" "\377\0" "\377\377\377\377"),
-    SAMPLE(empty_response, "p\0\0\0\11" "\0" "\0\0\0\0"),
-    SAMPLE(raw_parse, "P\0\0\0\40" "st\377\0" "SELECT $1, $2\0" "\0\2" "\0\0\0\27" "\377\377\377\377"),
-    SAMPLE(bare_raw_parse, "P\0\0\0\10" "\0" "\0" "\0\0"),
-    SAMPLE(raw_bind, "B\0\0\0\47" "po\377\0" "st\0" "\0\3" "\0\1" "\0\0" "\1\2" "\0\3" "\0\0\0\2" "ab"
-                     "\377\377\377\377" "\0\0\0\0" "\0\1" "\1\2"),
-    SAMPLE(bare_raw_bind, "B\0\0\0\14" "\0" "\0" "\0\0" "\0\0" "\0\0"),
-    SAMPLE(raw_describe_statement, "D\0\0\0\11" "S" "st\377\0"),
-    SAMPLE(bare_raw_describe_statement, "D\0\0\0\6" "S" "\0"),
-    SAMPLE(raw_describe_portal, "D\0\0\0\10" "P" "po\0"),
-    SAMPLE(bare_raw_describe_portal, "D\0\0\0\6" "P" "\0"),
-    SAMPLE(raw_close_statement, "C\0\0\0\10" "S" "st\0"),
-    SAMPLE(bare_raw_close_statement, "C\0\0\0\6" "S" "\0"),
-    SAMPLE(raw_close_portal, "C\0\0\0\11" "P" "po\377\0"),
-    SAMPLE(bare_raw_close_portal, "C\0\0\0\6" "P" "\0"),
-    SAMPLE(raw_execute, "E\0\0\0\13" "po\0" "\377\377\377\377"),
-    SAMPLE(bare_raw_execute, "E\0\0\0\11" "\0" "\0\0\0\0"),
+    SAMPLE(password, "p\0\0\0\10" "p\377w\0"),
+    SAMPLE(no_password, "p\0\0\0\5" "\0"),
+    SAMPLE(md5_password, "p\0\0\0\50" "md5" "000102030405060708090a0b0c0d0eff\0"),
+    SAMPLE(sasl_initial, "p\0\0\0\33" "OAUTHBEARER\0" "\0\0\0\7" "n,,\1a\0\377"),
+    SAMPLE(bare_initial, "p\0\0\0\12" "\377\0" "\377\377\377\377"),
+    SAMPLE(empty_initial, "p\0\0\0\11" "\0" "\0\0\0\0"),
+    SAMPLE(sasl_response, "p\0\0\0\12" "c=bi\377\0"),
+    SAMPLE(empty_response, "p\0\0\0\4"),
+    SAMPLE(query, "Q\0\0\0\17" "SELECT '\377'\0"),
+    SAMPLE(empty_query, "Q\0\0\0\5" "\0"),
+    SAMPLE(copy_fail, "f\0\0\0\10" "no\377\0"),
+    SAMPLE(bare_copy_fail, "f\0\0\0\5" "\0"),
+    SAMPLE(parse, "P\0\0\0\40" "st\377\0" "SELECT $1, $2\0" "\0\2" "\0\0\0\27" "\377\377\377\377"),
+    SAMPLE(bare_parse, "P\0\0\0\10" "\0" "\0" "\0\0"),
+    SAMPLE(bind, "B\0\0\0\47" "po\377\0" "st\0" "\0\3" "\0\1" "\0\0" "\1\2" "\0\3" "\0\0\0\2" "ab"
+                 "\377\377\377\377" "\0\0\0\0" "\0\1" "\1\2"),
+    SAMPLE(bare_bind, "B\0\0\0\14" "\0" "\0" "\0\0" "\0\0" "\0\0"),
+    SAMPLE(describe_statement, "D\0\0\0\11" "S" "st\377\0"),
+    SAMPLE(describe_portal, "D\0\0\0\6" "P" "\0"),
+    SAMPLE(close_statement, "C\0\0\0\6" "S" "\0"),
+    SAMPLE(close_portal, "C\0\0\0\11" "P" "po\377\0"),
+    SAMPLE(execute, "E\0\0\0\13" "po\0" "\377\377\377\377"),
+    SAMPLE(bare_execute, "E\0\0\0\11" "\0" "\0\0\0\0"),
     SAMPLE(function_call, "F\0\0\0\42" "\200\0\0\1" "\0\3" "\0\1" "\0\0" "\1\2" "\0\3" "\0\0\0\2" "ab"
                           "\377\377\377\377" "\0\0\0\0" "\0\1"),
     SAMPLE(bare_function_call, "F\0\0\0\16" "\0\0\0\0" "\0\0" "\0\0" "\1\2"),
+    SAMPLE(copy_data, "d\0\0\0\10" "1\t2\n"),
+    SAMPLE(empty_copy_data, "d\0\0\0\4"),
+    SAMPLE(parse_complete, "1\0\0\0\4"),
+    SAMPLE(bind_complete, "2\0\0\0\4"),
+    SAMPLE(close_complete, "3\0\0\0\4"),
+    SAMPLE(flush, "H\0\0\0\4"),
+    SAMPLE(empty_query_response, "I\0\0\0\4"),
+    SAMPLE(sync, "S\0\0\0\4"),
+    SAMPLE(terminate, "X\0\0\0\4"),
+    SAMPLE(copy_done, "c\0\0\0\4"),
+    SAMPLE(no_data, "n\0\0\0\4"),
+    SAMPLE(suspended, "s\0\0\0\4"),
 };
 
 const struct sample *put_samples(size_t *count)
@@ -189,6 +169,45 @@ static void test_keys(struct tally *tally)
     }
 }
 
+/* Numbered names, each with its NUL where there is room for that, and else not at all. */
+static void test_names(struct tally *tally)
+{
+    static const struct { uint32_t number; const char *statement, *portal; } due[] = {
+        {0, "", ""}, {1, "sqlx_s_1", "sqlx_p_1"}, {99, "sqlx_s_99", "sqlx_p_99"}, {10000, "sqlx_s_10000", "sqlx_p_10000"},
+        {UINT32_MAX, "sqlx_s_4294967295", "sqlx_p_4294967295"},
+    };
+    for (size_t i = 0; i < sizeof due / sizeof *due; i++) {
+        size_t len = strlen(due[i].statement);
+        for (size_t room = 0; room <= len + 2; room++) {
+            size_t written = room > len ? len + 1 : 0;
+            uint8_t out[ROOM];
+            memset(out, UNTOUCHED, sizeof out);
+            CHECK(tally, pgmsg_put_statement_name(due[i].number, out, room) == len);
+            CHECK(tally, memcmp(out, due[i].statement, written) == 0 && are_untouched(out + written, ROOM - written));
+            memset(out, UNTOUCHED, sizeof out);
+            CHECK(tally, pgmsg_put_portal_name(due[i].number, out, room) == len);
+            CHECK(tally, memcmp(out, due[i].portal, written) == 0 && are_untouched(out + written, ROOM - written));
+        }
+    }
+    CHECK(tally, pgmsg_put_statement_name(7, NULL, 0) == 8 && pgmsg_put_portal_name(0, NULL, 0) == 0);
+}
+
+/* Where texts aren't UTF-8: bytes that begin none, characters cut short, longer than they have to be, or of no number. */
+static void test_utf8(struct tally *tally)
+{
+    CHECK(tally, pgmsg_check_utf8(NULL, 0) == 0);
+    CHECK(tally, pgmsg_check_utf8(BYTES("caf\303\251\0")) == 6);
+    CHECK(tally, pgmsg_check_utf8(BYTES("\342\202\254\360\237\230\200\364\217\277\277")) == 11);
+    CHECK(tally, pgmsg_check_utf8(BYTES("a\377b")) == 1);
+    CHECK(tally, pgmsg_check_utf8(BYTES("ab\200")) == 2);
+    CHECK(tally, pgmsg_check_utf8(BYTES("\303")) == 0);
+    CHECK(tally, pgmsg_check_utf8(BYTES("a\342\202")) == 1);
+    CHECK(tally, pgmsg_check_utf8(BYTES("a\342\202a")) == 1);
+    CHECK(tally, pgmsg_check_utf8(BYTES("\300\200")) == 0);
+    CHECK(tally, pgmsg_check_utf8(BYTES("\355\240\200")) == 0);
+    CHECK(tally, pgmsg_check_utf8(BYTES("\364\220\200\200")) == 0);
+}
+
 void test_rooms(struct tally *tally, const struct sample *put, size_t count)
 {
     for (size_t i = 0; i < count; i++) {
@@ -196,6 +215,7 @@ void test_rooms(struct tally *tally, const struct sample *put, size_t count)
         test_room(tally, &put[i], put[i].len);
         test_room(tally, &put[i], put[i].len - 1);
         test_room(tally, &put[i], 0);
+        CHECK(tally, put[i].put(NULL, 0) == (ptrdiff_t)put[i].len);
     }
 }
 
@@ -204,4 +224,6 @@ void test_put(struct tally *tally)
     test_rooms(tally, samples, sizeof samples / sizeof *samples);
     test_heads(tally);
     test_keys(tally);
+    test_names(tally);
+    test_utf8(tally);
 }

@@ -5,15 +5,13 @@
 
 enum { ROOM = 64, TOO_MANY = 65536 };
 
-static const uint8_t no_format[1];
 static const uint16_t no_code[1];
 static const pgmsg_value no_value = {(const uint8_t *)"", 0, true};
 static const uint32_t no_type[1];
 
 /* What the refused messages are made of. */
 struct parts {
-    uint8_t *zeros; /* TOO_MANY formats */
-    uint16_t *codes;
+    uint16_t *codes; /* TOO_MANY of each */
     pgmsg_value *values;
     uint32_t *types;
 };
@@ -25,81 +23,62 @@ struct parts {
 /* Settings that a server would read as others. */
 static void refuse_settings(struct tally *tally)
 {
-    static const pgmsg_setting not_utf8[] = {SETTING("user", "\377")};
     static const pgmsg_setting name[] = {SETTING("user", "a"), SETTING("b\0c", "d")};
     static const pgmsg_setting value[] = {SETTING("user", "a\0b"), SETTING("c", "d")};
     static const pgmsg_setting last[] = {SETTING("user", "a\0")};
     static const pgmsg_setting unnamed[] = {SETTING("user", "a"), SETTING("", "b")};
     static const pgmsg_setting empty[] = {SETTING("", "")};
-    REFUSES(tally, PGMSG_NOT_UTF8, pgmsg_put_startup(not_utf8, 1, out, ROOM));
-    REFUSES(tally, PGMSG_TEXT_HOLDS_NUL, pgmsg_put_startup(name, 2, out, ROOM));
-    REFUSES(tally, PGMSG_TEXT_HOLDS_NUL, pgmsg_put_startup(value, 2, out, ROOM));
-    REFUSES(tally, PGMSG_TEXT_HOLDS_NUL, pgmsg_put_startup(last, 1, out, ROOM));
-    REFUSES(tally, PGMSG_TEXT_HOLDS_NUL, pgmsg_put_startup(unnamed, 2, out, ROOM));
-    REFUSES(tally, PGMSG_TEXT_HOLDS_NUL, pgmsg_put_startup(empty, 1, out, ROOM));
+    REFUSES(tally, PGMSG_TEXT_HOLDS_NUL, pgmsg_put_startup(0, name, 2, out, ROOM));
+    REFUSES(tally, PGMSG_TEXT_HOLDS_NUL, pgmsg_put_startup(0, value, 2, out, ROOM));
+    REFUSES(tally, PGMSG_TEXT_HOLDS_NUL, pgmsg_put_startup(0, last, 1, out, ROOM));
+    REFUSES(tally, PGMSG_TEXT_HOLDS_NUL, pgmsg_put_startup(0, unnamed, 2, out, ROOM));
+    REFUSES(tally, PGMSG_TEXT_HOLDS_NUL, pgmsg_put_startup(0, empty, 1, out, ROOM));
 }
 
+/* Texts that no reader would get back. */
 static void refuse_texts(struct tally *tally)
 {
-    REFUSES(tally, PGMSG_NOT_UTF8, pgmsg_put_password(BYTES("\377"), out, ROOM));
-    REFUSES(tally, PGMSG_NOT_UTF8, pgmsg_put_sasl_initial(BYTES("\377"), false, out, ROOM));
-    REFUSES(tally, PGMSG_NOT_UTF8, pgmsg_put_sasl_response(BYTES("\377"), out, ROOM));
-    REFUSES(tally, PGMSG_NOT_UTF8, pgmsg_put_query(BYTES("\377"), out, ROOM));
-    REFUSES(tally, PGMSG_NOT_UTF8, pgmsg_put_parse(0, BYTES("\377"), no_type, 0, out, ROOM));
-    REFUSES(tally, PGMSG_NOT_UTF8, pgmsg_put_copy_fail(BYTES("\377"), out, ROOM));
-    REFUSES(tally, PGMSG_NOT_UTF8,
-            pgmsg_put_batch(BYTES("\377"), no_format, 0, &no_value, 0, no_format, 0, out, ROOM));
-    REFUSES(tally, PGMSG_TEXT_HOLDS_NUL, pgmsg_put_password(BYTES("a\0b"), out, ROOM));
-    REFUSES(tally, PGMSG_TEXT_HOLDS_NUL, pgmsg_put_query(BYTES("a\0b"), out, ROOM));
-    REFUSES(tally, PGMSG_TEXT_HOLDS_NUL, pgmsg_put_parse(0, BYTES("a\0b"), no_type, 0, out, ROOM));
-    REFUSES(tally, PGMSG_TEXT_HOLDS_NUL, pgmsg_put_copy_fail(BYTES("a\0b"), out, ROOM));
-    REFUSES(tally, PGMSG_TEXT_HOLDS_NUL,
-            pgmsg_put_batch(BYTES("a\0b"), no_format, 0, &no_value, 0, no_format, 0, out, ROOM));
+    REFUSES_NUL(tally, pgmsg_put_password(text, len, out, ROOM));
+    REFUSES_NUL(tally, pgmsg_put_sasl_initial(text, len, true, BYTES("r"), out, ROOM));
+    REFUSES_NUL(tally, pgmsg_put_sasl_initial(text, len, false, BYTES(""), out, ROOM));
+    REFUSES_NUL(tally, pgmsg_put_query(text, len, out, ROOM));
+    REFUSES_NUL(tally, pgmsg_put_copy_fail(text, len, out, ROOM));
+    REFUSES_NUL(tally, pgmsg_put_parse(text, len, BYTES("q"), no_type, 0, out, ROOM));
+    REFUSES_NUL(tally, pgmsg_put_parse(BYTES("s"), text, len, no_type, 1, out, ROOM));
+    REFUSES_NUL(tally, pgmsg_put_bind(text, len, BYTES("s"), no_code, 0, &no_value, 1, no_code, 0, out, ROOM));
+    REFUSES_NUL(tally, pgmsg_put_bind(BYTES("p"), text, len, no_code, 1, &no_value, 0, no_code, 1, out, ROOM));
+    REFUSES_NUL(tally, pgmsg_put_describe('S', text, len, out, ROOM));
+    REFUSES_NUL(tally, pgmsg_put_describe('P', text, len, out, ROOM));
+    REFUSES_NUL(tally, pgmsg_put_close('S', text, len, out, ROOM));
+    REFUSES_NUL(tally, pgmsg_put_close('P', text, len, out, ROOM));
+    REFUSES_NUL(tally, pgmsg_put_execute(text, len, 0, out, ROOM));
 }
 
-/* Free texts of any bytes, which no reader would get back. */
-static void refuse_free_texts(struct tally *tally)
+/* Every kind and tag that isn't known, before what else is wrong, and no other. */
+static void refuse_letters(struct tally *tally)
 {
-    REFUSES_NUL(tally, pgmsg_put_password_bytes(text, len, out, ROOM));
-    REFUSES_NUL(tally, pgmsg_put_sasl_mechanism(text, len, true, BYTES("r"), out, ROOM));
-    REFUSES_NUL(tally, pgmsg_put_sasl_mechanism(text, len, false, BYTES(""), out, ROOM));
-    REFUSES_NUL(tally, pgmsg_put_raw_parse(text, len, BYTES("q"), no_type, 0, out, ROOM));
-    REFUSES_NUL(tally, pgmsg_put_raw_parse(BYTES("s"), text, len, no_type, 1, out, ROOM));
-    REFUSES_NUL(tally, pgmsg_put_raw_bind(text, len, BYTES("s"), no_code, 0, &no_value, 1, no_code, 0, out, ROOM));
-    REFUSES_NUL(tally, pgmsg_put_raw_bind(BYTES("p"), text, len, no_code, 1, &no_value, 0, no_code, 1, out, ROOM));
-    REFUSES_NUL(tally, pgmsg_put_raw_describe_statement(text, len, out, ROOM));
-    REFUSES_NUL(tally, pgmsg_put_raw_describe_portal(text, len, out, ROOM));
-    REFUSES_NUL(tally, pgmsg_put_raw_close_statement(text, len, out, ROOM));
-    REFUSES_NUL(tally, pgmsg_put_raw_close_portal(text, len, out, ROOM));
-    REFUSES_NUL(tally, pgmsg_put_raw_execute(text, len, 0, out, ROOM));
+    for (int letter = 0; letter < 256; letter++) {
+        uint8_t kind = (uint8_t)letter;
+        bool is_kind = kind == 'S' || kind == 'P', has_no_body = kind != 0 && strchr("123HISXcns", kind) != NULL;
+        REFUSES(tally, is_kind ? PGMSG_TEXT_HOLDS_NUL : PGMSG_UNKNOWN_TARGET, pgmsg_put_describe(kind, BYTES("\0"), out, ROOM));
+        REFUSES(tally, is_kind ? PGMSG_TEXT_HOLDS_NUL : PGMSG_UNKNOWN_TARGET, pgmsg_put_close(kind, BYTES("\0"), out, ROOM));
+        REFUSES(tally, has_no_body ? 5 : PGMSG_UNKNOWN_MESSAGE_TYPE, pgmsg_put_no_body(kind, out, 4));
+    }
 }
 
+/* A limit is refused before a NUL. */
 static void refuse_counts(struct tally *tally, const struct parts *parts)
 {
     REFUSES(tally, PGMSG_TOO_MANY_PARAM_FORMATS,
-            pgmsg_put_bind(0, 0, parts->zeros, TOO_MANY, &no_value, 0, no_format, 0, out, ROOM));
+            pgmsg_put_bind(BYTES("\0"), BYTES(""), parts->codes, TOO_MANY, parts->values, TOO_MANY, parts->codes,
+                           TOO_MANY, out, ROOM));
     REFUSES(tally, PGMSG_TOO_MANY_RESULT_FORMATS,
-            pgmsg_put_bind(0, 0, no_format, 0, &no_value, 0, parts->zeros, TOO_MANY, out, ROOM));
+            pgmsg_put_bind(BYTES(""), BYTES("\0"), no_code, 0, parts->values, TOO_MANY, parts->codes, TOO_MANY, out,
+                           ROOM));
     REFUSES(tally, PGMSG_BAD_PARAMS,
-            pgmsg_put_bind(0, 0, no_format, 0, parts->values, TOO_MANY, no_format, 0, out, ROOM));
-    REFUSES(tally, PGMSG_BAD_PARAMS,
-            pgmsg_put_batch(BYTES(""), no_format, 0, parts->values, TOO_MANY, no_format, 0, out, ROOM));
-    REFUSES(tally, PGMSG_TOO_MANY_PARAM_TYPES, pgmsg_put_parse(0, BYTES(""), parts->types, TOO_MANY, out, ROOM));
-}
-
-/* Of messages with free texts. A limit is refused before a NUL. */
-static void refuse_raw_counts(struct tally *tally, const struct parts *parts)
-{
-    REFUSES(tally, PGMSG_TOO_MANY_PARAM_FORMATS,
-            pgmsg_put_raw_bind(BYTES("\0"), BYTES(""), parts->codes, TOO_MANY, parts->values, TOO_MANY, parts->codes,
-                               TOO_MANY, out, ROOM));
-    REFUSES(tally, PGMSG_TOO_MANY_RESULT_FORMATS,
-            pgmsg_put_raw_bind(BYTES(""), BYTES("\0"), no_code, 0, parts->values, TOO_MANY, parts->codes, TOO_MANY, out,
-                               ROOM));
-    REFUSES(tally, PGMSG_BAD_PARAMS,
-            pgmsg_put_raw_bind(BYTES("\0"), BYTES("\0"), no_code, 0, parts->values, TOO_MANY, no_code, 0, out, ROOM));
+            pgmsg_put_bind(BYTES("\0"), BYTES("\0"), no_code, 0, parts->values, TOO_MANY, no_code, 0, out, ROOM));
     REFUSES(tally, PGMSG_TOO_MANY_PARAM_TYPES,
-            pgmsg_put_raw_parse(BYTES("\0"), BYTES("\0"), parts->types, TOO_MANY, out, ROOM));
+            pgmsg_put_parse(BYTES("\0"), BYTES("\0"), parts->types, TOO_MANY, out, ROOM));
     REFUSES(tally, PGMSG_TOO_MANY_PARAM_FORMATS,
             pgmsg_put_function_call(0, parts->codes, TOO_MANY, parts->values, TOO_MANY, 0, out, ROOM));
     REFUSES(tally, PGMSG_BAD_PARAMS,
@@ -110,9 +89,10 @@ static void refuse_raw_counts(struct tally *tally, const struct parts *parts)
 static void compare_with_longest(struct tally *tally, const uint8_t *data)
 {
     COMPARES_LONGEST(tally, 17,
-                     pgmsg_put_raw_bind(BYTES(""), BYTES(""), no_code, 0, passed, 1, no_code, 0, out, ROOM));
+                     pgmsg_put_bind(BYTES(""), BYTES(""), no_code, 0, passed, 1, no_code, 0, out, ROOM));
     COMPARES_LONGEST(tally, 19, pgmsg_put_function_call(0, no_code, 0, passed, 1, 0, out, ROOM));
-    COMPARES_LONGEST(tally, 11, pgmsg_put_sasl_mechanism(BYTES("X"), true, data, n, out, ROOM));
+    COMPARES_LONGEST(tally, 11, pgmsg_put_sasl_initial(BYTES("X"), true, data, n, out, ROOM));
+    COMPARES_LONGEST(tally, 5, pgmsg_put_sasl_response(data, n, out, ROOM));
 }
 
 /* Data that is refused before a byte of it is read. */
@@ -120,20 +100,25 @@ static void refuse_lengths(struct tally *tally, const uint8_t *data)
 {
     const pgmsg_value value = {data, TOO_LONG, false};
 #define REFUSES_LONG(call) REFUSES(tally, PGMSG_MESSAGE_TOO_LONG, call)
+    const pgmsg_setting setting = {(const uint8_t *)"\0", 1, data, TOO_LONG};
+    REFUSES_LONG(pgmsg_put_startup(0, &setting, 1, out, ROOM));
     REFUSES_LONG(pgmsg_put_copy_data(data, TOO_LONG, out, ROOM));
-    REFUSES_LONG(pgmsg_put_password_bytes(data, TOO_LONG, out, ROOM));
-    REFUSES_LONG(pgmsg_put_sasl_mechanism(data, TOO_LONG, false, BYTES(""), out, ROOM));
-    REFUSES_LONG(pgmsg_put_sasl_mechanism(BYTES("\0"), true, data, TOO_LONG, out, ROOM));
-    REFUSES_LONG(pgmsg_put_raw_parse(data, TOO_LONG, BYTES(""), no_type, 0, out, ROOM));
-    REFUSES_LONG(pgmsg_put_raw_parse(BYTES("\0"), data, TOO_LONG, no_type, 0, out, ROOM));
-    REFUSES_LONG(pgmsg_put_raw_bind(data, TOO_LONG, BYTES(""), no_code, 0, &no_value, 0, no_code, 0, out, ROOM));
-    REFUSES_LONG(pgmsg_put_raw_bind(BYTES("\0"), data, TOO_LONG, no_code, 0, &no_value, 0, no_code, 0, out, ROOM));
-    REFUSES_LONG(pgmsg_put_raw_bind(BYTES("\0"), BYTES(""), no_code, 0, &value, 1, no_code, 0, out, ROOM));
-    REFUSES_LONG(pgmsg_put_raw_describe_statement(data, TOO_LONG, out, ROOM));
-    REFUSES_LONG(pgmsg_put_raw_describe_portal(data, TOO_LONG, out, ROOM));
-    REFUSES_LONG(pgmsg_put_raw_close_statement(data, TOO_LONG, out, ROOM));
-    REFUSES_LONG(pgmsg_put_raw_close_portal(data, TOO_LONG, out, ROOM));
-    REFUSES_LONG(pgmsg_put_raw_execute(data, TOO_LONG, 0, out, ROOM));
+    REFUSES_LONG(pgmsg_put_query(data, TOO_LONG, out, ROOM));
+    REFUSES_LONG(pgmsg_put_copy_fail(data, TOO_LONG, out, ROOM));
+    REFUSES_LONG(pgmsg_put_sasl_response(data, TOO_LONG, out, ROOM));
+    REFUSES_LONG(pgmsg_put_password(data, TOO_LONG, out, ROOM));
+    REFUSES_LONG(pgmsg_put_sasl_initial(data, TOO_LONG, false, BYTES(""), out, ROOM));
+    REFUSES_LONG(pgmsg_put_sasl_initial(BYTES("\0"), true, data, TOO_LONG, out, ROOM));
+    REFUSES_LONG(pgmsg_put_parse(data, TOO_LONG, BYTES(""), no_type, 0, out, ROOM));
+    REFUSES_LONG(pgmsg_put_parse(BYTES("\0"), data, TOO_LONG, no_type, 0, out, ROOM));
+    REFUSES_LONG(pgmsg_put_bind(data, TOO_LONG, BYTES(""), no_code, 0, &no_value, 0, no_code, 0, out, ROOM));
+    REFUSES_LONG(pgmsg_put_bind(BYTES("\0"), data, TOO_LONG, no_code, 0, &no_value, 0, no_code, 0, out, ROOM));
+    REFUSES_LONG(pgmsg_put_bind(BYTES("\0"), BYTES(""), no_code, 0, &value, 1, no_code, 0, out, ROOM));
+    REFUSES_LONG(pgmsg_put_describe('S', data, TOO_LONG, out, ROOM));
+    REFUSES_LONG(pgmsg_put_describe('P', data, TOO_LONG, out, ROOM));
+    REFUSES_LONG(pgmsg_put_close('S', data, TOO_LONG, out, ROOM));
+    REFUSES_LONG(pgmsg_put_close('P', data, TOO_LONG, out, ROOM));
+    REFUSES_LONG(pgmsg_put_execute(data, TOO_LONG, 0, out, ROOM));
     REFUSES_LONG(pgmsg_put_function_call(0, no_code, 0, &value, 1, 0, out, ROOM));
 #undef REFUSES_LONG
     REFUSES(tally, PGMSG_BAD_KEY_LENGTH, pgmsg_put_cancel_request(1, data, TOO_LONG, out, ROOM));
@@ -141,11 +126,10 @@ static void refuse_lengths(struct tally *tally, const uint8_t *data)
 
 static bool make_parts(struct parts *parts)
 {
-    parts->zeros = calloc(TOO_MANY, sizeof *parts->zeros);
     parts->codes = calloc(TOO_MANY, sizeof *parts->codes);
     parts->values = calloc(TOO_MANY, sizeof *parts->values);
     parts->types = calloc(TOO_MANY, sizeof *parts->types);
-    if (parts->zeros == NULL || parts->codes == NULL || parts->values == NULL || parts->types == NULL)
+    if (parts->codes == NULL || parts->values == NULL || parts->types == NULL)
         return false;
     for (size_t i = 0; i < TOO_MANY; i++)
         parts->values[i] = no_value;
@@ -159,14 +143,11 @@ void test_put_faults(struct tally *tally)
     CHECK(tally, is_made);
     refuse_settings(tally);
     refuse_texts(tally);
-    refuse_free_texts(tally);
+    refuse_letters(tally);
     with_zeros(tally, TOO_LONG, refuse_lengths);
     with_zeros(tally, TOO_LONG, compare_with_longest);
-    if (is_made) {
+    if (is_made)
         refuse_counts(tally, &parts);
-        refuse_raw_counts(tally, &parts);
-    }
-    free(parts.zeros);
     free(parts.codes);
     free(parts.values);
     free(parts.types);

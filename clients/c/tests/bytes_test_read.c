@@ -22,17 +22,54 @@ static bool is_fault(const pgmsg_fault *fault, int32_t number, size_t at)
 
 static void test_frames(struct tally *tally)
 {
-    pgmsg_frame frame;
+    pgmsg_frame frame = {7, {8, 9}, 10};
     pgmsg_fault fault;
+    CHECK(tally, pgmsg_next_frame(NULL, 0, &frame, &fault) == 0 && frame.tag == 7 && frame.length == 5);
+    CHECK(tally, pgmsg_next_frame(BYTES("v\0\0\0"), &frame, &fault) == 0 && frame.tag == 'v' && frame.length == 5);
+    CHECK(tally, pgmsg_next_frame(BYTES("w\0\0\1\0a"), &frame, &fault) == 0 && frame.tag == 'w');
+    CHECK(tally, frame.length == 257 && frame.body.at == 8 && frame.body.len == 9);
     CHECK(tally, pgmsg_next_frame(BYTES("Z\0\0\0\5IZ\0"), &frame, &fault) == 1);
     CHECK(tally, frame.tag == 'Z' && frame.length == 6 && frame.body.at == 5 && frame.body.len == 1);
-    CHECK(tally, pgmsg_next_frame(BYTES("1\0\0\0\4"), &frame, &fault) == 1);
-    CHECK(tally, frame.tag == '1' && frame.length == 5 && frame.body.len == 0);
-    CHECK(tally, pgmsg_next_frame(BYTES(""), &frame, &fault) == 0 && frame.length == 5);
-    CHECK(tally, pgmsg_next_frame(BYTES("Z\0\0"), &frame, &fault) == 0 && frame.length == 5);
-    CHECK(tally, pgmsg_next_frame(BYTES("D\0\0\1\0\0"), &frame, &fault) == 0 && frame.length == 257);
-    CHECK(tally, pgmsg_next_frame(BYTES("Z\0\0\0\3"), &frame, &fault) == PGMSG_BAD_LENGTH);
+    CHECK(tally, pgmsg_next_frame(BYTES("\0\0\0\0\4"), &frame, &fault) == 1);
+    CHECK(tally, frame.tag == 0 && frame.length == 5 && frame.body.len == 0);
+    CHECK(tally, pgmsg_next_frame(BYTES("v\0\0\0\3"), &frame, &fault) == PGMSG_BAD_LENGTH && frame.tag == 0);
     CHECK(tally, pgmsg_next_frame(BYTES("Z\377\377\377\377"), &frame, &fault) == PGMSG_BAD_LENGTH);
+}
+
+/* Whether a frame has this tag, and a body of so many bytes at this place. */
+static bool is_frame(const pgmsg_frame *frame, uint8_t tag, size_t at, size_t len)
+{
+    return frame->tag == tag && frame->body.at == at && frame->body.len == len && frame->length == len + 5;
+}
+
+/* Three messages, of which fewer are whole or have room, and a length that is too small at the front and after them. */
+static void test_many_frames(struct tally *tally)
+{
+    static const char stream[] = "D\0\0\0\6ab" "1\0\0\0\4" "Z\0\0\0\5I";
+    static const size_t ends[] = {0, 7, 12, 18};
+    for (size_t len = 0; len < sizeof stream; len++) {
+        for (size_t room = 0; room <= 4; room++) {
+            size_t due = 0;
+            while (due < 3 && due < room && ends[due + 1] <= len)
+                due++;
+            pgmsg_frame frames[4];
+            pgmsg_fault fault;
+            memset(frames, UNTOUCHED, sizeof frames);
+            memset(&fault, UNTOUCHED, sizeof fault);
+            CHECK(tally, pgmsg_next_frames((const uint8_t *)stream, len, frames, room, &fault) == (ptrdiff_t)due);
+            CHECK(tally, due < 1 || is_frame(&frames[0], 'D', 5, 2));
+            CHECK(tally, due < 2 || is_frame(&frames[1], '1', 12, 0));
+            CHECK(tally, due < 3 || is_frame(&frames[2], 'Z', 17, 1));
+            CHECK(tally, are_untouched(&frames[due], (4 - due) * sizeof *frames) && are_untouched(&fault, sizeof fault));
+        }
+    }
+    pgmsg_frame frames[2] = {{7, {8, 9}, 10}, {7, {8, 9}, 10}};
+    pgmsg_fault fault;
+    CHECK(tally, pgmsg_next_frames(BYTES("1\0\0\0\4Z\0\0\0\3"), frames, 2, &fault) == 1 && frames[1].tag == 7);
+    CHECK(tally, pgmsg_next_frames(BYTES("Z\0\0\0\3"), frames + 1, 1, &fault) == PGMSG_BAD_LENGTH && frames[1].tag == 7);
+    CHECK(tally, is_fault(&fault, PGMSG_BAD_LENGTH, 0));
+    CHECK(tally, pgmsg_next_frames(BYTES("Z\0\0\0\3"), NULL, 0, &fault) == 0);
+    CHECK(tally, pgmsg_next_frames(NULL, 0, frames, 2, &fault) == 0);
 }
 
 static void test_rows(struct tally *tally)
@@ -59,12 +96,12 @@ static void test_rows(struct tally *tally)
 
 static void test_columns(struct tally *tally)
 {
-    static const char body[] = "\0\2" "id\0" "\0\0\100\1" "\0\1" "\0\0\0\27" "\0\4" "\377\377\377\377" "\0\0"
+    static const char body[] = "\0\2" "\351d\0" "\0\0\100\1" "\0\1" "\0\0\0\27" "\0\4" "\377\377\377\377" "\0\0"
                                "n\0" "\0\0\0\0" "\0\0" "\0\0\0\31" "\377\377" "\0\0\0\24" "\0\1";
     pgmsg_column columns[2], untouched;
     pgmsg_fault fault;
     CHECK(tally, pgmsg_read_columns(BYTES(body), columns, 2, &fault) == 2);
-    CHECK(tally, is_at(body, columns[0].name, "id") && is_at(body, columns[1].name, "n"));
+    CHECK(tally, is_at(body, columns[0].name, "\351d") && is_at(body, columns[1].name, "n"));
     CHECK(tally, columns[0].table == 16385 && columns[0].attribute == 1);
     CHECK(tally, columns[0].type_id == 23 && columns[0].type_size == 4);
     CHECK(tally, columns[0].type_modifier == -1 && columns[0].format == 0);
@@ -132,31 +169,105 @@ static void test_notifications(struct tally *tally)
 
 static void test_settings(struct tally *tally)
 {
-    static const char body[] = "TimeZone\0" "UTC\0";
+    static const char body[] = "TimeZone\0" "caf\351\0";
     pgmsg_parameter_status status;
-    pgmsg_key_data key;
     pgmsg_fault fault;
     CHECK(tally, pgmsg_read_parameter_status(BYTES(body), &status, &fault) == 0);
-    CHECK(tally, is_at(body, status.name, "TimeZone") && is_at(body, status.value, "UTC"));
+    CHECK(tally, is_at(body, status.name, "TimeZone") && is_at(body, status.value, "caf\351"));
     CHECK(tally, pgmsg_read_parameter_status(BYTES("a\0b"), &status, &fault) == PGMSG_MISSING_NUL);
-    CHECK(tally, pgmsg_read_parameter_status(BYTES("a\0\377\0"), &status, &fault) == PGMSG_NOT_UTF8);
-    CHECK(tally, pgmsg_read_key_data(BYTES("\0\0\4\322" "\377\0\0\1"), &key, &fault) == 0);
-    CHECK(tally, key.process_id == 1234 && key.secret_key == 0xff000001);
-    CHECK(tally, pgmsg_read_key_data(BYTES("\0\0\4\322" "\377\0\0"), &key, &fault) == PGMSG_SHORT);
+    CHECK(tally, fault.at == 2 && is_at(body, status.name, "TimeZone"));
 }
 
-static void test_ends(struct tally *tally)
+static void test_keys(struct tally *tally)
+{
+    uint8_t body[4 + 257] = {0, 0, 4, 210};
+    pgmsg_key_data key;
+    pgmsg_fault fault;
+    for (size_t len = 0; len <= 257; len++) {
+        int32_t due = len >= 4 && len <= 256 ? 0 : PGMSG_BAD_KEY_LENGTH;
+        memset(&key, UNTOUCHED, sizeof key);
+        CHECK(tally, pgmsg_read_key_data(body, 4 + len, &key, &fault) == due);
+        if (due == 0)
+            CHECK(tally, key.process_id == 1234 && key.secret_key.at == 4 && key.secret_key.len == len);
+        else
+            CHECK(tally, are_untouched(&key, sizeof key));
+    }
+    CHECK(tally, pgmsg_read_key_data(body, 3, &key, &fault) == PGMSG_SHORT);
+}
+
+static void test_commands(struct tally *tally)
+{
+    static const char body[] = "INSERT 0 42\0";
+    pgmsg_command command = {{7, 7}, 7};
+    pgmsg_fault fault;
+    CHECK(tally, pgmsg_read_command_complete(BYTES(body), &command, &fault) == 0);
+    CHECK(tally, is_at(body, command.tag, "INSERT 0 42") && command.rows == 42);
+    CHECK(tally, pgmsg_read_command_complete(BYTES("COPY 18446744073709551615\0"), &command, &fault) == 0);
+    CHECK(tally, command.tag.len == 25 && command.rows == UINT64_MAX);
+    CHECK(tally, pgmsg_read_command_complete(BYTES("\377\0B\0"), &command, &fault) == 0);
+    CHECK(tally, command.tag.at == 0 && command.tag.len == 1 && command.rows == 0);
+    CHECK(tally, pgmsg_read_command_complete(BYTES("\0"), &command, &fault) == 0 && command.tag.len == 0);
+    CHECK(tally, pgmsg_read_command_complete(BYTES("BEGIN 1"), &command, &fault) == PGMSG_MISSING_NUL);
+    CHECK(tally, fault.at == 0 && command.tag.len == 0 && command.rows == 0);
+}
+
+static void test_ready(struct tally *tally)
 {
     pgmsg_fault fault;
-    CHECK(tally, pgmsg_read_rows_affected(BYTES("INSERT 0 42\0")) == 42);
-    CHECK(tally, pgmsg_read_rows_affected(BYTES("COPY 18446744073709551615\0")) == UINT64_MAX);
-    CHECK(tally, pgmsg_read_rows_affected(BYTES("BEGIN\0")) == 0);
-    CHECK(tally, pgmsg_read_rows_affected(BYTES("")) == 0);
     CHECK(tally, pgmsg_read_ready(BYTES("I"), &fault) == 'I');
     CHECK(tally, pgmsg_read_ready(BYTES("T"), &fault) == 'T');
     CHECK(tally, pgmsg_read_ready(BYTES("E"), &fault) == 'E');
     CHECK(tally, pgmsg_read_ready(BYTES("Q"), &fault) == PGMSG_UNKNOWN_STATUS);
     CHECK(tally, pgmsg_read_ready(BYTES(""), &fault) == PGMSG_SHORT);
+}
+
+static void test_ends(struct tally *tally)
+{
+    pgmsg_fault fault;
+    CHECK(tally, pgmsg_read_end('Z', BYTES("I"), &fault) == 1 && pgmsg_read_end('Z', BYTES("I!"), &fault) == 1);
+    CHECK(tally, pgmsg_read_end('1', BYTES("!"), &fault) == 0);
+    CHECK(tally, pgmsg_read_end('R', BYTES("\0\0\0\12" "A\0" "\351\0" "\0" "!"), &fault) == 9);
+    CHECK(tally, pgmsg_read_end('R', BYTES("\0\0\0\10" "token"), &fault) == 9);
+    CHECK(tally, pgmsg_read_end('R', BYTES("\0\0\0\12" "A\0"), &fault) == PGMSG_MISSING_NUL && fault.at == 6);
+    CHECK(tally, pgmsg_read_end('N', BYTES("VNOTICE\0" "\0" "!"), &fault) == 9);
+    CHECK(tally, pgmsg_read_end('N', BYTES("VNOTICE\0"), &fault) == PGMSG_SHORT && fault.at == 8);
+    CHECK(tally, pgmsg_read_end('D', BYTES("\0\1" "\377\377\377\377" "!"), &fault) == 6);
+    CHECK(tally, pgmsg_read_end('H', BYTES("\0" "\377\377" "!"), &fault) == 3);
+    CHECK(tally, pgmsg_read_end('v', BYTES(""), &fault) == PGMSG_UNKNOWN_MESSAGE_TYPE);
+}
+
+static void test_results(struct tally *tally)
+{
+    pgmsg_cell value = {7, 7};
+    pgmsg_fault fault;
+    CHECK(tally, pgmsg_read_function_result(BYTES("\0\0\0\2" "ab" "!"), &value, &fault) == 0);
+    CHECK(tally, value.at == 4 && value.len == 2);
+    CHECK(tally, pgmsg_read_function_result(BYTES("\0\0\0\0"), &value, &fault) == 0 && value.at == 4 && value.len == 0);
+    CHECK(tally, pgmsg_read_function_result(BYTES("\377\377\377\377"), &value, &fault) == 0 && value.len == -1);
+    CHECK(tally, pgmsg_read_function_result(BYTES("\0\0\0\2" "a"), &value, &fault) == PGMSG_SHORT && fault.at == 4);
+    CHECK(tally, pgmsg_read_function_result(BYTES("\0\0"), &value, &fault) == PGMSG_SHORT && value.len == -1);
+}
+
+static void test_negotiations(struct tally *tally)
+{
+    static const char body[] = "\0\3\0\2" "\0\0\0\3" "_pq_.a\0" "\0" "\351\0" "!";
+    pgmsg_negotiation version = {7, 7};
+    pgmsg_span options[4];
+    pgmsg_fault fault;
+    memset(options, UNTOUCHED, sizeof options);
+    CHECK(tally, pgmsg_read_negotiate_version(BYTES(body), &version, options, 4, &fault) == 3);
+    CHECK(tally, version.major == 3 && version.minor == 2);
+    CHECK(tally, is_at(body, options[0], "_pq_.a") && options[1].len == 0 && is_at(body, options[2], "\351"));
+    CHECK(tally, are_untouched(&options[3], sizeof *options));
+    memset(options, UNTOUCHED, sizeof options);
+    CHECK(tally, pgmsg_read_negotiate_version(BYTES(body), &version, options, 1, &fault) == 3);
+    CHECK(tally, is_at(body, options[0], "_pq_.a") && are_untouched(&options[1], 3 * sizeof *options));
+    CHECK(tally, pgmsg_read_negotiate_version(BYTES("\0\0\377\376" "\0\0\0\0"), &version, NULL, 0, &fault) == 0);
+    CHECK(tally, version.major == 0 && version.minor == 65534);
+    CHECK(tally, pgmsg_read_negotiate_version(BYTES("\0\3\0\2" "\377\377\377\377" "a\0b"), &version, options, 4, &fault) == PGMSG_MISSING_NUL);
+    CHECK(tally, fault.at == 10 && version.minor == 65534);
+    CHECK(tally, pgmsg_read_negotiate_version(BYTES("\0\3\0\2" "\0\0"), &version, options, 4, &fault) == PGMSG_SHORT && fault.at == 4);
+    CHECK(tally, pgmsg_read_negotiate_version(BYTES("\0\3\0"), &version, options, 4, &fault) == PGMSG_SHORT && fault.at == 0);
 }
 
 static void test_copies(struct tally *tally)
@@ -176,12 +287,18 @@ static void test_copies(struct tally *tally)
 void test_read(struct tally *tally)
 {
     test_frames(tally);
+    test_many_frames(tally);
     test_rows(tally);
     test_columns(tally);
     test_types(tally);
     test_fields(tally);
     test_notifications(tally);
     test_settings(tally);
-    test_ends(tally);
+    test_keys(tally);
+    test_commands(tally);
+    test_ready(tally);
     test_copies(tally);
+    test_results(tally);
+    test_negotiations(tally);
+    test_ends(tally);
 }

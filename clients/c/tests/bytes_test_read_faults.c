@@ -7,14 +7,6 @@ static const char notice_not_utf8[] =
     "during authentication and the default lc_messages locale is not binary-compatible with UTF-8. See the server logs "
     "for the error details.";
 
-/* The words of a number, and zeros after them. */
-static bool is_text(pgmsg_text text, const char *words)
-{
-    char due[sizeof text.text] = {0};
-    memcpy(due, words, strlen(words));
-    return memcmp(text.text, due, sizeof due) == 0;
-}
-
 /* The words of the numbers from -1 down, of what comes after them, and of what is no refusal. */
 static void words_of_numbers(struct tally *tally)
 {
@@ -31,29 +23,30 @@ static void words_of_numbers(struct tally *tally)
     };
     int32_t count = sizeof words / sizeof words[0];
     for (int32_t i = 0; i < count; i++)
-        CHECK(tally, is_text(pgmsg_strerror(-1 - i), words[i]));
+        CHECK(tally, strcmp(pgmsg_strerror(-1 - i), words[i]) == 0);
     CHECK(tally, count == 1 - PGMSG_FRAME_TOO_LONG);
-    CHECK(tally, is_text(pgmsg_strerror(INT32_MIN), "unknown error"));
-    CHECK(tally, is_text(pgmsg_strerror(0), "no error"));
-    CHECK(tally, is_text(pgmsg_strerror(INT32_MAX), "no error"));
-    CHECK(tally, is_text(pgmsg_version(), PGMSG_VERSION));
+    CHECK(tally, strcmp(pgmsg_strerror(INT32_MIN), "unknown error") == 0);
+    CHECK(tally, strcmp(pgmsg_strerror(0), "no error") == 0);
+    CHECK(tally, strcmp(pgmsg_strerror(INT32_MAX), "no error") == 0);
+    CHECK(tally, strcmp(pgmsg_version(), PGMSG_VERSION) == 0);
 }
 
 static void words_of_streams(struct tally *tally)
 {
     pgmsg_frame frame;
-    REFUSES(tally, PGMSG_UNKNOWN_MESSAGE_TYPE, 0, "unknown message type: 118",
-            pgmsg_next_frame(BYTES("v\0\0\0\4"), &frame, &fault));
-    REFUSES(tally, PGMSG_UNKNOWN_MESSAGE_TYPE, 0, "unknown message type: 118",
-            pgmsg_next_frame(BYTES("v\0\0\0\3"), &frame, &fault));
     REFUSES(tally, PGMSG_BAD_LENGTH, 0, "bad message length: 3", pgmsg_next_frame(BYTES("Z\0\0\0\3"), &frame, &fault));
     REFUSES(tally, PGMSG_BAD_LENGTH, 0, "bad message length: -1",
             pgmsg_next_frame(BYTES("1\377\377\377\377"), &frame, &fault));
+    REFUSES(tally, PGMSG_BAD_LENGTH, 0, "bad message length: 0", pgmsg_next_frames(BYTES("!\0\0\0\0"), &frame, 1, &fault));
+    REFUSES(tally, PGMSG_UNKNOWN_MESSAGE_TYPE, 0, "unknown message type: 118", pgmsg_read_end('v', BYTES(""), &fault));
 }
 
 static void words_of_bodies(struct tally *tally)
 {
     pgmsg_key_data key;
+    pgmsg_command command;
+    pgmsg_negotiation version;
+    pgmsg_span option;
     pgmsg_notification notification;
     pgmsg_parameter_status status;
     pgmsg_cell cell;
@@ -62,8 +55,16 @@ static void words_of_bodies(struct tally *tally)
     uint32_t type;
     int16_t code;
     REFUSES(tally, PGMSG_UNKNOWN_STATUS, 0, "unknown transaction status: 81", pgmsg_read_ready(BYTES("Q"), &fault));
-    REFUSES(tally, PGMSG_SHORT, 4, "expected 4 bytes at offset 4, got 2",
+    REFUSES(tally, PGMSG_BAD_KEY_LENGTH, 0, "secret key length out of range for protocol: 2",
             pgmsg_read_key_data(BYTES("\0\0\x27\xc6\x89\x52"), &key, &fault));
+    REFUSES(tally, PGMSG_MISSING_NUL, 0, "expected NUL after offset 0",
+            pgmsg_read_command_complete(BYTES("BEGIN"), &command, &fault));
+    REFUSES(tally, PGMSG_SHORT, 4, "expected 3 bytes at offset 4, got 2",
+            pgmsg_read_function_result(BYTES("\0\0\0\3ab"), &cell, &fault));
+    REFUSES(tally, PGMSG_SHORT, 0, "expected 4 bytes at offset 0, got 3",
+            pgmsg_read_negotiate_version(BYTES("\0\3\0"), &version, &option, 1, &fault));
+    REFUSES(tally, PGMSG_MISSING_NUL, 8, "expected NUL after offset 8",
+            pgmsg_read_negotiate_version(BYTES("\0\3\0\2" "\0\0\0\1" "a"), &version, &option, 1, &fault));
     REFUSES(tally, PGMSG_SHORT, 6, "expected 5 bytes at offset 6, got 2",
             pgmsg_read_row(BYTES("\0\1\0\0\0\5ab"), &cell, 1, &fault));
     REFUSES(tally, PGMSG_SHORT, 2, "expected 4 bytes at offset 2, got 2",
@@ -74,29 +75,41 @@ static void words_of_bodies(struct tally *tally)
             pgmsg_read_columns(BYTES("\377\377"), &column, 1, &fault));
     REFUSES(tally, PGMSG_MISSING_NUL, 6, "expected NUL after offset 6",
             pgmsg_read_notification(BYTES("\0\0\0\1a\0b"), &notification, &fault));
-    REFUSES(tally, PGMSG_NOT_UTF8, 0, "text is not UTF-8",
-            pgmsg_read_parameter_status(BYTES("a\0\377\0"), &status, &fault));
+    REFUSES(tally, PGMSG_MISSING_NUL, 2, "expected NUL after offset 2",
+            pgmsg_read_parameter_status(BYTES("a\0b"), &status, &fault));
     REFUSES(tally, PGMSG_UNKNOWN_SEVERITY, 0, "unknown severity", pgmsg_read_severity(BYTES("VFOO\0\0"), &fault));
     REFUSES(tally, PGMSG_NOTICE_NOT_UTF8, 0, notice_not_utf8, pgmsg_read_severity(BYTES("M\377\0\0"), &fault));
 }
+
+/* What is said of a body of another method, by its number. */
+static const char *const unknown_methods[] = {
+    [0] = "unknown authentication method: 0", [3] = "unknown authentication method: 3",
+    [5] = "unknown authentication method: 5", [10] = "unknown authentication method: 10",
+};
 
 static void words_of_logins(struct tally *tally)
 {
     pgmsg_authentication authentication;
     pgmsg_challenge challenge;
     uint8_t salt[8], nonce[8], verifier[8];
-    REFUSES(tally, PGMSG_UNKNOWN_AUTHENTICATION, 0, "unknown authentication method: 7",
-            pgmsg_read_authentication(BYTES("\0\0\0\7"), &authentication, &fault));
+    REFUSES(tally, PGMSG_SHORT, 0, "expected 4 bytes at offset 0, got 2",
+            pgmsg_read_authentication(BYTES("\0\0"), &authentication, &fault));
+    for (uint8_t method = 0; method < 11; method++) {
+        const uint8_t body[] = {0, 0, 0, method, 0, 0, 0, 0};
+        if (unknown_methods[method] != NULL)
+            REFUSES(tally, PGMSG_UNKNOWN_AUTHENTICATION, 0, unknown_methods[method],
+                    pgmsg_read_verifier(body, sizeof body, verifier, sizeof verifier, &fault));
+    }
     REFUSES(tally, PGMSG_UNKNOWN_AUTHENTICATION, 0, "unknown authentication method: 12",
             pgmsg_read_challenge(BYTES("\0\0\0\x0cv="), &challenge, salt, sizeof salt, nonce, sizeof nonce, &fault));
     REFUSES(tally, PGMSG_UNKNOWN_AUTHENTICATION, 0, "unknown authentication method: 11",
             pgmsg_read_verifier(BYTES("\0\0\0\x0br="), verifier, sizeof verifier, &fault));
     REFUSES(tally, PGMSG_SHORT_SASL_ITEM, 0, "SASL item of fewer than two bytes",
-            pgmsg_read_authentication(BYTES("\0\0\0\x0br"), &authentication, &fault));
+            pgmsg_read_challenge(BYTES("\0\0\0\x0br"), &challenge, salt, sizeof salt, nonce, sizeof nonce, &fault));
     REFUSES(tally, PGMSG_BASE64, 0, "SASL value is not base64",
             pgmsg_read_challenge(BYTES("\0\0\0\x0bs=*"), &challenge, salt, sizeof salt, nonce, sizeof nonce, &fault));
     REFUSES(tally, PGMSG_BASE64, 0, "SASL value is not base64",
-            pgmsg_read_authentication(BYTES("\0\0\0\x0cv=*"), &authentication, &fault));
+            pgmsg_read_verifier(BYTES("\0\0\0\x0cv=*"), verifier, sizeof verifier, &fault));
 }
 
 /* Bodies that are refused before a byte of them is read. */
@@ -110,6 +123,9 @@ static void words_of_long_bodies(struct tally *tally, const uint8_t *body)
     pgmsg_notification notification;
     pgmsg_parameter_status status;
     pgmsg_key_data key;
+    pgmsg_command command;
+    pgmsg_negotiation version;
+    pgmsg_span option;
     pgmsg_authentication authentication;
     pgmsg_challenge challenge;
     uint8_t salt[8], nonce[8], verifier[8];
@@ -122,6 +138,10 @@ static void words_of_long_bodies(struct tally *tally, const uint8_t *body)
     REFUSES_LONG(pgmsg_read_notification(body, TOO_LONG, &notification, &fault));
     REFUSES_LONG(pgmsg_read_parameter_status(body, TOO_LONG, &status, &fault));
     REFUSES_LONG(pgmsg_read_key_data(body, TOO_LONG, &key, &fault));
+    REFUSES_LONG(pgmsg_read_command_complete(body, TOO_LONG, &command, &fault));
+    REFUSES_LONG(pgmsg_read_function_result(body, TOO_LONG, &cell, &fault));
+    REFUSES_LONG(pgmsg_read_negotiate_version(body, TOO_LONG, &version, &option, 1, &fault));
+    REFUSES_LONG(pgmsg_read_end('1', body, TOO_LONG, &fault));
     REFUSES_LONG(pgmsg_read_ready(body, TOO_LONG, &fault));
     REFUSES_LONG(pgmsg_read_authentication(body, TOO_LONG, &authentication, &fault));
     REFUSES_LONG(pgmsg_read_challenge(body, TOO_LONG, &challenge, salt, sizeof salt, nonce, sizeof nonce, &fault));
@@ -138,7 +158,7 @@ static void what_is_left_alone(struct tally *tally)
     memset(&frame, UNTOUCHED, sizeof frame);
     memset(&before, UNTOUCHED, sizeof before);
     CHECK(tally, pgmsg_next_frame(BYTES("D\0\0\0\x0a"), &frame, &fault) == 0);
-    CHECK(tally, frame.length == 11 && frame.tag == before.tag);
+    CHECK(tally, frame.length == 11 && frame.tag == 'D');
     CHECK(tally, frame.body.at == before.body.at && frame.body.len == before.body.len);
     CHECK(tally, pgmsg_read_ready(BYTES("I"), &fault) == 'I');
     CHECK(tally, are_untouched(&fault, sizeof fault));

@@ -5,31 +5,34 @@
 
 static void test_methods(struct tally *tally)
 {
+    static const char body[] = "\0\0\0\10" "token";
     pgmsg_authentication asked;
     pgmsg_fault fault;
     CHECK(tally, pgmsg_read_authentication(BYTES("\0\0\0\0"), &asked, &fault) == 0 && asked.method == 0);
-    CHECK(tally, pgmsg_read_authentication(BYTES("\0\0\0\3"), &asked, &fault) == 0 && asked.method == 3);
+    CHECK(tally, asked.content.at == 4 && asked.content.len == 0);
     CHECK(tally, pgmsg_read_authentication(BYTES("\0\0\0\5" "\1\2\3\4"), &asked, &fault) == 0);
-    CHECK(tally, asked.method == 5 && memcmp(asked.salt, "\1\2\3\4", 4) == 0);
-    CHECK(tally, pgmsg_read_authentication(BYTES("\0\0\0\5" "\1\2\3"), &asked, &fault) == PGMSG_SHORT);
-    CHECK(tally, pgmsg_read_authentication(BYTES("\0\0\0\12" "\0"), &asked, &fault) == 0 && asked.method == 10);
-    CHECK(tally, pgmsg_read_authentication(BYTES("\0\0\0\7"), &asked, &fault) == PGMSG_UNKNOWN_AUTHENTICATION);
-    CHECK(tally, fault.number == PGMSG_UNKNOWN_AUTHENTICATION && fault.words_len > 0);
-    CHECK(tally, pgmsg_read_authentication(BYTES("\0\0"), &asked, &fault) == PGMSG_SHORT);
+    CHECK(tally, asked.method == 5 && asked.content.at == 4 && asked.content.len == 4);
+    CHECK(tally, pgmsg_read_authentication(BYTES(body), &asked, &fault) == 0);
+    CHECK(tally, asked.method == 8 && are_bytes((const uint8_t *)body + asked.content.at, asked.content.len, "token", 5));
+    CHECK(tally, pgmsg_read_authentication(BYTES("\377\0\0\1"), &asked, &fault) == 0 && asked.method == 0xff000001);
+    CHECK(tally, pgmsg_read_authentication(BYTES("\0\0\0\13" "r"), &asked, &fault) == 0);
+    CHECK(tally, asked.method == 11 && asked.content.len == 1);
+    CHECK(tally, pgmsg_read_authentication(BYTES("\0\0\0"), &asked, &fault) == PGMSG_SHORT);
+    CHECK(tally, asked.method == 11 && fault.at == 0);
 }
 
 static void test_mechanisms(struct tally *tally)
 {
-    static const char body[] = "\0\0\0\12" "SCRAM-SHA-256-PLUS\0" "SCRAM-SHA-256\0" "\0";
+    static const char body[] = "\0\0\0\12" "SCRAM-SHA-256-PLUS\0" "caf\351\0" "\0";
     pgmsg_span spans[3];
-    memset(spans, 0xaa, sizeof spans);
-    pgmsg_span untouched = spans[2];
+    memset(spans, UNTOUCHED, sizeof spans);
     CHECK(tally, pgmsg_read_mechanisms(BYTES(body), spans, 3) == 2);
     CHECK(tally, are_bytes((const uint8_t *)body + spans[0].at, spans[0].len, "SCRAM-SHA-256-PLUS", 18));
-    CHECK(tally, are_bytes((const uint8_t *)body + spans[1].at, spans[1].len, "SCRAM-SHA-256", 13));
-    CHECK(tally, spans[2].at == untouched.at && spans[2].len == untouched.len);
-    spans[1] = untouched;
-    CHECK(tally, pgmsg_read_mechanisms(BYTES(body), spans, 1) == 2 && spans[1].at == untouched.at);
+    CHECK(tally, are_bytes((const uint8_t *)body + spans[1].at, spans[1].len, "caf\351", 4));
+    CHECK(tally, are_untouched(&spans[2], sizeof *spans));
+    memset(spans, UNTOUCHED, sizeof spans);
+    CHECK(tally, pgmsg_read_mechanisms(BYTES(body), spans, 1) == 2 && are_untouched(&spans[1], 2 * sizeof *spans));
+    CHECK(tally, pgmsg_read_mechanisms(BYTES("\0\0\0\12" "A"), spans, 3) == 0);
     CHECK(tally, pgmsg_read_mechanisms(BYTES("\0\0"), spans, 3) == 0);
 }
 

@@ -7,16 +7,15 @@ static const pgmsg_bytes mechanisms[] = {
     {BYTES("\377")},
 };
 
-static const pgmsg_bytes options[] = {{BYTES("_pq_.a")}, {BYTES("")}, {BYTES("\377b")}};
+static const pgmsg_bytes options[] = {{BYTES("_pq_.a")}, {NULL, 0}, {BYTES("\377b")}};
 
 static const int16_t codes[] = {0, 1, -2, 258};
 static const uint32_t types[] = {23, 0x80000000, 0, UINT32_MAX};
-static const uint8_t salt[4] = {1, 0, 254, 255};
 
 static const pgmsg_value values[] = {
     {BYTES("42"), false},
     {BYTES("not sent"), true},
-    {BYTES(""), false},
+    {NULL, 0, false},
     {BYTES("eightbyt"), false},
     {BYTES("\0\1\2\377"), false},
     {BYTES("nine byte"), false},
@@ -24,32 +23,32 @@ static const pgmsg_value values[] = {
 
 static const pgmsg_column_text columns[] = {
     {BYTES("id"), 16385, 1, 23, 4, -1, 0},
-    {BYTES(""), 0, 0, UINT32_MAX, -1, 65540, 1},
+    {NULL, 0, 0, 0, UINT32_MAX, -1, 65540, 1},
     {BYTES("n\377"), UINT32_MAX, INT16_MIN, 0, INT16_MIN, INT32_MIN, -2},
 };
 
 static const pgmsg_field_text fields[] = {
     {'S', BYTES("ERROR")},
     {'C', BYTES("42601")},
-    {'M', BYTES("")},
+    {'M', NULL, 0},
     {255, BYTES("\377")},
 };
 
-MESSAGE(ok, pgmsg_put_authentication_ok(out, out_len))
-MESSAGE(cleartext, pgmsg_put_authentication_cleartext(out, out_len))
-MESSAGE(md5, pgmsg_put_authentication_md5(salt, out, out_len))
+MESSAGE(ok, pgmsg_put_authentication(0, NULL, 0, out, out_len))
+MESSAGE(cleartext, pgmsg_put_authentication(3, NULL, 0, out, out_len))
+MESSAGE(md5, pgmsg_put_authentication(5, BYTES("\1\0\376\377"), out, out_len))
 MESSAGE(sasl, pgmsg_put_authentication_sasl(mechanisms, 3, out, out_len))
 MESSAGE(bare_sasl, pgmsg_put_authentication_sasl(mechanisms, 0, out, out_len))
-MESSAGE(sasl_continue, pgmsg_put_authentication_continue(BYTES("r=ab\0\377"), out, out_len))
-MESSAGE(bare_continue, pgmsg_put_authentication_continue(BYTES(""), out, out_len))
-MESSAGE(sasl_final, pgmsg_put_authentication_final(BYTES("v=YQ=="), out, out_len))
-MESSAGE(bare_final, pgmsg_put_authentication_final(BYTES(""), out, out_len))
+MESSAGE(sasl_continue, pgmsg_put_authentication(11, BYTES("r=ab\0\377"), out, out_len))
+MESSAGE(bare_continue, pgmsg_put_authentication(11, NULL, 0, out, out_len))
+MESSAGE(sasl_final, pgmsg_put_authentication(12, BYTES("v=YQ=="), out, out_len))
+MESSAGE(bare_final, pgmsg_put_authentication(12, NULL, 0, out, out_len))
 MESSAGE(negotiate_version, pgmsg_put_negotiate_version(2, options, 3, out, out_len))
 MESSAGE(bare_version, pgmsg_put_negotiate_version(UINT16_MAX, options, 0, out, out_len))
 MESSAGE(key_data, pgmsg_put_backend_key_data(0x80000001, BYTES("\377\0\0\1"), out, out_len))
 MESSAGE(long_key_data, pgmsg_put_backend_key_data(7, BYTES("a key of 28 bytes, not of 4\0"), out, out_len))
 MESSAGE(parameter_status, pgmsg_put_parameter_status(BYTES("TimeZone"), BYTES("UTC"), out, out_len))
-MESSAGE(bare_status, pgmsg_put_parameter_status(BYTES(""), BYTES(""), out, out_len))
+MESSAGE(bare_status, pgmsg_put_parameter_status(NULL, 0, NULL, 0, out, out_len))
 MESSAGE(idle, pgmsg_put_ready('I', out, out_len))
 MESSAGE(open, pgmsg_put_ready('T', out, out_len))
 MESSAGE(failed, pgmsg_put_ready('E', out, out_len))
@@ -59,29 +58,22 @@ MESSAGE(row, pgmsg_put_row(values, 6, out, out_len))
 MESSAGE(bare_row, pgmsg_put_row(values, 0, out, out_len))
 MESSAGE(parameter_types, pgmsg_put_parameter_types(types, 4, out, out_len))
 MESSAGE(no_types, pgmsg_put_parameter_types(types, 0, out, out_len))
-MESSAGE(parse_complete, pgmsg_put_no_body('1', out, out_len))
-MESSAGE(bind_complete, pgmsg_put_no_body('2', out, out_len))
-MESSAGE(close_complete, pgmsg_put_no_body('3', out, out_len))
-MESSAGE(empty_query, pgmsg_put_no_body('I', out, out_len))
-MESSAGE(copy_done, pgmsg_put_no_body('c', out, out_len))
-MESSAGE(no_data, pgmsg_put_no_body('n', out, out_len))
-MESSAGE(suspended, pgmsg_put_no_body('s', out, out_len))
 MESSAGE(command_complete, pgmsg_put_command_complete(BYTES("INSERT 0 1"), out, out_len))
-MESSAGE(bare_command, pgmsg_put_command_complete(BYTES(""), out, out_len))
+MESSAGE(bare_command, pgmsg_put_command_complete(NULL, 0, out, out_len))
 MESSAGE(copy_in, pgmsg_put_copy_response('G', 0, codes, 1, out, out_len))
 MESSAGE(copy_out, pgmsg_put_copy_response('H', -1, codes, 0, out, out_len))
 MESSAGE(copy_both, pgmsg_put_copy_response('W', 1, codes, 4, out, out_len))
 MESSAGE(function_result, pgmsg_put_function_result(BYTES("r\0"), false, out, out_len))
-MESSAGE(empty_result, pgmsg_put_function_result(BYTES(""), false, out, out_len))
+MESSAGE(empty_result, pgmsg_put_function_result(NULL, 0, false, out, out_len))
 MESSAGE(null_result, pgmsg_put_function_result(BYTES("not sent"), true, out, out_len))
-MESSAGE(raw_frame, pgmsg_put_raw_frame('!', BYTES("any\0"), out, out_len))
-MESSAGE(bare_frame, pgmsg_put_raw_frame(0, BYTES(""), out, out_len))
-MESSAGE(error, pgmsg_put_error(fields, 4, out, out_len))
-MESSAGE(bare_error, pgmsg_put_error(fields, 0, out, out_len))
-MESSAGE(notice, pgmsg_put_notice(fields, 1, out, out_len))
-MESSAGE(bare_notice, pgmsg_put_notice(fields, 0, out, out_len))
+MESSAGE(raw_frame, pgmsg_put_frame('!', BYTES("any\0"), out, out_len))
+MESSAGE(bare_frame, pgmsg_put_frame(0, NULL, 0, out, out_len))
+MESSAGE(error, pgmsg_put_notice('E', fields, 4, out, out_len))
+MESSAGE(bare_error, pgmsg_put_notice('E', fields, 0, out, out_len))
+MESSAGE(notice, pgmsg_put_notice('N', fields, 1, out, out_len))
+MESSAGE(bare_notice, pgmsg_put_notice('N', fields, 0, out, out_len))
 MESSAGE(notification, pgmsg_put_notification(258, BYTES("chan\377"), BYTES("said"), out, out_len))
-MESSAGE(bare_notification, pgmsg_put_notification(UINT32_MAX, BYTES(""), BYTES(""), out, out_len))
+MESSAGE(bare_notification, pgmsg_put_notification(UINT32_MAX, NULL, 0, NULL, 0, out, out_len))
 
 static const struct sample samples[] = {
     SAMPLE(ok, "R\0\0\0\10" "\0\0\0\0"),
@@ -113,13 +105,6 @@ static const struct sample samples[] = {
     SAMPLE(bare_row, "D\0\0\0\6" "\0\0"),
     SAMPLE(parameter_types, "t\0\0\0\26" "\0\4" "\0\0\0\27" "\200\0\0\0" "\0\0\0\0" "\377\377\377\377"),
     SAMPLE(no_types, "t\0\0\0\6" "\0\0"),
-    SAMPLE(parse_complete, "1\0\0\0\4"),
-    SAMPLE(bind_complete, "2\0\0\0\4"),
-    SAMPLE(close_complete, "3\0\0\0\4"),
-    SAMPLE(empty_query, "I\0\0\0\4"),
-    SAMPLE(copy_done, "c\0\0\0\4"),
-    SAMPLE(no_data, "n\0\0\0\4"),
-    SAMPLE(suspended, "s\0\0\0\4"),
     SAMPLE(command_complete, "C\0\0\0\17" "INSERT 0 1\0"),
     SAMPLE(bare_command, "C\0\0\0\5" "\0"),
     SAMPLE(copy_in, "G\0\0\0\11" "\0" "\0\1" "\0\0"),

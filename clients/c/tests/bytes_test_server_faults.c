@@ -18,8 +18,8 @@ static void refuse_texts(struct tally *tally)
     REFUSES_NUL(tally, pgmsg_put_parameter_status(BYTES("n"), text, len, out, ROOM));
     REFUSES_NUL(tally, pgmsg_put_columns(COLUMNS, out, ROOM));
     REFUSES_NUL(tally, pgmsg_put_command_complete(text, len, out, ROOM));
-    REFUSES_NUL(tally, pgmsg_put_error(FIELDS, out, ROOM));
-    REFUSES_NUL(tally, pgmsg_put_notice(FIELDS, out, ROOM));
+    REFUSES_NUL(tally, pgmsg_put_notice('E', FIELDS, out, ROOM));
+    REFUSES_NUL(tally, pgmsg_put_notice('N', FIELDS, out, ROOM));
     REFUSES_NUL(tally, pgmsg_put_notification(1, text, len, BYTES("p"), out, ROOM));
     REFUSES_NUL(tally, pgmsg_put_notification(1, BYTES("c"), text, len, out, ROOM));
 }
@@ -31,8 +31,8 @@ static void refuse_ends(struct tally *tally)
     static const pgmsg_field_text fields[] = {{'S', BYTES("a")}, {0, BYTES("b")}};
     REFUSES(tally, PGMSG_TEXT_HOLDS_NUL, pgmsg_put_authentication_sasl(names, 2, out, ROOM));
     REFUSES(tally, PGMSG_TEXT_HOLDS_NUL, pgmsg_put_authentication_sasl(names + 1, 1, out, ROOM));
-    REFUSES(tally, PGMSG_TEXT_HOLDS_NUL, pgmsg_put_error(fields, 2, out, ROOM));
-    REFUSES(tally, PGMSG_TEXT_HOLDS_NUL, pgmsg_put_notice(fields + 1, 1, out, ROOM));
+    REFUSES(tally, PGMSG_TEXT_HOLDS_NUL, pgmsg_put_notice('E', fields, 2, out, ROOM));
+    REFUSES(tally, PGMSG_TEXT_HOLDS_NUL, pgmsg_put_notice('N', fields + 1, 1, out, ROOM));
 }
 
 /* Whether a letter is one of some. */
@@ -49,8 +49,23 @@ static void refuse_letters(struct tally *tally)
         uint8_t tag = (uint8_t)letter;
         ptrdiff_t unknown = PGMSG_UNKNOWN_MESSAGE_TYPE;
         REFUSES(tally, is_one_of(letter, "ITE") ? 6 : PGMSG_UNKNOWN_STATUS, pgmsg_put_ready(tag, out, 5));
-        REFUSES(tally, is_one_of(letter, "123Icns") ? 5 : unknown, pgmsg_put_no_body(tag, out, 4));
+        REFUSES(tally, is_one_of(letter, "EN") ? 6 : unknown, pgmsg_put_notice(tag, NULL, 0, out, 5));
         REFUSES(tally, is_one_of(letter, "GHW") ? 8 : unknown, pgmsg_put_copy_response(tag, 0, &no_code, 0, out, 7));
+    }
+}
+
+/* Methods that aren't known, and those that go on with another count of bytes than they have. */
+static void refuse_methods(struct tally *tally)
+{
+    static const uint32_t methods[] = {0, 1, 2, 3, 4, 5, 6, 7, 8, 9, 10, 11, 12, 13, 0x80000000, UINT32_MAX};
+    static const uint8_t content[6];
+    for (size_t i = 0; i < sizeof methods / sizeof *methods; i++) {
+        uint32_t method = methods[i];
+        for (size_t len = 0; len <= sizeof content; len++) {
+            bool is_known = method == 5 ? len == 4 : method == 11 || method == 12 || ((method == 0 || method == 3) && len == 0);
+            REFUSES(tally, is_known ? 9 + (ptrdiff_t)len : PGMSG_UNKNOWN_AUTHENTICATION,
+                    pgmsg_put_authentication(method, content, len, out, 8 + len));
+        }
     }
 }
 
@@ -95,9 +110,9 @@ static void refuse_counts(struct tally *tally, const uint8_t *zeros)
 /* The longest messages, and those a byte longer. */
 static void compare_with_longest(struct tally *tally, const uint8_t *data)
 {
-    COMPARES_LONGEST(tally, 9, pgmsg_put_authentication_continue(data, n, out, ROOM));
-    COMPARES_LONGEST(tally, 9, pgmsg_put_authentication_final(data, n, out, ROOM));
-    COMPARES_LONGEST(tally, 5, pgmsg_put_raw_frame('d', data, n, out, ROOM));
+    COMPARES_LONGEST(tally, 9, pgmsg_put_authentication(11, data, n, out, ROOM));
+    COMPARES_LONGEST(tally, 9, pgmsg_put_authentication(12, data, n, out, ROOM));
+    COMPARES_LONGEST(tally, 5, pgmsg_put_frame('d', data, n, out, ROOM));
     COMPARES_LONGEST(tally, 9, pgmsg_put_function_result(data, n, false, out, ROOM));
     COMPARES_LONGEST(tally, 11, pgmsg_put_row(passed, 1, out, ROOM));
 }
@@ -116,6 +131,7 @@ void test_server_faults(struct tally *tally)
     refuse_texts(tally);
     refuse_ends(tally);
     refuse_letters(tally);
+    refuse_methods(tally);
     refuse_keys(tally);
     with_zeros(tally, TOO_LONG, refuse_counts);
     with_zeros(tally, TOO_LONG, compare_with_longest);

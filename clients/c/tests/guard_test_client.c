@@ -19,7 +19,7 @@ static pgmsg_list list_of(const uint8_t *body, size_t len)
     CALL(target, pgmsg_read_target(body, len, ONE(pgmsg_target), fault))                                              \
     CALL(execute, pgmsg_read_execute(body, len, ONE(pgmsg_execute), fault))                                           \
     CALL(text, pgmsg_read_text(body, len, ONE(pgmsg_span), fault))                                                    \
-    CALL(empty, pgmsg_read_empty(body, len, fault))                                                                   \
+    CALL(no_body, pgmsg_read_no_body(body, len, fault))                                                               \
     CALL(sasl_initial, pgmsg_read_sasl_initial(body, len, ONE(pgmsg_sasl_initial), fault))                            \
     CALL(bind, pgmsg_read_bind(body, len, ITEMS(pgmsg_cell), ONE(pgmsg_bind), fault))                                 \
     CALL(function_call, pgmsg_read_function_call(body, len, ITEMS(pgmsg_cell), ONE(pgmsg_function_call), fault))      \
@@ -48,7 +48,7 @@ static const struct body samples[] = {
     BODY(target, "P\0" "!"),
     BODY(execute, "p1\0" "\0\0\0\5" "!"),
     BODY(text, "SELECT 1\0" "!"),
-    BODY(empty, "!"),
+    BODY(no_body, "!"),
     BODY(sasl_initial, "SCRAM-SHA-256\0" "\0\0\0\3" "n,," "!"),
     BODY(sasl_initial, "A\0" "\377\377\377\377" "!"),
     BODY(bind, "p1\0" "s\0" "\0\2" "\0\0" "\0\1" "\0\3" "\0\0\0\2" "hi" "\377\377\377\377" "\0\0\0\0" "\0\1" "\0\1" "!"),

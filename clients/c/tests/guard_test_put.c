@@ -13,7 +13,6 @@ struct inputs {
     size_t n;
     const uint8_t *text;
     const uint8_t *digest;
-    const uint8_t *formats;
     const uint16_t *codes;
     const uint32_t *types;
     const pgmsg_value *values;
@@ -24,50 +23,31 @@ struct inputs {
 };
 
 /* Where inputs and a message are. */
-static struct guarded texts, digests, formats, codes, types, values, settings, names, fields, columns, outs;
+static struct guarded texts, digests, codes, types, values, settings, names, fields, columns, outs;
 
 /* Each call that writes a message, by its arguments. */
 #define CALLS(CALL)                                                                                                 \
-    CALL(startup, (in->settings, in->n, out, out_len))                                                              \
+    CALL(startup, ((uint16_t)number, in->settings, in->n, out, out_len))                                            \
     CALL(ssl_request, (out, out_len))                                                                               \
+    CALL(gss_enc_request, (out, out_len))                                                                           \
+    CALL(cancel_request, (number, in->text, in->n, out, out_len))                                                   \
     CALL(password, (in->text, in->n, out, out_len))                                                                 \
     CALL(md5_password, (in->digest, out, out_len))                                                                  \
-    CALL(sasl_initial, (in->text, in->n, in->n % 2 == 1, out, out_len))                                             \
+    CALL(sasl_initial, (in->text, in->n, in->n % 2 == 1, in->text, in->n, out, out_len))                            \
     CALL(sasl_response, (in->text, in->n, out, out_len))                                                            \
-    CALL(terminate, (out, out_len))                                                                                 \
     CALL(query, (in->text, in->n, out, out_len))                                                                    \
-    CALL(describe_statement, (number, out, out_len))                                                                \
-    CALL(describe_portal, (number, out, out_len))                                                                   \
-    CALL(close_statement, (number, out, out_len))                                                                   \
-    CALL(close_portal, (number, out, out_len))                                                                      \
-    CALL(execute, (number, number, out, out_len))                                                                   \
-    CALL(flush, (out, out_len))                                                                                     \
-    CALL(sync, (out, out_len))                                                                                      \
-    CALL(parse, (number, in->text, in->n, in->types, in->n, out, out_len))                                          \
-    CALL(bind, (number, 0, in->formats, in->n, in->values, in->n, in->formats, in->n, out, out_len))                \
-    CALL(batch, (in->text, in->n, in->formats, in->n, in->values, in->n, in->formats, in->n, out, out_len))         \
-    CALL(cancel_request, (number, in->text, in->n, out, out_len))                                                   \
-    CALL(gss_enc_request, (out, out_len))                                                                           \
-    CALL(password_bytes, (in->text, in->n, out, out_len))                                                           \
-    CALL(sasl_mechanism, (in->text, in->n, in->n % 2 == 1, in->text, in->n, out, out_len))                          \
-    CALL(raw_parse, (in->text, in->n, in->text, in->n, in->types, in->n, out, out_len))                             \
-    CALL(raw_bind, (in->text, in->n, in->text, in->n, in->codes, in->n, in->values, in->n, in->codes, in->n, out,   \
-                    out_len))                                                                                       \
-    CALL(raw_describe_statement, (in->text, in->n, out, out_len))                                                   \
-    CALL(raw_describe_portal, (in->text, in->n, out, out_len))                                                      \
-    CALL(raw_close_statement, (in->text, in->n, out, out_len))                                                      \
-    CALL(raw_close_portal, (in->text, in->n, out, out_len))                                                         \
-    CALL(raw_execute, (in->text, in->n, number, out, out_len))                                                      \
+    CALL(copy_fail, (in->text, in->n, out, out_len))                                                                \
+    CALL(parse, (in->text, in->n, in->text, in->n, in->types, in->n, out, out_len))                                 \
+    CALL(bind, (in->text, in->n, in->text, in->n, in->codes, in->n,                                                 \
+                in->values, in->n, in->codes, in->n, out, out_len))                                                 \
+    CALL(describe, ("SP?"[in->n % 3], in->text, in->n, out, out_len))                                               \
+    CALL(close, ("SP?"[in->n % 3], in->text, in->n, out, out_len))                                                  \
+    CALL(execute, (in->text, in->n, number, out, out_len))                                                          \
     CALL(function_call, (number, in->codes, in->n, in->values, in->n, 1, out, out_len))                             \
     CALL(copy_data, (in->text, in->n, out, out_len))                                                                \
-    CALL(copy_done, (out, out_len))                                                                                 \
-    CALL(copy_fail, (in->text, in->n, out, out_len))                                                                \
-    CALL(authentication_ok, (out, out_len))                                                                         \
-    CALL(authentication_cleartext, (out, out_len))                                                                  \
-    CALL(authentication_md5, (in->digest, out, out_len))                                                            \
+    CALL(no_body, ("123HISXcns?"[in->n % 11], out, out_len))                                                        \
+    CALL(authentication, ("\0\3\5\13\14?"[in->n % 6], in->text, in->n, out, out_len))                               \
     CALL(authentication_sasl, (in->names, in->n, out, out_len))                                                     \
-    CALL(authentication_continue, (in->text, in->n, out, out_len))                                                  \
-    CALL(authentication_final, (in->text, in->n, out, out_len))                                                     \
     CALL(negotiate_version, (number, in->names, in->n, out, out_len))                                               \
     CALL(backend_key_data, (number, in->text, in->n, out, out_len))                                                 \
     CALL(parameter_status, (in->text, in->n, in->text, in->n, out, out_len))                                        \
@@ -75,13 +55,11 @@ static struct guarded texts, digests, formats, codes, types, values, settings, n
     CALL(columns, (in->columns, in->n, out, out_len))                                                               \
     CALL(row, (in->values, in->n, out, out_len))                                                                    \
     CALL(parameter_types, (in->types, in->n, out, out_len))                                                         \
-    CALL(no_body, ("123Icns?"[in->n % 8], out, out_len))                                                            \
     CALL(command_complete, (in->text, in->n, out, out_len))                                                         \
     CALL(copy_response, ("GHW?"[in->n % 4], -1, (const int16_t *)in->codes, in->n, out, out_len))                   \
     CALL(function_result, (in->text, in->n, in->n % 2 == 1, out, out_len))                                          \
-    CALL(raw_frame, ((uint8_t)in->n, in->text, in->n, out, out_len))                                                \
-    CALL(error, (in->fields, in->n, out, out_len))                                                                  \
-    CALL(notice, (in->fields, in->n, out, out_len))                                                                 \
+    CALL(frame, ((uint8_t)in->n, in->text, in->n, out, out_len))                                                    \
+    CALL(notice, ("EN?"[in->n % 3], in->fields, in->n, out, out_len))                                               \
     CALL(notification, (number, in->text, in->n, in->text, in->n, out, out_len))
 
 #define FUNCTION(name, arguments)                                                            \
@@ -105,7 +83,6 @@ static const struct {
 static struct inputs guarded_inputs(size_t n, enum side side)
 {
     uint8_t *text = place(&texts, n, side), *digest = place(&digests, DIGEST, side);
-    uint8_t *format = place(&formats, n, side);
     uint16_t *code = (uint16_t *)(void *)place(&codes, n * sizeof *code, side);
     uint32_t *type = (uint32_t *)(void *)place(&types, n * sizeof *type, side);
     pgmsg_value *value = (pgmsg_value *)(void *)place(&values, n * sizeof *value, side);
@@ -117,7 +94,6 @@ static struct inputs guarded_inputs(size_t n, enum side side)
         digest[i] = (uint8_t)(16 * i + n);
     for (size_t i = 0; i < n; i++) {
         size_t len = i % 4, name_len = 1 + i % 3;
-        format[i] = i % 2;
         code[i] = (uint16_t)(i * 255);
         type[i] = (uint32_t)i * 65539;
         value[i] = (pgmsg_value){place(&texts, len, side), len, i % 5 == 4};
@@ -126,7 +102,7 @@ static struct inputs guarded_inputs(size_t n, enum side side)
         field[i] = (pgmsg_field_text){(uint8_t)('A' + i), place(&texts, len, side), len};
         column[i] = (pgmsg_column_text){place(&texts, len, side), len, type[i], (int16_t)i, type[i], -1, -1, 1};
     }
-    return (struct inputs){n, text, digest, format, code, type, value, setting, name, field, column};
+    return (struct inputs){n, text, digest, code, type, value, setting, name, field, column};
 }
 
 /* Whether the bytes of a message's page are as they were, from one place to another. */
@@ -173,6 +149,21 @@ static void test_sample(struct tally *tally, const struct sample *sample, enum s
     }
 }
 
+/* A name, which has its NUL beside the length that is answered. */
+static void test_names(struct tally *tally, enum side side)
+{
+    static const char due[] = "sqlx_s_4294967295";
+    for (size_t out_len = 0; out_len <= sizeof due + 1; out_len++) {
+        ptrdiff_t due_answer = out_len < sizeof due ? -1 : (ptrdiff_t)sizeof due;
+        uint8_t *out = place(&outs, out_len, side);
+        CHECK(tally, pgmsg_put_statement_name(UINT32_MAX, out, out_len) == sizeof due - 1);
+        CHECK(tally, is_put(out, out_len, due_answer, (const uint8_t *)due, due_answer));
+        out = place(&outs, out_len, side);
+        CHECK(tally, pgmsg_put_portal_name(UINT32_MAX, out, out_len) == sizeof due - 1);
+        CHECK(tally, is_put(out, out_len, due_answer, (const uint8_t *)"sqlx_p_4294967295", due_answer));
+    }
+}
+
 static void test_side(struct tally *tally, enum side side)
 {
     static const struct sample *(*const sources[])(size_t *count) = {put_samples, server_samples};
@@ -188,6 +179,8 @@ static void test_side(struct tally *tally, enum side side)
         for (size_t n = 0; n <= MOST; n++)
             test_call(tally, call, n, side);
     }
+    name_call("a name");
+    test_names(tally, side);
     name_call("copy_head");
     uint8_t *head = place(&outs, HEAD, side);
     CHECK(tally, pgmsg_put_copy_head(0, head) == 0 && is_put(head, HEAD, HEAD, (const uint8_t *)"d\0\0\0\4", HEAD));
@@ -197,7 +190,7 @@ static void test_side(struct tally *tally, enum side side)
 
 void test_guarded_put(struct tally *tally)
 {
-    struct guarded *const pages[] = {&texts,    &digests, &formats, &codes,   &types, &values,
+    struct guarded *const pages[] = {&texts,    &digests, &codes,   &types, &values,
                                      &settings, &names,   &fields,  &columns, &outs};
     for (size_t i = 0; i < sizeof pages / sizeof *pages; i++)
         *pages[i] = guarded_page();

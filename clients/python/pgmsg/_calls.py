@@ -87,9 +87,3 @@ def texts_of(texts: tuple[bytes, ...]) -> tuple[Any, int, list[Any]]:
 def read_text(body: bytes) -> bytes:
     """The text that is all of a body, without its NUL."""
     return part(body, found("pgmsg_span", lib.pgmsg_read_text, body))
-
-
-def put_text(tag: int, text: bytes) -> bytes:
-    """A message of a text."""
-    # As a password, since the calls of the header for other texts take UTF-8 alone.
-    return bytes([tag]) + put(lib.pgmsg_put_password_bytes, *sized(text))[1:]

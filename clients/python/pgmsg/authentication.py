@@ -4,6 +4,7 @@ from __future__ import annotations
 
 from collections.abc import Iterable
 from dataclasses import dataclass, field
+from functools import partial
 from typing import ClassVar, NamedTuple, Self
 
 from ._calls import allocate, found, listed, part, put, read, texts_of
@@ -24,7 +25,7 @@ class Authentication(BackendMessage):
 
     @classmethod
     def _read(cls, body: bytes) -> Self:
-        asked = found("pgmsg_raw_authentication", lib.pgmsg_read_raw_authentication, body)
+        asked = found("pgmsg_authentication", lib.pgmsg_read_authentication, body)
         kind = METHODS.get(asked.method)
         if kind is None:
             raise Fault(Code.UNKNOWN_AUTHENTICATION, f"unknown authentication method: {asked.method}")
@@ -39,7 +40,7 @@ class Authentication(BackendMessage):
 
     def _written(self, content: bytes = b"") -> bytes:
         body = (self.METHOD or 0).to_bytes(METHOD_LENGTH, "big") + content
-        return put(lib.pgmsg_put_raw_frame, self.TAG, body, len(body))
+        return put(lib.pgmsg_put_frame, self.TAG, body, len(body))
 
     def write(self) -> bytes:
         return self._written()
@@ -80,11 +81,10 @@ class AuthenticationMD5Password(Authentication):
 
     @classmethod
     def _of(cls, content: bytes, body: bytes) -> Self:
-        asked = found("pgmsg_authentication", lib.pgmsg_read_authentication, body)
-        return cls(bytes(asked.salt))
+        return cls(body[METHOD_LENGTH : read(partial(lib.pgmsg_read_end, cls.TAG), body)])
 
     def write(self) -> bytes:
-        return put(lib.pgmsg_put_authentication_md5, self.salt)
+        return self._written(self.salt)
 
 
 @dataclass(frozen=True, slots=True)
@@ -114,7 +114,7 @@ class AuthenticationSASL(Authentication):
     @classmethod
     def _of(cls, content: bytes, body: bytes) -> Self:
         return cls(listed(
-            "pgmsg_span", lambda room, size: lib.pgmsg_read_raw_mechanisms(body, len(body), room, size),
+            "pgmsg_span", lambda room, size: lib.pgmsg_read_mechanisms(body, len(body), room, size),
             lambda span: part(body, span)))
 
     def write(self) -> bytes:

@@ -6,7 +6,7 @@ from collections.abc import Iterable
 from dataclasses import dataclass
 from typing import ClassVar, Self
 
-from ._calls import listed, put, put_text, read, read_text
+from ._calls import listed, put, read, read_text, sized
 from ._library import ffi, lib
 from .fault import refusal
 from .message import AsText, BackendMessage, FrontendMessage, Text, WithoutBody, fill, number, numbers, octets
@@ -54,7 +54,7 @@ class CopyFail(FrontendMessage):
         return cls(read_text(body))
 
     def write(self) -> bytes:
-        return put_text(self.TAG, self.reason)
+        return put(lib.pgmsg_put_copy_fail, *sized(self.reason))
 
 
 class CopyResponse(BackendMessage):

@@ -61,7 +61,5 @@ class Fault(Exception):
 def refusal(number: int, words: str = "", at: int = 0) -> Exception:
     """What to raise for a number below 0 that a call returned, whose own words may be longer."""
     code = Code(number)
-    # The text lies in this struct.
-    short = lib.pgmsg_strerror(number)
-    words = words or ffi.string(short.text).decode("ascii")
+    words = words or ffi.string(lib.pgmsg_strerror(number)).decode("ascii")
     return MemoryError(words) if code is Code.OUT_OF_MEMORY else Fault(code, words, at)

@@ -2,7 +2,7 @@
 
 from __future__ import annotations
 
-from collections.abc import Callable, Iterable
+from collections.abc import Iterable
 from typing import Any, ClassVar, NamedTuple, Self, TypeAlias, TypeVar
 
 from ._calls import put, read
@@ -66,15 +66,13 @@ class WithoutBody(Message):
 
     __slots__ = ()
 
-    CHECK: ClassVar[Callable[..., int]] = lib.pgmsg_read_no_body
-
     @classmethod
     def _read(cls, body: bytes) -> Self:
-        read(cls.CHECK, body)
+        read(lib.pgmsg_read_no_body, body)
         return cls()
 
     def write(self) -> bytes:
-        return put(lib.pgmsg_put_raw_frame, self.TAG, b"", 0)
+        return put(lib.pgmsg_put_no_body, self.TAG)
 
 
 Kind = TypeVar("Kind", bound=Message)

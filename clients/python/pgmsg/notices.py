@@ -3,7 +3,7 @@
 from __future__ import annotations
 
 import enum
-from collections.abc import Callable, Iterable, Mapping
+from collections.abc import Iterable, Mapping
 from dataclasses import dataclass
 from typing import ClassVar, Self, TypeAlias
 
@@ -36,7 +36,6 @@ class WithFields(BackendMessage):
 
     __slots__ = ()
 
-    PUT: ClassVar[Callable[..., int]]
     fields: tuple[tuple[str, bytes], ...]
 
     def __init__(self, fields: Fields) -> None:
@@ -54,7 +53,7 @@ class WithFields(BackendMessage):
     def write(self) -> bytes:
         held = [ffi.from_buffer("uint8_t[]", text) for _, text in self.fields]
         rows = [(ord(letter), text, len(text)) for (letter, _), text in zip(self.fields, held)]
-        return put(type(self).PUT, ffi.new("pgmsg_field_text[]", rows), len(rows))
+        return put(lib.pgmsg_put_notice, self.TAG, ffi.new("pgmsg_field_text[]", rows), len(rows))
 
     def text(self, letter: str) -> str:
         """The text of a field, empty where it isn't there, with U+FFFD for what isn't UTF-8."""
@@ -82,7 +81,6 @@ class ErrorResponse(WithFields):
     """Ends a command by an error."""
 
     TAG: ClassVar[int] = ord("E")
-    PUT = lib.pgmsg_put_error
     fields: tuple[tuple[str, bytes], ...]
 
 
@@ -91,5 +89,4 @@ class NoticeResponse(WithFields):
     """Says something beside the answers."""
 
     TAG: ClassVar[int] = ord("N")
-    PUT = lib.pgmsg_put_notice
     fields: tuple[tuple[str, bytes], ...]

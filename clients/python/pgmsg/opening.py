@@ -14,9 +14,6 @@ from .message import Buffer, FrontendMessage, Text, by, fill, number, octets
 # The greatest length of a first message that PostgreSQL's own servers take.
 MAX_FIRST_LENGTH: int = lib.PGMSG_MAX_FIRST_LENGTH
 
-# Where the minor version is in a StartupMessage.
-MINOR = slice(6, 8)
-
 
 class FirstMessage(FrontendMessage):
     """A message without a tag. After a request for encryption comes another one."""
@@ -61,9 +58,7 @@ class StartupMessage(FirstMessage):
     def write(self) -> bytes:
         held = [ffi.from_buffer("uint8_t[]", text) for pair in self.parameters for text in pair]
         rows = [(name, len(name), value, len(value)) for name, value in zip(held[::2], held[1::2])]
-        made = bytearray(put(lib.pgmsg_put_startup, ffi.new("pgmsg_setting[]", rows), len(rows)))
-        made[MINOR] = self.minor.to_bytes(2, "big")
-        return bytes(made)
+        return put(lib.pgmsg_put_startup, self.minor, ffi.new("pgmsg_setting[]", rows), len(rows))
 
     def text(self, name: str) -> str:
         """The value of a parameter, the last of this name, empty where it isn't there."""

@@ -6,7 +6,7 @@ import hashlib
 from dataclasses import dataclass, field
 from typing import ClassVar, Self
 
-from ._calls import found, part, put, put_text, read_text, sized
+from ._calls import found, part, put, read_text, sized
 from ._library import lib
 from .message import AsText, Buffer, FrontendMessage, Text, fill, octets, optional_octets
 
@@ -39,7 +39,7 @@ class PasswordMessage(AuthenticationResponse):
         return cls(read_text(body))
 
     def write(self) -> bytes:
-        return put_text(self.TAG, self.password)
+        return put(lib.pgmsg_put_password, *sized(self.password))
 
 
 @dataclass(frozen=True, slots=True, init=False)
@@ -61,7 +61,7 @@ class SASLInitialResponse(AuthenticationResponse):
 
     def write(self) -> bytes:
         has_data = self.data is not None
-        return put(lib.pgmsg_put_sasl_mechanism, *sized(self.mechanism), has_data, *sized(self.data or b""))
+        return put(lib.pgmsg_put_sasl_initial, *sized(self.mechanism), has_data, *sized(self.data or b""))
 
 
 class ResponseOfData(AuthenticationResponse):
@@ -78,7 +78,7 @@ class ResponseOfData(AuthenticationResponse):
         return made
 
     def write(self) -> bytes:
-        return put(lib.pgmsg_put_raw_frame, self.TAG, *sized(self.data))
+        return put(lib.pgmsg_put_sasl_response, *sized(self.data))
 
 
 @dataclass(frozen=True, slots=True, init=False)

@@ -8,35 +8,27 @@ from dataclasses import dataclass
 from typing import Any, Callable, ClassVar, Self
 
 from . import _fast
-from ._calls import found, listed, part, put, put_text, read, read_text, sized
+from ._calls import found, listed, part, put, read, read_text, sized
 from ._library import ffi, lib
 from .message import AsText, FrontendMessage, Text, WithoutBody, fill, number, numbers, octets, values_of
 
 
-class Asked(WithoutBody, FrontendMessage):
-    """A message of a tag alone from a client."""
-
-    __slots__ = ()
-
-    CHECK = lib.pgmsg_read_empty
-
-
 @dataclass(frozen=True, slots=True)
-class Flush(Asked):
+class Flush(WithoutBody, FrontendMessage):
     """Asks for the answers that the server still has to send."""
 
     TAG: ClassVar[int] = ord("H")
 
 
 @dataclass(frozen=True, slots=True)
-class Sync(Asked):
+class Sync(WithoutBody, FrontendMessage):
     """Ends a run of messages: the server answers that it is ready."""
 
     TAG: ClassVar[int] = ord("S")
 
 
 @dataclass(frozen=True, slots=True)
-class Terminate(Asked):
+class Terminate(WithoutBody, FrontendMessage):
     """Ends the session."""
 
     TAG: ClassVar[int] = ord("X")
@@ -58,7 +50,7 @@ class Query(FrontendMessage):
         return cls(read_text(body))
 
     def write(self) -> bytes:
-        return put_text(self.TAG, self.query)
+        return put(lib.pgmsg_put_query, *sized(self.query))
 
 
 @dataclass(frozen=True, slots=True, init=False)
@@ -86,7 +78,7 @@ class Parse(FrontendMessage):
         return cls(part(body, it.query), part(body, it.statement), types)
 
     def write(self) -> bytes:
-        return put(lib.pgmsg_put_raw_parse, *sized(self.statement, self.query), self.types, len(self.types))
+        return put(lib.pgmsg_put_parse, *sized(self.statement, self.query), self.types, len(self.types))
 
 
 @dataclass(frozen=True, slots=True, init=False)
@@ -135,7 +127,7 @@ class OfTarget(FrontendMessage):
 
     __slots__ = ()
 
-    PUT: ClassVar[dict[Target, Callable[..., int]]]
+    PUT: ClassVar[Callable[..., int]]
     target: Target
     name: bytes
 
@@ -146,7 +138,7 @@ class OfTarget(FrontendMessage):
         return made
 
     def write(self) -> bytes:
-        return put(self.PUT[self.target], *sized(self.name))
+        return put(type(self).PUT, ord(self.target.value), *sized(self.name))
 
 
 @dataclass(frozen=True, slots=True, init=False)
@@ -154,10 +146,7 @@ class Describe(OfTarget):
     """Asks what a statement or a portal takes and gives."""
 
     TAG: ClassVar[int] = ord("D")
-    PUT = {
-        Target.STATEMENT: lib.pgmsg_put_raw_describe_statement,
-        Target.PORTAL: lib.pgmsg_put_raw_describe_portal,
-    }
+    PUT = lib.pgmsg_put_describe
     target: Target
     name: bytes
     name_text = AsText("name")
@@ -171,7 +160,7 @@ class Close(OfTarget):
     """Closes a statement or a portal."""
 
     TAG: ClassVar[int] = ord("C")
-    PUT = {Target.STATEMENT: lib.pgmsg_put_raw_close_statement, Target.PORTAL: lib.pgmsg_put_raw_close_portal}
+    PUT = lib.pgmsg_put_close
     target: Target
     name: bytes
     name_text = AsText("name")
@@ -201,7 +190,7 @@ class Execute(FrontendMessage):
         return cls(part(body, it.portal), it.max_rows)
 
     def write(self) -> bytes:
-        return put(lib.pgmsg_put_raw_execute, *sized(self.portal), self.limit)
+        return put(lib.pgmsg_put_execute, *sized(self.portal), self.limit)
 
 
 @dataclass(frozen=True, slots=True, init=False)

@@ -4,12 +4,11 @@ from __future__ import annotations
 
 from collections.abc import Iterable
 from dataclasses import dataclass
-from typing import ClassVar, Self
+from typing import Any, ClassVar, Self
 
 from . import _fast
 from ._calls import found, listed, part, put, read, sized
 from ._library import ffi, lib
-from .fault import Fault, refusal
 from .message import (
     AsText, BackendMessage, Text, WithoutBody, fill, number, numbers, octets, optional_octets, set_attribute,
     values_of)
@@ -53,7 +52,7 @@ class RowDescription(BackendMessage):
     @classmethod
     def _read(cls, body: bytes) -> Self:
         return cls(listed(
-            "pgmsg_column", lambda room, size: read(lib.pgmsg_read_raw_columns, body, room, size),
+            "pgmsg_column", lambda room, size: read(lib.pgmsg_read_columns, body, room, size),
             lambda it: Column(
                 part(body, it.name), it.type_id, it.table, it.attribute, it.type_size, it.type_modifier, it.format)))
 
@@ -99,7 +98,7 @@ class CommandComplete(BackendMessage):
 
     @classmethod
     def _read(cls, body: bytes) -> Self:
-        return cls(part(body, found("pgmsg_span", lib.pgmsg_read_command_tag, body)))
+        return cls(part(body, command_in(body).tag))
 
     def write(self) -> bytes:
         return put(lib.pgmsg_put_command_complete, *sized(self.command))
@@ -107,9 +106,13 @@ class CommandComplete(BackendMessage):
     @property
     def rows_affected(self) -> int:
         """How many rows the command had to do with: 0 where no number is there."""
-        body = self.command + b"\0"
-        count: int = lib.pgmsg_read_rows_affected(body, len(body))
+        count: int = command_in(self.command + b"\0").rows
         return count
+
+
+def command_in(body: bytes) -> Any:
+    """What a CommandComplete says."""
+    return found("pgmsg_command", lib.pgmsg_read_command_complete, body)
 
 
 @dataclass(frozen=True, slots=True)
@@ -185,12 +188,8 @@ class FunctionCallResponse(BackendMessage):
 
     @classmethod
     def _read(cls, body: bytes) -> Self:
-        # Spelled as the only cell of a row.
-        try:
-            (value,) = _fast.cells(b"\0\1" + body)
-        except Fault as fault:
-            raise refusal(fault.code, at=fault.at - 2) from None
-        return cls(value)
+        cell = found("pgmsg_cell", lib.pgmsg_read_function_result, body)
+        return cls(part(body, cell) if cell.len >= 0 else None)
 
     def write(self) -> bytes:
         return put(lib.pgmsg_put_function_result, *sized(self.value or b""), self.value is None)

@@ -3,17 +3,13 @@
 from __future__ import annotations
 
 import enum
-import struct
 from collections.abc import Iterable
 from dataclasses import dataclass, field
 from typing import ClassVar, Self
 
-from ._calls import found, part, put, read, sized, texts_of
-from ._library import lib
-from .fault import Code, refusal
+from ._calls import found, listed, part, put, read, sized, texts_of
+from ._library import ffi, lib
 from .message import AsText, BackendMessage, Buffer, Text, fill, number, octets
-
-VERSION_AND_COUNT = struct.Struct(">II")
 
 
 @dataclass(frozen=True, slots=True, init=False)
@@ -29,7 +25,7 @@ class BackendKeyData(BackendMessage):
 
     @classmethod
     def _read(cls, body: bytes) -> Self:
-        key = found("pgmsg_raw_key_data", lib.pgmsg_read_raw_key_data, body)
+        key = found("pgmsg_key_data", lib.pgmsg_read_key_data, body)
         return cls(key.process_id, part(body, key.secret_key))
 
     def write(self) -> bytes:
@@ -49,14 +45,11 @@ class NegotiateProtocolVersion(BackendMessage):
 
     @classmethod
     def _read(cls, body: bytes) -> Self:
-        # The header has no call that reads it.
-        if len(body) < VERSION_AND_COUNT.size:
-            raise refusal(Code.SHORT, at=len(body) & 4)
-        version, count = VERSION_AND_COUNT.unpack_from(body)
-        *options, rest = body[VERSION_AND_COUNT.size :].split(b"\0", count)
-        if rest or len(options) < count:
-            raise refusal(Code.MISSING_NUL if len(options) < count else Code.TRAILING_BYTES, at=len(body) - len(rest))
-        return cls(version & 0xFFFF, options)
+        version = ffi.new("pgmsg_negotiation *")
+        options = listed(
+            "pgmsg_span", lambda room, size: read(lib.pgmsg_read_negotiate_version, body, version, room, size),
+            lambda span: part(body, span))
+        return cls(version.minor, options)
 
     def write(self) -> bytes:
         options, count, _held = texts_of(self.options)
@@ -78,7 +71,7 @@ class ParameterStatus(BackendMessage):
 
     @classmethod
     def _read(cls, body: bytes) -> Self:
-        status = found("pgmsg_parameter_status", lib.pgmsg_read_raw_parameter_status, body)
+        status = found("pgmsg_parameter_status", lib.pgmsg_read_parameter_status, body)
         return cls(part(body, status.name), part(body, status.value))
 
     def write(self) -> bytes:

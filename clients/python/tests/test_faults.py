@@ -70,16 +70,16 @@ REPORTED = [
     (verifier, b"v=*", Code.BASE64, 0, "SASL value is not base64"),
     (AuthenticationMD5Password, b"\0\0\0\5abc", Code.SHORT, 4, "expected 4 bytes at offset 4, got 3"),
     (CommandComplete, b"BEGIN", Code.MISSING_NUL, 0, "expected NUL after offset 0"),
-    (NoData, b"a", Code.BODY_TOO_LONG, 0, "message body out of range for protocol: 0"),
+    (NoData, b"a", Code.TRAILING_BYTES, 0, "expected the end of the message at offset 0"),
+    (challenge, b"r=\xff", Code.NOT_UTF8, 0, "text is not UTF-8"),
     (CopyInResponse, b"\0\0", Code.SHORT, 1, "expected 2 bytes at offset 1, got 1"),
     (ParameterDescription, b"\0\1\0", Code.SHORT, 2, "expected 4 bytes at offset 2, got 1"),
-    (FunctionCallResponse, b"\0\0\0\5ab", Code.SHORT, 4, None),
-    (FunctionCallResponse, b"\0\0", Code.SHORT, 0, None),
-    (NegotiateProtocolVersion, b"\0\3\0", Code.SHORT, 0, None),
-    (NegotiateProtocolVersion, b"\0\3\0\0\0\0\0", Code.SHORT, 4, None),
-    (NegotiateProtocolVersion, b"\0\3\0\0\0\0\0\1ab", Code.MISSING_NUL, 8, None),
-    (NegotiateProtocolVersion, b"\0\3\0\0\0\0\0\1ab\0c", Code.TRAILING_BYTES, 11, None),
-    (NegotiateProtocolVersion, b"\0\3\0\0\xff\xff\xff\xff\0\0", Code.MISSING_NUL, 10, None),
+    (FunctionCallResponse, b"\0\0\0\5ab", Code.SHORT, 4, "expected 5 bytes at offset 4, got 2"),
+    (FunctionCallResponse, b"\0\0", Code.SHORT, 0, "expected 4 bytes at offset 0, got 2"),
+    (NegotiateProtocolVersion, b"\0\3\0", Code.SHORT, 0, "expected 4 bytes at offset 0, got 3"),
+    (NegotiateProtocolVersion, b"\0\3\0\0\0\0\0", Code.SHORT, 4, "expected 4 bytes at offset 4, got 3"),
+    (NegotiateProtocolVersion, b"\0\3\0\0\0\0\0\1ab", Code.MISSING_NUL, 8, "expected NUL after offset 8"),
+    (NegotiateProtocolVersion, b"\0\3\0\0\xff\xff\xff\xff\0\0", Code.MISSING_NUL, 10, "expected NUL after offset 10"),
     # What a client sent.
     (next_of_client, b"!\0\0\0\x04", Code.UNKNOWN_MESSAGE_TYPE, 0, "unknown message type: 33"),
     (next_of_client, b"Z\0\0\0\x03", Code.UNKNOWN_MESSAGE_TYPE, 0, "unknown message type: 90"),
@@ -140,6 +140,7 @@ REPORTED = [
 # Codes that no message here provokes, with the reason.
 WITHOUT = {
     "OUT_OF_MEMORY": "it is raised as MemoryError",
+    "BODY_TOO_LONG": "a body of 2 GiB, which the tests in Rust have",
     "WRONG_FORMAT": "test_messages.py has it, where a frame has another tag",
     "MESSAGE_TOO_LONG": "test_messages.py has it of copy_head",
     "NOT_FRAMES": "test_relay.py has it",
@@ -160,7 +161,7 @@ class TestFaults(unittest.TestCase):
                     call_of(reader)(body)
                 found = refused.exception
                 self.assertEqual((found.code, found.at), (code, at))
-                self.assertEqual(str(found), words or str(fault.refusal(code)))
+                self.assertEqual(str(found), words)
                 self.assertIsInstance(found.code, Code)
 
     def test_no_code_is_forgotten(self):

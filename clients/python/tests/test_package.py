@@ -24,23 +24,20 @@ SOURCES = "".join(file.read_text() for file in [*(support.TOP / "pgmsg").glob("*
 
 # Calls of the header that the package has no need of, with the reason.
 LEFT_OUT = {
+    "pgmsg_check_utf8": "a `str` of bytes says so itself",
+    "pgmsg_next_frames": "a stream gives its messages one by one",
+    "pgmsg_put_authentication": "a frame of the method and what follows it is the same, also of GSSAPI",
     "pgmsg_put_md5_password": "a PasswordMessage of the digest is the same",
-    "pgmsg_put_no_body": "a frame of the tag is the same",
-    "pgmsg_read_end": "what follows the parts of a message is left out",
+    "pgmsg_put_portal_name": "names are the caller's",
+    "pgmsg_put_statement_name": "names are the caller's",
 }
-
-# Those that do as another does, for text in UTF-8 alone or for the names of one driver.
-NARROW = r"put_(authentication_(ok|cleartext|continue|final)|password|sasl_initial|sasl_response|query|copy_fail|copy_done|batch" \
-    r"|flush|sync|terminate|parse|bind|execute|(describe|close)_(statement|portal))" \
-    r"|read_(columns|key_data|parameter_status|mechanisms)"
 
 
 class TestHeader(unittest.TestCase):
     def test_each_call_is_used_or_left_out(self):
         used = set(re.findall(r"\bpgmsg_(?:put|read|next|relay|check)_\w+", SOURCES))
         calls = {name for name in dir(lib) if name.startswith("pgmsg_") and name not in ("pgmsg_version", "pgmsg_strerror")}
-        without = {name for name in calls - used if not re.fullmatch(f"pgmsg_({NARROW})", name)}
-        self.assertEqual(without, set(LEFT_OUT))
+        self.assertEqual(calls - used, set(LEFT_OUT))
 
     def test_versions(self):
         project = tomllib.loads((support.TOP / "pyproject.toml").read_text())["project"]

@@ -9,7 +9,7 @@ use std::process::{self, Command};
 const VARIABLE: &str = "PGMSG_LIB_DIR";
 
 /// The version that this crate declares the calls of.
-const VERSION: &str = "pg_message = 0.1.0";
+const VERSION: &str = "pg_message = 0.2.0";
 
 const WAYS: &str = "\
 there is no libpg_message. One of these helps:
@@ -90,7 +90,7 @@ fn built() -> Result<PathBuf, String> {
 
 /// Has cargo run this script again when a source of the library changes.
 fn watch(top: &Path) {
-    for file in ["clients/library", "crates.txt"] {
+    for file in ["clients/library", "clients/c/library", "crates.txt"] {
         println!("cargo:rerun-if-changed={}", top.join(file).display());
     }
     let crates = fs::read_dir(top.join("crates")).into_iter().flatten();

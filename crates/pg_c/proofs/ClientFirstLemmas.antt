@@ -6,7 +6,7 @@ use Rattle.pg_base.specs.declared.error.ProtocolFault.TheVariants.{UnknownCode}
 use Rattle.pg_format.specs.Format.{Means}
 use Rattle.pg_format.specs.Format.Parts.{fail}
 use Rattle.pg_format.specs.Format.Sequences.{case_of, choose}
-use Rattle.pg_format.specs.Messages.{Cancel, First, opening, cancelling, tls, gssapi, settings_of, cancelled, asks_tls, asks_gssapi, cancel_request, ssl_request, gss_enc_request, startup, is_version_3}
+use Rattle.pg_format.specs.Messages.{Cancel, opening, cancelling, tls, gssapi, settings_of, cancelled, asks_tls, asks_gssapi, cancel_request, ssl_request, gss_enc_request, startup, is_version_3}
 use Rattle.pg_base.proofs.ReadingLemmas.{number_fits}
 use Rattle.pg_server.specs.Frontend.Page.{shown_cancel}
 use Rattle.pg_server.specs.Frontend.FirstMessageRef.{ReadsFirst}

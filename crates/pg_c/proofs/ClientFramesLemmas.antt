@@ -1,5 +1,5 @@
 -- Where the message at the front of a client's stream is, and how many bytes it needs.
-use Rattle.std.proofs.Common.{inl, inr, ◌≡◌, ℕ, ◌+◌, ◌≤◌, ℤ, pos, Some, List, ◌++◌, length, drop, get_or, refl, ap, ◌∙◌, arith, append_assoc, length-append}
+use Rattle.std.proofs.Common.{inl, inr, ◌≡◌, ℕ, ◌+◌, pos, Some, List, ◌++◌, length, drop, get_or, refl, ◌∙◌, arith, append_assoc, length-append}
 use Rattle.std.proofs.lemmas.List.{drop_at}
 use Rattle.pg_base.specs.Cutting.{Begins}
 use Rattle.pg_base.specs.Format.{frontend_tag}
@@ -10,7 +10,7 @@ use Rattle.pg_frames.specs.declared.frontend.message.ClientMessageKind.{ClientMe
 use Rattle.pg_frames.specs.declared.frontend.message.ClientMessageKind.TheVariants as kinds
 use Rattle.pg_c.specs.Client.Frames.{Needs}
 use Rattle.pg_c.specs.Place.{bytes_in}
-use Rattle.pg_c.specs.Read.RawFrame as read
+use Rattle.pg_c.specs.Read.Frame as read
 use Rattle.pg_c.proofs.PlaceLemmas.{bytes_are}
 use Rattle.pg_frames.proofs.StreamLemmas.{one_announced, announces_fits}
 

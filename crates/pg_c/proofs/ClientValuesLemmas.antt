@@ -91,7 +91,7 @@ one_is_broken body first at index count old new fault p fewer f =
 abbrev pub FindsName : List ℕ → ℕ → PgmsgSpan → ℕ → Type 0
 FindsName body at span end = Finds until_nul (λ place name. part body place ≡ Some name) body at span end
 
-name_finds : (body : List ℕ) (at end : ℕ) (name : List ℕ) → at ≤ length body → IsReadAt until_nul body at name end → FindsName body at (record { at = at; len = length name }) end
+pub name_finds : (body : List ℕ) (at end : ℕ) (name : List ℕ) → at ≤ length body → IsReadAt until_nul body at name end → FindsName body at (record { at = at; len = length name }) end
 name_finds body at end name within read =
     let parts : body ≡ take at body ++ (name ++ 0 ∷ drop end body) = sym (take-append-drop at body) ∙ ap (λ (l : List ℕ). take at body ++ l) read.reads.parts in
     record { value = name; read = read; is = bytes_are body (take at body) name (0 ∷ drop end body) at parts (length-take-le at body within) }

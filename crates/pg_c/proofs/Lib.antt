@@ -4,13 +4,13 @@ pub mod ClientLemmas
 pub mod ClientStartupLemmas
 pub mod ClientValuesLemmas
 pub mod PlaceLemmas
-pub mod PutListsLemmas
 pub mod ReadAuthenticationLemmas
 pub mod ReadColumnsLemmas
 pub mod ReadFieldsLemmas
 pub mod ReadFrameLemmas
 pub mod ReadLemmas
 pub mod ReadListsLemmas
+pub mod ReadNegotiationLemmas
 pub mod ReadRowLemmas
 pub mod RefusalLemmas
 pub mod RelayPassageLemmas

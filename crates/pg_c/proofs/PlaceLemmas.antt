@@ -5,7 +5,7 @@ use Rattle.std.proofs.lemmas.Bool.{le-leb}
 use Rattle.std.proofs.lemmas.List.{take_at, drop_at}
 use Rattle.pg_base.specs.Reading.{Text}
 use Rattle.pg_format.specs.Format.{Means}
-use Rattle.pg_format.specs.Messages.{Notification, notification, Cancel, Setting, parameter_status}
+use Rattle.pg_format.specs.Messages.{Notification, notification, Cancel, Setting}
 use Rattle.pg_receive.specs.Authentication.Raw.{Request, raw_request}
 use Rattle.pg_receive.specs.BackendKeyData.{raw_key_data}
 use Rattle.pg_receive.specs.CommandComplete.{tag_text}
@@ -41,16 +41,9 @@ pub notified_at : (body : List ℕ) (v : Notification) → Means notification bo
     → (bytes_in body 4 (length v.channel) ≡ Some v.channel) × (bytes_in body (4 + length v.channel + 1) (length v.payload) ≡ Some v.payload)
 notified_at body v p = two_texts body p.1.first.spelled p.1.mid v.channel p.1.second.mid v.payload p.0 4 p.1.first.parts p.1.first.wide p.1.second.first p.1.second.second
 
-pub setting_at : (body : List ℕ) (s : Setting) → Means parameter_status body s
+pub setting_at : (body : List ℕ) (s : Setting) → Means raw_parameter_status body s
     → (bytes_in body 0 (length s.name) ≡ Some s.name) × (bytes_in body (length s.name + 1) (length s.value) ≡ Some s.value)
 setting_at body s p =
-    let zero : 0 + length s.name ≡ length s.name = omega arith in
-    let at = two_texts body [] body s.name p.1.mid s.value p.0 0 refl refl p.1.first.0 p.1.second.0 in
-    (at.0, rw zero at at.1)
-
-pub raw_setting_at : (body : List ℕ) (s : Setting) → Means raw_parameter_status body s
-    → (bytes_in body 0 (length s.name) ≡ Some s.name) × (bytes_in body (length s.name + 1) (length s.value) ≡ Some s.value)
-raw_setting_at body s p =
     let zero : 0 + length s.name ≡ length s.name = omega arith in
     let at = two_texts body [] body s.name p.1.mid s.value p.0 0 refl refl p.1.first p.1.second in
     (at.0, rw zero at at.1)

@@ -6,7 +6,7 @@ use Rattle.std.specs.Option.{option_map_or, unwrap_or}
 use Rattle.std.proofs.lemmas.List.{take_at, length-drop}
 use Rattle.pg_base.specs.declared.io.Oid.{Oid}
 use Rattle.pg_format.specs.Format.Places.{IsReadAt}
-use Rattle.pg_format.specs.Messages.{Column, column, table, attribute}
+use Rattle.pg_format.specs.Messages.{Column, table, attribute}
 use Rattle.pg_receive.specs.RowDescription.Raw.{raw_column}
 use Rattle.pg_c.specs.Place.{bytes_in}
 use Rattle.pg_c.proofs.PlaceLemmas.{bytes_found}
@@ -37,14 +37,10 @@ attribute_is (Some y) (pos (suc n)) h =
     rw is refl
 
 -- the name of a column that begins at an offset
-pub raw_name_is : (body : List ℕ) (at end : ℕ) (c : Column) → IsReadAt raw_column body at c end → bytes_in body at (length c.name) ≡ Some c.name
-raw_name_is body at end c p =
+pub name_is : (body : List ℕ) (at end : ℕ) (c : Column) → IsReadAt raw_column body at c end → bytes_in body at (length c.name) ≡ Some c.name
+name_is body at end c p =
     let read = p.reads in
     let count : at + length c.name - at ≡ length c.name = omega arith in
     let parts : drop at body ≡ c.name ++ 0 ∷ read.mid = read.first.parts in
     let inside : at + length c.name ≤ length body = omega (arith, ap length parts, length-drop at body, length-append c.name (0 ∷ read.mid)) in
     bytes_found body c.name at inside (rw (count, parts) (take_at c.name (0 ∷ read.mid) (length c.name) refl))
-
--- the same where it is UTF-8
-pub name_is : (body : List ℕ) (at end : ℕ) (c : Column) → IsReadAt column body at c end → bytes_in body at (length c.name) ≡ Some c.name
-name_is body at end c p = raw_name_is body at end c (record { within = p.within; reads = record { mid = p.reads.mid; first = p.reads.first.0; second = p.reads.second } })

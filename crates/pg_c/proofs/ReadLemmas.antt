@@ -36,7 +36,7 @@ given_full {X = X} item_at (p ∷ places) (x ∷ items) item h le =
 pub none_given : {X P : Type 0} (item_at : P → Option X) (places : List P) → AreGiven item_at [] places places
 none_given {X = X} item_at places = record { room = refl; given = ap (λ (l : List X). map Some l) (sym (take-nil (length places))); rest = refl }
 
-one_less : {P : Type 0} (index : ℕ) (old new : List P) → drop index new ≡ drop index old → drop (suc index) new ≡ drop (suc index) old
+pub one_less : {P : Type 0} (index : ℕ) (old new : List P) → drop index new ≡ drop index old → drop (suc index) new ≡ drop (suc index) old
 one_less index old new h =
     let next : index + 1 ≡ suc index = omega arith in
     rw (← next) (sym (drop-drop 1 index new) ∙ ap (drop 1) h ∙ drop-drop 1 index old)

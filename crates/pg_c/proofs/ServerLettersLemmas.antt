@@ -1,18 +1,19 @@
 -- What is put by a letter.
-use Rattle.std.proofs.Common.{◌≡◌, ◌≢◌, ℕ, ℤ, Bool, true, false, cond, eqb, List, [], ◌∷◌, Option, Some, None, refl, sym, ap, ◌∙◌}
+use Rattle.std.proofs.Common.{◌≡◌, ℕ, ℤ, Bool, true, false, cond, eqb, List, [], ◌∷◌, Option, Some, None, refl, sym, ap, ◌∙◌}
 use Rattle.std.proofs.lemmas.Bool.{eqb-true}
 use Rattle.pg_base.specs.declared.error.ProtocolFault.{ProtocolFault}
 use Rattle.pg_server.specs.Backend.Copy.{direction_tag}
 use Rattle.pg_server.specs.Backend.Message.{Message}
+use Rattle.pg_server.specs.Backend.Notice.{notice_tag}
 use Rattle.pg_server.specs.declared.backend.copy.CopyDirection.{CopyDirection}
 use Rattle.pg_server.specs.declared.backend.copy.CopyDirection.TheVariants as directions
-use Rattle.pg_server.specs.declared.backend.no_body.NoBodyText.{NoBodyText}
-use Rattle.pg_server.specs.declared.backend.no_body.NoBodyText.TheVariants as messages
+use Rattle.pg_server.specs.declared.backend.notice.NoticeKind.{NoticeKind}
+use Rattle.pg_server.specs.declared.backend.notice.NoticeKind.TheVariants as notices
 use Rattle.pg_server.specs.declared.backend.ready_for_query.ReadyForQueryText.{ReadyForQueryText}
 use Rattle.pg_server.specs.declared.backend.ready_for_query.ReadyForQueryText.TheVariants as statuses
 use Rattle.pg_c.specs.Put.{IsRefused}
 use Rattle.pg_c.specs.Server.{PutsServerMessage, PutsByLetter}
-use Rattle.pg_c.specs.Server.Letters.{kind_of, no_body_tag, no_body_of, direction_of, ready_letter, ready_of}
+use Rattle.pg_c.specs.Server.Letters.{kind_of, notice_kind_of, direction_of, ready_letter, ready_of}
 
 same : {K : Type 0} (one other : K) → Some one ≡ Some other → one ≡ other
 same one other e = cc
@@ -43,14 +44,9 @@ module _ {K : Type 0} (letter_of : K → ℕ) (kinds : List K) (found : (kind : 
     unknown = λ none. refused;
   }
 
-pub no_body_found : (message : NoBodyText) → no_body_of (no_body_tag message) ≡ Some message
-no_body_found messages.ParseComplete = refl
-no_body_found messages.BindComplete = refl
-no_body_found messages.CloseComplete = refl
-no_body_found messages.EmptyQueryResponse = refl
-no_body_found messages.CopyDone = refl
-no_body_found messages.NoData = refl
-no_body_found messages.PortalSuspended = refl
+pub notice_found : (kind : NoticeKind) → notice_kind_of (notice_tag kind) ≡ Some kind
+notice_found notices.Error = refl
+notice_found notices.Notice = refl
 
 pub direction_found : (direction : CopyDirection) → direction_of (direction_tag direction) ≡ Some direction
 direction_found directions.In = refl

@@ -1,7 +1,7 @@
 -- Values of a row as a C program passes them.
-use Rattle.std.proofs.Common.{◌≡◌, ℕ, Bool, true, false, cond, List, [], ◌∷◌, map, Bor, Option, Some, None, refl, ap, ◌∙◌}
+use Rattle.std.proofs.Common.{◌≡◌, ℕ, Bool, true, false, cond, List, [], ◌∷◌, map, Bor, Some, None, refl, ap, ◌∙◌}
 use Rattle.std.specs.Prelude.{option_copied}
-use Rattle.pg_c.specs.Put.Lists.{value_of}
+use Rattle.pg_c.specs.Put.Values.{value_of}
 use Rattle.pg_c.specs.Server.Lists.{borrowed}
 use Rattle.pg_c.specs.declared.put.prepared.PgmsgValue.{PgmsgValue}
 

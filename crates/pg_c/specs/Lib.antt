@@ -5,4 +5,3 @@ pub mod Read
 pub mod Refusal
 pub mod Relay
 pub mod Server
-pub mod Words

@@ -1,10 +1,7 @@
 -- What a call that writes a message into the caller's room answers, as a number of C's `ptrdiff_t`.
-pub mod Bind
-pub mod FunctionCall
-pub mod Lists
-pub mod Parse
-pub mod Prepared
+pub mod NoBody
 pub mod Startup
+pub mod Values
 use Rattle.std.specs.Prelude.{◌≡◌, ◌⊎◌, ℕ, ℤ, pos, List, [], ◌∷◌, ◌++◌, length, Option, Some, None, MatchOption, Result, Ok, Err}
 use Rattle.pg_base.specs.Sink.{IsGiven}
 use Rattle.pg_base.specs.declared.error.Error.{Error}
@@ -48,28 +45,3 @@ IsRefused fault old new result = (result ≡ fault_number fault) × (new ≡ old
 -- the text of a message without a tag is put, or refused for its fault
 abbrev pub PutsText : List ℕ → Option ProtocolFault → List ℕ → List ℕ → ℤ → Type 0
 PutsText text fault old new result = MatchOption fault ((result ≡ pos (length text)) × IsGiven text old new) (λ f. IsRefused f old new result)
-
--- the texts of messages, one after the other
-abbrev pub texts : List Message → List ℕ
-texts [] = []
-texts (m ∷ ms) = text (law_of m) ++ texts ms
-
-abbrev pub AreSound : List Message → Type 0
-AreSound [] = Unit {0}
-AreSound (m ∷ ms) = IsSound (law_of m) × AreSound ms
-
--- the refusal of the first that isn't sound
-abbrev pub IsDueOfBatch : List Message → Error → Type 0
-IsDueOfBatch [] error = ⊥
-IsDueOfBatch (m ∷ ms) error = IsDue (law_of m) error ⊎ (IsSound (law_of m) × IsDueOfBatch ms error)
-
--- the length of all, which are given where each is sound; or the refusal that is due, and the room is as it was
-abbrev pub IsBatchWritten : List Message → Result ℕ Error → List ℕ → List ℕ → Type 0
-IsBatchWritten ms (Ok len) old new = AreSound ms × (len ≡ length (texts ms)) × IsGiven (texts ms) old new
-IsBatchWritten ms (Err error) old new = IsDueOfBatch ms error × (new ≡ old)
-
--- all of a batch is put, or nothing of it
-pub record PutsBatch (ms : List Message) (old new : List ℕ) (result : ℤ) : Type 0 where
-  pub answer : Result ℕ Error
-  pub is : IsBatchWritten ms answer old new
-  pub number : result ≡ number_of_answer answer

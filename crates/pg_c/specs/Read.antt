@@ -5,8 +5,8 @@ pub mod Copy
 pub mod End
 pub mod Fields
 pub mod Frame
-pub mod Raw
-pub mod RawFrame
+pub mod FunctionResult
+pub mod Negotiation
 pub mod Row
 pub mod Status
 use Rattle.std.specs.Prelude.{◌≡◌, ◌<◌, ◌≤◌, ◌<ℤ◌, ◌⊎◌, ℕ, ℤ, pos, List, Option, Some, map, take, drop, length, Result, Ok, Err}

@@ -14,6 +14,10 @@ use Rattle.pg_c.specs.declared.refusal.PgmsgFault.{PgmsgFault}
 abbrev pub too_long_number : ℤ
 too_long_number = negsuc 4
 
+-- that of a Describe or a Close that names neither a statement nor a portal
+abbrev pub unknown_target_number : ℤ
+unknown_target_number = negsuc 22
+
 -- below 0, in the order of the header; negsuc n is -n - 1
 abbrev pub fault_number : ProtocolFault → ℤ
 fault_number (faults.TooManyParamFormats count) = negsuc 1
@@ -59,7 +63,7 @@ fault_place OutOfMemory = 0
 abbrev pub client_number : FrontendFault → ℤ
 client_number (client.UnknownTag tag) = negsuc 7
 client_number (client.UnknownCode code) = negsuc 21
-client_number (client.UnknownTarget letter) = negsuc 22
+client_number (client.UnknownTarget letter) = unknown_target_number
 client_number (client.Short at needed got) = negsuc 11
 client_number (client.MissingNul at) = negsuc 12
 client_number (client.ValueLength at length) = negsuc 23

@@ -1,5 +1,6 @@
 -- What a call that writes a message to a client into the caller's room answers, as a number of C's
 -- `ptrdiff_t`.
+pub mod Authentication
 pub mod Letters
 pub mod Lists
 use Rattle.std.specs.Prelude.{◌≡◌, ◌≢◌, ◌≤◌, ℕ, ℤ, pos, List, length, Result, Ok, Err, IfOk}

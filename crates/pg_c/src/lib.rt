@@ -12,4 +12,3 @@ pub mod read;
 pub mod refusal;
 pub mod relay;
 pub mod server;
-pub mod words;

@@ -3,8 +3,8 @@
 //!
 //! Names are those of the header, and so are the rules of a call:
 //!
-//! - Each pointer is valid for its length for the time of the call, aligned, and never null, also
-//!   where the length is 0. What a call writes overlaps nothing that it reads.
+//! - Each pointer is valid for its length for the time of the call, and aligned; where the length is
+//!   0 it may be null, also in a struct. What a call writes overlaps nothing that it reads.
 //! - No call keeps a pointer, opens anything, or waits. Calls may run at once in several threads,
 //!   each on memory of its own; none may run in a signal handler.
 //! - A call that writes a message gives the message's length in bytes, and has written it at the

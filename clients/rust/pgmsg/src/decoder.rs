@@ -157,7 +157,7 @@ impl Decoder {
         let (start, length) = (bytes.as_ptr(), bytes.len());
         let is_whole = match self.side {
             // SAFETY: `bytes` is a slice, valid for its length; `head` and `fault` are apart from it.
-            Side::Server => unsafe { sys::pgmsg_next_raw_frame(start, length, head, fault) },
+            Side::Server => unsafe { sys::pgmsg_next_frame(start, length, head, fault) },
             // SAFETY: the same.
             Side::Client => unsafe { sys::pgmsg_next_frontend_frame(start, length, head, fault) },
             Side::ClientFirst => {

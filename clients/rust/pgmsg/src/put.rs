@@ -16,8 +16,11 @@ type PutSame = unsafe extern "C" fn(*mut u8, usize) -> isize;
 /// A call that writes a message of some bytes.
 type PutBytes = unsafe extern "C" fn(*const u8, usize, *mut u8, usize) -> isize;
 
-/// A call that writes a message of a process and its key.
-type PutKey = unsafe extern "C" fn(u32, *const u8, usize, *mut u8, usize) -> isize;
+/// A call that writes a message of a tag or a kind, and some bytes.
+type PutTagged = unsafe extern "C" fn(u8, *const u8, usize, *mut u8, usize) -> isize;
+
+/// A call that writes a message of a number and some bytes: a process and its key, a method and what follows it.
+type PutNumbered = unsafe extern "C" fn(u32, *const u8, usize, *mut u8, usize) -> isize;
 
 /// Appends a message which is always the same.
 #[inline]
@@ -45,18 +48,35 @@ pub(crate) unsafe fn put_bytes<B: Buffer>(
     unsafe { append(out, put) }
 }
 
-/// Appends what a call writes of a process and its key.
+/// Appends what a call writes of a tag or a kind, and some bytes.
 #[inline]
-pub(crate) unsafe fn put_key<B: Buffer>(
+pub(crate) unsafe fn put_tagged<B: Buffer>(
     out: &mut B,
-    call: PutKey,
-    process_id: u32,
-    key: &[u8],
+    call: PutTagged,
+    tag: u8,
+    bytes: &[u8],
 ) -> Result<(), Refusal> {
     let put = move |mut out: Spare<'_>| {
         let room = out.len();
         // SAFETY: both are slices, valid for their lengths, and `&mut` keeps `out` apart.
-        unsafe { call(process_id, key.as_ptr(), key.len(), out.as_mut_ptr(), room) }
+        unsafe { call(tag, bytes.as_ptr(), bytes.len(), out.as_mut_ptr(), room) }
+    };
+    // SAFETY: what is asked of the call is the same.
+    unsafe { append(out, put) }
+}
+
+/// Appends what a call writes of a number and some bytes.
+#[inline]
+pub(crate) unsafe fn put_numbered<B: Buffer>(
+    out: &mut B,
+    call: PutNumbered,
+    number: u32,
+    bytes: &[u8],
+) -> Result<(), Refusal> {
+    let put = move |mut out: Spare<'_>| {
+        let room = out.len();
+        // SAFETY: both are slices, valid for their lengths, and `&mut` keeps `out` apart.
+        unsafe { call(number, bytes.as_ptr(), bytes.len(), out.as_mut_ptr(), room) }
     };
     // SAFETY: what is asked of the call is the same.
     unsafe { append(out, put) }
@@ -65,10 +85,16 @@ pub(crate) unsafe fn put_key<B: Buffer>(
 /// Appends a message of any tag and any body.
 #[inline]
 pub(crate) fn put_frame<B: Buffer>(out: &mut B, tag: u8, body: &[u8]) -> Result<(), Refusal> {
-    let put = |mut out: Spare<'_>| {
-        let room = out.len();
-        // SAFETY: both are slices, valid for their lengths, and `&mut` keeps `out` apart.
-        unsafe { sys::pgmsg_put_raw_frame(tag, body.as_ptr(), body.len(), out.as_mut_ptr(), room) }
+    // SAFETY: the call is one of the library, which writes a message so.
+    unsafe { put_tagged(out, sys::pgmsg_put_frame, tag, body) }
+}
+
+/// Appends a message without a body, by its tag.
+#[inline]
+pub(crate) fn put_no_body<B: Buffer>(out: &mut B, tag: u8) -> Result<(), Refusal> {
+    let put = move |mut out: Spare<'_>| {
+        // SAFETY: `out` is room, valid for its length.
+        unsafe { sys::pgmsg_put_no_body(tag, out.as_mut_ptr(), out.len()) }
     };
     // SAFETY: the call is one of the library, which writes a message so.
     unsafe { append(out, put) }

@@ -33,6 +33,14 @@ pub(crate) unsafe fn read_number(body: &[u8], call: ReadNumber) -> Result<usize,
     })
 }
 
+/// Refuses a body that isn't empty.
+#[inline]
+pub(crate) fn read_no_body(body: &[u8]) -> Result<(), Fault> {
+    // SAFETY: the call is one of the library, which reads a body so.
+    unsafe { read_number(body, sys::pgmsg_read_no_body)? };
+    Ok(())
+}
+
 /// The parts of a message.
 #[inline]
 pub(crate) unsafe fn read_parts<M: Default>(body: &[u8], call: ReadParts<M>) -> Result<M, Fault> {

@@ -3,6 +3,7 @@
 use crate::sys;
 use alloc::borrow::Cow;
 use alloc::string::String;
+use core::slice;
 use core::sync::atomic::{AtomicBool, Ordering};
 
 /// Whether the versions have been compared, and are the same.
@@ -22,15 +23,28 @@ pub(crate) fn check() {
 
 #[cold]
 fn compare() {
-    // SAFETY: the call takes nothing, and its text has the same form in each version.
-    let linked = unsafe { sys::pgmsg_version() };
-    assert_same(&linked);
+    // SAFETY: the call takes nothing, and gives a text that lasts, with a NUL.
+    let linked = unsafe { text_at(sys::pgmsg_version()) };
+    assert_same(&String::from_utf8_lossy(linked));
     IS_COMPARED.store(true, Ordering::Relaxed);
 }
 
-fn assert_same(linked: &sys::pgmsg_text) {
-    let mut parts = linked.text.split(|&byte| byte == 0);
-    let linked = String::from_utf8_lossy(parts.next().unwrap_or_default());
+/// The bytes of a text of C before its NUL.
+///
+/// # Safety
+///
+/// The text has a NUL, and lasts.
+unsafe fn text_at(start: *const u8) -> &'static [u8] {
+    let mut length = 0;
+    // SAFETY: no byte up to here was the NUL.
+    while unsafe { *start.add(length) } != 0 {
+        length += 1;
+    }
+    // SAFETY: so many bytes stand before it.
+    unsafe { slice::from_raw_parts(start, length) }
+}
+
+fn assert_same(linked: &str) {
     let declared = declared();
     assert!(
         linked == declared,
@@ -47,22 +61,16 @@ fn declared() -> Cow<'static, str> {
 mod tests {
     use super::*;
 
-    fn text_of(version: &str) -> sys::pgmsg_text {
-        let mut text = [0; 64];
-        text[..version.len()].copy_from_slice(version.as_bytes());
-        sys::pgmsg_text { text }
-    }
-
     #[test]
     fn the_library_is_of_the_version_of_its_declarations() {
         check();
-        assert_same(&text_of(&declared()));
+        assert_same(&declared());
     }
 
     #[test]
     fn another_version_is_refused_by_name() {
         for other in ["0.0.9", "0.1", "0.1.01", "99.0", "", &"9".repeat(64)] {
-            let refused = std::panic::catch_unwind(|| assert_same(&text_of(other)));
+            let refused = std::panic::catch_unwind(|| assert_same(other));
             let words = refused.expect_err("a panic");
             let words = words.downcast_ref::<String>().expect("words");
             assert!(words.contains(&format!("linked is of version {other}, ")));

@@ -116,7 +116,7 @@ fn values() {
 #[test]
 #[rustfmt::skip]
 fn messages_of_a_server() {
-    let rows: [Row; 23] = [
+    let rows: [Row; 28] = [
         (Some(b'R'), b"\0\0\0", Short, 0, "expected 4 bytes at offset 0, got 3"),
         (Some(b'R'), b"\0\0\0\x05\x01\x02\x03", Short, 4, "expected 4 bytes at offset 4, got 3"),
         (Some(b'K'), b"\0\0\0", Short, 0, "expected 4 bytes at offset 0, got 3"),
@@ -137,8 +137,13 @@ fn messages_of_a_server() {
         (Some(b'T'), b"\0\x01", Short, 2, "expected 19 bytes at offset 2, got 0"),
         (Some(b'T'), b"\0\x01ab\0\0\0\0\0\0\0\0\0\0\0\0\0\0\0\0\0\0", Short, 5, "expected 18 bytes at offset 5, got 17"),
         (Some(b't'), b"\0\x01\0", Short, 2, "expected 4 bytes at offset 2, got 1"),
-        (Some(b'1'), b"a", BodyTooLong, 0, "message body out of range for protocol: 0"),
-        (Some(b'n'), b"ab", BodyTooLong, 0, "message body out of range for protocol: 0"),
+        (Some(b'1'), b"a", TrailingBytes, 0, "expected the end of the message at offset 0"),
+        (Some(b'n'), b"ab", TrailingBytes, 0, "expected the end of the message at offset 0"),
+        (Some(b'V'), b"\0\0", Short, 0, "expected 4 bytes at offset 0, got 2"),
+        (Some(b'V'), b"\0\0\0\x02a", Short, 4, "expected 2 bytes at offset 4, got 1"),
+        (Some(b'v'), b"\0\x03\0", Short, 0, "expected 4 bytes at offset 0, got 3"),
+        (Some(b'v'), b"\0\x03\0\0\0\0", Short, 4, "expected 4 bytes at offset 4, got 2"),
+        (Some(b'v'), b"\0\x03\0\0\0\0\0\x02a\0b", MissingNul, 10, "expected NUL after offset 10"),
         (None, b"", UnknownMessageType, 0, "message without a tag"),
     ];
     for (tag, body, refusal, at, words) in rows {

@@ -3,6 +3,7 @@
 
 use pgmsg::relay::{self, Relay, Wanted};
 use pgmsg::{backend, frontend, Decoder, Refusal};
+use std::ffi::CStr;
 use std::panic::catch_unwind;
 
 /// A call by its name. It answers whether what it did is right.
@@ -50,20 +51,20 @@ fn passes(mut piece: &[u8]) -> bool {
 
 /// The version of the library that is linked.
 fn linked() -> String {
-    // SAFETY: the call takes nothing.
-    let version = unsafe { pgmsg_sys::pgmsg_version() };
-    text_of(&version.text)
+    // SAFETY: the call takes nothing, and gives a text that lasts, with a NUL.
+    let version = unsafe { CStr::from_ptr(pgmsg_sys::pgmsg_version().cast()) };
+    version.to_string_lossy().into()
 }
 
-/// A text before its NUL.
-fn text_of(text: &[u8]) -> String {
-    let text = text.split(|&byte| byte == 0).next();
-    String::from_utf8_lossy(text.unwrap_or_default()).into()
+/// The version of the declarations.
+fn declared() -> String {
+    let version = CStr::from_bytes_with_nul(pgmsg_sys::PGMSG_VERSION).expect("a NUL");
+    version.to_string_lossy().into()
 }
 
 #[test]
 fn no_call_gets_through_to_a_library_of_another_version() {
-    let (linked, declared) = (linked(), text_of(pgmsg_sys::PGMSG_VERSION));
+    let (linked, declared) = (linked(), declared());
     for (name, call) in CALLS {
         match catch_unwind(call) {
             Ok(succeeds) => assert!(succeeds && linked == declared, "{name}"),

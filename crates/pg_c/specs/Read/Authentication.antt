@@ -1,29 +1,23 @@
 -- What a server asks of a client, as a C program reads it.
-use Rattle.std.specs.Prelude.{◌≡◌, ◌≢◌, ◌⊎◌, ℕ, ℤ, pos, List, [], ◌∷◌, length}
+use Rattle.std.specs.Prelude.{◌≡◌, ◌≢◌, ◌⊎◌, ℕ, ℤ, pos, List, Some, length}
 use Rattle.pg_base.specs.declared.error.ProtocolFault.{ProtocolFault}
 use Rattle.pg_base.specs.declared.error.ProtocolFault.TheVariants.{UnknownAuthentication}
 use Rattle.pg_format.specs.Format.{Means, IsFaultOf}
-use Rattle.pg_receive.specs.Authentication.{AuthenticationValue, accepted, cleartext_password, md5_password, sasl, sasl_continue, sasl_final, method_of, requests}
+use Rattle.pg_receive.specs.Authentication.{AuthenticationValue, sasl_continue, sasl_final, method_of, requests}
+use Rattle.pg_receive.specs.Authentication.Raw.{Request, raw_request}
 use Rattle.pg_receive.specs.Authentication.SaslContinue.{ContinueValue}
 use Rattle.pg_base.specs.Sink.{IsGiven}
+use Rattle.pg_c.specs.Place.{part}
 use Rattle.pg_c.specs.Read.{IsBodyFault}
 use Rattle.pg_c.specs.declared.read.authentication.PgmsgAuthentication.{PgmsgAuthentication}
 use Rattle.pg_c.specs.declared.read.authentication.PgmsgChallenge.{PgmsgChallenge}
 
--- the salt of a request for an MD5 digest, and zeros of any other
-abbrev pub salt_of : AuthenticationValue → List ℕ
-salt_of accepted = 0 ∷ 0 ∷ 0 ∷ 0 ∷ []
-salt_of cleartext_password = 0 ∷ 0 ∷ 0 ∷ 0 ∷ []
-salt_of (md5_password salt) = salt
-salt_of (sasl names) = 0 ∷ 0 ∷ 0 ∷ 0 ∷ []
-salt_of (sasl_continue challenge) = 0 ∷ 0 ∷ 0 ∷ 0 ∷ []
-salt_of (sasl_final verifier) = 0 ∷ 0 ∷ 0 ∷ 0 ∷ []
-
-pub record ReadsAuthentication (body : List ℕ) (authentication : PgmsgAuthentication) : Type 0 where
-  pub value : AuthenticationValue
-  pub means : Means requests body value
-  pub method : authentication.method ≡ method_of value
-  pub salt : authentication.salt ≡ salt_of value
+-- the body means a request by some method, and this is it
+pub record ReadsRequest (body : List ℕ) (read : PgmsgAuthentication) : Type 0 where
+  pub request : Request
+  pub means : Means raw_request body request
+  pub method : read.method ≡ request.method
+  pub content : part body read.content ≡ Some request.content
 
 -- the challenge, whose salt and nonce are given
 pub record ReadsChallenge (body : List ℕ) (challenge : PgmsgChallenge) (salt_old salt_new nonce_old nonce_new : List ℕ) : Type 0 where

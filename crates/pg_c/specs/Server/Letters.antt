@@ -1,14 +1,13 @@
 -- Kinds of messages by the letters that a C program passes.
 use Rattle.std.specs.Prelude.{ℕ, ◌==◌, List, [], ◌∷◌, Option, Some, None, if◌then◌else◌}
-use Rattle.pg_base.specs.Format.{backend_tag}
 use Rattle.pg_format.specs.Tables.{status_letter}
 use Rattle.pg_server.specs.Backend.Copy.{direction_tag}
-use Rattle.pg_server.specs.Backend.NoBody.{no_body_kind}
+use Rattle.pg_server.specs.Backend.Notice.{notice_tag}
 use Rattle.pg_server.specs.Backend.ReadyForQuery.{status_of}
 use Rattle.pg_server.specs.declared.backend.copy.CopyDirection.{CopyDirection}
 use Rattle.pg_server.specs.declared.backend.copy.CopyDirection.TheVariants as directions
-use Rattle.pg_server.specs.declared.backend.no_body.NoBodyText.{NoBodyText}
-use Rattle.pg_server.specs.declared.backend.no_body.NoBodyText.TheVariants as messages
+use Rattle.pg_server.specs.declared.backend.notice.NoticeKind.{NoticeKind}
+use Rattle.pg_server.specs.declared.backend.notice.NoticeKind.TheVariants as notices
 use Rattle.pg_server.specs.declared.backend.ready_for_query.ReadyForQueryText.{ReadyForQueryText}
 use Rattle.pg_server.specs.declared.backend.ready_for_query.ReadyForQueryText.TheVariants as statuses
 
@@ -17,14 +16,11 @@ abbrev pub kind_of : {K : Type 0} → (K → ℕ) → List K → ℕ → Option 
 kind_of letter_of [] letter = None
 kind_of letter_of (kind ∷ kinds) letter = if letter == letter_of kind then Some kind else kind_of letter_of kinds letter
 
-abbrev pub no_body_tag : NoBodyText → ℕ
-no_body_tag message = backend_tag (no_body_kind message)
+abbrev pub notice_kinds : List NoticeKind
+notice_kinds = notices.Error ∷ notices.Notice ∷ []
 
-abbrev pub no_bodies : List NoBodyText
-no_bodies = messages.ParseComplete ∷ messages.BindComplete ∷ messages.CloseComplete ∷ messages.EmptyQueryResponse ∷ messages.CopyDone ∷ messages.NoData ∷ messages.PortalSuspended ∷ []
-
-abbrev pub no_body_of : ℕ → Option NoBodyText
-no_body_of = kind_of no_body_tag no_bodies
+abbrev pub notice_kind_of : ℕ → Option NoticeKind
+notice_kind_of = kind_of notice_tag notice_kinds
 
 abbrev pub ways : List CopyDirection
 ways = directions.In ∷ directions.Out ∷ directions.Both ∷ []

@@ -44,10 +44,10 @@ pub extern "C" fn pgmsg_read_text(
     }
 }
 
-/// Whether a CopyDone, a Flush, a Sync or a Terminate has no body: 0, or PGMSG_TRAILING_BYTES where it has
-/// one.
+/// Whether a message has no body, as those of `pgmsg_put_no_body` have none: 0, or PGMSG_TRAILING_BYTES
+/// where it has one.
 #[unsafe(no_mangle)]
-pub extern "C" fn pgmsg_read_empty(alloc: Global, body: &[u8], fault: &mut PgmsgFault) -> i32
+pub extern "C" fn pgmsg_read_no_body(alloc: Global, body: &[u8], fault: &mut PgmsgFault) -> i32
     ensures result { result ≤ℤ pos 0 }
     ensures value { result ≡ pos 0 → Means page.empty body.now tt }
     ensures fault { RefusesClientBody page.empty body.now fault.old fault.new result }

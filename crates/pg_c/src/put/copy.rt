@@ -1,20 +1,18 @@
-//! The client's part of a COPY.
+//! The data of a COPY, of either side.
 
-ghost use Rattle.std.specs.Prelude.{◌≡◌, ◌≢◌, ◌+◌, ◌<◌, ◌≤◌, ◌≤ℤ◌, ◌++◌, ℕ, List, pos, length, true, false};
-ghost use Rattle.std.specs.Str.{is_utf8};
-ghost use Rattle.pg_base.specs.declared.error.ProtocolFault.TheVariants.{NotUtf8};
+ghost use Rattle.std.specs.Prelude.{◌≡◌, ◌≢◌, ◌+◌, ◌<◌, ◌≤◌, ◌≤ℤ◌, ◌++◌, ℕ, List, pos, length};
 ghost use Rattle.pg_base.specs.Cutting.{max_length};
 ghost use Rattle.pg_send.specs.Message as message;
-ghost use Rattle.pg_send.specs.Message.{text, fault};
-ghost use Rattle.pg_c.specs.Put.{PutsMessage, IsRefused};
+ghost use Rattle.pg_send.specs.Message.{text};
+ghost use Rattle.pg_c.specs.Put.{PutsMessage};
 ghost use Rattle.pg_c.specs.Refusal.{too_long_number};
 
-use crate::put::{put, text_of};
-use crate::refusal::{MESSAGE_TOO_LONG, number_of};
+use crate::put::put;
+use crate::refusal::MESSAGE_TOO_LONG;
 use pg_base::io::MAX_BODY;
-use pg_send::message::{CopyData, CopyDone, CopyFailRef};
+use pg_send::message::CopyData;
 
-/// A part of the data of a COPY.
+/// A CopyData: a part of the data of a COPY, from a client or a server.
 #[unsafe(no_mangle)]
 pub extern "C" fn pgmsg_put_copy_data(data: &[u8], out: &mut [u8]) -> isize
     ensures { PutsMessage (message.CopyData «data».now) out.old out.new result }
@@ -39,28 +37,4 @@ pub extern "C" fn pgmsg_put_copy_head(len: usize, head: &mut [u8; 5]) -> i32
     let [a, b, c, d] = (len as u32 + 4).to_be_bytes();
     *head = [b'd', a, b, c, d];
     0
-}
-
-/// The end of the data of a COPY.
-#[unsafe(no_mangle)]
-pub extern "C" fn pgmsg_put_copy_done(out: &mut [u8]) -> isize
-    ensures { PutsMessage message.CopyDone out.old out.new result }
-{
-    put(&CopyDone, out)
-}
-
-/// Fails a COPY, and says why, in UTF-8.
-#[unsafe(no_mangle)]
-pub extern "C" fn pgmsg_put_copy_fail(reason: &[u8], out: &mut [u8]) -> isize
-    ensures utf8 { is_utf8 reason.now ≡ true
-        → PutsMessage (message.CopyFail reason.now) out.old out.new result }
-    ensures not_utf8 { is_utf8 reason.now ≡ false → IsRefused NotUtf8 out.old out.new result }
-{
-    match text_of(reason) {
-        Ok(text) => {
-            let fail = CopyFailRef(text);
-            put(&fail, out)
-        }
-        Err(fault) => number_of(fault.into()) as isize,
-    }
 }

@@ -2,31 +2,26 @@
 //!
 //! Each call gives the length of the message in bytes, and has written it where `out` is that long;
 //! else `out` is as it was. It refuses by a number below 0, and `out` is as it was: a message that
-//! breaks a limit, one that a reader wouldn't get back from its bytes, or a text that is not UTF-8.
-//! What is to be sent is read where the caller has it, and no memory is asked for.
+//! breaks a limit, or one that a reader wouldn't get back from its bytes. Texts are any bytes. What is
+//! to be sent is read where the caller has it, and no memory is asked for.
 
-mod bind;
 pub mod copy;
-mod lists;
-mod parse;
+pub mod names;
+pub mod no_body;
 pub mod prepared;
-pub mod query;
-pub mod raw;
 pub mod session;
-mod startup;
+pub mod startup;
+pub mod text;
 
-ghost use Rattle.std.specs.Prelude.{◌≡◌, ◌+◌, ◌<◌, ◌≤◌, length, pos, true, false, IfOk, IfErr};
-ghost use Rattle.std.specs.Str.{is_utf8};
-ghost use Rattle.pg_base.specs.declared.error.ProtocolFault.TheVariants.{NotUtf8};
+ghost use Rattle.std.specs.Prelude.{◌≡◌, ◌+◌, ◌<◌, ◌≤◌, length, pos, IfOk, IfErr};
 ghost use Rattle.pg_base.specs.Cutting.{max_length};
 ghost use Rattle.pg_base.specs.Sink.{IsGiven};
 ghost use Rattle.pg_send.specs.FrontendMessage.{IsMeasured};
 ghost use Rattle.pg_c.specs.Put.{IsSound, IsDue, IsWritten, PutsLaw};
 
 use crate::refusal::number_of;
+use pg_base::Error;
 use pg_base::io::{Text, write_text};
-use pg_base::{Error, ProtocolFault};
-use pg_receive::message::utf8_text;
 use pg_send::message::{FrontendMessage, write_frame};
 
 /// The bytes before a body: the tag and the length.
@@ -52,8 +47,8 @@ fn write<F: FrontendMessage>(message: &F, out: &mut [u8]) -> Result<usize, Error
     Ok(len + HEADER)
 }
 
-/// The length of the body, or why the message is refused: for a limit, then for the round trip.
-pub(crate) fn sound_len<F: FrontendMessage>(message: &F) -> Result<usize, Error>
+// The length of the body, or why the message is refused: for a limit, then for the round trip.
+fn sound_len<F: FrontendMessage>(message: &F) -> Result<usize, Error>
     ensures sound { IfOk result (λ _. IsSound (F.law message.now)) }
     ensures measured { IfOk result (IsMeasured (F.law message.now)) }
     ensures short { IfOk result (λ len. len + 4 ≤ max_length) }
@@ -75,12 +70,4 @@ pub(crate) fn put_text<T: Text>(text: &T, len: usize, out: &mut [u8]) -> isize
 {
     write_text(text, len, out);
     len as isize
-}
-
-/// The bytes as text.
-pub(crate) fn text_of(bytes: &[u8]) -> Result<&str, ProtocolFault>
-    ensures text { IfOk result (λ text. (text.now ≡ bytes.now) × (is_utf8 bytes.now ≡ true)) }
-    ensures fault { IfErr result (λ fault. (fault ≡ NotUtf8) × (is_utf8 bytes.now ≡ false)) }
-{
-    utf8_text(bytes).ok_or(ProtocolFault::NotUtf8)
 }

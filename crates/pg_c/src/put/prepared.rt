@@ -1,24 +1,20 @@
-//! Prepared statements and their values.
+//! Prepared statements, portals and their values, and calls of functions. A name is any bytes but NUL,
+//! and empty for the statement or the portal without one.
 
-ghost use Rattle.std.specs.Prelude.{◌≡◌, ◌<◌, true, false, IfOk};
-ghost use Rattle.std.specs.Str.{is_utf8};
-ghost use Rattle.pg_base.specs.declared.error.ProtocolFault.TheVariants.{NotUtf8};
+ghost use Rattle.std.specs.Prelude.{◌≡◌, ◌≢◌};
+ghost use Rattle.pg_format.specs.Messages as page;
 ghost use Rattle.pg_send.specs.Message as message;
-ghost use Rattle.pg_c.specs.Put.{PutsMessage, PutsBatch, IsBatchWritten, IsRefused};
-ghost use Rattle.pg_c.specs.Put.Bind.{bind_of};
-ghost use Rattle.pg_c.specs.Put.Prepared.{parse_of, batch_of, UnlessRefused};
+ghost use Rattle.pg_c.specs.Put.{PutsMessage};
+ghost use Rattle.pg_c.specs.Put.Values.{bind_of, function_call_of, value_of};
+ghost use Rattle.pg_c.specs.Refusal.{unknown_target_number};
 
-use crate::put::bind::Bind;
-use crate::put::lists::check_values;
-use crate::put::parse::Parse;
-use crate::put::{HEADER, put, sound_len, text_of};
-use crate::refusal::number_of;
-use pg_base::Error;
-use pg_base::io::part::Then;
-use pg_base::io::{PortalId, StatementId, write_text};
-use pg_send::message::{Describe, Execute, Framed, Sync};
+use crate::put::put;
+use crate::refusal::UNKNOWN_TARGET;
+use pg_base::io::Oid;
+use pg_send::message::values::AsValue;
+use pg_send::message::{FunctionCall, RawBind, RawClose, RawDescribe, RawExecute, RawParse};
 
-/// The value of a parameter, or of a row.
+/// The value of a parameter, or of a row. Where `is_null`, its bytes aren't looked at.
 #[repr(C)]
 #[derive(Clone, Copy)]
 pub struct PgmsgValue<'a> {
@@ -26,162 +22,121 @@ pub struct PgmsgValue<'a> {
     pub is_null: bool,
 }
 
-/// Prepares a statement: the number N names it `sqlx_s_N` on the wire, and 0 is the unnamed one. The
-/// query is in UTF-8. `types` are those of the parameters from the first on; the server infers those
-/// that are 0 or missing.
+impl AsValue for PgmsgValue<'_> {
+    ghost value = { value_of };
+
+    #[inline(always)]
+    fn as_value(&self) -> Option<&[u8]> {
+        if self.is_null { None } else { Some(self.bytes) }
+    }
+}
+
+/// A Parse: prepares a statement. `types` are those of the parameters from the first on; the server
+/// infers those that are 0 or missing. A name or a query that holds a NUL is refused.
 #[unsafe(no_mangle)]
 pub extern "C" fn pgmsg_put_parse(
-    statement: u32,
+    statement: &[u8],
     query: &[u8],
     types: &[u32],
     out: &mut [u8],
 ) -> isize
-    ensures utf8 { is_utf8 query.now ≡ true
-        → PutsMessage (parse_of statement query.now types.now) out.old out.new result }
-    ensures not_utf8 { is_utf8 query.now ≡ false → IsRefused NotUtf8 out.old out.new result }
+    ensures { PutsMessage (message.RawParse (record { statement = statement.now; query = query.now; types = types.now })) out.old out.new result }
 {
-    match text_of(query) {
-        Ok(query) => {
-            let parse = Parse {
-                statement: StatementId::from_number(statement),
-                query,
-                types,
-            };
-            put(&parse, out)
-        }
-        Err(fault) => number_of(fault.into()) as isize,
-    }
+    let parse = RawParse {
+        statement,
+        query,
+        param_types: types,
+    };
+    put(&parse, out)
 }
 
-/// Makes a portal of a prepared statement and the values of its parameters. The number N names the
-/// portal `sqlx_p_N` on the wire, and the statement `sqlx_s_N`; 0 is the unnamed one of each. Formats:
-/// 0 is text, anything else binary; none where all are text, one for all, or one each.
+/// A Bind: makes a portal of a prepared statement and the values of its parameters. Formats are codes,
+/// 0 for text and 1 for binary: none where all are text, one for all, or one each. A name that holds a
+/// NUL is refused.
 #[unsafe(no_mangle)]
 pub extern "C" fn pgmsg_put_bind(
-    portal: u32,
-    statement: u32,
-    formats: &[u8],
+    portal: &[u8],
+    statement: &[u8],
+    formats: &[u16],
     values: &[PgmsgValue<'_>],
-    result_formats: &[u8],
+    result_formats: &[u16],
     out: &mut [u8],
 ) -> isize
-    ensures { UnlessRefused values.now
-        (PutsMessage (message.Bind (bind_of portal statement formats.now values.now result_formats.now))
-        out.old out.new result)
-        out.old out.new result }
+    ensures { PutsMessage (message.RawBind (bind_of portal.now statement.now formats.now values.now result_formats.now)) out.old out.new result }
 {
-    match check_values(values) {
-        Ok(()) => {
-            let bind = Bind {
-                portal: PortalId::from_number(portal),
-                statement: StatementId::from_number(statement),
-                formats,
-                values,
-                result_formats,
-            };
-            put(&bind, out)
-        }
-        Err(fault) => number_of(fault.into()) as isize,
-    }
+    let bind = RawBind {
+        portal,
+        statement,
+        formats,
+        values,
+        result_formats,
+    };
+    put(&bind, out)
 }
 
-/// A batch: Parse of the unnamed statement, Bind of the unnamed portal, Describe of it, Execute, and
-/// Sync. The query is in UTF-8. Formats are as in `pgmsg_put_bind`.
+/// A Describe of a prepared statement, where `kind` is `S`, or of a portal, where it is `P`; of others it
+/// is refused with PGMSG_UNKNOWN_TARGET. So is then a name that holds a NUL, as a text that holds one.
 #[unsafe(no_mangle)]
-pub extern "C" fn pgmsg_put_batch(
-    query: &[u8],
-    formats: &[u8],
-    values: &[PgmsgValue<'_>],
-    result_formats: &[u8],
+pub extern "C" fn pgmsg_put_describe(kind: u8, name: &[u8], out: &mut [u8]) -> isize
+    ensures statement { kind ≡ page.target_letter page.statement
+        → PutsMessage (message.RawDescribe (record { target = page.statement; name = name.now })) out.old out.new result }
+    ensures portal { kind ≡ page.target_letter page.portal
+        → PutsMessage (message.RawDescribe (record { target = page.portal; name = name.now })) out.old out.new result }
+    ensures neither { kind ≢ page.target_letter page.statement → kind ≢ page.target_letter page.portal
+        → (result ≡ unknown_target_number) × (out.new ≡ out.old) }
+{
+    match kind {
+        b'S' => put(&RawDescribe::Statement(name), out),
+        b'P' => put(&RawDescribe::Portal(name), out),
+        _ => UNKNOWN_TARGET as isize,
+    }
+}
+
+/// A Close of a prepared statement or a portal, with `kind`, `name` and refusals as in
+/// `pgmsg_put_describe`.
+#[unsafe(no_mangle)]
+pub extern "C" fn pgmsg_put_close(kind: u8, name: &[u8], out: &mut [u8]) -> isize
+    ensures statement { kind ≡ page.target_letter page.statement
+        → PutsMessage (message.RawClose (record { target = page.statement; name = name.now })) out.old out.new result }
+    ensures portal { kind ≡ page.target_letter page.portal
+        → PutsMessage (message.RawClose (record { target = page.portal; name = name.now })) out.old out.new result }
+    ensures neither { kind ≢ page.target_letter page.statement → kind ≢ page.target_letter page.portal
+        → (result ≡ unknown_target_number) × (out.new ≡ out.old) }
+{
+    match kind {
+        b'S' => put(&RawClose::Statement(name), out),
+        b'P' => put(&RawClose::Portal(name), out),
+        _ => UNKNOWN_TARGET as isize,
+    }
+}
+
+/// An Execute: runs a portal. `limit` is the most rows to send back, 0 for all of them; a server takes a
+/// number from 2147483648 on for all of them too. A name that holds a NUL is refused.
+#[unsafe(no_mangle)]
+pub extern "C" fn pgmsg_put_execute(portal: &[u8], limit: u32, out: &mut [u8]) -> isize
+    ensures { PutsMessage (message.RawExecute (record { portal = portal.now; limit = limit })) out.old out.new result }
+{
+    let execute = RawExecute { portal, limit };
+    put(&execute, out)
+}
+
+/// A FunctionCall: calls a function by its object id. Formats are as in `pgmsg_put_bind`. The answer is a
+/// FunctionCallResponse, for `pgmsg_read_function_result`.
+#[unsafe(no_mangle)]
+pub extern "C" fn pgmsg_put_function_call(
+    object_id: u32,
+    formats: &[u16],
+    arguments: &[PgmsgValue<'_>],
+    result_format: u16,
     out: &mut [u8],
 ) -> isize
-    ensures utf8 { is_utf8 query.now ≡ true → UnlessRefused values.now
-        (PutsBatch (batch_of query.now (bind_of 0 0 formats.now values.now result_formats.now))
-        out.old out.new result)
-        out.old out.new result }
-    ensures not_utf8 { is_utf8 query.now ≡ false → IsRefused NotUtf8 out.old out.new result }
+    ensures { PutsMessage (message.FunctionCall (function_call_of object_id formats.now arguments.now result_format)) out.old out.new result }
 {
-    let query = match text_of(query) {
-        Ok(query) => query,
-        Err(fault) => return number_of(fault.into()) as isize,
+    let call = FunctionCall {
+        object_id: Oid(object_id),
+        formats,
+        arguments,
+        result_format,
     };
-    match check_values(values) {
-        Ok(()) => {
-            let bind = Bind {
-                portal: PortalId::UNNAMED,
-                statement: StatementId::UNNAMED,
-                formats,
-                values,
-                result_formats,
-            };
-            put_batch(query, &bind, out)
-        }
-        Err(fault) => number_of(fault.into()) as isize,
-    }
-}
-
-fn put_batch(query: &str, bind: &Bind<'_>, out: &mut [u8]) -> isize
-    ensures { PutsBatch
-        (batch_of query.now (bind_of bind.now.portal bind.now.statement bind.now.formats.now bind.now.values.now bind.now.result_formats.now))
-        out.old out.new result }
-{
-    match write_batch(query, bind, out) {
-        Ok(len) => len as isize,
-        Err(error) => number_of(error) as isize,
-    }
-}
-
-fn write_batch(query: &str, bind: &Bind<'_>, out: &mut [u8]) -> Result<usize, Error>
-    ensures written { IsBatchWritten
-        (batch_of query.now (bind_of bind.now.portal bind.now.statement bind.now.formats.now bind.now.values.now bind.now.result_formats.now))
-        result out.old out.new }
-    ensures small { IfOk result (λ len. len < 4611686018427387904) }
-{
-    let parse = Parse {
-        statement: StatementId::UNNAMED,
-        query,
-        types: &[],
-    };
-    let describe = Describe::Portal(PortalId::UNNAMED);
-    let execute = Execute {
-        portal: PortalId::UNNAMED,
-        limit: 0,
-    };
-    let parse_len = sound_len(&parse)?;
-    let bind_len = sound_len(bind)?;
-    let describe_len = sound_len(&describe)?;
-    let execute_len = sound_len(&execute)?;
-    let sync_len = sound_len(&Sync)?;
-    let bodies_len = parse_len + bind_len + describe_len + execute_len + sync_len;
-    let len = bodies_len + 5 * HEADER;
-    let batch = Then(
-        Framed {
-            message: &parse,
-            len: parse_len,
-        },
-        Then(
-            Framed {
-                message: bind,
-                len: bind_len,
-            },
-            Then(
-                Framed {
-                    message: &describe,
-                    len: describe_len,
-                },
-                Then(
-                    Framed {
-                        message: &execute,
-                        len: execute_len,
-                    },
-                    Framed {
-                        message: &Sync,
-                        len: sync_len,
-                    },
-                ),
-            ),
-        ),
-    );
-    write_text(&batch, len, out);
-    Ok(len)
+    put(&call, out)
 }

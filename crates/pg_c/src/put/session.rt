@@ -1,50 +1,25 @@
-//! How a session begins and ends.
+//! What a client sends beside the opening of a session: requests for encryption and to cancel, and its
+//! part of authentication.
 
-ghost use Rattle.std.specs.Prelude.{◌≡◌, true, false, None};
-ghost use Rattle.std.specs.List.{list_all};
-ghost use Rattle.std.specs.Str.{is_utf8};
-ghost use Rattle.pg_base.specs.declared.error.ProtocolFault.TheVariants.{NotUtf8};
+ghost use Rattle.std.specs.Prelude.{◌≡◌, length, Some, None, option_copied, if◌then◌else◌};
+ghost use Rattle.pg_format.specs.Messages as page;
+ghost use Rattle.pg_send.specs.CancelRequest.{cancel_request_text};
+ghost use Rattle.pg_send.specs.GssEncRequest.{gss_enc_request_text};
 ghost use Rattle.pg_send.specs.Message as message;
 ghost use Rattle.pg_send.specs.SslRequest.{ssl_request_text};
-ghost use Rattle.pg_c.specs.Put.{PutsMessage, PutsText, IsRefused};
-ghost use Rattle.pg_c.specs.Put.Startup.{PutsStartup, is_text};
+ghost use Rattle.pg_c.specs.Put.{PutsMessage, PutsText};
 
-use crate::put::startup::{are_texts, write_startup};
-use crate::put::{put, put_text, text_of};
+use crate::put::{put, put_text};
 use crate::refusal::number_of;
-use pg_base::ProtocolFault;
+use pg_base::io::part::Slice;
+use pg_base::{FrontendMessageFormat, ProtocolFault};
+use pg_send::message::composed::Composed;
 use pg_send::message::{
-    CODE_LENGTH, Password, SaslInitialResponse, SaslResponse, SslRequest, Terminate,
+    CODE_LENGTH, CancelRequest, GssEncRequest, Password, SaslInitial, SslRequest,
 };
 
-/// The name of a setting and its value, in UTF-8.
-#[repr(C)]
-#[derive(Clone, Copy)]
-pub struct PgmsgSetting<'a> {
-    pub name: &'a [u8],
-    pub value: &'a [u8],
-}
-
-/// Opens a session with these settings, of which `user` is required by the server. A name or a value
-/// that holds a NUL, or an empty name, is refused as a text that holds a NUL: the server would read
-/// other settings.
-#[unsafe(no_mangle)]
-pub extern "C" fn pgmsg_put_startup(settings: &[PgmsgSetting<'_>], out: &mut [u8]) -> isize
-    ensures utf8 { list_all is_text settings.now ≡ true
-        → PutsStartup settings.now out.old out.new result }
-    ensures not_utf8 { list_all is_text settings.now ≡ false
-        → IsRefused NotUtf8 out.old out.new result }
-{
-    if !are_texts(settings) {
-        return number_of(ProtocolFault::NotUtf8.into()) as isize;
-    }
-    match write_startup(settings, out) {
-        Ok(len) => len as isize,
-        Err(error) => number_of(error) as isize,
-    }
-}
-
-/// Asks for an encrypted connection, before the session is opened.
+/// An SSLRequest: asks for TLS, before the session is opened. The server answers with one byte, `S` or
+/// `N`.
 #[unsafe(no_mangle)]
 pub extern "C" fn pgmsg_put_ssl_request(out: &mut [u8]) -> isize
     ensures { PutsText ssl_request_text None out.old out.new result }
@@ -52,24 +27,48 @@ pub extern "C" fn pgmsg_put_ssl_request(out: &mut [u8]) -> isize
     put_text(&SslRequest, CODE_LENGTH, out)
 }
 
-/// Answers a request for a password with the password, in UTF-8.
+/// A GSSENCRequest: asks for encryption by GSSAPI, before the session is opened. The server answers with
+/// one byte, `G` or `N`.
 #[unsafe(no_mangle)]
-pub extern "C" fn pgmsg_put_password(password: &[u8], out: &mut [u8]) -> isize
-    ensures utf8 { is_utf8 password.now ≡ true
-        → PutsMessage (message.CleartextPassword password.now) out.old out.new result }
-    ensures not_utf8 { is_utf8 password.now ≡ false → IsRefused NotUtf8 out.old out.new result }
+pub extern "C" fn pgmsg_put_gss_enc_request(out: &mut [u8]) -> isize
+    ensures { PutsText gss_enc_request_text None out.old out.new result }
 {
-    match text_of(password) {
-        Ok(text) => {
-            let password = Password::Cleartext(text);
-            put(&password, out)
-        }
+    put_text(&GssEncRequest, CODE_LENGTH, out)
+}
+
+/// A CancelRequest: asks the server to stop what a session does, by the process and the key of its
+/// BackendKeyData. It goes alone on a connection of its own. The key has 4 bytes in protocol 3.0, and up
+/// to 256 from 3.2 on; one of another length is refused with PGMSG_BAD_KEY_LENGTH.
+#[unsafe(no_mangle)]
+pub extern "C" fn pgmsg_put_cancel_request(
+    process_id: u32,
+    secret_key: &[u8],
+    out: &mut [u8],
+) -> isize
+    ensures { PutsText (cancel_request_text (record { process_id = process_id; secret_key = secret_key.now })) (page.key_fault (length secret_key.now)) out.old out.new result }
+{
+    let cancel = CancelRequest {
+        process_id,
+        secret_key,
+    };
+    match cancel.checked_len() {
+        Ok(len) => put_text(&cancel, len, out),
         Err(fault) => number_of(fault.into()) as isize,
     }
 }
 
-/// Answers a request for an MD5 digest with it: the digest of the salt after the digest, in
-/// hexadecimal, of the user's name after the password.
+/// A PasswordMessage: answers a request for a password with any bytes, before the NUL that ends them. A
+/// password that holds a NUL is refused.
+#[unsafe(no_mangle)]
+pub extern "C" fn pgmsg_put_password(password: &[u8], out: &mut [u8]) -> isize
+    ensures { PutsMessage (message.CleartextPassword password.now) out.old out.new result }
+{
+    let password = Password::Bytes(password);
+    put(&password, out)
+}
+
+/// A PasswordMessage that answers a request for an MD5 digest: the digest of the salt after the digest,
+/// in hexadecimal, of the user's name after the password.
 #[unsafe(no_mangle)]
 pub extern "C" fn pgmsg_put_md5_password(digest: &[u8; 16], out: &mut [u8]) -> isize
     ensures { PutsMessage (message.Md5Password digest.now) out.old out.new result }
@@ -78,41 +77,65 @@ pub extern "C" fn pgmsg_put_md5_password(digest: &[u8; 16], out: &mut [u8]) -> i
     put(&password, out)
 }
 
-/// Chooses SCRAM-SHA-256, or SCRAM-SHA-256-PLUS where `plus`, and begins it with `response`, in UTF-8.
+/// A SASLInitialResponse: chooses a mechanism of SASL, such as `SCRAM-SHA-256`, and begins it with
+/// `response`. Where not `has_response`, the server begins. A mechanism that holds a NUL is refused.
 #[unsafe(no_mangle)]
-pub extern "C" fn pgmsg_put_sasl_initial(response: &[u8], plus: bool, out: &mut [u8]) -> isize
-    ensures utf8 { is_utf8 response.now ≡ true
-        → PutsMessage
-        (message.SaslInitialResponse (record { response = response.now; plus = plus }))
-        out.old out.new result }
-    ensures not_utf8 { is_utf8 response.now ≡ false → IsRefused NotUtf8 out.old out.new result }
+pub extern "C" fn pgmsg_put_sasl_initial(
+    mechanism: &[u8],
+    has_response: bool,
+    response: &[u8],
+    out: &mut [u8],
+) -> isize
+    ensures { PutsMessage (message.SaslInitial (record { mechanism = mechanism.now; response = if has_response then Some response.now else None })) out.old out.new result }
 {
-    match text_of(response) {
-        Ok(response) => {
-            let sasl = SaslInitialResponse { response, plus };
-            put(&sasl, out)
-        }
-        Err(fault) => number_of(fault.into()) as isize,
-    }
+    let sasl = SaslInitial {
+        mechanism,
+        response: given(has_response, response),
+    };
+    put(&sasl, out)
 }
 
-/// Answers a challenge of the SASL exchange, in UTF-8.
+fn given(is_given: bool, bytes: &[u8]) -> Option<&[u8]>
+    ensures { option_copied result ≡ (if is_given then Some bytes.now else None) }
+{
+    if is_given { Some(bytes) } else { None }
+}
+
+/// A SASLResponse: answers a challenge of the SASL exchange. A GSSResponse has the same form.
 #[unsafe(no_mangle)]
 pub extern "C" fn pgmsg_put_sasl_response(response: &[u8], out: &mut [u8]) -> isize
-    ensures utf8 { is_utf8 response.now ≡ true
-        → PutsMessage (message.SaslResponse response.now) out.old out.new result }
-    ensures not_utf8 { is_utf8 response.now ≡ false → IsRefused NotUtf8 out.old out.new result }
+    ensures { PutsMessage (message.SaslResponse response.now) out.old out.new result }
 {
-    match text_of(response) {
-        Ok(text) => put(&SaslResponse(text), out),
-        Err(fault) => number_of(fault.into()) as isize,
-    }
+    put(&SaslResponse(response), out)
 }
 
-/// Ends the session.
-#[unsafe(no_mangle)]
-pub extern "C" fn pgmsg_put_terminate(out: &mut [u8]) -> isize
-    ensures { PutsMessage message.Terminate out.old out.new result }
-{
-    put(&Terminate, out)
+// An answer of any bytes.
+#[derive(Drop)]
+struct SaslResponse<'a>(&'a [u8]);
+
+impl<'a> Composed for SaslResponse<'a> {
+    ghost use Rattle.std.specs.Prelude.{refl};
+    ghost use Rattle.pg_send.specs.SaslResponse.{sasl_response_law};
+
+    type Body = Slice<'a>;
+
+    const FORMAT: FrontendMessageFormat = FrontendMessageFormat::PasswordPolymorphic;
+
+    ghost law = { λ sasl. sasl_response_law sasl.0.now };
+
+    ghost snug = { λ _. refl };
+
+    fn letter(&self) -> u8 {
+        FrontendMessageFormat::PasswordPolymorphic as u8
+    }
+
+    #[inline(always)]
+    fn check(&self) -> Result<(), ProtocolFault> {
+        Ok(())
+    }
+
+    #[inline(always)]
+    fn parts(&self) -> Self::Body {
+        Slice(self.0)
+    }
 }

@@ -1,51 +1,23 @@
 //! The opening of a session, with the settings where the caller has them.
 
-ghost use Rattle.std.specs.Prelude.{◌≡◌, ◌≤◌, IfOk};
-ghost use Rattle.std.specs.List.{list_all};
+ghost use Rattle.std.specs.Prelude.{◌≤◌, IfOk};
 ghost use Rattle.pg_base.specs.Cutting.{max_length};
-ghost use Rattle.pg_c.specs.Put.Startup.{is_text, name_and_value, startup_of, IsStartupWritten};
+ghost use Rattle.pg_c.specs.Put.Startup.{name_and_value, IsStartupWritten, PutsStartup};
 
-use crate::put::session::PgmsgSetting;
+use crate::refusal::number_of;
 use pg_base::Error;
 use pg_base::io::part::{Byte, Number32, Then};
 use pg_base::io::write_text;
-use pg_receive::message::utf8_text;
 use pg_send::message::PROTOCOL_VERSION;
 use pg_send::message::settings::{AsSetting, Settings, check_settings};
 use pg_send::message::untagged::{Untagged, untagged_len};
 
-/// Whether all names and values are UTF-8.
-pub(crate) fn are_texts(settings: &[PgmsgSetting<'_>]) -> bool
-    ensures { result ≡ list_all is_text settings.now }
-{
-    for setting in settings {
-        if !has_texts(setting) {
-            return false;
-        }
-    }
-    true
-}
-
-fn has_texts(pair: &PgmsgSetting<'_>) -> bool
-    ensures { result ≡ is_text pair.now }
-{
-    utf8_text(pair.name).is_some() && utf8_text(pair.value).is_some()
-}
-
-/// Writes the message that opens a session at the front of `out` where it is that long, and gives its
-/// length. A refusal is for its length, then for the round trip.
-pub(crate) fn write_startup(settings: &[PgmsgSetting<'_>], out: &mut [u8]) -> Result<usize, Error>
-    ensures written { IsStartupWritten (startup_of settings.now) result out.old out.new }
-    ensures small { IfOk result (λ len. len ≤ max_length) }
-{
-    let parts = Then(
-        Number32(PROTOCOL_VERSION),
-        Then(Settings(settings), Byte(0)),
-    );
-    let len = untagged_len(&parts)?;
-    check_settings(settings)?;
-    write_text(&Untagged { parts, len }, len, out);
-    Ok(len)
+/// The name of a setting and its value.
+#[repr(C)]
+#[derive(Clone, Copy)]
+pub struct PgmsgSetting<'a> {
+    pub name: &'a [u8],
+    pub value: &'a [u8],
 }
 
 impl AsSetting for PgmsgSetting<'_> {
@@ -60,4 +32,37 @@ impl AsSetting for PgmsgSetting<'_> {
     fn value(&self) -> &[u8] {
         self.value
     }
+}
+
+/// A StartupMessage: opens a session by a minor version of the protocol's version 3, 0 or 2, with these
+/// settings, of which `user` is required by the server. A name or a value that holds a NUL, or an empty
+/// name, is refused as a text that holds a NUL: the server would read other settings.
+#[unsafe(no_mangle)]
+pub extern "C" fn pgmsg_put_startup(
+    minor: u16,
+    settings: &[PgmsgSetting<'_>],
+    out: &mut [u8],
+) -> isize
+    ensures { PutsStartup minor settings.now out.old out.new result }
+{
+    match write_startup(minor, settings, out) {
+        Ok(len) => len as isize,
+        Err(error) => number_of(error) as isize,
+    }
+}
+
+// Writes the message at the front of `out` where it is that long, and gives its length. A refusal is for
+// the length, then for the round trip.
+fn write_startup(minor: u16, settings: &[PgmsgSetting<'_>], out: &mut [u8]) -> Result<usize, Error>
+    ensures written { IsStartupWritten minor settings.now result out.old out.new }
+    ensures small { IfOk result (λ len. len ≤ max_length) }
+{
+    let parts = Then(
+        Number32(PROTOCOL_VERSION + u32::from(minor)),
+        Then(Settings(settings), Byte(0)),
+    );
+    let len = untagged_len(&parts)?;
+    check_settings(settings)?;
+    write_text(&Untagged { parts, len }, len, out);
+    Ok(len)
 }

@@ -3,12 +3,13 @@
 ghost use Rattle.std.specs.Prelude.{◌≡◌, ◌≤◌, ◌<◌, ◌<ℤ◌, ◌≤ℤ◌, pos, drop, length, OnOk, IfOk, IfErr};
 ghost use Rattle.pg_base.specs.declared.error.ProtocolFault.TheVariants.{UnknownAuthentication};
 ghost use Rattle.pg_base.specs.Sink.{IsGiven};
-ghost use Rattle.pg_receive.specs.Authentication.Mechanisms.{mechanisms_in};
+ghost use Rattle.pg_receive.specs.Authentication.Mechanisms.{raw_mechanisms_in};
+ghost use Rattle.pg_receive.specs.Authentication.Raw.{raw_request};
 ghost use Rattle.pg_format.specs.Format.{Means};
 ghost use Rattle.pg_receive.specs.Authentication.{requests, sasl_continue, sasl_final, method_of};
 ghost use Rattle.pg_receive.specs.Authentication.Shown.{authentication_borrowed, continue_borrowed};
 ghost use Rattle.pg_format.specs.Received.{max_body};
-ghost use Rattle.pg_c.specs.Read.Authentication.{ReadsAuthentication, ReadsChallenge, ReadsVerifier, IsAskedFault, salt_of};
+ghost use Rattle.pg_c.specs.Read.Authentication.{ReadsRequest, ReadsChallenge, ReadsVerifier, IsAskedFault};
 ghost use Rattle.pg_c.specs.Place.{part};
 ghost use Rattle.pg_c.specs.Read.{AreGiven, ReadsBody, RefusesBody};
 ghost use Rattle.pg_c.specs.Refusal.{Refuses};
@@ -19,20 +20,22 @@ use crate::refusal::{PgmsgFault, report};
 use pg_base::ProtocolFault;
 use pg_receive::message::{
     AuthenticationRef, AuthenticationSaslContinueRef, AuthenticationSaslFinalRef, Base64Bytes,
-    split_name,
+    RawAuthentication, split_raw_name,
 };
 use std::alloc::Global;
 
 // The bytes of the number of the method.
 const METHOD_LENGTH: usize = 4;
 
-/// What the server asks for: 0 nothing more, 3 a password in clear, 5 an MD5 digest with this salt, 10
-/// SASL, 11 and 12 what follows in a SASL exchange.
+/// What the server asks for, by the number of a method, and what follows it: 0 nothing more, 3 a password
+/// in clear, 5 an MD5 digest with the salt of four bytes that follows, 7, 8 and 9 an exchange of GSSAPI or
+/// SSPI, 10 SASL by one of the mechanisms that `pgmsg_read_mechanisms` gives, 11 and 12 the next and the
+/// last of a SASL exchange.
 #[repr(C)]
 #[derive(Clone, Copy)]
 pub struct PgmsgAuthentication {
     pub method: u32,
-    pub salt: [u8; 4],
+    pub content: PgmsgSpan,
 }
 
 /// The challenge of a SASL exchange: how long its salt and its nonce are, in bytes.
@@ -44,7 +47,8 @@ pub struct PgmsgChallenge {
     pub nonce_len: usize,
 }
 
-/// What the server asks for, by the body of its Authentication. 0, or why it is refused.
+/// What the server asks for, by the body of its Authentication. Any method is read, and what follows its
+/// number isn't looked at. 0, or why it is refused.
 #[unsafe(no_mangle)]
 pub extern "C" fn pgmsg_read_authentication(
     alloc: Global,
@@ -53,49 +57,42 @@ pub extern "C" fn pgmsg_read_authentication(
     fault: &mut PgmsgFault,
 ) -> i32
     ensures result { result ≤ℤ pos 0 }
-    ensures value { result ≡ pos 0 → ReadsAuthentication body.now authentication.new }
-    ensures fault { RefusesBody requests body.now fault.old fault.new result }
+    ensures value { result ≡ pos 0 → ReadsRequest body.now authentication.new }
+    ensures fault { RefusesBody raw_request body.now fault.old fault.new result }
     ensures within { pos 0 ≤ℤ result → length body.now ≤ max_body }
     ensures untouched { pos 0 ≤ℤ result → fault.new ≡ fault.old }
     ensures kept { result <ℤ pos 0 → authentication.new ≡ authentication.old }
 {
-    match asked_of(body) {
-        Ok(asked) => {
-            *authentication = shown(&asked);
+    match request_of(body) {
+        Ok(read) => {
+            *authentication = PgmsgAuthentication {
+                method: read.method,
+                content: PgmsgSpan {
+                    at: METHOD_LENGTH,
+                    len: read.content.len(),
+                },
+            };
             0
         }
         Err(why) => report(alloc, why.into(), fault),
     }
 }
 
-fn asked_of(body: &[u8]) -> Result<AuthenticationRef<'_>, ProtocolFault>
-    ensures { ReadsBody requests authentication_borrowed body.now result }
+fn request_of(body: &[u8]) -> Result<RawAuthentication<'_>, ProtocolFault>
+    ensures { ReadsBody raw_request
+        (λ request. record { method = request.method; content = request.content.now })
+        body.now result }
 {
     check_body(body)?;
-    AuthenticationRef::read(body)
-}
-
-fn shown(asked: &AuthenticationRef<'_>) -> PgmsgAuthentication
-    ensures method { result.method ≡ method_of (authentication_borrowed asked.now) }
-    ensures salt { result.salt ≡ salt_of (authentication_borrowed asked.now) }
-{
-    let (method, salt) = match asked {
-        AuthenticationRef::Ok => (0, [0; 4]),
-        AuthenticationRef::CleartextPassword => (3, [0; 4]),
-        AuthenticationRef::Md5Password(password) => (5, password.salt),
-        AuthenticationRef::Sasl(_) => (10, [0; 4]),
-        AuthenticationRef::SaslContinue(_) => (11, [0; 4]),
-        AuthenticationRef::SaslFinal(_) => (12, [0; 4]),
-    };
-    PgmsgAuthentication { method, salt }
+    RawAuthentication::read(body)
 }
 
 /// The mechanisms that the server offers, by the body of an Authentication of method 10: how many there
 /// are. As many as there is room for are written.
 #[unsafe(no_mangle)]
 pub extern "C" fn pgmsg_read_mechanisms(body: &[u8], mechanisms: &mut [PgmsgSpan]) -> usize
-    ensures count { result ≡ length (mechanisms_in (drop 4 body.now)) }
-    ensures given { AreGiven (part body.now) (mechanisms_in (drop 4 body.now))
+    ensures count { result ≡ length (raw_mechanisms_in (drop 4 body.now)) }
+    ensures given { AreGiven (part body.now) (raw_mechanisms_in (drop 4 body.now))
         mechanisms.old mechanisms.new }
 {
     if body.len() < METHOD_LENGTH {
@@ -104,7 +101,7 @@ pub extern "C" fn pgmsg_read_mechanisms(body: &[u8], mechanisms: &mut [PgmsgSpan
     let mut rest = &body[METHOD_LENGTH..];
     let mut at = METHOD_LENGTH;
     let mut count: usize = 0;
-    while let Some((name, after)) = split_name(rest) {
+    while let Some((name, after)) = split_raw_name(rest) {
         if count < mechanisms.len() {
             mechanisms[count] = PgmsgSpan {
                 at,
@@ -235,5 +232,13 @@ fn verifier_of(body: &[u8]) -> Result<AuthenticationSaslFinalRef<'_>, ProtocolFa
 fn unexpected(asked: &AuthenticationRef<'_>) -> ProtocolFault
     ensures { result ≡ UnknownAuthentication (method_of (authentication_borrowed asked.now)) }
 {
-    ProtocolFault::UnknownAuthentication(shown(asked).method)
+    let method = match asked {
+        AuthenticationRef::Ok => 0,
+        AuthenticationRef::CleartextPassword => 3,
+        AuthenticationRef::Md5Password(_) => 5,
+        AuthenticationRef::Sasl(_) => 10,
+        AuthenticationRef::SaslContinue(_) => 11,
+        AuthenticationRef::SaslFinal(_) => 12,
+    };
+    ProtocolFault::UnknownAuthentication(method)
 }

@@ -5,8 +5,8 @@ ghost use Rattle.std.specs.Option.{option_map_or};
 ghost use Rattle.pg_format.specs.Format.{IsFaultOf};
 ghost use Rattle.pg_format.specs.Format.Parts.{be_u32};
 ghost use Rattle.pg_format.specs.Format.Places.{IsReadAt};
-ghost use Rattle.pg_format.specs.Messages.{column, row_description, parameter_description};
-ghost use Rattle.pg_receive.specs.RowDescription.Columns.{column_of_ref};
+ghost use Rattle.pg_format.specs.Messages.{parameter_description};
+ghost use Rattle.pg_receive.specs.RowDescription.Raw.{column_of_raw, raw_column, raw_row_description};
 ghost use Rattle.pg_format.specs.Received.{max_body};
 ghost use Rattle.pg_c.specs.Read.Columns.{column_in};
 ghost use Rattle.pg_c.specs.Read.{ReadsItems, GivesFront, IsBodyFault, RefusesBody};
@@ -16,14 +16,14 @@ use crate::read::check_body;
 use crate::refusal::{PgmsgFault, report};
 use pg_base::ProtocolFault;
 use pg_base::io::{Oid, bytes_at, u16_at, u32_at};
-use pg_receive::message::{FieldRef, column_at};
+use pg_receive::message::{RawFieldRef, raw_column_at};
 use std::alloc::Global;
 
-/// Where the first column or type begins, after the count.
-pub(crate) const FIRST: usize = 2;
+// Where the first column or type begins, after the count.
+const FIRST: usize = 2;
 
-/// The least bytes of a column.
-pub(crate) const LEAST_COLUMN: usize = 19;
+// The least bytes of a column.
+const LEAST_COLUMN: usize = 19;
 
 const TYPE_LENGTH: usize = 4;
 
@@ -51,11 +51,11 @@ pub extern "C" fn pgmsg_read_columns(
     fault: &mut PgmsgFault,
 ) -> isize
     ensures columns { pos 0 ≤ℤ result
-        → ReadsItems row_description (column_in body.now) body.now columns.old columns.new result }
-    ensures fault { RefusesBody row_description body.now fault.old fault.new result }
+        → ReadsItems raw_row_description (column_in body.now) body.now columns.old columns.new result }
+    ensures fault { RefusesBody raw_row_description body.now fault.old fault.new result }
     ensures within { pos 0 ≤ℤ result → length body.now ≤ max_body }
     ensures front { result <ℤ pos 0
-        → GivesFront column (column_in body.now) body.now 2 columns.old columns.new }
+        → GivesFront raw_column (column_in body.now) body.now 2 columns.old columns.new }
     ensures untouched { pos 0 ≤ℤ result → fault.new ≡ fault.old }
 {
     match columns_of(body, columns) {
@@ -67,19 +67,19 @@ pub extern "C" fn pgmsg_read_columns(
 fn columns_of(body: &[u8], columns: &mut [PgmsgColumn]) -> Result<usize, ProtocolFault>
     ensures small { IfOk result (λ count. count ≤ 65535) }
     ensures columns { IfOk result
-        (λ count. ReadsItems row_description (column_in body.now) body.now
+        (λ count. ReadsItems raw_row_description (column_in body.now) body.now
         columns.old columns.new (pos count)) }
     ensures within { OnOk result (length body.now ≤ max_body) }
-    ensures fault { IfErr result (IsBodyFault (IsFaultOf row_description) body.now) }
+    ensures fault { IfErr result (IsBodyFault (IsFaultOf raw_row_description) body.now) }
     ensures front { IfErr result
-        (λ _. GivesFront column (column_in body.now) body.now 2 columns.old columns.new) }
+        (λ _. GivesFront raw_column (column_in body.now) body.now 2 columns.old columns.new) }
 {
     check_body(body)?;
     let count = usize::from(u16_at(body, 0)?);
     bytes_at(body, FIRST, LEAST_COLUMN * count)?;
     let mut at = FIRST;
     for index in 0..count {
-        let (column, end) = column_at(body, at)?;
+        let (column, end) = raw_column_at(body, at)?;
         if index < columns.len() {
             columns[index] = place_of(at, &column);
         }
@@ -89,9 +89,9 @@ fn columns_of(body: &[u8], columns: &mut [PgmsgColumn]) -> Result<usize, Protoco
 }
 
 // The place of the column that begins at an offset.
-fn place_of(at: usize, field: &FieldRef<'_>) -> PgmsgColumn
-    ensures { (body : List ℕ) (end : ℕ) → IsReadAt column body at (column_of_ref field.now) end
-        → column_in body result ≡ Some (column_of_ref field.now) }
+fn place_of(at: usize, field: &RawFieldRef<'_>) -> PgmsgColumn
+    ensures { (body : List ℕ) (end : ℕ) → IsReadAt raw_column body at (column_of_raw field.now) end
+        → column_in body result ≡ Some (column_of_raw field.now) }
 {
     PgmsgColumn {
         name: PgmsgSpan {
@@ -107,8 +107,8 @@ fn place_of(at: usize, field: &FieldRef<'_>) -> PgmsgColumn
     }
 }
 
-/// The number of a table, 0 for none.
-pub(crate) fn table_of(id: Option<Oid>) -> u32
+// The number of a table, 0 for none.
+fn table_of(id: Option<Oid>) -> u32
     ensures { result ≡ option_map_or (λ oid. oid.0) id 0 }
 {
     match id {

@@ -1,17 +1,15 @@
-//! The message at the front of a stream.
+//! The messages at the front of a stream.
 
-ghost use Rattle.std.specs.Prelude.{◌≡◌, ◌≤◌, ◌<◌, ◌<ℤ◌, ◌≤ℤ◌, pos, length};
+ghost use Rattle.std.specs.Prelude.{◌≡◌, ◌+◌, ◌<◌, ◌≤◌, ◌<ℤ◌, ◌≤ℤ◌, ℕ, List, pos, drop, length, get_or, IfOk, IfErr};
 ghost use Rattle.pg_base.specs.Cutting.{Begins};
-ghost use Rattle.pg_base.specs.Format.{backend_tag};
-ghost use Rattle.pg_frames.specs.Stream.{WantsMore, IsStreamFault};
-ghost use Rattle.pg_frames.specs.Stream.Raw as raw;
-ghost use Rattle.pg_c.specs.Read.Frame.{IsWhole, Needs};
-ghost use Rattle.pg_c.specs.Read.RawFrame as raw_read;
+ghost use Rattle.pg_frames.specs.Stream.Raw.{WantsMore, HasBadLength};
+ghost use Rattle.pg_c.specs.Read.Frame.{IsWhole, Needs, ReadsFrames, StandsAt};
 ghost use Rattle.pg_c.specs.Refusal.{Refuses};
 
 use crate::place::PgmsgSpan;
 use crate::refusal::{PgmsgFault, report};
-use pg_frames::{Frame, FrameHead, next_frame};
+use pg_base::ProtocolFault;
+use pg_frames::{FrameHead, RawFrame, next_raw_frame};
 use std::alloc::Global;
 
 /// The bytes before a body: the tag and the length.
@@ -27,8 +25,9 @@ pub struct PgmsgFrame {
     pub length: usize,
 }
 
-/// The message at the front of a stream: 1 where it is whole, 0 where more bytes are needed. Refused
-/// where no message from a server has this tag, or its length is below 4: then, whatever comes next.
+/// The message at the front of a stream, of any tag: 1 where it is whole, 0 where more bytes are needed.
+/// Then `tag` is given as soon as there is a byte. Refused where its length is below 4: then, whatever
+/// comes next.
 #[unsafe(no_mangle)]
 pub extern "C" fn pgmsg_next_frame(
     alloc: Global,
@@ -39,19 +38,22 @@ pub extern "C" fn pgmsg_next_frame(
     ensures result { result ≤ℤ pos 1 }
     ensures whole { result ≡ pos 1 → IsWhole stream.now frame.new }
     ensures part { result ≡ pos 0 → Needs stream.now frame.new.length }
-    ensures part_alone { result ≡ pos 0
-        → (frame.new.tag ≡ frame.old.tag) × (frame.new.body ≡ frame.old.body) }
+    ensures part_tag { result ≡ pos 0 → frame.new.tag ≡ get_or stream.now 0 frame.old.tag }
+    ensures part_alone { result ≡ pos 0 → frame.new.body ≡ frame.old.body }
     ensures fault { result <ℤ pos 0
-        → Refuses (IsStreamFault stream.now) fault.old fault.new result }
+        → Refuses (HasBadLength stream.now) fault.old fault.new result }
     ensures untouched { pos 0 ≤ℤ result → fault.new ≡ fault.old }
     ensures kept { result <ℤ pos 0 → frame.new ≡ frame.old }
 {
-    match next_frame(stream) {
+    match next_raw_frame(stream) {
         Ok(Some(whole)) => {
-            *frame = place_of(stream, &whole);
+            *frame = place_of(&whole);
             1
         }
         Ok(None) => {
+            if !stream.is_empty() {
+                frame.tag = stream[0];
+            }
             frame.length = needed(stream);
             0
         }
@@ -59,14 +61,75 @@ pub extern "C" fn pgmsg_next_frame(
     }
 }
 
-// Where the message at the front is.
-fn place_of(stream: &[u8], frame: &Frame<'_>) -> PgmsgFrame
-    requires { Begins stream.now (backend_tag frame.now.format)
-        frame.now.body.now frame.now.rest.now }
-    ensures { IsWhole stream.now result }
+/// The messages at the front of a stream, of any tag, each as `pgmsg_next_frame` gives it, with places in
+/// the whole stream: how many are given. As many as are whole and there is room for are written; the first
+/// of the others begins where the lengths of these end. Refused where there is room for a message, and the
+/// length of the very first is below 4; such a length after others only ends them.
+#[unsafe(no_mangle)]
+pub extern "C" fn pgmsg_next_frames(
+    alloc: Global,
+    stream: &[u8],
+    frames: &mut [PgmsgFrame],
+    fault: &mut PgmsgFault,
+) -> isize
+    ensures frames { pos 0 ≤ℤ result → ReadsFrames stream.now frames.old frames.new result }
+    ensures fault { result <ℤ pos 0
+        → Refuses (HasBadLength stream.now) fault.old fault.new result }
+    ensures untouched { pos 0 ≤ℤ result → fault.new ≡ fault.old }
+    ensures kept { result <ℤ pos 0 → frames.new ≡ frames.old }
+{
+    match frames_of(stream, frames) {
+        Ok(count) => count as isize,
+        Err(why) => report(alloc, why.into(), fault) as isize,
+    }
+}
+
+fn frames_of(stream: &[u8], frames: &mut [PgmsgFrame]) -> Result<usize, ProtocolFault>
+    ensures small { IfOk result (λ count. count < 9223372036854775808) }
+    ensures frames { IfOk result (λ count. ReadsFrames stream.now frames.old frames.new (pos count)) }
+    ensures fault { IfErr result (HasBadLength stream.now) }
+    ensures kept { IfErr result (λ _. frames.new ≡ frames.old) }
+{
+    let mut at: usize = 0;
+    for count in 0..frames.len() {
+        match next_raw_frame(&stream[at..]) {
+            Ok(Some(whole)) => {
+                let place = placed(stream, at, &whole);
+                frames[count] = place;
+                at += place.length;
+            }
+            Ok(None) => return Ok(count),
+            Err(why) => return if count == 0 { Err(why) } else { Ok(count) },
+        }
+    }
+    Ok(frames.len())
+}
+
+// Where the message that begins at an offset is.
+fn placed(stream: &[u8], at: usize, frame: &RawFrame<'_>) -> PgmsgFrame
+    requires within { at ≤ length stream.now }
+    requires begins { Begins (drop at stream.now) frame.now.tag frame.now.body.now frame.now.rest.now }
+    ensures stands { StandsAt stream.now at result }
+    ensures inside { at + result.length ≤ length stream.now }
+    ensures least { 5 ≤ result.length }
 {
     PgmsgFrame {
-        tag: stream[0],
+        tag: frame.tag,
+        body: PgmsgSpan {
+            at: at + HEADER,
+            len: frame.body.len(),
+        },
+        length: HEADER + frame.body.len(),
+    }
+}
+
+// Where the message at the front is.
+fn place_of(frame: &RawFrame<'_>) -> PgmsgFrame
+    ensures { (stream : List ℕ) → Begins stream frame.now.tag frame.now.body.now frame.now.rest.now
+        → IsWhole stream result }
+{
+    PgmsgFrame {
+        tag: frame.tag,
         body: PgmsgSpan {
             at: HEADER,
             len: frame.body.len(),
@@ -77,9 +140,8 @@ fn place_of(stream: &[u8], frame: &Frame<'_>) -> PgmsgFrame
 
 /// How many bytes the message at the front needs.
 pub(crate) fn needed(stream: &[u8]) -> usize
-    requires { raw.WantsMore stream.now }
-    ensures any { raw_read.Needs stream.now result }
-    ensures known { WantsMore stream.now → Needs stream.now result }
+    requires { WantsMore stream.now }
+    ensures { Needs stream.now result }
 {
     match FrameHead::of(stream) {
         Some(head) => 1 + head.announced.unsigned_abs() as usize,

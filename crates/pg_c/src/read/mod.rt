@@ -10,9 +10,8 @@ pub mod copy;
 pub mod end;
 pub mod fields;
 pub mod frame;
-pub mod raw;
-pub mod raw_columns;
-pub mod raw_frame;
+pub mod function_result;
+pub mod negotiation;
 pub mod row;
 pub mod status;
 

@@ -1,22 +1,26 @@
 //! Notifications, settings, keys, and what a command and a session report of themselves.
 
 ghost use Rattle.std.specs.Prelude.{◌≡◌, ◌≤◌, ◌<ℤ◌, ◌≤ℤ◌, pos, length};
-ghost use Rattle.pg_format.specs.Format.{Means};
 ghost use Rattle.pg_format.specs.Messages as page;
-ghost use Rattle.pg_receive.specs.CommandComplete.{row_count};
+ghost use Rattle.pg_receive.specs.BackendKeyData.{raw_key_data};
+ghost use Rattle.pg_receive.specs.CommandComplete.{tag_text};
+ghost use Rattle.pg_receive.specs.ParameterStatus.{raw_parameter_status};
 ghost use Rattle.pg_receive.specs.ReadyForQuery.{shown_status};
 ghost use Rattle.pg_format.specs.Received.{max_body};
 ghost use Rattle.pg_c.specs.Read.{ReadsBody, RefusesBody};
-ghost use Rattle.pg_c.specs.Read.Status.{ReadsNotification, ReadsSetting, IsStatusLetter};
+ghost use Rattle.pg_c.specs.Read.Status.{ReadsNotification, ReadsSetting, ReadsKey, ReadsCommand, IsStatusLetter};
 
 use crate::place::PgmsgSpan;
 use crate::read::check_body;
 use crate::refusal::{PgmsgFault, report};
 use pg_base::ProtocolFault;
 use pg_receive::message::{
-    BackendKeyData, NotificationRef, ParameterStatusRef, ReadyForQuery, rows_affected,
+    NotificationRef, RawKeyData, RawParameterStatus, ReadyForQuery, command_tag, rows_affected,
 };
 use std::alloc::Global;
+
+// The bytes of the number of a process.
+const PROCESS_LENGTH: usize = 4;
 
 /// A notification from another session.
 #[repr(C)]
@@ -35,12 +39,22 @@ pub struct PgmsgParameterStatus {
     pub value: PgmsgSpan,
 }
 
-/// What a request to cancel has to name.
+/// The process that serves a session, and the key that a request to cancel has to name too, of 4 to 256
+/// bytes.
 #[repr(C)]
 #[derive(Clone, Copy)]
 pub struct PgmsgKeyData {
     pub process_id: u32,
-    pub secret_key: u32,
+    pub secret_key: PgmsgSpan,
+}
+
+/// What a command has done: the text of its tag, such as `INSERT 0 1`, and how many rows it had to do
+/// with, which is the number after the last space, and 0 where there is none.
+#[repr(C)]
+#[derive(Clone, Copy)]
+pub struct PgmsgCommand {
+    pub tag: PgmsgSpan,
+    pub rows: u64,
 }
 
 /// A notification, by the body of its NotificationResponse. 0, or why it is refused.
@@ -61,7 +75,7 @@ pub extern "C" fn pgmsg_read_notification(
     match notification_of(body) {
         Ok(read) => {
             let channel = PgmsgSpan {
-                at: 4,
+                at: PROCESS_LENGTH,
                 len: read.channel.len(),
             };
             *notification = PgmsgNotification {
@@ -100,7 +114,7 @@ pub extern "C" fn pgmsg_read_parameter_status(
 ) -> i32
     ensures result { result ≤ℤ pos 0 }
     ensures value { result ≡ pos 0 → ReadsSetting body.now status.new }
-    ensures fault { RefusesBody page.parameter_status body.now fault.old fault.new result }
+    ensures fault { RefusesBody raw_parameter_status body.now fault.old fault.new result }
     ensures within { pos 0 ≤ℤ result → length body.now ≤ max_body }
     ensures untouched { pos 0 ≤ℤ result → fault.new ≡ fault.old }
     ensures kept { result <ℤ pos 0 → status.new ≡ status.old }
@@ -123,15 +137,16 @@ pub extern "C" fn pgmsg_read_parameter_status(
     }
 }
 
-fn setting_of(body: &[u8]) -> Result<ParameterStatusRef<'_>, ProtocolFault>
-    ensures { ReadsBody page.parameter_status
+fn setting_of(body: &[u8]) -> Result<RawParameterStatus<'_>, ProtocolFault>
+    ensures { ReadsBody raw_parameter_status
         (λ status. record { name = status.name.now; value = status.value.now }) body.now result }
 {
     check_body(body)?;
-    ParameterStatusRef::read(body)
+    RawParameterStatus::read(body)
 }
 
-/// What a request to cancel has to name, by the body of a BackendKeyData. 0, or why it is refused.
+/// What a request to cancel has to name, by the body of a BackendKeyData of any version: its key has 4
+/// bytes in protocol 3.0, and up to 256 from 3.2 on. 0, or why it is refused.
 #[unsafe(no_mangle)]
 pub extern "C" fn pgmsg_read_key_data(
     alloc: Global,
@@ -140,10 +155,8 @@ pub extern "C" fn pgmsg_read_key_data(
     fault: &mut PgmsgFault,
 ) -> i32
     ensures result { result ≤ℤ pos 0 }
-    ensures value { result ≡ pos 0
-        → Means page.backend_key_data body.now
-        (record { process_id = key.new.process_id; secret_key = key.new.secret_key }) }
-    ensures fault { RefusesBody page.backend_key_data body.now fault.old fault.new result }
+    ensures value { result ≡ pos 0 → ReadsKey body.now key.new }
+    ensures fault { RefusesBody raw_key_data body.now fault.old fault.new result }
     ensures within { pos 0 ≤ℤ result → length body.now ≤ max_body }
     ensures untouched { pos 0 ≤ℤ result → fault.new ≡ fault.old }
     ensures kept { result <ℤ pos 0 → key.new ≡ key.old }
@@ -152,7 +165,10 @@ pub extern "C" fn pgmsg_read_key_data(
         Ok(read) => {
             *key = PgmsgKeyData {
                 process_id: read.process_id,
-                secret_key: read.secret_key,
+                secret_key: PgmsgSpan {
+                    at: PROCESS_LENGTH,
+                    len: read.secret_key.len(),
+                },
             };
             0
         }
@@ -160,22 +176,50 @@ pub extern "C" fn pgmsg_read_key_data(
     }
 }
 
-fn key_of(body: &[u8]) -> Result<BackendKeyData, ProtocolFault>
-    ensures { ReadsBody page.backend_key_data
-        (λ key. record { process_id = key.process_id; secret_key = key.secret_key })
+fn key_of(body: &[u8]) -> Result<RawKeyData<'_>, ProtocolFault>
+    ensures { ReadsBody raw_key_data
+        (λ key. record { process_id = key.process_id; secret_key = key.secret_key.now })
         body.now result }
 {
     check_body(body)?;
-    BackendKeyData::read(body)
+    RawKeyData::read(body)
 }
 
-/// How many rows a command had to do with, by the body of its CommandComplete: the number after the
-/// last space, and 0 where there is none.
+/// What a command has done, by the body of its CommandComplete. 0, or why it is refused.
 #[unsafe(no_mangle)]
-pub extern "C" fn pgmsg_read_rows_affected(body: &[u8]) -> u64
-    ensures { result ≡ row_count body.now }
+pub extern "C" fn pgmsg_read_command_complete(
+    alloc: Global,
+    body: &[u8],
+    command: &mut PgmsgCommand,
+    fault: &mut PgmsgFault,
+) -> i32
+    ensures result { result ≤ℤ pos 0 }
+    ensures value { result ≡ pos 0 → ReadsCommand body.now command.new }
+    ensures fault { RefusesBody tag_text body.now fault.old fault.new result }
+    ensures within { pos 0 ≤ℤ result → length body.now ≤ max_body }
+    ensures untouched { pos 0 ≤ℤ result → fault.new ≡ fault.old }
+    ensures kept { result <ℤ pos 0 → command.new ≡ command.old }
 {
-    rows_affected(body)
+    match tag_of(body) {
+        Ok(text) => {
+            *command = PgmsgCommand {
+                tag: PgmsgSpan {
+                    at: 0,
+                    len: text.len(),
+                },
+                rows: rows_affected(body),
+            };
+            0
+        }
+        Err(why) => report(alloc, why.into(), fault),
+    }
+}
+
+fn tag_of(body: &[u8]) -> Result<&[u8], ProtocolFault>
+    ensures { ReadsBody tag_text (λ tag. tag.now) body.now result }
+{
+    check_body(body)?;
+    command_tag(body)
 }
 
 /// The letter of the transaction's status, by the body of a ReadyForQuery: I where none is open, T in

@@ -1,13 +1,27 @@
 //! What a client is asked for before its session begins.
 
-ghost use Rattle.std.specs.Prelude.{map};
-ghost use Rattle.pg_format.specs.Messages.{ok, cleartext_password, md5_password, sasl, sasl_continue, sasl_final};
+ghost use Rattle.std.specs.Prelude.{◌≡◌, map, option_map};
+ghost use Rattle.pg_format.specs.Messages.{sasl};
+ghost use Rattle.pg_server.specs.Backend.Authentication as authentication;
 ghost use Rattle.pg_server.specs.Backend.Message.{Authentication};
 ghost use Rattle.pg_c.specs.Server.{PutsServerMessage};
+ghost use Rattle.pg_c.specs.Server.Authentication.{requested, PutsRequest};
 ghost use Rattle.pg_c.specs.Server.Lists.{bytes_of};
 
+use crate::refusal::UNKNOWN_AUTHENTICATION;
 use crate::server::put;
 use pg_server::backend::{AsItem, AuthenticationText, Mechanism, SaslText};
+
+// The numbers of methods.
+const OK: u32 = 0;
+
+const CLEARTEXT_PASSWORD: u32 = 3;
+
+const MD5_PASSWORD: u32 = 5;
+
+const SASL_CONTINUE: u32 = 11;
+
+const SASL_FINAL: u32 = 12;
 
 /// Some bytes.
 #[repr(C)]
@@ -36,32 +50,37 @@ impl<'a> AsItem<Mechanism<'a>> for PgmsgBytes<'a> {
     }
 }
 
-/// Says to the client that it is who it says.
+/// A request for authentication, by the number of its method and what follows it. 0 says that the client
+/// is who it says, and 3 asks for its password as it is: nothing follows. 5 asks for the MD5 digest of its
+/// password, with the salt of four bytes that follows. 11 and 12 are the next and the last of a SASL
+/// exchange, whose data follows; 10 begins one, by `pgmsg_put_authentication_sasl`. Of other numbers, or
+/// with another count of bytes, it is refused with PGMSG_UNKNOWN_AUTHENTICATION.
 #[unsafe(no_mangle)]
-pub extern "C" fn pgmsg_put_authentication_ok(out: &mut [u8]) -> isize
-    ensures { PutsServerMessage (Authentication ok) out.old out.new result }
+pub extern "C" fn pgmsg_put_authentication(method: u32, content: &[u8], out: &mut [u8]) -> isize
+    ensures { PutsRequest method content.now out.old out.new result }
 {
-    put(&AuthenticationText::Ok, out)
+    match request_of(method, content) {
+        Some(request) => put(&request, out),
+        None => UNKNOWN_AUTHENTICATION as isize,
+    }
 }
 
-/// Asks the client for its password as it is.
-#[unsafe(no_mangle)]
-pub extern "C" fn pgmsg_put_authentication_cleartext(out: &mut [u8]) -> isize
-    ensures { PutsServerMessage (Authentication cleartext_password) out.old out.new result }
+// The request by a method, where what follows is as long as it has to be.
+fn request_of(method: u32, content: &[u8]) -> Option<AuthenticationText<'_>>
+    ensures { option_map authentication.request_of result ≡ requested method content.now }
 {
-    put(&AuthenticationText::CleartextPassword, out)
+    match (method, content) {
+        (OK, []) => Some(AuthenticationText::Ok),
+        (CLEARTEXT_PASSWORD, []) => Some(AuthenticationText::CleartextPassword),
+        (MD5_PASSWORD, &[a, b, c, d]) => Some(AuthenticationText::Md5Password([a, b, c, d])),
+        (SASL_CONTINUE, _) => Some(AuthenticationText::SaslContinue(content)),
+        (SASL_FINAL, _) => Some(AuthenticationText::SaslFinal(content)),
+        _ => None,
+    }
 }
 
-/// Asks the client for the MD5 digest of its password, with this salt.
-#[unsafe(no_mangle)]
-pub extern "C" fn pgmsg_put_authentication_md5(salt: &[u8; 4], out: &mut [u8]) -> isize
-    ensures { PutsServerMessage (Authentication (md5_password salt.now)) out.old out.new result }
-{
-    put(&AuthenticationText::Md5Password(*salt), out)
-}
-
-/// Asks the client for an exchange of SASL by one of these mechanisms, the best first. A name that is
-/// empty or holds a NUL is refused as a text that holds a NUL: the client would read other names.
+/// A request for an exchange of SASL by one of these mechanisms, the best first. A name that is empty or
+/// holds a NUL is refused as a text that holds a NUL: the client would read other names.
 #[unsafe(no_mangle)]
 pub extern "C" fn pgmsg_put_authentication_sasl(
     mechanisms: &[PgmsgBytes<'_>],
@@ -70,20 +89,4 @@ pub extern "C" fn pgmsg_put_authentication_sasl(
     ensures { PutsServerMessage (Authentication (sasl (map bytes_of mechanisms.now))) out.old out.new result }
 {
     put(&SaslText { mechanisms }, out)
-}
-
-/// The next of the exchange of SASL.
-#[unsafe(no_mangle)]
-pub extern "C" fn pgmsg_put_authentication_continue(data: &[u8], out: &mut [u8]) -> isize
-    ensures { PutsServerMessage (Authentication (sasl_continue «data».now)) out.old out.new result }
-{
-    put(&AuthenticationText::SaslContinue(data), out)
-}
-
-/// The last of the exchange of SASL, before `pgmsg_put_authentication_ok`.
-#[unsafe(no_mangle)]
-pub extern "C" fn pgmsg_put_authentication_final(data: &[u8], out: &mut [u8]) -> isize
-    ensures { PutsServerMessage (Authentication (sasl_final «data».now)) out.old out.new result }
-{
-    put(&AuthenticationText::SaslFinal(data), out)
 }

@@ -1,11 +1,14 @@
 //! Errors, notices and notifications.
 
-ghost use Rattle.std.specs.Prelude.{map};
+ghost use Rattle.std.specs.Prelude.{◌≡◌, map};
+ghost use Rattle.pg_base.specs.declared.error.ProtocolFault.TheVariants.{UnknownMessageType};
 ghost use Rattle.pg_server.specs.Backend.Message as messages;
-ghost use Rattle.pg_server.specs.declared.backend.notice.NoticeKind.TheVariants as kinds;
-ghost use Rattle.pg_c.specs.Server.{PutsServerMessage};
+ghost use Rattle.pg_server.specs.Backend.Notice.{notice_tag};
+ghost use Rattle.pg_c.specs.Server.{PutsServerMessage, PutsByLetter};
+ghost use Rattle.pg_c.specs.Server.Letters.{notice_kind_of};
 ghost use Rattle.pg_c.specs.Server.Lists.{field_of, field_text_of};
 
+use crate::refusal::UNKNOWN_MESSAGE_TYPE;
 use crate::server::put;
 use pg_server::backend::{AsItem, NoticeFieldText, NoticeKind, NoticeText, NotificationText};
 
@@ -29,26 +32,31 @@ impl<'a> AsItem<NoticeFieldText<'a>> for PgmsgFieldText<'a> {
     }
 }
 
-/// An error, by its fields in order: a client asks for `S`, its severity, `C`, its code, and `M`, its
-/// message. A field of the letter 0, or a text that holds a NUL, is refused: it would end the fields.
+/// An ErrorResponse, whose tag is `E`, or a NoticeResponse, `N`, by its fields in order: a client asks for
+/// `S`, the severity, `C`, the code, and `M`, the message. A field of the letter 0, or a text that holds a
+/// NUL, is refused: it would end the fields. Of other tags it is refused with PGMSG_UNKNOWN_MESSAGE_TYPE.
 #[unsafe(no_mangle)]
-pub extern "C" fn pgmsg_put_error(fields: &[PgmsgFieldText<'_>], out: &mut [u8]) -> isize
-    ensures { PutsServerMessage (messages.Notice kinds.Error (map field_of fields.now)) out.old out.new result }
+pub extern "C" fn pgmsg_put_notice(tag: u8, fields: &[PgmsgFieldText<'_>], out: &mut [u8]) -> isize
+    ensures { PutsByLetter notice_tag (λ kind. messages.Notice kind (map field_of fields.now))
+        (UnknownMessageType tag) tag out.old out.new result }
 {
-    let kind = NoticeKind::Error;
-    put(&NoticeText { kind, fields }, out)
+    match kind_of(tag) {
+        Some(kind) => put(&NoticeText { kind, fields }, out),
+        None => UNKNOWN_MESSAGE_TYPE as isize,
+    }
 }
 
-/// A notice, with fields as in `pgmsg_put_error`.
-#[unsafe(no_mangle)]
-pub extern "C" fn pgmsg_put_notice(fields: &[PgmsgFieldText<'_>], out: &mut [u8]) -> isize
-    ensures { PutsServerMessage (messages.Notice kinds.Notice (map field_of fields.now)) out.old out.new result }
+fn kind_of(tag: u8) -> Option<NoticeKind>
+    ensures { result ≡ notice_kind_of tag }
 {
-    let kind = NoticeKind::Notice;
-    put(&NoticeText { kind, fields }, out)
+    match tag {
+        b'E' => Some(NoticeKind::Error),
+        b'N' => Some(NoticeKind::Notice),
+        _ => None,
+    }
 }
 
-/// What the session was notified of: by which process, on which channel, and what was said. A NUL in a
+/// A NotificationResponse: what the session was notified of, by which process, on which channel, and what was said. A NUL in a
 /// text is refused.
 #[unsafe(no_mangle)]
 pub extern "C" fn pgmsg_put_notification(

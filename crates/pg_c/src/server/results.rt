@@ -5,44 +5,16 @@ ghost use Rattle.pg_base.specs.declared.error.ProtocolFault.TheVariants.{Unknown
 ghost use Rattle.pg_server.specs.Backend.Copy.{direction_tag};
 ghost use Rattle.pg_server.specs.Backend.Message as messages;
 ghost use Rattle.pg_c.specs.Server.{PutsServerMessage, PutsByLetter};
-ghost use Rattle.pg_c.specs.Server.Letters.{no_body_tag, no_body_of, direction_of};
+ghost use Rattle.pg_c.specs.Server.Letters.{direction_of};
 
 use crate::put::prepared::PgmsgValue;
 use crate::refusal::UNKNOWN_MESSAGE_TYPE;
 use crate::server::put;
 use pg_server::backend::{
-    AsItem, CommandCompleteText, CopyDirection, CopyResponseText, FunctionCallResponseText,
-    NoBodyText, RawText,
+    AsItem, CommandCompleteText, CopyDirection, CopyResponseText, FunctionCallResponseText, RawText,
 };
 
-/// A message without a body: `1` is ParseComplete, `2` BindComplete, `3` CloseComplete, `I`
-/// EmptyQueryResponse, `c` CopyDone, `n` NoData and `s` PortalSuspended.
-#[unsafe(no_mangle)]
-pub extern "C" fn pgmsg_put_no_body(tag: u8, out: &mut [u8]) -> isize
-    ensures { PutsByLetter no_body_tag messages.NoBody (UnknownMessageType tag) tag out.old out.new result }
-{
-    match no_body_of(tag) {
-        Some(message) => put(&message, out),
-        None => UNKNOWN_MESSAGE_TYPE as isize,
-    }
-}
-
-fn no_body_of(tag: u8) -> Option<NoBodyText>
-    ensures { result ≡ no_body_of tag }
-{
-    match tag {
-        b'1' => Some(NoBodyText::ParseComplete),
-        b'2' => Some(NoBodyText::BindComplete),
-        b'3' => Some(NoBodyText::CloseComplete),
-        b'I' => Some(NoBodyText::EmptyQueryResponse),
-        b'c' => Some(NoBodyText::CopyDone),
-        b'n' => Some(NoBodyText::NoData),
-        b's' => Some(NoBodyText::PortalSuspended),
-        _ => None,
-    }
-}
-
-/// A command has ended. `command` is its tag, as `INSERT 0 1`; a NUL in it is refused.
+/// A CommandComplete: a command has ended. `command` is its tag, as `INSERT 0 1`; a NUL in it is refused.
 #[unsafe(no_mangle)]
 pub extern "C" fn pgmsg_put_command_complete(command: &[u8], out: &mut [u8]) -> isize
     ensures { PutsServerMessage (messages.CommandComplete command.now) out.old out.new result }
@@ -50,8 +22,10 @@ pub extern "C" fn pgmsg_put_command_complete(command: &[u8], out: &mut [u8]) -> 
     put(&CommandCompleteText { command }, out)
 }
 
-/// Where the data of a COPY goes: to the server by `G`, from it by `H`, and both ways by `W`. `format`
-/// is that of the data as a whole, and `codes` are those of the columns: 0 is text and 1 binary.
+/// Where the data of a COPY goes: to the server by a CopyInResponse, whose tag is `G`, from it by a
+/// CopyOutResponse, `H`, and both ways by a CopyBothResponse, `W`; of other tags it is refused with
+/// PGMSG_UNKNOWN_MESSAGE_TYPE. `format` is that of the data as a whole, and `codes` are those of the
+/// columns: 0 is text and 1 binary.
 #[unsafe(no_mangle)]
 pub extern "C" fn pgmsg_put_copy_response(
     tag: u8,
@@ -86,7 +60,7 @@ fn direction_of(tag: u8) -> Option<CopyDirection>
     }
 }
 
-/// The result of a function that was called, or NULL.
+/// A FunctionCallResponse: the result of a function that was called, or NULL.
 #[unsafe(no_mangle)]
 pub extern "C" fn pgmsg_put_function_result(value: &[u8], is_null: bool, out: &mut [u8]) -> isize
     ensures { PutsServerMessage
@@ -103,7 +77,7 @@ pub extern "C" fn pgmsg_put_function_result(value: &[u8], is_null: bool, out: &m
 
 /// A message with any tag and any body: what only passes through, or what this library doesn't know.
 #[unsafe(no_mangle)]
-pub extern "C" fn pgmsg_put_raw_frame(tag: u8, body: &[u8], out: &mut [u8]) -> isize
+pub extern "C" fn pgmsg_put_frame(tag: u8, body: &[u8], out: &mut [u8]) -> isize
     ensures { PutsServerMessage (messages.Raw tag body.now) out.old out.new result }
 {
     put(&RawText { tag, body }, out)

@@ -2,7 +2,7 @@
 
 ghost use Rattle.std.specs.Prelude.{map};
 ghost use Rattle.pg_server.specs.Backend.Message as messages;
-ghost use Rattle.pg_c.specs.Put.Lists.{value_of};
+ghost use Rattle.pg_c.specs.Put.Values.{value_of};
 ghost use Rattle.pg_c.specs.Server.{PutsServerMessage};
 ghost use Rattle.pg_c.specs.Server.Lists.{borrowed, column_of, column_text_of};
 

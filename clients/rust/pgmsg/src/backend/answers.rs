@@ -5,18 +5,18 @@ use crate::answer::part;
 use crate::buffer::{append, Buffer, Spare};
 use crate::byte_str::ByteStr;
 use crate::error::{Fault, Refusal};
-use crate::put::{put_bytes, put_frame};
-use crate::reading::{read_number, read_parts};
+use crate::put::{put_bytes, put_frame, put_no_body};
+use crate::reading::read_parts;
+use crate::row::Cell;
 use crate::sys;
 use crate::value::Value;
-use crate::version;
 
 /// Reads the text of a command's tag, without its NUL.
 #[inline]
 pub(super) fn read_command(body: &[u8]) -> Result<ByteStr<'_>, Fault> {
     // SAFETY: the call is one of the library, which reads a body so.
-    let tag = unsafe { read_parts(body, sys::pgmsg_read_command_tag)? };
-    part(body, tag).map(ByteStr)
+    let read = unsafe { read_parts(body, sys::pgmsg_read_command_complete)? };
+    part(body, read.tag).map(ByteStr)
 }
 
 pub(super) fn write_command<B: Buffer>(tag: &[u8], out: &mut B) -> Result<(), Refusal> {
@@ -34,17 +34,10 @@ pub(super) fn write_command<B: Buffer>(tag: &[u8], out: &mut B) -> Result<(), Re
 /// ```
 #[inline]
 pub fn rows_affected(tag: &[u8]) -> u64 {
-    version::check();
-    // SAFETY: `tag` is a slice, valid for its length.
-    unsafe { sys::pgmsg_read_rows_affected(tag.as_ptr(), tag.len()) }
-}
-
-/// Refuses a body that isn't empty.
-#[inline]
-pub(super) fn read_empty(body: &[u8]) -> Result<(), Fault> {
+    let body = [tag, b"\0"].concat();
     // SAFETY: the call is one of the library, which reads a body so.
-    unsafe { read_number(body, sys::pgmsg_read_no_body)? };
-    Ok(())
+    let read = unsafe { read_parts(&body, sys::pgmsg_read_command_complete) };
+    read.map_or(0, |read| read.rows)
 }
 
 /// The functions that write a message without a body, by its tag.
@@ -52,7 +45,7 @@ macro_rules! empty {
     ($($write:ident = $tag:literal,)*) => {
         $(
             pub(super) fn $write<B: Buffer>(out: &mut B) -> Result<(), Refusal> {
-                write_empty($tag, out)
+                put_no_body(out, $tag)
             }
         )*
     };
@@ -68,28 +61,28 @@ empty! {
     write_portal_suspended = b's',
 }
 
-#[inline]
-fn write_empty<B: Buffer>(tag: u8, out: &mut B) -> Result<(), Refusal> {
-    let call = |mut out: Spare<'_>| {
-        // SAFETY: `out` is room, valid for its length.
-        unsafe { sys::pgmsg_put_no_body(tag, out.as_mut_ptr(), out.len()) }
-    };
-    // SAFETY: the call is one of the library, which writes a message so.
-    unsafe { append(out, call) }
-}
-
 /// The result of a function that was called, or NULL.
 ///
 /// ```
+/// use pgmsg::backend::FunctionCallResponse;
+///
 /// # let mut out = Vec::new();
-/// pgmsg::backend::FunctionCallResponse("5".into()).write(&mut out)?;
+/// FunctionCallResponse("5".into()).write(&mut out)?;
 /// assert_eq!(out, b"V\0\0\0\x09\0\0\0\x015");
-/// # Ok::<(), pgmsg::Refusal>(())
+/// assert_eq!(FunctionCallResponse::read(&out[5..])?.0.bytes(), Some(&b"5"[..]));
+/// # Ok::<(), Box<dyn std::error::Error>>(())
 /// ```
 #[derive(Clone, Copy, Debug, PartialEq, Eq)]
 pub struct FunctionCallResponse<'a>(pub Value<'a>);
 
-impl FunctionCallResponse<'_> {
+impl<'a> FunctionCallResponse<'a> {
+    /// Reads the body of a FunctionCallResponse.
+    pub fn read(body: &'a [u8]) -> Result<FunctionCallResponse<'a>, Fault> {
+        // SAFETY: the call is one of the library, which reads a body so.
+        let cell = unsafe { read_parts(body, sys::pgmsg_read_function_result)? };
+        Ok(FunctionCallResponse(Cell::new(cell).value(body).into()))
+    }
+
     /// Appends the message.
     ///
     /// Refused with [`MessageTooLong`](Refusal::MessageTooLong) above 2147483639 bytes.

@@ -1,14 +1,18 @@
 //! What the server asks of a client that opens a session.
 
+use super::end::end;
 use super::status::texts_of;
 use crate::answer::part;
 use crate::buffer::{append, Buffer, Spare};
 use crate::byte_str::{ByteStr, Secret};
 use crate::error::{Fault, Refusal};
 use crate::list::List;
-use crate::put::{put_bytes, put_frame, put_same};
+use crate::put::{put_frame, put_numbered};
 use crate::reading::{list_items, read_parts};
 use crate::sys;
+
+/// The bytes of the number of a method.
+const METHOD: usize = 4;
 
 /// How the server wants its client to show who it is, or that it has.
 ///
@@ -44,7 +48,7 @@ impl<'a> Authentication<'a> {
     /// Reads the body of an Authentication.
     pub fn read(body: &'a [u8]) -> Result<Authentication<'a>, Fault> {
         // SAFETY: the call is one of the library, which reads a body so.
-        let raw = unsafe { read_parts(body, sys::pgmsg_read_raw_authentication)? };
+        let raw = unsafe { read_parts(body, sys::pgmsg_read_authentication)? };
         let content = Secret(part(body, raw.content)?);
         match raw.method {
             0 => Ok(Authentication::Ok),
@@ -76,27 +80,23 @@ impl<'a> Authentication<'a> {
     /// empty.
     pub fn write<B: Buffer>(&self, out: &mut B) -> Result<(), Refusal> {
         match self {
-            // SAFETY: the call is one of the library, which writes a message so.
-            Authentication::Ok => unsafe { put_same(out, sys::pgmsg_put_authentication_ok) },
-            Authentication::CleartextPassword => {
-                // SAFETY: the same.
-                unsafe { put_same(out, sys::pgmsg_put_authentication_cleartext) }
-            }
-            Authentication::Md5Password(salt) => write_salt(salt, out),
+            Authentication::Ok | Authentication::CleartextPassword => self.put(b"", out),
+            Authentication::Md5Password(salt) => self.put(salt, out),
             Authentication::Sasl(mechanisms) => write_mechanisms(mechanisms, out),
-            Authentication::SaslContinue(data) => {
-                // SAFETY: the same.
-                unsafe { put_bytes(out, sys::pgmsg_put_authentication_continue, data.0) }
-            }
-            Authentication::SaslFinal(data) => {
-                // SAFETY: the same.
-                unsafe { put_bytes(out, sys::pgmsg_put_authentication_final, data.0) }
+            Authentication::SaslContinue(data) | Authentication::SaslFinal(data) => {
+                self.put(data.0, out)
             }
             Authentication::Other(method, content) => {
                 let body = [&method.to_be_bytes(), content.0].concat();
                 put_frame(out, b'R', &body)
             }
         }
+    }
+
+    /// Appends the message of the method with what follows it.
+    fn put<B: Buffer>(&self, content: &[u8], out: &mut B) -> Result<(), Refusal> {
+        // SAFETY: the call is one of the library, which writes a message so.
+        unsafe { put_numbered(out, sys::pgmsg_put_authentication, self.method(), content) }
     }
 
     /// Whether the request belongs to a secret: it carries data of an exchange.
@@ -109,23 +109,16 @@ impl<'a> Authentication<'a> {
     }
 }
 
+/// The salt, whose four bytes have to be there.
 fn read_salt(body: &[u8]) -> Result<[u8; 4], Fault> {
-    // SAFETY: the call is one of the library, which reads a body so.
-    unsafe { read_parts(body, sys::pgmsg_read_authentication) }.map(|read| read.salt)
-}
-
-fn write_salt<B: Buffer>(salt: &[u8; 4], out: &mut B) -> Result<(), Refusal> {
-    let call = |mut out: Spare<'_>| {
-        // SAFETY: `salt` is an array of four bytes, and `out` room, valid for its length and apart from it.
-        unsafe { sys::pgmsg_put_authentication_md5(salt.as_ptr(), out.as_mut_ptr(), out.len()) }
-    };
-    // SAFETY: the call is one of the library, which writes a message so.
-    unsafe { append(out, call) }
+    let salt = body.get(METHOD..end(b'R', body)?);
+    salt.and_then(|salt| salt.try_into().ok())
+        .ok_or_else(|| Fault::unexpected(METHOD))
 }
 
 fn read_mechanisms<'a>(body: &'a [u8]) -> Result<List<'a, ByteStr<'a>>, Fault> {
     // SAFETY: the call is one of the library, which reads a body so.
-    let places = unsafe { list_items(body, sys::pgmsg_read_raw_mechanisms)? };
+    let places = unsafe { list_items(body, sys::pgmsg_read_mechanisms)? };
     let names = places.iter().map(|&place| part(body, place).map(ByteStr));
     names.collect()
 }

@@ -80,7 +80,7 @@ impl<'a> Column<'a> {
 /// Reads the body of a RowDescription.
 pub(super) fn read<'a>(body: &'a [u8]) -> Result<List<'a, Column<'a>>, Fault> {
     // SAFETY: the call is one of the library, which reads a body so.
-    let columns = unsafe { read_items(body, sys::pgmsg_read_raw_columns)? };
+    let columns = unsafe { read_items(body, sys::pgmsg_read_columns)? };
     let columns = columns.iter().map(|column| Column::of(body, column));
     columns.collect()
 }

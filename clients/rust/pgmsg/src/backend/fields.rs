@@ -176,37 +176,23 @@ impl<'a> Fields<'a> {
 }
 
 pub(super) fn write_error<B: Buffer>(fields: &[Field<'_>], out: &mut B) -> Result<(), Refusal> {
-    // SAFETY: the call is one of the library, which writes a message so.
-    unsafe { write(sys::pgmsg_put_error, fields, out) }
+    write(b'E', fields, out)
 }
 
 pub(super) fn write_notice<B: Buffer>(fields: &[Field<'_>], out: &mut B) -> Result<(), Refusal> {
-    // SAFETY: the call is one of the library, which writes a message so.
-    unsafe { write(sys::pgmsg_put_notice, fields, out) }
+    write(b'N', fields, out)
 }
 
-/// A call of the library that writes a message of fields.
-type PutFields = unsafe extern "C" fn(*const sys::pgmsg_field_text, usize, *mut u8, usize) -> isize;
-
-/// Appends what a call writes of fields.
-///
-/// # Safety
-///
-/// As of the functions of [`put`](crate::put).
-unsafe fn write<B: Buffer>(
-    call: PutFields,
-    fields: &[Field<'_>],
-    out: &mut B,
-) -> Result<(), Refusal> {
+fn write<B: Buffer>(tag: u8, fields: &[Field<'_>], out: &mut B) -> Result<(), Refusal> {
     let fields: Vec<_> = fields.iter().map(text_of).collect();
-    let put = |mut out: Spare<'_>| {
+    let call = |mut out: Spare<'_>| {
         let room = out.len();
         // SAFETY: both are slices, valid for their lengths, as are those that `fields` points to; `&mut`
         // keeps `out` apart.
-        unsafe { call(fields.as_ptr(), fields.len(), out.as_mut_ptr(), room) }
+        unsafe { sys::pgmsg_put_notice(tag, fields.as_ptr(), fields.len(), out.as_mut_ptr(), room) }
     };
-    // SAFETY: what is asked of the call is the same.
-    unsafe { append(out, put) }
+    // SAFETY: the call is one of the library, which writes a message so.
+    unsafe { append(out, call) }
 }
 
 /// The field as the library takes it. It points to the text.

@@ -1,11 +1,11 @@
 //! What a session reports of itself.
 
-use crate::answer::part;
+use crate::answer::{answer, fill, part};
 use crate::buffer::{append, Buffer, Spare};
 use crate::byte_str::{ByteStr, Secret};
 use crate::error::{Fault, Refusal};
 use crate::list::List;
-use crate::put::put_key;
+use crate::put::put_numbered;
 use crate::reading::{read_number, read_parts};
 use crate::sys;
 use alloc::vec::Vec;
@@ -34,7 +34,7 @@ impl<'a> BackendKeyData<'a> {
     /// Reads the body of a BackendKeyData.
     pub fn read(body: &'a [u8]) -> Result<BackendKeyData<'a>, Fault> {
         // SAFETY: the call is one of the library, which reads a body so.
-        let read = unsafe { read_parts(body, sys::pgmsg_read_raw_key_data)? };
+        let read = unsafe { read_parts(body, sys::pgmsg_read_key_data)? };
         Ok(BackendKeyData {
             process_id: read.process_id,
             secret_key: Secret(part(body, read.secret_key)?),
@@ -48,7 +48,7 @@ impl<'a> BackendKeyData<'a> {
     pub fn write<B: Buffer>(&self, out: &mut B) -> Result<(), Refusal> {
         let (process, key) = (self.process_id, self.secret_key.0);
         // SAFETY: the call is one of the library, which writes a message so.
-        unsafe { put_key(out, sys::pgmsg_put_backend_key_data, process, key) }
+        unsafe { put_numbered(out, sys::pgmsg_put_backend_key_data, process, key) }
     }
 }
 
@@ -131,7 +131,7 @@ impl<'a> ParameterStatus<'a> {
     /// Reads the body of a ParameterStatus.
     pub fn read(body: &'a [u8]) -> Result<ParameterStatus<'a>, Fault> {
         // SAFETY: the call is one of the library, which reads a body so.
-        let read = unsafe { read_parts(body, sys::pgmsg_read_raw_parameter_status)? };
+        let read = unsafe { read_parts(body, sys::pgmsg_read_parameter_status)? };
         Ok(ParameterStatus {
             name: ByteStr(part(body, read.name)?),
             value: ByteStr(part(body, read.value)?),
@@ -221,8 +221,10 @@ impl TransactionStatus {
 /// use pgmsg::backend::NegotiateProtocolVersion;
 ///
 /// # let mut out = Vec::new();
-/// NegotiateProtocolVersion { minor: 0, options: ["_pq_.option".into()].into() }.write(&mut out)?;
-/// # Ok::<(), pgmsg::Refusal>(())
+/// let newest = NegotiateProtocolVersion { minor: 0, options: ["_pq_.option".into()].into() };
+/// newest.write(&mut out)?;
+/// assert_eq!(NegotiateProtocolVersion::read(&out[5..])?, newest);
+/// # Ok::<(), Box<dyn std::error::Error>>(())
 /// ```
 #[derive(Clone, Debug, Default, PartialEq, Eq)]
 pub struct NegotiateProtocolVersion<'a> {
@@ -232,7 +234,31 @@ pub struct NegotiateProtocolVersion<'a> {
     pub options: List<'a, ByteStr<'a>>,
 }
 
-impl NegotiateProtocolVersion<'_> {
+impl<'a> NegotiateProtocolVersion<'a> {
+    /// Reads the body of a NegotiateProtocolVersion, with or without the major version before the minor one.
+    pub fn read(body: &'a [u8]) -> Result<NegotiateProtocolVersion<'a>, Fault> {
+        let mut read = sys::pgmsg_negotiation::default();
+        let mut places = Vec::new();
+        let places = fill(&mut places, |room: &mut [sys::pgmsg_span]| {
+            answer(|fault| {
+                let (start, length) = (body.as_ptr(), body.len());
+                let (options, count) = (room.as_mut_ptr(), room.len());
+                // SAFETY: `body` and `room` are slices, valid for their lengths, and `&mut` keeps `room`,
+                // `read` and `fault` apart.
+                unsafe {
+                    sys::pgmsg_read_negotiate_version(
+                        start, length, &mut read, options, count, fault,
+                    )
+                }
+            })
+        })?;
+        let options = places.iter().map(|&place| part(body, place).map(ByteStr));
+        Ok(NegotiateProtocolVersion {
+            minor: read.minor,
+            options: options.collect::<Result<_, _>>()?,
+        })
+    }
+
     /// Appends the message.
     ///
     /// Refused with [`TextHoldsNul`](Refusal::TextHoldsNul) where a name holds a NUL.

@@ -72,7 +72,7 @@ impl<'a> Bind<'a> {
             // SAFETY: all are slices, valid for their lengths, as are those of the values; `&mut`
             // keeps `out` apart. A value is one of the library, and a format 16 bits.
             unsafe {
-                sys::pgmsg_put_raw_bind(
+                sys::pgmsg_put_bind(
                     self.portal.as_ptr(),
                     self.portal.len(),
                     self.statement.as_ptr(),

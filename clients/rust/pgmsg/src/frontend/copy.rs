@@ -3,7 +3,7 @@
 use crate::buffer::Buffer;
 use crate::byte_str::ByteStr;
 use crate::error::{Fault, Refusal};
-use crate::put::{put_bytes, put_same};
+use crate::put::put_bytes;
 use crate::sys;
 use crate::version;
 
@@ -41,10 +41,4 @@ pub(crate) fn read(body: &[u8]) -> Result<ByteStr<'_>, Fault> {
 pub(crate) fn write<B: Buffer>(data: &[u8], out: &mut B) -> Result<(), Refusal> {
     // SAFETY: the call is one of the library, which writes a message so.
     unsafe { put_bytes(out, sys::pgmsg_put_copy_data, data) }
-}
-
-#[inline]
-pub(super) fn write_done<B: Buffer>(out: &mut B) -> Result<(), Refusal> {
-    // SAFETY: the call is one of the library, which writes a message so.
-    unsafe { put_same(out, sys::pgmsg_put_copy_done) }
 }

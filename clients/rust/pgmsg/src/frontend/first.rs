@@ -2,12 +2,11 @@
 
 use super::Message;
 use crate::answer::part;
-use crate::backend::ParameterStatus;
 use crate::buffer::{append, Buffer, Spare};
 use crate::byte_str::{ByteStr, Secret};
 use crate::error::{Fault, Refusal};
 use crate::list::List;
-use crate::put::{put_frame, put_key, put_same};
+use crate::put::{put_numbered, put_same};
 use crate::reading::{list_items, read_parts};
 use crate::sys;
 use alloc::format;
@@ -15,15 +14,6 @@ use alloc::vec::Vec;
 
 /// The greatest length of a message without a tag that PostgreSQL's own servers take.
 pub const MAX_FIRST_LENGTH: usize = sys::PGMSG_MAX_FIRST_LENGTH as usize;
-
-/// The version of protocol 3.0.
-const MAJOR: [u8; 4] = [0, 3, 0, 0];
-
-/// Where the minor version of the protocol stands in a Startup: after its length and the major version.
-const MINOR_AT: usize = 6;
-
-/// The bytes of a tag and a length.
-const HEAD: usize = 5;
 
 /// A session that is opened: StartupMessage.
 #[derive(Clone, Debug, Default, PartialEq, Eq)]
@@ -82,49 +72,16 @@ impl<'a> Startup<'a> {
     /// server would read the rest of it as another setting, and where a name is empty, since the settings
     /// would end there.
     pub fn write<B: Buffer>(&self, out: &mut B) -> Result<(), Refusal> {
-        let start = out.bytes().len();
-        match self.write_texts(out) {
-            Err(Refusal::NotUtf8) => self.write_bytes(out)?,
-            written => written?,
-        }
-        let minor = start + MINOR_AT;
-        out.bytes_mut()[minor..minor + 2].copy_from_slice(&self.minor.to_be_bytes());
-        Ok(())
-    }
-
-    /// Appends the message of protocol 3.0, by the library, which takes settings of UTF-8 alone.
-    fn write_texts<B: Buffer>(&self, out: &mut B) -> Result<(), Refusal> {
         let settings: Vec<_> = self.settings.iter().map(setting_of).collect();
         let call = |mut out: Spare<'_>| {
             let room = out.len();
+            let (start, count) = (settings.as_ptr(), settings.len());
             // SAFETY: both are slices, valid for their lengths, as are those that `settings` points to;
             // `&mut` keeps `out` apart.
-            unsafe {
-                sys::pgmsg_put_startup(settings.as_ptr(), settings.len(), out.as_mut_ptr(), room)
-            }
+            unsafe { sys::pgmsg_put_startup(self.minor, start, count, out.as_mut_ptr(), room) }
         };
         // SAFETY: the call is one of the library, which writes a message so.
         unsafe { append(out, call) }
-    }
-
-    /// The same of settings in another encoding. The library writes each as a ParameterStatus, of which it is
-    /// the body, and all as a message with a tag, which is taken away.
-    fn write_bytes<B: Buffer>(&self, out: &mut B) -> Result<(), Refusal> {
-        let mut body = MAJOR.to_vec();
-        for &Setting { name, value } in &self.settings {
-            if name.is_empty() {
-                return Err(Refusal::TextHoldsNul);
-            }
-            let mut status = Vec::new();
-            ParameterStatus { name, value }.write(&mut status)?;
-            body.extend_from_slice(&status[HEAD..]);
-        }
-        body.push(0);
-        let start = out.bytes().len();
-        put_frame(out, 0, &body)?;
-        out.bytes_mut()[start..].rotate_left(1);
-        out.truncate(out.bytes().len() - 1);
-        Ok(())
     }
 }
 
@@ -155,7 +112,7 @@ impl CancelRequest<'_> {
     pub fn write<B: Buffer>(&self, out: &mut B) -> Result<(), Refusal> {
         let (process, key) = (self.process_id, self.secret_key.0);
         // SAFETY: the call is one of the library, which writes a message so.
-        unsafe { put_key(out, sys::pgmsg_put_cancel_request, process, key) }
+        unsafe { put_numbered(out, sys::pgmsg_put_cancel_request, process, key) }
     }
 }
 

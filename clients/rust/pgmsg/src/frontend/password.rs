@@ -72,7 +72,7 @@ impl PasswordMessage<'_> {
     /// Refused with [`TextHoldsNul`](Refusal::TextHoldsNul) where the password holds a NUL.
     pub fn write<B: Buffer>(&self, out: &mut B) -> Result<(), Refusal> {
         // SAFETY: the call is one of the library, which writes a message so.
-        unsafe { put_bytes(out, sys::pgmsg_put_password_bytes, self.0 .0) }
+        unsafe { put_bytes(out, sys::pgmsg_put_password, self.0 .0) }
     }
 }
 
@@ -140,7 +140,7 @@ impl<'a> SaslInitialResponse<'a> {
         let call = |mut out: Spare<'_>| {
             // SAFETY: all are slices, valid for their lengths, and `&mut` keeps `out` apart.
             unsafe {
-                sys::pgmsg_put_sasl_mechanism(
+                sys::pgmsg_put_sasl_initial(
                     self.mechanism.as_ptr(),
                     self.mechanism.len(),
                     self.response.is_some(),

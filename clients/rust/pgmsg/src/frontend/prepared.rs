@@ -6,7 +6,7 @@ use crate::buffer::{append, Buffer, Spare};
 use crate::byte_str::ByteStr;
 use crate::error::{Fault, Refusal};
 use crate::list::List;
-use crate::put::put_bytes;
+use crate::put::put_tagged;
 use crate::reading::read_parts;
 use crate::sys;
 use core::num::NonZeroU32;
@@ -58,7 +58,7 @@ impl<'a> Parse<'a> {
         let call = |mut out: Spare<'_>| {
             // SAFETY: all are slices, valid for their lengths, and `&mut` keeps `out` apart.
             unsafe {
-                sys::pgmsg_put_raw_parse(
+                sys::pgmsg_put_parse(
                     self.statement.as_ptr(),
                     self.statement.len(),
                     self.query.as_ptr(),
@@ -114,26 +114,27 @@ impl<'a> Target<'a> {
             Target::Statement(name) | Target::Portal(name) => name,
         }
     }
+
+    /// The letter of its kind.
+    #[inline]
+    fn kind(self) -> u8 {
+        match self {
+            Target::Statement(_) => b'S',
+            Target::Portal(_) => b'P',
+        }
+    }
 }
 
 #[inline]
 pub(super) fn write_describe<B: Buffer>(target: &Target<'_>, out: &mut B) -> Result<(), Refusal> {
-    let call = match target {
-        Target::Statement(_) => sys::pgmsg_put_raw_describe_statement,
-        Target::Portal(_) => sys::pgmsg_put_raw_describe_portal,
-    };
     // SAFETY: the call is one of the library, which writes a message so.
-    unsafe { put_bytes(out, call, &target.name()) }
+    unsafe { put_tagged(out, sys::pgmsg_put_describe, target.kind(), &target.name()) }
 }
 
 #[inline]
 pub(super) fn write_close<B: Buffer>(target: &Target<'_>, out: &mut B) -> Result<(), Refusal> {
-    let call = match target {
-        Target::Statement(_) => sys::pgmsg_put_raw_close_statement,
-        Target::Portal(_) => sys::pgmsg_put_raw_close_portal,
-    };
     // SAFETY: the call is one of the library, which writes a message so.
-    unsafe { put_bytes(out, call, &target.name()) }
+    unsafe { put_tagged(out, sys::pgmsg_put_close, target.kind(), &target.name()) }
 }
 
 /// A portal that is run.
@@ -182,13 +183,7 @@ impl<'a> Execute<'a> {
             let room = out.len();
             // SAFETY: both are slices, valid for their lengths, and `&mut` keeps `out` apart.
             unsafe {
-                sys::pgmsg_put_raw_execute(
-                    portal.as_ptr(),
-                    portal.len(),
-                    limit,
-                    out.as_mut_ptr(),
-                    room,
-                )
+                sys::pgmsg_put_execute(portal.as_ptr(), portal.len(), limit, out.as_mut_ptr(), room)
             }
         };
         // SAFETY: the call is one of the library, which writes a message so.

@@ -4,8 +4,8 @@ use crate::answer::part;
 use crate::buffer::Buffer;
 use crate::byte_str::ByteStr;
 use crate::error::{Fault, Refusal};
-use crate::put::{put_bytes, put_same};
-use crate::reading::{read_number, read_parts};
+use crate::put::{put_bytes, put_no_body};
+use crate::reading::read_parts;
 use crate::sys;
 
 /// Reads a text without its NUL.
@@ -16,47 +16,33 @@ pub(super) fn read(body: &[u8]) -> Result<ByteStr<'_>, Fault> {
     part(body, text).map(ByteStr)
 }
 
-/// Refuses a body that isn't empty.
-#[inline]
-pub(super) fn read_empty(body: &[u8]) -> Result<(), Fault> {
-    // SAFETY: the call is one of the library, which reads a body so.
-    unsafe { read_number(body, sys::pgmsg_read_empty)? };
-    Ok(())
-}
-
 #[inline]
 pub(super) fn write_query<B: Buffer>(query: &[u8], out: &mut B) -> Result<(), Refusal> {
-    write(b'Q', query, out)
+    // SAFETY: the call is one of the library, which writes a message so.
+    unsafe { put_bytes(out, sys::pgmsg_put_query, query) }
 }
 
 pub(super) fn write_copy_fail<B: Buffer>(reason: &[u8], out: &mut B) -> Result<(), Refusal> {
-    write(b'f', reason, out)
+    // SAFETY: the call is one of the library, which writes a message so.
+    unsafe { put_bytes(out, sys::pgmsg_put_copy_fail, reason) }
 }
 
-/// Appends a message of a text. The library has one whose text is any bytes, and only the tag differs.
 #[inline]
-fn write<B: Buffer>(tag: u8, text: &[u8], out: &mut B) -> Result<(), Refusal> {
-    let start = out.bytes().len();
-    // SAFETY: the call is one of the library, which writes a message so.
-    unsafe { put_bytes(out, sys::pgmsg_put_password_bytes, text)? };
-    out.bytes_mut()[start] = tag;
-    Ok(())
+pub(super) fn write_copy_done<B: Buffer>(out: &mut B) -> Result<(), Refusal> {
+    put_no_body(out, b'c')
 }
 
 #[inline]
 pub(super) fn write_flush<B: Buffer>(out: &mut B) -> Result<(), Refusal> {
-    // SAFETY: the call is one of the library, which writes a message so.
-    unsafe { put_same(out, sys::pgmsg_put_flush) }
+    put_no_body(out, b'H')
 }
 
 #[inline]
 pub(super) fn write_sync<B: Buffer>(out: &mut B) -> Result<(), Refusal> {
-    // SAFETY: the call is one of the library, which writes a message so.
-    unsafe { put_same(out, sys::pgmsg_put_sync) }
+    put_no_body(out, b'S')
 }
 
 #[inline]
 pub(super) fn write_terminate<B: Buffer>(out: &mut B) -> Result<(), Refusal> {
-    // SAFETY: the call is one of the library, which writes a message so.
-    unsafe { put_same(out, sys::pgmsg_put_terminate) }
+    put_no_body(out, b'X')
 }

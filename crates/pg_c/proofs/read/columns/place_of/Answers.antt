@@ -3,7 +3,7 @@ use Rattle.std.specs.Int.{w16, w32}
 use Rattle.std.proofs.lemmas.Int.{to_z-of_z}
 use mir.Val.{SFits}
 use Rattle.pg_format.specs.Messages.{table, attribute}
-use Rattle.pg_receive.specs.RowDescription.Columns.{column_of_ref}
+use Rattle.pg_receive.specs.RowDescription.Raw.{column_of_raw}
 use Rattle.pg_c.proofs.ReadColumnsLemmas.{name_is, table_is, attribute_is}
 use Rattle.pg_c.proofs.read.columns.place_of.Goals as goal
 
@@ -19,7 +19,7 @@ returns c = λ body end p.
     let of_table = ap table c.table_of.ensures ∙ table_is column.relation_id numbers.first.0 numbers.first.2 in
     let of_attribute = ap attribute (to_z-of_z w16 number number_fits ∙ c.unwrap_or.ensures) ∙ attribute_is column.relation_attribute_no numbers.second.first.0 numbers.second.first.2 in
     rw (
-      name_is body c.args.at end (column_of_ref column) p,
+      name_is body c.args.at end (column_of_raw column) p,
       of_table,
       of_attribute,
       to_z-of_z w16 column.data_type_size size_fits,

@@ -1,6 +1,6 @@
 use Rattle.std.proofs.Common.{map, rules}
 use Rattle.pg_server.specs.Backend.Message as messages
-use Rattle.pg_c.specs.Put.Lists.{value_of}
+use Rattle.pg_c.specs.Put.Values.{value_of}
 use Rattle.pg_c.specs.Server.{PutsServerMessage}
 use Rattle.pg_c.proofs.ServerListsLemmas.{same_values}
 use Rattle.pg_c.proofs.server.rows.pgmsg_put_row.Goals as goal

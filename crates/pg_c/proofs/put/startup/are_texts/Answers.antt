@@ -1,5 +1,0 @@
-use Rattle.std.proofs.Common.{rules}
-use Rattle.pg_c.proofs.put.startup.are_texts.Goals as goal
-
-pub loop-setting-init : goal.loop-setting-init
-loop-setting-init c = search rules

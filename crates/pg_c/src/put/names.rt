@@ -1,0 +1,64 @@
+//! The numbered names that sqlx gives, for who wants them, and which texts are UTF-8.
+
+ghost use Rattle.std.specs.Prelude.{◌≡◌, length};
+ghost use Rattle.std.specs.Str.Lossy.{utf8_valid_len};
+ghost use Rattle.pg_base.specs.Id.{name, named, portal_prefix, statement_prefix};
+ghost use Rattle.pg_base.specs.Naming.{bytes_of};
+ghost use Rattle.pg_base.specs.Sink.{IsGiven};
+ghost use Rattle.pg_base.specs.Text.{ended};
+
+use pg_base::io::{Name, PortalId, Sink, StatementId, Text, write_text};
+use std::str;
+
+// A name and the NUL that ends it.
+#[derive(Clone, Copy)]
+struct NameText<N>(N);
+
+impl<N: Name> Text for NameText<N> {
+    ghost text = { λ it. ended (bytes_of (N.naming it.0)) };
+
+    ghost can = { λ _. Unit };
+
+    #[inline(always)]
+    fn put<S: Sink>(&self, sink: &mut S) {
+        self.0.put_ended(sink);
+    }
+}
+
+/// The name of the prepared statement of a number N, which is `sqlx_s_N`, and no byte for 0: its length
+/// without a NUL. It is written with the NUL that ends it, where `out` is longer than the name.
+#[unsafe(no_mangle)]
+pub extern "C" fn pgmsg_put_statement_name(number: u32, out: &mut [u8]) -> usize
+    ensures length { result ≡ length (name statement_prefix number) }
+    ensures given { IsGiven (named statement_prefix number) out.old out.new }
+{
+    let id = StatementId::from_number(number);
+    let len = id.name_len();
+    write_text(&NameText(id), len, out);
+    len - 1
+}
+
+/// The name of the portal of a number N, which is `sqlx_p_N`, and no byte for 0, as
+/// `pgmsg_put_statement_name` writes that of a statement.
+#[unsafe(no_mangle)]
+pub extern "C" fn pgmsg_put_portal_name(number: u32, out: &mut [u8]) -> usize
+    ensures length { result ≡ length (name portal_prefix number) }
+    ensures given { IsGiven (named portal_prefix number) out.old out.new }
+{
+    let id = PortalId::from_number(number);
+    let len = id.name_len();
+    write_text(&NameText(id), len, out);
+    len - 1
+}
+
+/// How many bytes at the front of a text are UTF-8: its length where all of it is, else where the first
+/// character begins that isn't.
+#[unsafe(no_mangle)]
+pub extern "C" fn pgmsg_check_utf8(text: &[u8]) -> usize
+    ensures { result ≡ utf8_valid_len text.now }
+{
+    match str::from_utf8(text) {
+        Ok(_) => text.len(),
+        Err(why) => why.valid_up_to(),
+    }
+}
