@@ -1,4 +1,6 @@
-/* The messages of the PostgreSQL wire protocol, version 3, for C and for what calls C.
+/* SPDX-License-Identifier: MIT OR Apache-2.0
+ *
+ * The messages of the PostgreSQL wire protocol, version 3, for C and for what calls C.
  *
  * clients/header makes this file of crates/pg_c/src and clients/c/library: change it there.
  *
