@@ -22,7 +22,6 @@ void test_rooms(struct tally *tally, const struct sample *put, size_t count);
 /* Passes a test so many zeros, none of which takes memory before it is read. */
 void with_zeros(struct tally *tally, size_t len, void (*test)(struct tally *tally, const uint8_t *zeros));
 
-/* Tests whose calls ask for no memory. */
 void test_put(struct tally *tally);
 void test_put_faults(struct tally *tally);
 void test_read(struct tally *tally);
@@ -32,11 +31,7 @@ void test_client_lists(struct tally *tally);
 void test_relay(struct tally *tally);
 void test_server(struct tally *tally);
 void test_server_faults(struct tally *tally);
-
-/* Tests of calls that ask for memory for the words of a fault. */
 void test_read_faults(struct tally *tally);
 void test_client_faults(struct tally *tally);
-void test_client_refused(struct tally *tally);
-void test_relay_faults(struct tally *tally);
 
 #endif

@@ -93,15 +93,6 @@ static void test_calls(struct tally *tally)
         CHECK(tally, given < 2 || arguments[1].len == NULL_VALUE);
         CHECK(tally, are_untouched(&arguments[given], (3 - given) * sizeof *arguments));
     }
-    CHECK(tally, pgmsg_read_function_call(BYTES("\377\377\377\377" "\0\0" "\0\0" "\0\1"), arguments, 0, &call, &fault) == 0);
-    CHECK(tally, call.function == UINT32_MAX && call.result_format == 1 && is_list(call.arguments, 8, 0));
-}
-
-static void test_refused_calls(struct tally *tally)
-{
-    pgmsg_function_call call;
-    pgmsg_cell arguments[3];
-    pgmsg_fault fault;
     for (size_t len = 0; len + 1 < sizeof call_body; len++) {
         size_t given = len < 15 ? 0 : len < 19 ? 1 : 2;
         memset(arguments, UNTOUCHED, sizeof arguments);
@@ -113,6 +104,8 @@ static void test_refused_calls(struct tally *tally)
     CHECK(tally, pgmsg_read_function_call((const uint8_t *)call_body, sizeof call_body, arguments, 3, &call, &fault)
                      == PGMSG_TRAILING_BYTES);
     CHECK(tally, fault.at == sizeof call_body - 1);
+    CHECK(tally, pgmsg_read_function_call(BYTES("\377\377\377\377" "\0\0" "\0\0" "\0\1"), arguments, 0, &call, &fault) == 0);
+    CHECK(tally, call.function == UINT32_MAX && call.result_format == 1 && is_list(call.arguments, 8, 0));
 }
 
 static void test_codes(struct tally *tally)
@@ -184,15 +177,10 @@ static void test_settings(struct tally *tally)
 void test_client_lists(struct tally *tally)
 {
     test_binds(tally);
+    test_refused_binds(tally);
     test_calls(tally);
     test_codes(tally);
     test_wrong_lists(tally);
     test_types(tally);
     test_settings(tally);
-}
-
-void test_client_refused(struct tally *tally)
-{
-    test_refused_binds(tally);
-    test_refused_calls(tally);
 }

@@ -13,11 +13,10 @@ bool is_fault_of(const pgmsg_fault *fault, int32_t number, size_t at, const char
         && are_untouched(fault->words + len, sizeof fault->words - len);
 }
 
-/* Whether a fault has this number and place, and words. */
+/* Whether a fault has this number and place, and no words, for which there is no memory. */
 static bool is_fault(const pgmsg_fault *fault, int32_t number, size_t at)
 {
-    return fault->number == number && fault->at == at && fault->words_len > 0
-        && fault->words_len <= sizeof fault->words;
+    return fault->number == number && fault->at == at && fault->words_len == 0;
 }
 
 static void test_frames(struct tally *tally)

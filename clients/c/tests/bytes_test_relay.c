@@ -100,7 +100,7 @@ static void test_stream(struct tally *tally)
         CHECK((tally), is_relay(used, before.is_first, before.left));                                               \
     } while (0)
 
-static void refuse_next(struct tally *tally)
+static void test_refused(struct tally *tally)
 {
     REFUSES_NEXT(tally, relay_of(false, 0), all, "Z\0\0\0\3", PGMSG_BAD_LENGTH, "bad message length: 3");
     REFUSES_NEXT(tally, relay_of(false, 0), nothing, "D\0\0\0\3", PGMSG_BAD_LENGTH, "bad message length: 3");
@@ -112,11 +112,6 @@ static void refuse_next(struct tally *tally)
                  "expected a message of at most 17 bytes, got 18");
     REFUSES_NEXT(tally, relay_of(true, 0), nothing, "\0\0\0\22", PGMSG_FRAME_TOO_LONG,
                  "expected a message of at most 17 bytes, got 18");
-}
-
-/* Messages that are as long as a limit says, or have none. */
-static void test_limits(struct tally *tally)
-{
     pgmsg_relay relay = relay_of(false, 0);
     pgmsg_passage passage;
     pgmsg_fault fault;
@@ -149,10 +144,6 @@ static void test_checked(struct tally *tally)
     CHECKS(tally, READY ROW QUERY, false, false);
     CHECKS(tally, SSL_REQUEST, true, true);
     CHECKS(tally, SSL_REQUEST SSL_REQUEST STARTUP QUERY, true, false);
-}
-
-static void refuse_frames(struct tally *tally)
-{
     REFUSES_FRAMES(tally, "Z", false);
     REFUSES_FRAMES(tally, "Z\0\0\0", false);
     REFUSES_FRAMES(tally, "Z\0\0\0\5", false);
@@ -173,12 +164,6 @@ void test_relay(struct tally *tally)
     test_whole(tally, false, QUERY "Q", sizeof QUERY - 1, 5, false);
     test_parts(tally);
     test_stream(tally);
-    test_limits(tally);
+    test_refused(tally);
     test_checked(tally);
-}
-
-void test_relay_faults(struct tally *tally)
-{
-    refuse_next(tally);
-    refuse_frames(tally);
 }

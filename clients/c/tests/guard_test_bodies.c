@@ -41,7 +41,7 @@ static bool are_same(const pgmsg_fault *one, const pgmsg_fault *other)
 }
 
 /* Reads some bytes at an end of their page, into room at one too. What is due is what is read with bytes beside
- * them, into plenty of room. */
+ * them. */
 static bool is_read(const struct body *sample, const uint8_t *bytes, size_t len, size_t count)
 {
     uint8_t around[LONGEST + 2 * PLENTY];
@@ -52,9 +52,8 @@ static bool is_read(const struct body *sample, const uint8_t *bytes, size_t len,
     memcpy(body, bytes, len);
     memset(&due, UNTOUCHED, sizeof due);
     memset(fault, UNTOUCHED, sizeof *fault);
-    room = PLENTY;
-    ptrdiff_t due_answer = sample->read(around + PLENTY, len, &due);
     room = count;
+    ptrdiff_t due_answer = sample->read(around + PLENTY, len, &due);
     return sample->read(body, len, fault) == due_answer && are_same(fault, &due);
 }
 

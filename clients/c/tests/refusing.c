@@ -41,6 +41,7 @@ void *realloc(void *old, size_t size)
 void refuse_nth(size_t nth)
 {
     refused_at = requests + nth;
+    refuses_all = false;
     has_refused = false;
 }
 

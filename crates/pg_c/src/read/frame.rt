@@ -75,6 +75,7 @@ pub extern "C" fn pgmsg_next_frames(
     ensures frames { pos 0 ≤ℤ result → ReadsFrames stream.now frames.old frames.new result }
     ensures fault { result <ℤ pos 0
         → Refuses (HasBadLength stream.now) fault.old fault.new result }
+    ensures room { result <ℤ pos 0 → 0 < length frames.old }
     ensures untouched { pos 0 ≤ℤ result → fault.new ≡ fault.old }
     ensures kept { result <ℤ pos 0 → frames.new ≡ frames.old }
 {
@@ -88,6 +89,7 @@ fn frames_of(stream: &[u8], frames: &mut [PgmsgFrame]) -> Result<usize, Protocol
     ensures small { IfOk result (λ count. count < 9223372036854775808) }
     ensures frames { IfOk result (λ count. ReadsFrames stream.now frames.old frames.new (pos count)) }
     ensures fault { IfErr result (HasBadLength stream.now) }
+    ensures room { IfErr result (λ _. 0 < length frames.old) }
     ensures kept { IfErr result (λ _. frames.new ≡ frames.old) }
 {
     let mut at: usize = 0;
