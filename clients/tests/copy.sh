@@ -51,7 +51,7 @@ test_names() {
     try load '' < /dev/null
     expect 'an empty table' 1 empty
     try load $'\377' < /dev/null
-    expect 'a table that is not UTF-8' 1 'not UTF-8'
+    expect 'a table that is not UTF-8' 4 22021
     try load -c nothing by_copy < /dev/null
     expect 'a column that is not there' 4 42703
     try load

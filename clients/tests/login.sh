@@ -24,7 +24,7 @@ test_passwords() {
     try log_in by_trust
     expect 'login by_trust' 0 listening
     PGPASSWORD=$'\377' try log_in by_clear
-    expect 'a password that is not UTF-8' 1 'not UTF-8'
+    expect 'a password that is not UTF-8' 3 28P01
     try log_in nobody_is_called_so
     expect 'login of an unknown user' 3 28000
 }

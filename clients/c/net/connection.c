@@ -23,14 +23,6 @@ static bool is_temporary(int failure)
     return failure == EAGAIN || failure == EWOULDBLOCK || failure == EINTR;
 }
 
-/* A message that can't be sent is made of a name or of a password that the user gave. */
-static enum status complain_of_refusal(ptrdiff_t number)
-{
-    if (number == PGMSG_NOT_UTF8)
-        return complain(STATUS_USAGE, "a name or a password is not UTF-8");
-    return complain(STATUS_USAGE, "a message is refused, by the number %td", number);
-}
-
 bool connection_put(struct connection *connection, ptrdiff_t length)
 {
     struct buffer *output = &connection->output;
@@ -39,7 +31,8 @@ bool connection_put(struct connection *connection, ptrdiff_t length)
         return false;
     }
     if (length < 0) {
-        connection->failure = complain_of_refusal(length);
+        /* It is made of a name or of a password that the user gave. */
+        connection->failure = complain(STATUS_USAGE, "a message is refused: %s", pgmsg_strerror((int32_t)length));
         return false;
     }
     if ((size_t)length > output->room - output->end) {
