@@ -5,6 +5,7 @@ from rows import NULL, cut, fronts, lines, listed, no_nul, short
 VERSION, CANCEL, SSL, GSS_ENC = b"\0\3\0\0", b"\x04\xd2\x16\x2e", b"\x04\xd2\x16\x2f", b"\x04\xd2\x16\x30"
 
 HOLDS_NUL, MANY = "text holds NUL", "too many items for a message: "
+KEY_LENGTH = "secret key length out of range for protocol: "
 
 
 def end(at):
@@ -159,9 +160,9 @@ REFUSED = [
     ("authentication sasl 61,-", HOLDS_NUL),
     ("authentication sasl -,61", HOLDS_NUL),
     ("authentication sasl 6100", HOLDS_NUL),
-    ("backendkeydata 1 -", "bad secret key length: 0"),
-    ("backendkeydata 1 010203", "bad secret key length: 3"),
-    ("backendkeydata 1 " + "00" * 257, "bad secret key length: 257"),
+    ("backendkeydata 1 -", KEY_LENGTH + "0"),
+    ("backendkeydata 1 010203", KEY_LENGTH + "3"),
+    ("backendkeydata 1 " + "00" * 257, KEY_LENGTH + "257"),
     ("commandcomplete 00", HOLDS_NUL),
     ("copyboth 0 " + listed("0", 32768), MANY + "32768"),
     ("copyin 0 " + listed("0", 32768), MANY + "32768"),

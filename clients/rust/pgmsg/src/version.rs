@@ -23,8 +23,10 @@ pub(crate) fn check() {
 
 #[cold]
 fn compare() {
-    // SAFETY: the call takes nothing, and gives a text that lasts, with a NUL.
-    let linked = unsafe { text_at(sys::pgmsg_version()) };
+    // SAFETY: the call takes nothing.
+    let version = unsafe { sys::pgmsg_version() };
+    // SAFETY: the call gives a text that lasts, with a NUL.
+    let linked = unsafe { text_at(version) };
     assert_same(&String::from_utf8_lossy(linked));
     IS_COMPARED.store(true, Ordering::Relaxed);
 }
@@ -37,7 +39,7 @@ fn compare() {
 unsafe fn text_at(start: *const u8) -> &'static [u8] {
     let mut length = 0;
     // SAFETY: no byte up to here was the NUL.
-    while unsafe { *start.add(length) } != 0 {
+    while unsafe { *start.wrapping_add(length) } != 0 {
         length += 1;
     }
     // SAFETY: so many bytes stand before it.

@@ -19,6 +19,8 @@ impl<N: Name> Text for NameText<N> {
 
     ghost can = { λ _. Unit };
 
+    ghost IsInRange = { λ _. Unit {0} };
+
     #[inline(always)]
     fn put<S: Sink>(&self, sink: &mut S) {
         self.0.put_ended(sink);

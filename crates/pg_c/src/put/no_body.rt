@@ -21,6 +21,8 @@ impl Text for NoBody {
 
     ghost can = { λ _. Unit };
 
+    ghost IsInRange = { λ _. Unit {0} };
+
     #[inline(always)]
     fn put<S: Sink>(&self, sink: &mut S) {
         sink.put_head(self.tag, 0);

@@ -115,7 +115,7 @@ struct SaslResponse<'a>(&'a [u8]);
 
 impl<'a> Composed for SaslResponse<'a> {
     ghost use Rattle.std.specs.Prelude.{refl};
-    ghost use Rattle.pg_send.specs.SaslResponse.{sasl_response_law};
+    ghost use Rattle.pg_send.specs.Shapes.{sasl_response_law};
 
     type Body = Slice<'a>;
 
