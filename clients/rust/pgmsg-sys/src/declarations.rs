@@ -8,82 +8,42 @@ pub type __uint16_t = crate::ctypes::c_ushort;
 pub type __int32_t = crate::ctypes::c_int;
 pub type __uint32_t = crate::ctypes::c_uint;
 pub type __uint64_t = crate::ctypes::c_ulong;
-#[doc = " No memory was there. No call of this library returns it."]
 pub const PGMSG_OUT_OF_MEMORY: _bindgen_ty_1 = -1;
-#[doc = " More parameter formats than a message can count."]
 pub const PGMSG_TOO_MANY_PARAM_FORMATS: _bindgen_ty_1 = -2;
-#[doc = " More result formats than a message can count."]
 pub const PGMSG_TOO_MANY_RESULT_FORMATS: _bindgen_ty_1 = -3;
-#[doc = " More parameter types than a message can count."]
 pub const PGMSG_TOO_MANY_PARAM_TYPES: _bindgen_ty_1 = -4;
-#[doc = " A message is longer than its length field can say."]
 pub const PGMSG_MESSAGE_TOO_LONG: _bindgen_ty_1 = -5;
-#[doc = " A message was read as one of another kind. No call of this library returns it."]
 pub const PGMSG_WRONG_FORMAT: _bindgen_ty_1 = -6;
-#[doc = " A received body is longer than a length field can say."]
 pub const PGMSG_BODY_TOO_LONG: _bindgen_ty_1 = -7;
-#[doc = " No message that is known here, from a server or from a client, has this tag."]
 pub const PGMSG_UNKNOWN_MESSAGE_TYPE: _bindgen_ty_1 = -8;
-#[doc = " A method of authentication that isn't known here."]
 pub const PGMSG_UNKNOWN_AUTHENTICATION: _bindgen_ty_1 = -9;
-#[doc = " No transaction status has this letter."]
 pub const PGMSG_UNKNOWN_STATUS: _bindgen_ty_1 = -10;
-#[doc = " No severity has this word."]
 pub const PGMSG_UNKNOWN_SEVERITY: _bindgen_ty_1 = -11;
-#[doc = " A body has fewer bytes than are needed."]
 pub const PGMSG_SHORT: _bindgen_ty_1 = -12;
-#[doc = " A text has no end."]
 pub const PGMSG_MISSING_NUL: _bindgen_ty_1 = -13;
-#[doc = " A text is not UTF-8."]
 pub const PGMSG_NOT_UTF8: _bindgen_ty_1 = -14;
-#[doc = " A text of an error or a notice is not UTF-8."]
 pub const PGMSG_NOTICE_NOT_UTF8: _bindgen_ty_1 = -15;
-#[doc = " An item of SASL data has no room for a key and its separator."]
 pub const PGMSG_SHORT_SASL_ITEM: _bindgen_ty_1 = -16;
-#[doc = " A value of SASL data is not base64."]
 pub const PGMSG_BASE64: _bindgen_ty_1 = -17;
-#[doc = " The length of a message is below 4, or that of a client's first message below 8."]
 pub const PGMSG_BAD_LENGTH: _bindgen_ty_1 = -18;
-#[doc = " A text to be sent holds a NUL, or would end its list: the name of a setting or of a mechanism is"]
-#[doc = " empty, or the letter of a field is 0."]
 pub const PGMSG_TEXT_HOLDS_NUL: _bindgen_ty_1 = -19;
-#[doc = " The values of a Bind can't be counted."]
 pub const PGMSG_BAD_PARAMS: _bindgen_ty_1 = -20;
-#[doc = " A session's secret key has fewer than 4 or more than 256 bytes."]
 pub const PGMSG_BAD_KEY_LENGTH: _bindgen_ty_1 = -21;
-#[doc = " No first message has this code."]
 pub const PGMSG_UNKNOWN_CODE: _bindgen_ty_1 = -22;
-#[doc = " A Describe or a Close names neither a statement nor a portal."]
 pub const PGMSG_UNKNOWN_TARGET: _bindgen_ty_1 = -23;
-#[doc = " A value has a length below -1."]
 pub const PGMSG_BAD_VALUE_LENGTH: _bindgen_ty_1 = -24;
-#[doc = " Bytes follow the end of a message."]
 pub const PGMSG_TRAILING_BYTES: _bindgen_ty_1 = -25;
-#[doc = " A first message is longer than the caller takes."]
 pub const PGMSG_FIRST_TOO_LONG: _bindgen_ty_1 = -26;
-#[doc = " More items than a message to a client can count."]
 pub const PGMSG_TOO_MANY: _bindgen_ty_1 = -27;
-#[doc = " What is to be added to a stream is no run of whole messages."]
 pub const PGMSG_NOT_FRAMES: _bindgen_ty_1 = -28;
-#[doc = " A message that is wanted whole is longer than the caller takes."]
 pub const PGMSG_FRAME_TOO_LONG: _bindgen_ty_1 = -29;
-#[doc = " Why a call refuses."]
 pub type _bindgen_ty_1 = crate::ctypes::c_int;
-#[doc = " The greatest length of a first message that PostgreSQL's servers take."]
 pub const PGMSG_MAX_FIRST_LENGTH: _bindgen_ty_2 = 10004;
-#[doc = " A session is opened: a StartupMessage."]
 pub const PGMSG_FIRST_STARTUP: _bindgen_ty_2 = 0;
-#[doc = " The query of another session is to be cancelled: a CancelRequest."]
 pub const PGMSG_FIRST_CANCEL_REQUEST: _bindgen_ty_2 = 1;
-#[doc = " The client asks for TLS: an SSLRequest."]
 pub const PGMSG_FIRST_SSL_REQUEST: _bindgen_ty_2 = 2;
-#[doc = " The client asks for encryption by GSSAPI: a GSSENCRequest."]
 pub const PGMSG_FIRST_GSS_ENC_REQUEST: _bindgen_ty_2 = 3;
-#[doc = " The kinds of a first message."]
 pub type _bindgen_ty_2 = crate::ctypes::c_uint;
-#[doc = " What is wrong with bytes that were read. `number` is what the call returned. `at` is an offset in"]
-#[doc = " them, where the fault has one, else 0. `words` are `words_len` bytes of ASCII, none where there"]
-#[doc = " was no memory for them."]
 #[repr(C)]
 #[derive(Debug, Copy, Clone)]
 pub struct pgmsg_fault {
@@ -101,21 +61,18 @@ impl Default for pgmsg_fault {
         }
     }
 }
-#[doc = " A place in the bytes that were passed: `len` of them from `at` on."]
 #[repr(C)]
 #[derive(Debug, Default, Copy, Clone)]
 pub struct pgmsg_span {
     pub at: usize,
     pub len: usize,
 }
-#[doc = " A list in the bytes that were passed: `count` items, of which the first is at `at`."]
 #[repr(C)]
 #[derive(Debug, Default, Copy, Clone)]
 pub struct pgmsg_list {
     pub at: usize,
     pub count: usize,
 }
-#[doc = " The name of a setting and its value."]
 #[repr(C)]
 #[derive(Debug, Copy, Clone)]
 pub struct pgmsg_setting {
@@ -124,16 +81,6 @@ pub struct pgmsg_setting {
     pub value: *const u8,
     pub value_len: usize,
 }
-impl Default for pgmsg_setting {
-    fn default() -> Self {
-        let mut s = ::core::mem::MaybeUninit::<Self>::uninit();
-        unsafe {
-            ::core::ptr::write_bytes(s.as_mut_ptr(), 0, 1);
-            s.assume_init()
-        }
-    }
-}
-#[doc = " The value of a parameter, or of a row. Where `is_null`, its bytes aren't looked at."]
 #[repr(C)]
 #[derive(Debug, Copy, Clone)]
 pub struct pgmsg_value {
@@ -141,17 +88,6 @@ pub struct pgmsg_value {
     pub bytes_len: usize,
     pub is_null: bool,
 }
-impl Default for pgmsg_value {
-    fn default() -> Self {
-        let mut s = ::core::mem::MaybeUninit::<Self>::uninit();
-        unsafe {
-            ::core::ptr::write_bytes(s.as_mut_ptr(), 0, 1);
-            s.assume_init()
-        }
-    }
-}
-#[doc = " A message at the front of a stream. `length` is how many bytes of the stream it takes; where it"]
-#[doc = " isn't whole, how many are needed at least."]
 #[repr(C)]
 #[derive(Debug, Default, Copy, Clone)]
 pub struct pgmsg_frame {
@@ -159,16 +95,12 @@ pub struct pgmsg_frame {
     pub body: pgmsg_span,
     pub length: usize,
 }
-#[doc = " A cell of a row, or a value that a client sends: `len` bytes from `at` on, or NULL where `len` is"]
-#[doc = " -1."]
 #[repr(C)]
 #[derive(Debug, Default, Copy, Clone)]
 pub struct pgmsg_cell {
     pub at: u32,
     pub len: i32,
 }
-#[doc = " A column of a result. `table` and `attribute` are 0 where it is of no table. `type_size` is below"]
-#[doc = " 0 where it varies. `format` is 0 for text, 1 for binary."]
 #[repr(C)]
 #[derive(Debug, Default, Copy, Clone)]
 pub struct pgmsg_column {
@@ -180,14 +112,12 @@ pub struct pgmsg_column {
     pub type_modifier: i32,
     pub format: i16,
 }
-#[doc = " A field of an error or a notice, by its letter."]
 #[repr(C)]
 #[derive(Debug, Default, Copy, Clone)]
 pub struct pgmsg_field {
     pub letter: u8,
     pub value: pgmsg_span,
 }
-#[doc = " A notification from another session."]
 #[repr(C)]
 #[derive(Debug, Default, Copy, Clone)]
 pub struct pgmsg_notification {
@@ -195,48 +125,36 @@ pub struct pgmsg_notification {
     pub channel: pgmsg_span,
     pub payload: pgmsg_span,
 }
-#[doc = " A setting of the server and its value, or one by which a client opens a session."]
 #[repr(C)]
 #[derive(Debug, Default, Copy, Clone)]
 pub struct pgmsg_parameter_status {
     pub name: pgmsg_span,
     pub value: pgmsg_span,
 }
-#[doc = " The process that serves a session, and the key that a request to cancel has to name too, of 4 to"]
-#[doc = " 256 bytes."]
 #[repr(C)]
 #[derive(Debug, Default, Copy, Clone)]
 pub struct pgmsg_key_data {
     pub process_id: u32,
     pub secret_key: pgmsg_span,
 }
-#[doc = " What a command has done: the text of its tag, such as `INSERT 0 1`, and how many rows it had to"]
-#[doc = " do with, which is the number after the last space, and 0 where there is none."]
 #[repr(C)]
 #[derive(Debug, Default, Copy, Clone)]
 pub struct pgmsg_command {
     pub tag: pgmsg_span,
     pub rows: u64,
 }
-#[doc = " How the data of a COPY is spelled: 0 for text, 1 for binary. `columns` may be below 0, which"]
-#[doc = " means none."]
 #[repr(C)]
 #[derive(Debug, Default, Copy, Clone)]
 pub struct pgmsg_copy_response {
     pub format: i8,
     pub columns: i16,
 }
-#[doc = " What the server asks for, by the number of a method, and what follows it: 0 nothing more, 3 a"]
-#[doc = " password in clear, 5 an MD5 digest with the salt of four bytes that follows, 7, 8 and 9 an"]
-#[doc = " exchange of GSSAPI or SSPI, 10 SASL by one of the mechanisms that `pgmsg_read_mechanisms` gives,"]
-#[doc = " 11 and 12 the next and the last of a SASL exchange."]
 #[repr(C)]
 #[derive(Debug, Default, Copy, Clone)]
 pub struct pgmsg_authentication {
     pub method: u32,
     pub content: pgmsg_span,
 }
-#[doc = " The challenge of a SASL exchange: how long its salt and its nonce are, in bytes."]
 #[repr(C)]
 #[derive(Debug, Default, Copy, Clone)]
 pub struct pgmsg_challenge {
@@ -244,19 +162,12 @@ pub struct pgmsg_challenge {
     pub salt_len: usize,
     pub nonce_len: usize,
 }
-#[doc = " The newest version of the protocol that a server speaks, by its two halves: `major` is 3 of"]
-#[doc = " PostgreSQL's servers, and 0 where the server sends the minor version alone."]
 #[repr(C)]
 #[derive(Debug, Default, Copy, Clone)]
 pub struct pgmsg_negotiation {
     pub major: u16,
     pub minor: u16,
 }
-#[doc = " A first message of the kind that `kind` says, by one of the numbers PGMSG_FIRST_STARTUP and so"]
-#[doc = " on. A Startup has the minor version of the protocol's version 3 and its settings: names and"]
-#[doc = " values, each with its NUL, and the NUL after them; `pgmsg_read_settings` gives them. A"]
-#[doc = " CancelRequest has the process and the key of the other session. What is of other kinds is 0 and"]
-#[doc = " empty."]
 #[repr(C)]
 #[derive(Debug, Default, Copy, Clone)]
 pub struct pgmsg_first {
@@ -266,8 +177,6 @@ pub struct pgmsg_first {
     pub settings: pgmsg_span,
     pub secret_key: pgmsg_span,
 }
-#[doc = " A statement that is prepared, empty for the one without a name, its text, and the types of its"]
-#[doc = " parameters, each of four bytes: `pgmsg_read_types` gives them."]
 #[repr(C)]
 #[derive(Debug, Default, Copy, Clone)]
 pub struct pgmsg_parse {
@@ -275,33 +184,24 @@ pub struct pgmsg_parse {
     pub query: pgmsg_span,
     pub types: pgmsg_list,
 }
-#[doc = " What is described or closed: `letter` is S for a prepared statement, and P for a portal; the name"]
-#[doc = " is empty for the one without a name."]
 #[repr(C)]
 #[derive(Debug, Default, Copy, Clone)]
 pub struct pgmsg_target {
     pub letter: u8,
     pub name: pgmsg_span,
 }
-#[doc = " A portal that is run, empty for the one without a name, and the most rows to send back: 0 for all"]
-#[doc = " of them, and a server takes a number from 2147483648 on for all of them too."]
 #[repr(C)]
 #[derive(Debug, Default, Copy, Clone)]
 pub struct pgmsg_execute {
     pub portal: pgmsg_span,
     pub max_rows: u32,
 }
-#[doc = " The mechanism that a client chose, and its first message: its `len` is -1 where it sent none."]
 #[repr(C)]
 #[derive(Debug, Default, Copy, Clone)]
 pub struct pgmsg_sasl_initial {
     pub mechanism: pgmsg_span,
     pub response: pgmsg_cell,
 }
-#[doc = " A portal to make of a prepared statement: the names of both, empty for those without one, the"]
-#[doc = " format codes of the values and of the result, for `pgmsg_read_codes`, and the values: `values.at`"]
-#[doc = " is where the length of the first stands. Whether there are as many codes as values isn't"]
-#[doc = " tested."]
 #[repr(C)]
 #[derive(Debug, Default, Copy, Clone)]
 pub struct pgmsg_bind {
@@ -311,10 +211,6 @@ pub struct pgmsg_bind {
     pub values: pgmsg_list,
     pub result_formats: pgmsg_list,
 }
-#[doc = " A call of a function by its object id: the format codes of the arguments, for `pgmsg_read_codes`,"]
-#[doc = " and the arguments: `arguments.at` is where the length of the first stands. `result_format` is 0"]
-#[doc = " for text and 1 for binary; others are no fault. Whether there are as many codes as arguments"]
-#[doc = " isn't tested."]
 #[repr(C)]
 #[derive(Debug, Default, Copy, Clone)]
 pub struct pgmsg_function_call {
@@ -323,25 +219,12 @@ pub struct pgmsg_function_call {
     pub arguments: pgmsg_list,
     pub result_format: u16,
 }
-#[doc = " Some bytes."]
 #[repr(C)]
 #[derive(Debug, Copy, Clone)]
 pub struct pgmsg_bytes {
     pub bytes: *const u8,
     pub bytes_len: usize,
 }
-impl Default for pgmsg_bytes {
-    fn default() -> Self {
-        let mut s = ::core::mem::MaybeUninit::<Self>::uninit();
-        unsafe {
-            ::core::ptr::write_bytes(s.as_mut_ptr(), 0, 1);
-            s.assume_init()
-        }
-    }
-}
-#[doc = " A column of a result that is written. `table` and `attribute` say which column of a table it is,"]
-#[doc = " and are 0 where it is none; `type_size` is below 0 where the sizes of values differ; 0 in"]
-#[doc = " `format` is text and 1 binary."]
 #[repr(C)]
 #[derive(Debug, Copy, Clone)]
 pub struct pgmsg_column_text {
@@ -354,16 +237,6 @@ pub struct pgmsg_column_text {
     pub type_modifier: i32,
     pub format: i16,
 }
-impl Default for pgmsg_column_text {
-    fn default() -> Self {
-        let mut s = ::core::mem::MaybeUninit::<Self>::uninit();
-        unsafe {
-            ::core::ptr::write_bytes(s.as_mut_ptr(), 0, 1);
-            s.assume_init()
-        }
-    }
-}
-#[doc = " A field of an error or a notice that is written, by the letter of what it says."]
 #[repr(C)]
 #[derive(Debug, Copy, Clone)]
 pub struct pgmsg_field_text {
@@ -371,18 +244,6 @@ pub struct pgmsg_field_text {
     pub text: *const u8,
     pub text_len: usize,
 }
-impl Default for pgmsg_field_text {
-    fn default() -> Self {
-        let mut s = ::core::mem::MaybeUninit::<Self>::uninit();
-        unsafe {
-            ::core::ptr::write_bytes(s.as_mut_ptr(), 0, 1);
-            s.assume_init()
-        }
-    }
-}
-#[doc = " One direction of a connection that is passed on. Set `limit` to the most bytes of a message that"]
-#[doc = " is taken whole, `left` to 0, and `is_first` where a client's first message comes next;"]
-#[doc = " `pgmsg_relay_next` moves the last two on."]
 #[repr(C)]
 #[derive(Debug, Default, Copy, Clone)]
 pub struct pgmsg_relay {
@@ -390,8 +251,6 @@ pub struct pgmsg_relay {
     pub left: usize,
     pub is_first: bool,
 }
-#[doc = " What is at the front of a stream. `length` bytes of it go out together; where more bytes are"]
-#[doc = " needed, it is how many at least. `tag` is 0 of a first message."]
 #[repr(C)]
 #[derive(Debug, Default, Copy, Clone)]
 pub struct pgmsg_passage {
@@ -399,759 +258,225 @@ pub struct pgmsg_passage {
     pub length: usize,
 }
 extern "C" {
-    #[doc = " Why a call refused, by the number below 0 that it returned, in a few words that last as long as"]
-    #[doc = " the program; those of its fault say more. They are \"no error\" for 0 and above, and \"unknown"]
-    #[doc = " error\" for a number that no call returns."]
     pub fn pgmsg_strerror(number: i32) -> *const crate::ctypes::c_char;
-}
-extern "C" {
-    #[doc = " The version of the library, for comparison with `PGMSG_VERSION` of the header. It lasts as long"]
-    #[doc = " as the program."]
     pub fn pgmsg_version() -> *const crate::ctypes::c_char;
-}
-extern "C" {
-    #[doc = " A StartupMessage: opens a session by a minor version of the protocol's version 3, 0 or 2, with"]
-    #[doc = " these settings, of which `user` is required by the server. A name or a value that holds a NUL, or"]
-    #[doc = " an empty name, is refused as a text that holds a NUL: the server would read other settings."]
     pub fn pgmsg_put_startup(
-        minor: u16,
-        settings: *const pgmsg_setting,
-        settings_len: usize,
-        out: *mut u8,
+        minor: u16, settings: *const pgmsg_setting, settings_len: usize, out: *mut u8,
         out_len: usize,
     ) -> isize;
-}
-extern "C" {
-    #[doc = " An SSLRequest: asks for TLS, before the session is opened. The server answers with one byte, `S`"]
-    #[doc = " or `N`."]
     pub fn pgmsg_put_ssl_request(out: *mut u8, out_len: usize) -> isize;
-}
-extern "C" {
-    #[doc = " A GSSENCRequest: asks for encryption by GSSAPI, before the session is opened. The server answers"]
-    #[doc = " with one byte, `G` or `N`."]
     pub fn pgmsg_put_gss_enc_request(out: *mut u8, out_len: usize) -> isize;
-}
-extern "C" {
-    #[doc = " A CancelRequest: asks the server to stop what a session does, by the process and the key of its"]
-    #[doc = " BackendKeyData. It goes alone on a connection of its own. The key has 4 bytes in protocol 3.0,"]
-    #[doc = " and up to 256 from 3.2 on; one of another length is refused with PGMSG_BAD_KEY_LENGTH."]
     pub fn pgmsg_put_cancel_request(
-        process_id: u32,
-        secret_key: *const u8,
-        secret_key_len: usize,
-        out: *mut u8,
-        out_len: usize,
+        process_id: u32, secret_key: *const u8, secret_key_len: usize, out: *mut u8, out_len: usize,
     ) -> isize;
-}
-extern "C" {
-    #[doc = " A PasswordMessage: answers a request for a password with any bytes, before the NUL that ends"]
-    #[doc = " them. A password that holds a NUL is refused."]
     pub fn pgmsg_put_password(
-        password: *const u8,
-        password_len: usize,
-        out: *mut u8,
-        out_len: usize,
+        password: *const u8, password_len: usize, out: *mut u8, out_len: usize,
     ) -> isize;
-}
-extern "C" {
-    #[doc = " A PasswordMessage that answers a request for an MD5 digest: the digest of the salt after the"]
-    #[doc = " digest, in hexadecimal, of the user's name after the password."]
     pub fn pgmsg_put_md5_password(digest: *const u8, out: *mut u8, out_len: usize) -> isize;
-}
-extern "C" {
-    #[doc = " A SASLInitialResponse: chooses a mechanism of SASL, such as `SCRAM-SHA-256`, and begins it with"]
-    #[doc = " `response`. Where not `has_response`, the server begins. A mechanism that holds a NUL is"]
-    #[doc = " refused."]
     pub fn pgmsg_put_sasl_initial(
-        mechanism: *const u8,
-        mechanism_len: usize,
-        has_response: bool,
-        response: *const u8,
-        response_len: usize,
-        out: *mut u8,
-        out_len: usize,
+        mechanism: *const u8, mechanism_len: usize, has_response: bool, response: *const u8,
+        response_len: usize, out: *mut u8, out_len: usize,
     ) -> isize;
-}
-extern "C" {
-    #[doc = " A SASLResponse: answers a challenge of the SASL exchange. A GSSResponse has the same form."]
     pub fn pgmsg_put_sasl_response(
-        response: *const u8,
-        response_len: usize,
-        out: *mut u8,
-        out_len: usize,
+        response: *const u8, response_len: usize, out: *mut u8, out_len: usize,
     ) -> isize;
-}
-extern "C" {
-    #[doc = " A Query: runs the statements of a text. One that holds a NUL is refused."]
     pub fn pgmsg_put_query(
-        query: *const u8,
-        query_len: usize,
-        out: *mut u8,
-        out_len: usize,
+        query: *const u8, query_len: usize, out: *mut u8, out_len: usize,
     ) -> isize;
-}
-extern "C" {
-    #[doc = " A CopyFail: fails a COPY, and says why. A reason that holds a NUL is refused."]
     pub fn pgmsg_put_copy_fail(
-        reason: *const u8,
-        reason_len: usize,
-        out: *mut u8,
-        out_len: usize,
+        reason: *const u8, reason_len: usize, out: *mut u8, out_len: usize,
     ) -> isize;
-}
-extern "C" {
-    #[doc = " A Parse: prepares a statement. `types` are those of the parameters from the first on; the server"]
-    #[doc = " infers those that are 0 or missing. A name or a query that holds a NUL is refused."]
     pub fn pgmsg_put_parse(
-        statement: *const u8,
-        statement_len: usize,
-        query: *const u8,
-        query_len: usize,
-        types: *const u32,
-        types_len: usize,
-        out: *mut u8,
-        out_len: usize,
+        statement: *const u8, statement_len: usize, query: *const u8, query_len: usize,
+        types: *const u32, types_len: usize, out: *mut u8, out_len: usize,
     ) -> isize;
-}
-extern "C" {
-    #[doc = " A Bind: makes a portal of a prepared statement and the values of its parameters. Formats are"]
-    #[doc = " codes, 0 for text and 1 for binary: none where all are text, one for all, or one each. A name"]
-    #[doc = " that holds a NUL is refused."]
     pub fn pgmsg_put_bind(
-        portal: *const u8,
-        portal_len: usize,
-        statement: *const u8,
-        statement_len: usize,
-        formats: *const u16,
-        formats_len: usize,
-        values: *const pgmsg_value,
-        values_len: usize,
-        result_formats: *const u16,
-        result_formats_len: usize,
-        out: *mut u8,
-        out_len: usize,
+        portal: *const u8, portal_len: usize, statement: *const u8, statement_len: usize,
+        formats: *const u16, formats_len: usize, values: *const pgmsg_value, values_len: usize,
+        result_formats: *const u16, result_formats_len: usize, out: *mut u8, out_len: usize,
     ) -> isize;
-}
-extern "C" {
-    #[doc = " A Describe of a prepared statement, where `kind` is `S`, or of a portal, where it is `P`; of"]
-    #[doc = " others it is refused with PGMSG_UNKNOWN_TARGET. So is then a name that holds a NUL, as a text"]
-    #[doc = " that holds one."]
     pub fn pgmsg_put_describe(
-        kind: u8,
-        name: *const u8,
-        name_len: usize,
-        out: *mut u8,
-        out_len: usize,
+        kind: u8, name: *const u8, name_len: usize, out: *mut u8, out_len: usize,
     ) -> isize;
-}
-extern "C" {
-    #[doc = " A Close of a prepared statement or a portal, with `kind`, `name` and refusals as in"]
-    #[doc = " `pgmsg_put_describe`."]
     pub fn pgmsg_put_close(
-        kind: u8,
-        name: *const u8,
-        name_len: usize,
-        out: *mut u8,
-        out_len: usize,
+        kind: u8, name: *const u8, name_len: usize, out: *mut u8, out_len: usize,
     ) -> isize;
-}
-extern "C" {
-    #[doc = " An Execute: runs a portal. `limit` is the most rows to send back, 0 for all of them; a server"]
-    #[doc = " takes a number from 2147483648 on for all of them too. A name that holds a NUL is refused."]
     pub fn pgmsg_put_execute(
-        portal: *const u8,
-        portal_len: usize,
-        limit: u32,
-        out: *mut u8,
-        out_len: usize,
+        portal: *const u8, portal_len: usize, limit: u32, out: *mut u8, out_len: usize,
     ) -> isize;
-}
-extern "C" {
-    #[doc = " A FunctionCall: calls a function by its object id. Formats are as in `pgmsg_put_bind`. The answer"]
-    #[doc = " is a FunctionCallResponse, for `pgmsg_read_function_result`."]
     pub fn pgmsg_put_function_call(
-        object_id: u32,
-        formats: *const u16,
-        formats_len: usize,
-        arguments: *const pgmsg_value,
-        arguments_len: usize,
-        result_format: u16,
-        out: *mut u8,
-        out_len: usize,
+        object_id: u32, formats: *const u16, formats_len: usize, arguments: *const pgmsg_value,
+        arguments_len: usize, result_format: u16, out: *mut u8, out_len: usize,
     ) -> isize;
-}
-extern "C" {
-    #[doc = " A CopyData: a part of the data of a COPY, from a client or a server."]
     pub fn pgmsg_put_copy_data(
-        data: *const u8,
-        data_len: usize,
-        out: *mut u8,
-        out_len: usize,
+        data: *const u8, data_len: usize, out: *mut u8, out_len: usize,
     ) -> isize;
-}
-extern "C" {
-    #[doc = " The five bytes before `len` bytes of the data of a COPY, which the caller sends after them. 0, or"]
-    #[doc = " why there are none."]
     pub fn pgmsg_put_copy_head(len: usize, head: *mut u8) -> i32;
-}
-extern "C" {
-    #[doc = " A message without a body, by its tag. Of a client `H` is Flush, `S` Sync and `X` Terminate; of a"]
-    #[doc = " server `1` is ParseComplete, `2` BindComplete, `3` CloseComplete, `I` EmptyQueryResponse, `n`"]
-    #[doc = " NoData and `s` PortalSuspended; of both `c` is CopyDone. Of other tags it is refused with"]
-    #[doc = " PGMSG_UNKNOWN_MESSAGE_TYPE."]
     pub fn pgmsg_put_no_body(tag: u8, out: *mut u8, out_len: usize) -> isize;
-}
-extern "C" {
-    #[doc = " The name of the prepared statement of a number N, which is `sqlx_s_N`, and no byte for 0: its"]
-    #[doc = " length without a NUL. It is written with the NUL that ends it, where `out` is longer than the"]
-    #[doc = " name."]
     pub fn pgmsg_put_statement_name(number: u32, out: *mut u8, out_len: usize) -> usize;
-}
-extern "C" {
-    #[doc = " The name of the portal of a number N, which is `sqlx_p_N`, and no byte for 0, as"]
-    #[doc = " `pgmsg_put_statement_name` writes that of a statement."]
     pub fn pgmsg_put_portal_name(number: u32, out: *mut u8, out_len: usize) -> usize;
-}
-extern "C" {
-    #[doc = " How many bytes at the front of a text are UTF-8: its length where all of it is, else where the"]
-    #[doc = " first character begins that isn't."]
     pub fn pgmsg_check_utf8(text: *const u8, text_len: usize) -> usize;
-}
-extern "C" {
-    #[doc = " The message at the front of a stream, of any tag: 1 where it is whole, 0 where more bytes are"]
-    #[doc = " needed. Then `tag` is given as soon as there is a byte. Refused where its length is below 4:"]
-    #[doc = " then, whatever comes next."]
     pub fn pgmsg_next_frame(
-        stream: *const u8,
-        stream_len: usize,
-        frame: *mut pgmsg_frame,
-        fault: *mut pgmsg_fault,
+        stream: *const u8, stream_len: usize, frame: *mut pgmsg_frame, fault: *mut pgmsg_fault,
     ) -> i32;
-}
-extern "C" {
-    #[doc = " The messages at the front of a stream, of any tag, each as `pgmsg_next_frame` gives it, with"]
-    #[doc = " places in the whole stream: how many are given. As many as are whole and there is room for are"]
-    #[doc = " written; the first of the others begins where the lengths of these end. Refused where there is"]
-    #[doc = " room for a message, and the length of the very first is below 4; such a length after others only"]
-    #[doc = " ends them."]
     pub fn pgmsg_next_frames(
-        stream: *const u8,
-        stream_len: usize,
-        frames: *mut pgmsg_frame,
-        frames_len: usize,
+        stream: *const u8, stream_len: usize, frames: *mut pgmsg_frame, frames_len: usize,
         fault: *mut pgmsg_fault,
     ) -> isize;
-}
-extern "C" {
-    #[doc = " The cells of a row, by the body of its DataRow: how many it has. As many as there is room for are"]
-    #[doc = " written; the rest are read too, so a row is refused for any of its cells."]
     pub fn pgmsg_read_row(
-        body: *const u8,
-        body_len: usize,
-        cells: *mut pgmsg_cell,
-        cells_len: usize,
+        body: *const u8, body_len: usize, cells: *mut pgmsg_cell, cells_len: usize,
         fault: *mut pgmsg_fault,
     ) -> isize;
-}
-extern "C" {
-    #[doc = " The columns of a result, by the body of its RowDescription: how many there are. As many as there"]
-    #[doc = " is room for are written; the rest are read too."]
     pub fn pgmsg_read_columns(
-        body: *const u8,
-        body_len: usize,
-        columns: *mut pgmsg_column,
-        columns_len: usize,
+        body: *const u8, body_len: usize, columns: *mut pgmsg_column, columns_len: usize,
         fault: *mut pgmsg_fault,
     ) -> isize;
-}
-extern "C" {
-    #[doc = " The types of a statement's parameters, by the body of its ParameterDescription: how many there"]
-    #[doc = " are. As many as there is room for are written."]
     pub fn pgmsg_read_parameter_types(
-        body: *const u8,
-        body_len: usize,
-        types: *mut u32,
-        types_len: usize,
+        body: *const u8, body_len: usize, types: *mut u32, types_len: usize,
         fault: *mut pgmsg_fault,
     ) -> isize;
-}
-extern "C" {
-    #[doc = " The fields of an error or a notice, in order: how many there are. As many as there is room for"]
-    #[doc = " are written."]
     pub fn pgmsg_read_fields(
-        body: *const u8,
-        body_len: usize,
-        fields: *mut pgmsg_field,
-        fields_len: usize,
+        body: *const u8, body_len: usize, fields: *mut pgmsg_field, fields_len: usize,
     ) -> usize;
-}
-extern "C" {
-    #[doc = " How grave an error or a notice is: 0 PANIC, 1 FATAL, 2 ERROR, 3 WARNING, 4 NOTICE, 5 DEBUG, 6"]
-    #[doc = " INFO, 7 LOG."]
     pub fn pgmsg_read_severity(body: *const u8, body_len: usize, fault: *mut pgmsg_fault) -> i32;
-}
-extern "C" {
-    #[doc = " A notification, by the body of its NotificationResponse. 0, or why it is refused."]
     pub fn pgmsg_read_notification(
-        body: *const u8,
-        body_len: usize,
-        notification: *mut pgmsg_notification,
+        body: *const u8, body_len: usize, notification: *mut pgmsg_notification,
         fault: *mut pgmsg_fault,
     ) -> i32;
-}
-extern "C" {
-    #[doc = " A setting of the server, by the body of its ParameterStatus. 0, or why it is refused."]
     pub fn pgmsg_read_parameter_status(
-        body: *const u8,
-        body_len: usize,
-        status: *mut pgmsg_parameter_status,
+        body: *const u8, body_len: usize, status: *mut pgmsg_parameter_status,
         fault: *mut pgmsg_fault,
     ) -> i32;
-}
-extern "C" {
-    #[doc = " What a request to cancel has to name, by the body of a BackendKeyData of any version: its key has"]
-    #[doc = " 4 bytes in protocol 3.0, and up to 256 from 3.2 on. 0, or why it is refused."]
     pub fn pgmsg_read_key_data(
-        body: *const u8,
-        body_len: usize,
-        key: *mut pgmsg_key_data,
-        fault: *mut pgmsg_fault,
+        body: *const u8, body_len: usize, key: *mut pgmsg_key_data, fault: *mut pgmsg_fault,
     ) -> i32;
-}
-extern "C" {
-    #[doc = " What a command has done, by the body of its CommandComplete. 0, or why it is refused."]
     pub fn pgmsg_read_command_complete(
-        body: *const u8,
-        body_len: usize,
-        command: *mut pgmsg_command,
-        fault: *mut pgmsg_fault,
+        body: *const u8, body_len: usize, command: *mut pgmsg_command, fault: *mut pgmsg_fault,
     ) -> i32;
-}
-extern "C" {
-    #[doc = " The letter of the transaction's status, by the body of a ReadyForQuery: I where none is open, T"]
-    #[doc = " in one, E in one that has failed."]
     pub fn pgmsg_read_ready(body: *const u8, body_len: usize, fault: *mut pgmsg_fault) -> i32;
-}
-extern "C" {
-    #[doc = " How the data of a COPY is spelled, by the body of a CopyInResponse or CopyOutResponse: how many"]
-    #[doc = " columns have a code. As many codes as there is room for are written."]
     pub fn pgmsg_read_copy_response(
-        body: *const u8,
-        body_len: usize,
-        response: *mut pgmsg_copy_response,
-        codes: *mut i16,
-        codes_len: usize,
-        fault: *mut pgmsg_fault,
+        body: *const u8, body_len: usize, response: *mut pgmsg_copy_response, codes: *mut i16,
+        codes_len: usize, fault: *mut pgmsg_fault,
     ) -> isize;
-}
-extern "C" {
-    #[doc = " What the server asks for, by the body of its Authentication. Any method is read, and what follows"]
-    #[doc = " its number isn't looked at. 0, or why it is refused."]
     pub fn pgmsg_read_authentication(
-        body: *const u8,
-        body_len: usize,
-        authentication: *mut pgmsg_authentication,
+        body: *const u8, body_len: usize, authentication: *mut pgmsg_authentication,
         fault: *mut pgmsg_fault,
     ) -> i32;
-}
-extern "C" {
-    #[doc = " The mechanisms that the server offers, by the body of an Authentication of method 10: how many"]
-    #[doc = " there are. As many as there is room for are written."]
     pub fn pgmsg_read_mechanisms(
-        body: *const u8,
-        body_len: usize,
-        mechanisms: *mut pgmsg_span,
-        mechanisms_len: usize,
+        body: *const u8, body_len: usize, mechanisms: *mut pgmsg_span, mechanisms_len: usize,
     ) -> usize;
-}
-extern "C" {
-    #[doc = " The challenge of a SASL exchange, by the body of an Authentication of method 11. Salt and nonce"]
-    #[doc = " are written where their rooms are long enough. 0, or why it is refused."]
     pub fn pgmsg_read_challenge(
-        body: *const u8,
-        body_len: usize,
-        challenge: *mut pgmsg_challenge,
-        salt: *mut u8,
-        salt_len: usize,
-        nonce: *mut u8,
-        nonce_len: usize,
-        fault: *mut pgmsg_fault,
+        body: *const u8, body_len: usize, challenge: *mut pgmsg_challenge, salt: *mut u8,
+        salt_len: usize, nonce: *mut u8, nonce_len: usize, fault: *mut pgmsg_fault,
     ) -> i32;
-}
-extern "C" {
-    #[doc = " The verifier that ends a SASL exchange, by the body of an Authentication of method 12: its length"]
-    #[doc = " in bytes. It is written where its room is that long."]
     pub fn pgmsg_read_verifier(
-        body: *const u8,
-        body_len: usize,
-        verifier: *mut u8,
-        verifier_len: usize,
+        body: *const u8, body_len: usize, verifier: *mut u8, verifier_len: usize,
         fault: *mut pgmsg_fault,
     ) -> isize;
-}
-extern "C" {
-    #[doc = " The result of a function, by the body of its FunctionCallResponse: its `len` is -1 where it is"]
-    #[doc = " NULL. 0, or why it is refused."]
     pub fn pgmsg_read_function_result(
-        body: *const u8,
-        body_len: usize,
-        value: *mut pgmsg_cell,
-        fault: *mut pgmsg_fault,
+        body: *const u8, body_len: usize, value: *mut pgmsg_cell, fault: *mut pgmsg_fault,
     ) -> i32;
-}
-extern "C" {
-    #[doc = " What a server doesn't speak, by the body of its NegotiateProtocolVersion: how many options of the"]
-    #[doc = " Startup it doesn't know. As many of their names as there is room for are written; the rest are"]
-    #[doc = " read too."]
     pub fn pgmsg_read_negotiate_version(
-        body: *const u8,
-        body_len: usize,
-        version: *mut pgmsg_negotiation,
-        options: *mut pgmsg_span,
-        options_len: usize,
-        fault: *mut pgmsg_fault,
+        body: *const u8, body_len: usize, version: *mut pgmsg_negotiation,
+        options: *mut pgmsg_span, options_len: usize, fault: *mut pgmsg_fault,
     ) -> isize;
-}
-extern "C" {
-    #[doc = " The offset after the last part of a body, by the tag of its message: `body_len` where nothing"]
-    #[doc = " follows the parts that the documentation lists. A body is refused where a part can't be read or a"]
-    #[doc = " list has no end. Texts are any bytes, and data of a SASL exchange isn't looked at."]
     pub fn pgmsg_read_end(
-        tag: u8,
-        body: *const u8,
-        body_len: usize,
-        fault: *mut pgmsg_fault,
+        tag: u8, body: *const u8, body_len: usize, fault: *mut pgmsg_fault,
     ) -> isize;
-}
-extern "C" {
-    #[doc = " The first message of a connection at the front of a stream, or the one after an SSLRequest or a"]
-    #[doc = " GSSENCRequest: 1 where it is whole, 0 where more bytes are needed. It has no tag: `tag` is 0, and"]
-    #[doc = " `length` that of its length and its body. Refused where its length is below 8, or above `limit`,"]
-    #[doc = " which is PGMSG_MAX_FIRST_LENGTH for PostgreSQL's own servers: then, whatever comes next."]
     pub fn pgmsg_next_first_frame(
-        stream: *const u8,
-        stream_len: usize,
-        limit: usize,
-        frame: *mut pgmsg_frame,
+        stream: *const u8, stream_len: usize, limit: usize, frame: *mut pgmsg_frame,
         fault: *mut pgmsg_fault,
     ) -> i32;
-}
-extern "C" {
-    #[doc = " The message at the front of a stream from a client, after the first ones: 1 where it is whole, 0"]
-    #[doc = " where more bytes are needed. Then `tag` is given as soon as there is a byte. Refused where no"]
-    #[doc = " message from a client has this tag, or its length is below 4: then, whatever comes next."]
     pub fn pgmsg_next_frontend_frame(
-        stream: *const u8,
-        stream_len: usize,
-        frame: *mut pgmsg_frame,
-        fault: *mut pgmsg_fault,
+        stream: *const u8, stream_len: usize, frame: *mut pgmsg_frame, fault: *mut pgmsg_fault,
     ) -> i32;
-}
-extern "C" {
-    #[doc = " A first message, by its body. 0, or why it is refused."]
     pub fn pgmsg_read_first(
-        body: *const u8,
-        body_len: usize,
-        first: *mut pgmsg_first,
-        fault: *mut pgmsg_fault,
+        body: *const u8, body_len: usize, first: *mut pgmsg_first, fault: *mut pgmsg_fault,
     ) -> i32;
-}
-extern "C" {
-    #[doc = " The text of a Query, a CopyFail or a PasswordMessage, by its body: the bytes before its NUL. 0,"]
-    #[doc = " or why it is refused."]
     pub fn pgmsg_read_text(
-        body: *const u8,
-        body_len: usize,
-        text: *mut pgmsg_span,
-        fault: *mut pgmsg_fault,
+        body: *const u8, body_len: usize, text: *mut pgmsg_span, fault: *mut pgmsg_fault,
     ) -> i32;
-}
-extern "C" {
-    #[doc = " Whether a message has no body, as those of `pgmsg_put_no_body` have none: 0, or"]
-    #[doc = " PGMSG_TRAILING_BYTES where it has one."]
     pub fn pgmsg_read_no_body(body: *const u8, body_len: usize, fault: *mut pgmsg_fault) -> i32;
-}
-extern "C" {
-    #[doc = " A Parse, by its body. 0, or why it is refused."]
     pub fn pgmsg_read_parse(
-        body: *const u8,
-        body_len: usize,
-        parse: *mut pgmsg_parse,
-        fault: *mut pgmsg_fault,
+        body: *const u8, body_len: usize, parse: *mut pgmsg_parse, fault: *mut pgmsg_fault,
     ) -> i32;
-}
-extern "C" {
-    #[doc = " What a Describe or a Close names, by its body. 0, or why it is refused."]
     pub fn pgmsg_read_target(
-        body: *const u8,
-        body_len: usize,
-        target: *mut pgmsg_target,
-        fault: *mut pgmsg_fault,
+        body: *const u8, body_len: usize, target: *mut pgmsg_target, fault: *mut pgmsg_fault,
     ) -> i32;
-}
-extern "C" {
-    #[doc = " An Execute, by its body. 0, or why it is refused."]
     pub fn pgmsg_read_execute(
-        body: *const u8,
-        body_len: usize,
-        execute: *mut pgmsg_execute,
-        fault: *mut pgmsg_fault,
+        body: *const u8, body_len: usize, execute: *mut pgmsg_execute, fault: *mut pgmsg_fault,
     ) -> i32;
-}
-extern "C" {
-    #[doc = " A SASLInitialResponse, by its body; a SASLResponse is the bytes of its body. 0, or why it is"]
-    #[doc = " refused."]
     pub fn pgmsg_read_sasl_initial(
-        body: *const u8,
-        body_len: usize,
-        initial: *mut pgmsg_sasl_initial,
-        fault: *mut pgmsg_fault,
+        body: *const u8, body_len: usize, initial: *mut pgmsg_sasl_initial, fault: *mut pgmsg_fault,
     ) -> i32;
-}
-extern "C" {
-    #[doc = " A portal to make of a prepared statement, by the body of a Bind: how many values it has. As many"]
-    #[doc = " as there is room for are written; the rest are read too."]
     pub fn pgmsg_read_bind(
-        body: *const u8,
-        body_len: usize,
-        values: *mut pgmsg_cell,
-        values_len: usize,
-        bind: *mut pgmsg_bind,
-        fault: *mut pgmsg_fault,
+        body: *const u8, body_len: usize, values: *mut pgmsg_cell, values_len: usize,
+        bind: *mut pgmsg_bind, fault: *mut pgmsg_fault,
     ) -> isize;
-}
-extern "C" {
-    #[doc = " A call of a function, by the body of a FunctionCall: how many arguments it has. As many as there"]
-    #[doc = " is room for are written; the rest are read too."]
     pub fn pgmsg_read_function_call(
-        body: *const u8,
-        body_len: usize,
-        arguments: *mut pgmsg_cell,
-        arguments_len: usize,
-        call: *mut pgmsg_function_call,
-        fault: *mut pgmsg_fault,
+        body: *const u8, body_len: usize, arguments: *mut pgmsg_cell, arguments_len: usize,
+        call: *mut pgmsg_function_call, fault: *mut pgmsg_fault,
     ) -> isize;
-}
-extern "C" {
-    #[doc = " The format codes of a list that `pgmsg_read_bind` or `pgmsg_read_function_call` gave of this"]
-    #[doc = " body: how many there are, 0 where the list isn't in the body. As many as there is room for are"]
-    #[doc = " written. A code is 0 for text and 1 for binary; others are no fault."]
     pub fn pgmsg_read_codes(
-        body: *const u8,
-        body_len: usize,
-        list: pgmsg_list,
-        codes: *mut u16,
-        codes_len: usize,
+        body: *const u8, body_len: usize, list: pgmsg_list, codes: *mut u16, codes_len: usize,
     ) -> usize;
-}
-extern "C" {
-    #[doc = " The types of the parameters in a list that `pgmsg_read_parse` gave of this body: how many there"]
-    #[doc = " are, 0 where the list isn't in the body. As many as there is room for are written. A type is 0"]
-    #[doc = " where the server is to find it."]
     pub fn pgmsg_read_types(
-        body: *const u8,
-        body_len: usize,
-        list: pgmsg_list,
-        types: *mut u32,
-        types_len: usize,
+        body: *const u8, body_len: usize, list: pgmsg_list, types: *mut u32, types_len: usize,
     ) -> usize;
-}
-extern "C" {
-    #[doc = " The settings that open a session, by the body of a Startup, in the client's encoding: how many"]
-    #[doc = " there are. As many as there is room for are written."]
     pub fn pgmsg_read_settings(
-        body: *const u8,
-        body_len: usize,
-        settings: *mut pgmsg_parameter_status,
+        body: *const u8, body_len: usize, settings: *mut pgmsg_parameter_status,
         settings_len: usize,
     ) -> usize;
-}
-extern "C" {
-    #[doc = " A request for authentication, by the number of its method and what follows it. 0 says that the"]
-    #[doc = " client is who it says, and 3 asks for its password as it is: nothing follows. 5 asks for the MD5"]
-    #[doc = " digest of its password, with the salt of four bytes that follows. 11 and 12 are the next and the"]
-    #[doc = " last of a SASL exchange, whose data follows; 10 begins one, by `pgmsg_put_authentication_sasl`."]
-    #[doc = " Of other numbers, or with another count of bytes, it is refused with"]
-    #[doc = " PGMSG_UNKNOWN_AUTHENTICATION."]
     pub fn pgmsg_put_authentication(
-        method: u32,
-        content: *const u8,
-        content_len: usize,
-        out: *mut u8,
-        out_len: usize,
+        method: u32, content: *const u8, content_len: usize, out: *mut u8, out_len: usize,
     ) -> isize;
-}
-extern "C" {
-    #[doc = " A request for an exchange of SASL by one of these mechanisms, the best first. A name that is"]
-    #[doc = " empty or holds a NUL is refused as a text that holds a NUL: the client would read other names."]
     pub fn pgmsg_put_authentication_sasl(
-        mechanisms: *const pgmsg_bytes,
-        mechanisms_len: usize,
-        out: *mut u8,
-        out_len: usize,
+        mechanisms: *const pgmsg_bytes, mechanisms_len: usize, out: *mut u8, out_len: usize,
     ) -> isize;
-}
-extern "C" {
-    #[doc = " The newest minor version of the protocol's version 3 that the server speaks, and the names of the"]
-    #[doc = " options that it doesn't know. A NUL in one is refused. The message has the whole version, as"]
-    #[doc = " PostgreSQL's servers send it."]
     pub fn pgmsg_put_negotiate_version(
-        minor: u16,
-        options: *const pgmsg_bytes,
-        options_len: usize,
-        out: *mut u8,
-        out_len: usize,
+        minor: u16, options: *const pgmsg_bytes, options_len: usize, out: *mut u8, out_len: usize,
     ) -> isize;
-}
-extern "C" {
-    #[doc = " The process that serves the client, and the secret key that a request to cancel its work has to"]
-    #[doc = " name too: 4 bytes, or up to 256 of a server that speaks version 3.2 of the protocol."]
     pub fn pgmsg_put_backend_key_data(
-        process_id: u32,
-        secret_key: *const u8,
-        secret_key_len: usize,
-        out: *mut u8,
-        out_len: usize,
+        process_id: u32, secret_key: *const u8, secret_key_len: usize, out: *mut u8, out_len: usize,
     ) -> isize;
-}
-extern "C" {
-    #[doc = " The value of a setting, at the start of a session and whenever it changes. A NUL in a text is"]
-    #[doc = " refused."]
     pub fn pgmsg_put_parameter_status(
-        name: *const u8,
-        name_len: usize,
-        value: *const u8,
-        value_len: usize,
-        out: *mut u8,
+        name: *const u8, name_len: usize, value: *const u8, value_len: usize, out: *mut u8,
         out_len: usize,
     ) -> isize;
-}
-extern "C" {
-    #[doc = " The server is ready for the next query. `status` is `I` where no transaction is open, `T` where"]
-    #[doc = " one is, and `E` where one is and has failed."]
     pub fn pgmsg_put_ready(status: u8, out: *mut u8, out_len: usize) -> isize;
-}
-extern "C" {
-    #[doc = " The columns of a result. A name that holds a NUL is refused."]
     pub fn pgmsg_put_columns(
-        columns: *const pgmsg_column_text,
-        columns_len: usize,
-        out: *mut u8,
-        out_len: usize,
+        columns: *const pgmsg_column_text, columns_len: usize, out: *mut u8, out_len: usize,
     ) -> isize;
-}
-extern "C" {
-    #[doc = " The values of a row, each in the format that was asked for, or NULL."]
     pub fn pgmsg_put_row(
-        values: *const pgmsg_value,
-        values_len: usize,
-        out: *mut u8,
-        out_len: usize,
+        values: *const pgmsg_value, values_len: usize, out: *mut u8, out_len: usize,
     ) -> isize;
-}
-extern "C" {
-    #[doc = " The types of the parameters of a statement."]
     pub fn pgmsg_put_parameter_types(
-        types: *const u32,
-        types_len: usize,
-        out: *mut u8,
-        out_len: usize,
+        types: *const u32, types_len: usize, out: *mut u8, out_len: usize,
     ) -> isize;
-}
-extern "C" {
-    #[doc = " A CommandComplete: a command has ended. `command` is its tag, as `INSERT 0 1`; a NUL in it is"]
-    #[doc = " refused."]
     pub fn pgmsg_put_command_complete(
-        command: *const u8,
-        command_len: usize,
-        out: *mut u8,
-        out_len: usize,
+        command: *const u8, command_len: usize, out: *mut u8, out_len: usize,
     ) -> isize;
-}
-extern "C" {
-    #[doc = " Where the data of a COPY goes: to the server by a CopyInResponse, whose tag is `G`, from it by a"]
-    #[doc = " CopyOutResponse, `H`, and both ways by a CopyBothResponse, `W`; of other tags it is refused with"]
-    #[doc = " PGMSG_UNKNOWN_MESSAGE_TYPE. `format` is that of the data as a whole, and `codes` are those of the"]
-    #[doc = " columns: 0 is text and 1 binary."]
     pub fn pgmsg_put_copy_response(
-        tag: u8,
-        format: i8,
-        codes: *const i16,
-        codes_len: usize,
-        out: *mut u8,
-        out_len: usize,
+        tag: u8, format: i8, codes: *const i16, codes_len: usize, out: *mut u8, out_len: usize,
     ) -> isize;
-}
-extern "C" {
-    #[doc = " A FunctionCallResponse: the result of a function that was called, or NULL."]
     pub fn pgmsg_put_function_result(
-        value: *const u8,
-        value_len: usize,
-        is_null: bool,
-        out: *mut u8,
-        out_len: usize,
+        value: *const u8, value_len: usize, is_null: bool, out: *mut u8, out_len: usize,
     ) -> isize;
-}
-extern "C" {
-    #[doc = " A message with any tag and any body: what only passes through, or what this library doesn't"]
-    #[doc = " know."]
     pub fn pgmsg_put_frame(
-        tag: u8,
-        body: *const u8,
-        body_len: usize,
-        out: *mut u8,
-        out_len: usize,
+        tag: u8, body: *const u8, body_len: usize, out: *mut u8, out_len: usize,
     ) -> isize;
-}
-extern "C" {
-    #[doc = " An ErrorResponse, whose tag is `E`, or a NoticeResponse, `N`, by its fields in order: a client"]
-    #[doc = " asks for `S`, the severity, `C`, the code, and `M`, the message. A field of the letter 0, or a"]
-    #[doc = " text that holds a NUL, is refused: it would end the fields. Of other tags it is refused with"]
-    #[doc = " PGMSG_UNKNOWN_MESSAGE_TYPE."]
     pub fn pgmsg_put_notice(
-        tag: u8,
-        fields: *const pgmsg_field_text,
-        fields_len: usize,
-        out: *mut u8,
-        out_len: usize,
+        tag: u8, fields: *const pgmsg_field_text, fields_len: usize, out: *mut u8, out_len: usize,
     ) -> isize;
-}
-extern "C" {
-    #[doc = " A NotificationResponse: what the session was notified of, by which process, on which channel, and"]
-    #[doc = " what was said. A NUL in a text is refused."]
     pub fn pgmsg_put_notification(
-        process_id: u32,
-        channel: *const u8,
-        channel_len: usize,
-        payload: *const u8,
-        payload_len: usize,
-        out: *mut u8,
-        out_len: usize,
+        process_id: u32, channel: *const u8, channel_len: usize, payload: *const u8,
+        payload_len: usize, out: *mut u8, out_len: usize,
     ) -> isize;
-}
-extern "C" {
-    #[doc = " What is at the front of a stream that is passed on: 1 for a whole message that is wanted whole,"]
-    #[doc = " or a first one; 2 for the next bytes of one that isn't; 0 where more bytes are needed. Messages"]
-    #[doc = " with a tag are wanted whole where `wanted` has no 0 at the tag; a first message always is. Of a"]
-    #[doc = " message that goes on in parts `tag` stays. Refused where the length of the next message is below"]
-    #[doc = " 4, or below 8 of a first one, or where it is wanted whole and is longer than `limit`."]
     pub fn pgmsg_relay_next(
-        relay: *mut pgmsg_relay,
-        wanted: *const u8,
-        stream: *const u8,
-        stream_len: usize,
-        passage: *mut pgmsg_passage,
-        fault: *mut pgmsg_fault,
+        relay: *mut pgmsg_relay, wanted: *const u8, stream: *const u8, stream_len: usize,
+        passage: *mut pgmsg_passage, fault: *mut pgmsg_fault,
     ) -> i32;
-}
-extern "C" {
-    #[doc = " Whether bytes are whole messages one after the other, so that they may be added to a stream: 0,"]
-    #[doc = " and `is_first`, which says whether a first message comes next, is what comes after them. Refused"]
-    #[doc = " where they aren't."]
     pub fn pgmsg_check_frames(
-        bytes: *const u8,
-        bytes_len: usize,
-        is_first: *mut bool,
-        fault: *mut pgmsg_fault,
+        bytes: *const u8, bytes_len: usize, is_first: *mut bool, fault: *mut pgmsg_fault,
     ) -> i32;
 }

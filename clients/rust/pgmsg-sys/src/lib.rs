@@ -1,7 +1,8 @@
 //! The declarations of `pg_message.h`, the C library of the proved messages of the PostgreSQL wire
 //! protocol. The crate `pgmsg` is a safe interface to them.
 //!
-//! Names are those of the header, and so are the rules of a call:
+//! Names are those of the header, which says what each call does and what each field holds. So are the
+//! rules of a call:
 //!
 //! - Each pointer is valid for its length for the time of the call, and aligned; where the length is
 //!   0 it may be null, also in a struct. What a call writes overlaps nothing that it reads.
