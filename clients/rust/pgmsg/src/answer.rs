@@ -50,6 +50,25 @@ impl Report {
     }
 }
 
+/// A number of a call: below 0 it refuses.
+pub(crate) trait Number {
+    fn to_isize(self) -> isize;
+}
+
+impl Number for i32 {
+    #[inline]
+    fn to_isize(self) -> isize {
+        self as isize
+    }
+}
+
+impl Number for isize {
+    #[inline]
+    fn to_isize(self) -> isize {
+        self
+    }
+}
+
 /// The number that a call gives, or the fault that it reports. The call writes nothing to the pointer
 /// that it is passed but a fault, as the calls of the library do.
 #[inline]
@@ -82,6 +101,16 @@ pub(crate) fn fill<T: Clone + Default>(
         count = call(room)?;
     }
     room.get(..count).ok_or_else(|| Fault::unexpected(count))
+}
+
+/// The items that a call writes, as [`fill`] has them.
+pub(crate) fn items<T: Clone + Default>(
+    call: impl FnMut(&mut [T]) -> Result<usize, Fault>,
+) -> Result<Vec<T>, Fault> {
+    let mut items = Vec::new();
+    let count = fill(&mut items, call)?.len();
+    items.truncate(count);
+    Ok(items)
 }
 
 /// Adds items up to a length, which is above the one that `room` has.

@@ -28,12 +28,12 @@ pub use status::{
 
 use crate::buffer::Buffer;
 use crate::byte_str::ByteStr;
+use crate::calls::{ask, put};
 use crate::error::{Fault, Refusal};
 use crate::frame::Frame;
 use crate::frontend::{read_data, write_data};
 use crate::list::List;
 use crate::message::messages;
-use crate::reading::read_no_body;
 use crate::value::Value;
 use answers::read_other;
 
@@ -75,15 +75,15 @@ messages! {
         /// What a request to cancel has to name.
         BackendKeyData(key: BackendKeyData<'a>) = b'K', BackendKeyData::read, BackendKeyData::write;
         /// A Bind succeeded.
-        BindComplete = b'2', read_no_body, answers::write_bind_complete;
+        BindComplete = b'2';
         /// A Close succeeded.
-        CloseComplete = b'3', read_no_body, answers::write_close_complete;
+        CloseComplete = b'3';
         /// A command succeeded: its tag, such as `INSERT 0 1`, of which [`rows_affected`] has the number.
         CommandComplete(command: ByteStr<'a>) = b'C', answers::read_command, answers::write_command;
         /// Data of a COPY.
         CopyData(data: ByteStr<'a>) = b'd', read_data, write_data;
         /// The end of the data of a COPY.
-        CopyDone = b'c', read_no_body, answers::write_copy_done;
+        CopyDone = b'c';
         /// The server waits for the data of a COPY.
         CopyInResponse(copy: CopyResponse<'a>) = b'G', CopyResponse::read, copy::write_in;
         /// The data of a COPY follows.
@@ -93,7 +93,7 @@ messages! {
         /// A row of a result.
         DataRow(values: List<'a, Value<'a>>) = b'D', crate::row::read, crate::row::write;
         /// A query without a statement succeeded.
-        EmptyQueryResponse = b'I', read_no_body, answers::write_empty_query;
+        EmptyQueryResponse = b'I';
         /// An error.
         ErrorResponse(fields: Fields<'a>) = b'E', Fields::read, fields::write_error;
         /// The result of a function that was called.
@@ -101,7 +101,7 @@ messages! {
         /// The newest version of the protocol that the server speaks.
         NegotiateProtocolVersion(version: NegotiateProtocolVersion<'a>) = b'v', NegotiateProtocolVersion::read, NegotiateProtocolVersion::write;
         /// A statement or a portal has no rows to describe.
-        NoData = b'n', read_no_body, answers::write_no_data;
+        NoData = b'n';
         /// A notice.
         NoticeResponse(fields: Fields<'a>) = b'N', Fields::read, fields::write_notice;
         /// A notification from another session.
@@ -111,9 +111,9 @@ messages! {
         /// A setting of the server and its value.
         ParameterStatus(status: ParameterStatus<'a>) = b'S', ParameterStatus::read, ParameterStatus::write;
         /// A Parse succeeded.
-        ParseComplete = b'1', read_no_body, answers::write_parse_complete;
+        ParseComplete = b'1';
         /// An Execute reached its limit of rows.
-        PortalSuspended = b's', read_no_body, answers::write_portal_suspended;
+        PortalSuspended = b's';
         /// The server is ready for the next query.
         ReadyForQuery(status: TransactionStatus) = b'Z', TransactionStatus::read, TransactionStatus::write;
         /// The columns of a result.

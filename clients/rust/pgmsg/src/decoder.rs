@@ -1,6 +1,6 @@
 //! The messages of a stream, one after the other.
 
-use crate::answer::answer;
+use crate::calls::ask;
 use crate::error::{Fault, Refusal};
 use crate::frame::{Frame, Next};
 use crate::frontend::MAX_FIRST_LENGTH;
@@ -106,7 +106,11 @@ impl Decoder {
     #[inline]
     pub fn next<'a>(&mut self, bytes: &'a [u8]) -> Result<Next<'a>, Fault> {
         let mut head = sys::pgmsg_frame::default();
-        let is_whole = answer(|fault| self.cut(bytes, &mut head, fault))?;
+        let is_whole = match self.side {
+            Side::Server => ask!(pgmsg_next_frame([bytes], &mut head)),
+            Side::Client => ask!(pgmsg_next_frontend_frame([bytes], &mut head)),
+            Side::ClientFirst => ask!(pgmsg_next_first_frame([bytes], MAX_FIRST_LENGTH, &mut head)),
+        }?;
         if head.length > self.limit {
             return Err(Refusal::FrameTooLong.into());
         }
@@ -144,28 +148,5 @@ impl Decoder {
     #[inline]
     pub fn advance(&mut self, length: usize) {
         self.offset += length as u64;
-    }
-
-    /// Has the library look at the front of some bytes: 1 where there is a whole message.
-    #[inline]
-    fn cut(
-        &self,
-        bytes: &[u8],
-        head: &mut sys::pgmsg_frame,
-        fault: *mut sys::pgmsg_fault,
-    ) -> isize {
-        let (start, length) = (bytes.as_ptr(), bytes.len());
-        let is_whole = match self.side {
-            // SAFETY: `bytes` is a slice, valid for its length; `head` and `fault` are apart from it.
-            Side::Server => unsafe { sys::pgmsg_next_frame(start, length, head, fault) },
-            // SAFETY: the same.
-            Side::Client => unsafe { sys::pgmsg_next_frontend_frame(start, length, head, fault) },
-            Side::ClientFirst => {
-                let limit = MAX_FIRST_LENGTH;
-                // SAFETY: the same.
-                unsafe { sys::pgmsg_next_first_frame(start, length, limit, head, fault) }
-            }
-        };
-        is_whole as isize
     }
 }

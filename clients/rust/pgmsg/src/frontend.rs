@@ -33,10 +33,10 @@ pub(crate) use copy::{read as read_data, write as write_data};
 
 use crate::buffer::Buffer;
 use crate::byte_str::ByteStr;
+use crate::calls::{ask, put};
 use crate::error::{Fault, Refusal};
 use crate::frame::Frame;
 use crate::message::messages;
-use crate::reading::read_no_body;
 use first::read_first;
 
 messages! {
@@ -84,7 +84,7 @@ messages! {
         /// A part of the data of a COPY.
         CopyData(data: ByteStr<'a>) = b'd', read_data, write_data;
         /// The data of a COPY has ended.
-        CopyDone = b'c', read_no_body, text::write_copy_done;
+        CopyDone = b'c';
         /// A COPY is given up, for this reason.
         CopyFail(reason: ByteStr<'a>) = b'f', text::read, text::write_copy_fail;
         /// A statement or a portal is described.
@@ -92,7 +92,7 @@ messages! {
         /// A portal is run.
         Execute(execute: Execute<'a>) = b'E', Execute::read, Execute::write;
         /// The server is asked to send what it has.
-        Flush = b'H', read_no_body, text::write_flush;
+        Flush = b'H';
         /// A function is called.
         FunctionCall(call: FunctionCall<'a>) = b'F', FunctionCall::read, FunctionCall::write;
         /// A statement is prepared.
@@ -103,9 +103,9 @@ messages! {
         /// The statements of a text are run.
         Query(query: ByteStr<'a>) = b'Q', text::read, text::write_query;
         /// A run of messages ends, which the server answers with ReadyForQuery.
-        Sync = b'S', read_no_body, text::write_sync;
+        Sync = b'S';
         /// The session ends.
-        Terminate = b'X', read_no_body, text::write_terminate;
+        Terminate = b'X';
     }
 }
 

@@ -55,6 +55,7 @@ mod answer;
 pub mod backend;
 mod buffer;
 mod byte_str;
+mod calls;
 #[cfg(feature = "codec")]
 pub mod codec;
 mod decoder;
@@ -64,8 +65,6 @@ mod frame;
 pub mod frontend;
 mod list;
 mod message;
-mod put;
-mod reading;
 pub mod relay;
 mod row;
 pub mod scram;

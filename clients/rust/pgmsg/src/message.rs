@@ -1,8 +1,16 @@
 //! The enum of a side's messages, by a table.
 
 /// Makes the enum of a side's messages by a table: for each its parts, its tag, and the functions that read
-/// its body and that write it. The first rows are of messages that are not read by a tag of their own.
+/// its body and that write it, unless it has none. The first rows are of messages that are not read by a tag
+/// of their own.
 macro_rules! messages {
+    (@read $body:ident $name:ident) => {{
+        ask!(pgmsg_read_no_body([$body]))?;
+        Message::$name
+    }};
+    (@read $body:ident $name:ident $read:expr) => { Message::$name($read($body)?) };
+    (@write $out:ident $tag:literal) => { put!($out, pgmsg_put_no_body($tag)) };
+    (@write $out:ident $tag:literal $parts:ident $write:expr) => { $write($parts, $out) };
     (
         $(#[$doc:meta])*
         read by $read_rest:ident {$(
@@ -11,7 +19,7 @@ macro_rules! messages {
         )*}
         read by tag {$(
             $(#[$row_doc:meta])*
-            $name:ident$(($parts:ident: $type:ty))? = $tag:literal, $read:expr, $write:expr;
+            $name:ident$(($parts:ident: $type:ty))? = $tag:literal$(, $read:expr, $write:expr)?;
         )*}
     ) => {
         $(#[$doc])*
@@ -31,13 +39,9 @@ macro_rules! messages {
 
             /// Reads the body of a message by its tag.
             #[inline]
-            #[allow(clippy::let_unit_value)]
             pub fn read_body(tag: Option<u8>, body: &'a [u8]) -> Result<Message<'a>, Fault> {
                 Ok(match tag {
-                    $(Some($tag) => {
-                        let _read = $read(body)?;
-                        Message::$name$(({ let $parts: $type = _read; $parts }))?
-                    })*
+                    $(Some($tag) => messages!(@read body $name $($read)?),)*
                     _ => $read_rest(tag, body)?,
                 })
             }
@@ -47,7 +51,7 @@ macro_rules! messages {
             pub fn write<B: Buffer>(&self, out: &mut B) -> Result<(), Refusal> {
                 match self {
                     $(Message::$rest$(($rest_parts))? => $write_rest($($rest_parts,)? out),)*
-                    $(Message::$name$(($parts))? => $write($($parts,)? out),)*
+                    $(Message::$name$(($parts))? => messages!(@write out $tag $($parts $write)?),)*
                 }
             }
 

@@ -4,8 +4,9 @@ mod cells;
 
 pub use cells::{Cell, Cells};
 
-use crate::answer::{answer, fill};
-use crate::buffer::{append, Buffer, Spare};
+use crate::answer::fill;
+use crate::buffer::Buffer;
+use crate::calls::{ask, put};
 use crate::error::{Fault, Refusal};
 use crate::list::List;
 use crate::sys;
@@ -21,41 +22,33 @@ const FEW: usize = 32;
 #[inline]
 pub(crate) fn read_values(
     body: &[u8],
-    mut call: impl FnMut(&mut [Cell]) -> Result<usize, Fault>,
+    mut call: impl FnMut(*mut sys::pgmsg_cell, usize) -> Result<usize, Fault>,
 ) -> Result<List<'_, Value<'_>>, Fault> {
+    // A `Cell` is one of the library.
+    let mut call = |room: &mut [Cell]| call(room.as_mut_ptr().cast(), room.len());
     let mut few = [Cell::default(); FEW];
     let count = call(&mut few)?;
-    match few.get(..count) {
-        Some(cells) => Ok(values_at(body, cells)),
-        None => Ok(values_at(
-            body,
-            fill(&mut vec![Cell::default(); count], call)?,
-        )),
-    }
-}
-
-fn values_at<'b>(body: &'b [u8], cells: &[Cell]) -> List<'b, Value<'b>> {
-    cells.iter().map(|cell| cell.value(body).into()).collect()
+    let mut many = Vec::new();
+    let cells = match few.get(..count) {
+        Some(cells) => cells,
+        None => fill(&mut many, call)?,
+    };
+    Ok(cells.iter().map(|cell| cell.value(body).into()).collect())
 }
 
 /// Reads the body of a DataRow.
 #[inline]
 pub(crate) fn read(body: &[u8]) -> Result<List<'_, Value<'_>>, Fault> {
-    read_values(body, |room| places_in(body, room))
+    read_values(body, |room, length| {
+        ask!(pgmsg_read_row([body], room, length))
+    })
 }
 
 /// Appends a DataRow.
 #[inline]
 pub(crate) fn write<B: Buffer>(values: &[Value<'_>], out: &mut B) -> Result<(), Refusal> {
-    let call = |mut out: Spare<'_>| {
-        let room = out.len();
-        let (start, count) = (Value::list(values), values.len());
-        // SAFETY: both are slices, valid for their lengths, as are those of the values; `&mut` keeps `out`
-        // apart. A value is one of the library.
-        unsafe { sys::pgmsg_put_row(start, count, out.as_mut_ptr(), room) }
-    };
-    // SAFETY: the call is one of the library, which writes a message so.
-    unsafe { append(out, call) }
+    let values = Value::list(values);
+    put!(out, pgmsg_put_row([values]))
 }
 
 /// Reads rows, and keeps the room for the places of their cells from one row to the next.
@@ -109,19 +102,9 @@ impl RowIndex {
 /// ```
 #[inline]
 pub fn places_in(body: &[u8], room: &mut [Cell]) -> Result<usize, Fault> {
-    let count = answer(|fault| {
-        // SAFETY: `body` and `room` are slices, valid for their lengths, and `&mut` keeps `room` and
-        // `fault` apart. A `Cell` is one of the library.
-        unsafe {
-            sys::pgmsg_read_row(
-                body.as_ptr(),
-                body.len(),
-                room.as_mut_ptr().cast(),
-                room.len(),
-                fault,
-            )
-        }
-    })?;
+    // A `Cell` is one of the library.
+    let (start, length) = (room.as_mut_ptr().cast(), room.len());
+    let count = ask!(pgmsg_read_row([body], start, length))?;
     // The library is proved to give no other place.
     debug_assert!(room.iter().take(count).all(|cell| cell.is_in(body)));
     Ok(count)

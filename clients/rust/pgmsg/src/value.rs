@@ -61,8 +61,9 @@ impl<'a> Value<'a> {
 
     /// Values as the library takes them: each is one of the library.
     #[inline]
-    pub(crate) fn list(values: &[Value<'_>]) -> *const sys::pgmsg_value {
-        values.as_ptr().cast()
+    pub(crate) fn list<'v>(values: &'v [Value<'_>]) -> &'v [sys::pgmsg_value] {
+        // SAFETY: it is the same slice.
+        unsafe { slice::from_raw_parts(values.as_ptr().cast(), values.len()) }
     }
 }
 

@@ -2,11 +2,10 @@
 
 use super::Message;
 use crate::answer::part;
-use crate::buffer::{append, Buffer, Spare};
+use crate::buffer::Buffer;
 use crate::byte_str::ByteStr;
+use crate::calls::{put, read};
 use crate::error::{Fault, Refusal};
-use crate::put::{put_bytes, put_frame, put_no_body};
-use crate::reading::read_parts;
 use crate::row::Cell;
 use crate::sys;
 use crate::value::Value;
@@ -14,14 +13,12 @@ use crate::value::Value;
 /// Reads the text of a command's tag, without its NUL.
 #[inline]
 pub(super) fn read_command(body: &[u8]) -> Result<ByteStr<'_>, Fault> {
-    // SAFETY: the call is one of the library, which reads a body so.
-    let read = unsafe { read_parts(body, sys::pgmsg_read_command_complete)? };
+    let read: sys::pgmsg_command = read!(pgmsg_read_command_complete([body]))?;
     part(body, read.tag).map(ByteStr)
 }
 
 pub(super) fn write_command<B: Buffer>(tag: &[u8], out: &mut B) -> Result<(), Refusal> {
-    // SAFETY: the call is one of the library, which writes a message so.
-    unsafe { put_bytes(out, sys::pgmsg_put_command_complete, tag) }
+    put!(out, pgmsg_put_command_complete([tag]))
 }
 
 /// How many rows a command had to do with, by its tag: the number after the last space, and 0 where there
@@ -35,30 +32,8 @@ pub(super) fn write_command<B: Buffer>(tag: &[u8], out: &mut B) -> Result<(), Re
 #[inline]
 pub fn rows_affected(tag: &[u8]) -> u64 {
     let body = [tag, b"\0"].concat();
-    // SAFETY: the call is one of the library, which reads a body so.
-    let read = unsafe { read_parts(&body, sys::pgmsg_read_command_complete) };
-    read.map_or(0, |read| read.rows)
-}
-
-/// The functions that write a message without a body, by its tag.
-macro_rules! empty {
-    ($($write:ident = $tag:literal,)*) => {
-        $(
-            pub(super) fn $write<B: Buffer>(out: &mut B) -> Result<(), Refusal> {
-                put_no_body(out, $tag)
-            }
-        )*
-    };
-}
-
-empty! {
-    write_bind_complete = b'2',
-    write_close_complete = b'3',
-    write_copy_done = b'c',
-    write_empty_query = b'I',
-    write_no_data = b'n',
-    write_parse_complete = b'1',
-    write_portal_suspended = b's',
+    let read = read!(pgmsg_read_command_complete([body]));
+    read.map_or(0, |read: sys::pgmsg_command| read.rows)
 }
 
 /// The result of a function that was called, or NULL.
@@ -78,8 +53,7 @@ pub struct FunctionCallResponse<'a>(pub Value<'a>);
 impl<'a> FunctionCallResponse<'a> {
     /// Reads the body of a FunctionCallResponse.
     pub fn read(body: &'a [u8]) -> Result<FunctionCallResponse<'a>, Fault> {
-        // SAFETY: the call is one of the library, which reads a body so.
-        let cell = unsafe { read_parts(body, sys::pgmsg_read_function_result)? };
+        let cell = read!(pgmsg_read_function_result([body]))?;
         Ok(FunctionCallResponse(Cell::new(cell).value(body).into()))
     }
 
@@ -87,23 +61,11 @@ impl<'a> FunctionCallResponse<'a> {
     ///
     /// Refused with [`MessageTooLong`](Refusal::MessageTooLong) above 2147483639 bytes.
     pub fn write<B: Buffer>(&self, out: &mut B) -> Result<(), Refusal> {
-        let (value, bytes) = (self.0.bytes(), self.0.bytes().unwrap_or_default());
-        let call = |mut out: Spare<'_>| {
-            let room = out.len();
-            let is_null = value.is_none();
-            // SAFETY: both are slices, valid for their lengths, and `&mut` keeps `out` apart.
-            unsafe {
-                sys::pgmsg_put_function_result(
-                    bytes.as_ptr(),
-                    bytes.len(),
-                    is_null,
-                    out.as_mut_ptr(),
-                    room,
-                )
-            }
-        };
-        // SAFETY: the call is one of the library, which writes a message so.
-        unsafe { append(out, call) }
+        let bytes = self.0.bytes().unwrap_or_default();
+        put!(
+            out,
+            pgmsg_put_function_result([bytes], self.0.bytes().is_none())
+        )
     }
 }
 
@@ -126,7 +88,7 @@ pub struct Other<'a> {
 impl Other<'_> {
     /// Appends the message.
     pub fn write<B: Buffer>(&self, out: &mut B) -> Result<(), Refusal> {
-        put_frame(out, self.tag, &self.body)
+        put!(out, pgmsg_put_frame(self.tag, [self.body]))
     }
 }
 

@@ -2,13 +2,12 @@
 
 use super::end::end;
 use super::status::texts_of;
-use crate::answer::part;
-use crate::buffer::{append, Buffer, Spare};
+use crate::answer::{items, part};
+use crate::buffer::Buffer;
 use crate::byte_str::{ByteStr, Secret};
+use crate::calls::{count, put, read};
 use crate::error::{Fault, Refusal};
 use crate::list::List;
-use crate::put::{put_frame, put_numbered};
-use crate::reading::{list_items, read_parts};
 use crate::sys;
 
 /// The bytes of the number of a method.
@@ -47,8 +46,7 @@ pub enum Authentication<'a> {
 impl<'a> Authentication<'a> {
     /// Reads the body of an Authentication.
     pub fn read(body: &'a [u8]) -> Result<Authentication<'a>, Fault> {
-        // SAFETY: the call is one of the library, which reads a body so.
-        let raw = unsafe { read_parts(body, sys::pgmsg_read_authentication)? };
+        let raw: sys::pgmsg_authentication = read!(pgmsg_read_authentication([body]))?;
         let content = Secret(part(body, raw.content)?);
         match raw.method {
             0 => Ok(Authentication::Ok),
@@ -88,15 +86,14 @@ impl<'a> Authentication<'a> {
             }
             Authentication::Other(method, content) => {
                 let body = [&method.to_be_bytes(), content.0].concat();
-                put_frame(out, b'R', &body)
+                put!(out, pgmsg_put_frame(b'R', [body]))
             }
         }
     }
 
     /// Appends the message of the method with what follows it.
     fn put<B: Buffer>(&self, content: &[u8], out: &mut B) -> Result<(), Refusal> {
-        // SAFETY: the call is one of the library, which writes a message so.
-        unsafe { put_numbered(out, sys::pgmsg_put_authentication, self.method(), content) }
+        put!(out, pgmsg_put_authentication(self.method(), [content]))
     }
 
     /// Whether the request belongs to a secret: it carries data of an exchange.
@@ -117,21 +114,12 @@ fn read_salt(body: &[u8]) -> Result<[u8; 4], Fault> {
 }
 
 fn read_mechanisms<'a>(body: &'a [u8]) -> Result<List<'a, ByteStr<'a>>, Fault> {
-    // SAFETY: the call is one of the library, which reads a body so.
-    let places = unsafe { list_items(body, sys::pgmsg_read_mechanisms)? };
+    let places = items(|room| Ok(count!(pgmsg_read_mechanisms([body], mut [room]))))?;
     let names = places.iter().map(|&place| part(body, place).map(ByteStr));
     names.collect()
 }
 
 fn write_mechanisms<B: Buffer>(names: &[ByteStr<'_>], out: &mut B) -> Result<(), Refusal> {
     let names = texts_of(names);
-    let call = |mut out: Spare<'_>| {
-        let room = out.len();
-        let (start, count) = (names.as_ptr(), names.len());
-        // SAFETY: both are slices, valid for their lengths, as are those that `names` points to; `&mut`
-        // keeps `out` apart.
-        unsafe { sys::pgmsg_put_authentication_sasl(start, count, out.as_mut_ptr(), room) }
-    };
-    // SAFETY: the call is one of the library, which writes a message so.
-    unsafe { append(out, call) }
+    put!(out, pgmsg_put_authentication_sasl([names]))
 }

@@ -1,12 +1,12 @@
 //! The columns of a result, and the types of a statement's parameters.
 
-use crate::answer::part;
-use crate::buffer::{append, Buffer, Spare};
+use crate::answer::{items, part};
+use crate::buffer::Buffer;
 use crate::byte_str::ByteStr;
+use crate::calls::{ask, put};
 use crate::error::{Fault, Refusal};
 use crate::format::Format;
 use crate::list::List;
-use crate::reading::read_items;
 use crate::sys;
 use alloc::vec::Vec;
 
@@ -79,38 +79,21 @@ impl<'a> Column<'a> {
 
 /// Reads the body of a RowDescription.
 pub(super) fn read<'a>(body: &'a [u8]) -> Result<List<'a, Column<'a>>, Fault> {
-    // SAFETY: the call is one of the library, which reads a body so.
-    let columns = unsafe { read_items(body, sys::pgmsg_read_columns)? };
+    let columns = items(|room| ask!(pgmsg_read_columns([body], mut [room])))?;
     let columns = columns.iter().map(|column| Column::of(body, column));
     columns.collect()
 }
 
 pub(super) fn write<B: Buffer>(columns: &[Column<'_>], out: &mut B) -> Result<(), Refusal> {
     let columns: Vec<_> = columns.iter().map(Column::text).collect();
-    let call = |mut out: Spare<'_>| {
-        let room = out.len();
-        let (start, count) = (columns.as_ptr(), columns.len());
-        // SAFETY: both are slices, valid for their lengths, as are the names that `columns` points to;
-        // `&mut` keeps `out` apart.
-        unsafe { sys::pgmsg_put_columns(start, count, out.as_mut_ptr(), room) }
-    };
-    // SAFETY: the call is one of the library, which writes a message so.
-    unsafe { append(out, call) }
+    put!(out, pgmsg_put_columns([columns]))
 }
 
 /// Reads the body of a ParameterDescription.
 pub(super) fn read_types(body: &[u8]) -> Result<List<'static, u32>, Fault> {
-    // SAFETY: the call is one of the library, which reads a body so.
-    unsafe { read_items(body, sys::pgmsg_read_parameter_types) }.map(List::from)
+    items(|room| ask!(pgmsg_read_parameter_types([body], mut [room]))).map(List::from)
 }
 
 pub(super) fn write_types<B: Buffer>(types: &[u32], out: &mut B) -> Result<(), Refusal> {
-    let call = |mut out: Spare<'_>| {
-        let room = out.len();
-        let (start, count) = (types.as_ptr(), types.len());
-        // SAFETY: both are slices, valid for their lengths, and `&mut` keeps `out` apart.
-        unsafe { sys::pgmsg_put_parameter_types(start, count, out.as_mut_ptr(), room) }
-    };
-    // SAFETY: the call is one of the library, which writes a message so.
-    unsafe { append(out, call) }
+    put!(out, pgmsg_put_parameter_types([types]))
 }

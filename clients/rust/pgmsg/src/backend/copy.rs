@@ -1,12 +1,12 @@
 //! How the data of a COPY is spelled.
 
-use crate::answer::{answer, fill};
-use crate::buffer::{append, Buffer, Spare};
+use crate::answer::items;
+use crate::buffer::Buffer;
+use crate::calls::{ask, put};
 use crate::error::{Fault, Refusal};
 use crate::format::Format;
 use crate::list::List;
 use crate::sys;
-use alloc::vec::Vec;
 
 /// How the data of a COPY is spelled.
 ///
@@ -32,22 +32,15 @@ impl CopyResponse<'_> {
     /// Reads the body of a CopyInResponse, a CopyOutResponse or a CopyBothResponse.
     pub fn read(body: &[u8]) -> Result<CopyResponse<'static>, Fault> {
         let mut response = sys::pgmsg_copy_response::default();
-        let mut columns = Vec::new();
-        fill(&mut columns, |room: &mut [Format]| {
-            answer(|fault| {
-                // SAFETY: `body` and `room` are slices, valid for their lengths, and `&mut` keeps `room`,
-                // `response` and `fault` apart. A `Format` is the number of the library.
-                unsafe {
-                    sys::pgmsg_read_copy_response(
-                        body.as_ptr(),
-                        body.len(),
-                        &mut response,
-                        room.as_mut_ptr().cast(),
-                        room.len(),
-                        fault,
-                    )
-                }
-            })
+        // A `Format` is a number of the library.
+        let columns = items(|room: &mut [Format]| {
+            let (start, length) = (room.as_mut_ptr().cast(), room.len());
+            ask!(pgmsg_read_copy_response(
+                [body],
+                &mut response,
+                start,
+                length
+            ))
         })?;
         Ok(CopyResponse {
             format: response.format,
@@ -57,22 +50,12 @@ impl CopyResponse<'_> {
 
     /// Appends the message of a tag. Refused with [`TooMany`](Refusal::TooMany) above 32767 columns.
     fn write<B: Buffer>(&self, tag: u8, out: &mut B) -> Result<(), Refusal> {
-        let call = |mut out: Spare<'_>| {
-            // SAFETY: both are slices, valid for their lengths, and `&mut` keeps `out` apart. A `Format`
-            // is the number of the library.
-            unsafe {
-                sys::pgmsg_put_copy_response(
-                    tag,
-                    self.format,
-                    self.columns.as_ptr().cast(),
-                    self.columns.len(),
-                    out.as_mut_ptr(),
-                    out.len(),
-                )
-            }
-        };
-        // SAFETY: the call is one of the library, which writes a message so.
-        unsafe { append(out, call) }
+        // A `Format` is a number of the library.
+        let (start, length) = (self.columns.as_ptr().cast(), self.columns.len());
+        put!(
+            out,
+            pgmsg_put_copy_response(tag, self.format, start, length)
+        )
     }
 }
 

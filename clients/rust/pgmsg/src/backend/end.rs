@@ -1,8 +1,7 @@
 //! Where the parts of a body end.
 
-use crate::answer::answer;
+use crate::calls::ask;
 use crate::error::Fault;
-use crate::sys;
 
 /// The offset after the last part of a body, by the tag of its message: `body.len()` where nothing
 /// follows the parts that the documentation lists.
@@ -19,8 +18,5 @@ use crate::sys;
 /// ```
 #[inline]
 pub fn end(tag: u8, body: &[u8]) -> Result<usize, Fault> {
-    answer(|fault| {
-        // SAFETY: `body` is a slice, valid for its length, and `fault` is apart from it.
-        unsafe { sys::pgmsg_read_end(tag, body.as_ptr(), body.len(), fault) }
-    })
+    ask!(pgmsg_read_end(tag, [body]))
 }

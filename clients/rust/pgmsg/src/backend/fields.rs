@@ -1,11 +1,11 @@
 //! The fields of an error or a notice.
 
-use crate::answer::part;
-use crate::buffer::{append, Buffer, Spare};
+use crate::answer::{items, part};
+use crate::buffer::Buffer;
 use crate::byte_str::ByteStr;
+use crate::calls::{ask, count, put};
 use crate::error::{Fault, Refusal};
 use crate::list::List;
-use crate::reading::{list_items, read_number};
 use crate::sys;
 use alloc::vec::Vec;
 
@@ -145,9 +145,8 @@ impl<'a> Fields<'a> {
     /// The list ends at the first byte 0 in the place of a letter, at a text without a NUL, or where the
     /// body ends. No body is refused for what it holds.
     pub fn read(body: &'a [u8]) -> Result<Fields<'a>, Fault> {
-        // SAFETY: the call is one of the library, which reads a body so.
-        let fields = unsafe { list_items(body, sys::pgmsg_read_fields)? };
-        let fields = fields.iter().map(|field| {
+        let fields = items(|room| Ok(count!(pgmsg_read_fields([body], mut [room]))))?;
+        let fields = fields.iter().map(|field: &sys::pgmsg_field| {
             Ok(Field {
                 letter: field.letter,
                 value: ByteStr(part(body, field.value)?),
@@ -185,14 +184,7 @@ pub(super) fn write_notice<B: Buffer>(fields: &[Field<'_>], out: &mut B) -> Resu
 
 fn write<B: Buffer>(tag: u8, fields: &[Field<'_>], out: &mut B) -> Result<(), Refusal> {
     let fields: Vec<_> = fields.iter().map(text_of).collect();
-    let call = |mut out: Spare<'_>| {
-        let room = out.len();
-        // SAFETY: both are slices, valid for their lengths, as are those that `fields` points to; `&mut`
-        // keeps `out` apart.
-        unsafe { sys::pgmsg_put_notice(tag, fields.as_ptr(), fields.len(), out.as_mut_ptr(), room) }
-    };
-    // SAFETY: the call is one of the library, which writes a message so.
-    unsafe { append(out, call) }
+    put!(out, pgmsg_put_notice(tag, [fields]))
 }
 
 /// The field as the library takes it. It points to the text.
@@ -240,8 +232,7 @@ impl Severity {
     /// # Ok::<(), pgmsg::Fault>(())
     /// ```
     pub fn read(body: &[u8]) -> Result<Severity, Fault> {
-        // SAFETY: the call is one of the library, which reads a body so.
-        let number = unsafe { read_number(body, sys::pgmsg_read_severity)? };
+        let number = ask!(pgmsg_read_severity([body]))?;
         let severity = SEVERITIES.get(number).copied();
         severity.ok_or_else(|| Fault::unexpected(number))
     }

@@ -1,12 +1,11 @@
 //! What a session reports of itself.
 
-use crate::answer::{answer, fill, part};
-use crate::buffer::{append, Buffer, Spare};
+use crate::answer::{items, part};
+use crate::buffer::Buffer;
 use crate::byte_str::{ByteStr, Secret};
+use crate::calls::{ask, put, read};
 use crate::error::{Fault, Refusal};
 use crate::list::List;
-use crate::put::put_numbered;
-use crate::reading::{read_number, read_parts};
 use crate::sys;
 use alloc::vec::Vec;
 
@@ -33,8 +32,7 @@ pub struct BackendKeyData<'a> {
 impl<'a> BackendKeyData<'a> {
     /// Reads the body of a BackendKeyData.
     pub fn read(body: &'a [u8]) -> Result<BackendKeyData<'a>, Fault> {
-        // SAFETY: the call is one of the library, which reads a body so.
-        let read = unsafe { read_parts(body, sys::pgmsg_read_key_data)? };
+        let read: sys::pgmsg_key_data = read!(pgmsg_read_key_data([body]))?;
         Ok(BackendKeyData {
             process_id: read.process_id,
             secret_key: Secret(part(body, read.secret_key)?),
@@ -46,9 +44,10 @@ impl<'a> BackendKeyData<'a> {
     /// Refused with [`BadKeyLength`](Refusal::BadKeyLength) where the key has fewer than 4 bytes, or more
     /// than 256.
     pub fn write<B: Buffer>(&self, out: &mut B) -> Result<(), Refusal> {
-        let (process, key) = (self.process_id, self.secret_key.0);
-        // SAFETY: the call is one of the library, which writes a message so.
-        unsafe { put_numbered(out, sys::pgmsg_put_backend_key_data, process, key) }
+        put!(
+            out,
+            pgmsg_put_backend_key_data(self.process_id, [self.secret_key.0])
+        )
     }
 }
 
@@ -76,8 +75,7 @@ pub struct NotificationResponse<'a> {
 impl<'a> NotificationResponse<'a> {
     /// Reads the body of a NotificationResponse.
     pub fn read(body: &'a [u8]) -> Result<NotificationResponse<'a>, Fault> {
-        // SAFETY: the call is one of the library, which reads a body so.
-        let read = unsafe { read_parts(body, sys::pgmsg_read_notification)? };
+        let read: sys::pgmsg_notification = read!(pgmsg_read_notification([body]))?;
         Ok(NotificationResponse {
             process_id: read.process_id,
             channel: ByteStr(part(body, read.channel)?),
@@ -89,22 +87,10 @@ impl<'a> NotificationResponse<'a> {
     ///
     /// Refused with [`TextHoldsNul`](Refusal::TextHoldsNul) where a text holds a NUL.
     pub fn write<B: Buffer>(&self, out: &mut B) -> Result<(), Refusal> {
-        let call = |mut out: Spare<'_>| {
-            // SAFETY: all are slices, valid for their lengths, and `&mut` keeps `out` apart.
-            unsafe {
-                sys::pgmsg_put_notification(
-                    self.process_id,
-                    self.channel.as_ptr(),
-                    self.channel.len(),
-                    self.payload.as_ptr(),
-                    self.payload.len(),
-                    out.as_mut_ptr(),
-                    out.len(),
-                )
-            }
-        };
-        // SAFETY: the call is one of the library, which writes a message so.
-        unsafe { append(out, call) }
+        put!(
+            out,
+            pgmsg_put_notification(self.process_id, [self.channel], [self.payload])
+        )
     }
 }
 
@@ -130,8 +116,7 @@ pub struct ParameterStatus<'a> {
 impl<'a> ParameterStatus<'a> {
     /// Reads the body of a ParameterStatus.
     pub fn read(body: &'a [u8]) -> Result<ParameterStatus<'a>, Fault> {
-        // SAFETY: the call is one of the library, which reads a body so.
-        let read = unsafe { read_parts(body, sys::pgmsg_read_parameter_status)? };
+        let read: sys::pgmsg_parameter_status = read!(pgmsg_read_parameter_status([body]))?;
         Ok(ParameterStatus {
             name: ByteStr(part(body, read.name)?),
             value: ByteStr(part(body, read.value)?),
@@ -142,21 +127,7 @@ impl<'a> ParameterStatus<'a> {
     ///
     /// Refused with [`TextHoldsNul`](Refusal::TextHoldsNul) where one of them holds a NUL.
     pub fn write<B: Buffer>(&self, out: &mut B) -> Result<(), Refusal> {
-        let call = |mut out: Spare<'_>| {
-            // SAFETY: all are slices, valid for their lengths, and `&mut` keeps `out` apart.
-            unsafe {
-                sys::pgmsg_put_parameter_status(
-                    self.name.as_ptr(),
-                    self.name.len(),
-                    self.value.as_ptr(),
-                    self.value.len(),
-                    out.as_mut_ptr(),
-                    out.len(),
-                )
-            }
-        };
-        // SAFETY: the call is one of the library, which writes a message so.
-        unsafe { append(out, call) }
+        put!(out, pgmsg_put_parameter_status([self.name], [self.value]))
     }
 }
 
@@ -194,8 +165,7 @@ impl TransactionStatus {
     /// Reads the body of a ReadyForQuery.
     #[inline]
     pub fn read(body: &[u8]) -> Result<TransactionStatus, Fault> {
-        // SAFETY: the call is one of the library, which reads a body so.
-        let letter = unsafe { read_number(body, sys::pgmsg_read_ready)? };
+        let letter = ask!(pgmsg_read_ready([body]))?;
         match u8::try_from(letter) {
             Ok(b'I') => Ok(TransactionStatus::Idle),
             Ok(b'T') => Ok(TransactionStatus::InTransaction),
@@ -205,12 +175,7 @@ impl TransactionStatus {
     }
 
     pub(super) fn write<B: Buffer>(&self, out: &mut B) -> Result<(), Refusal> {
-        let call = |mut out: Spare<'_>| {
-            // SAFETY: `out` is room, valid for its length.
-            unsafe { sys::pgmsg_put_ready(self.letter(), out.as_mut_ptr(), out.len()) }
-        };
-        // SAFETY: the call is one of the library, which writes a message so.
-        unsafe { append(out, call) }
+        put!(out, pgmsg_put_ready(self.letter()))
     }
 }
 
@@ -238,20 +203,8 @@ impl<'a> NegotiateProtocolVersion<'a> {
     /// Reads the body of a NegotiateProtocolVersion, with or without the major version before the minor one.
     pub fn read(body: &'a [u8]) -> Result<NegotiateProtocolVersion<'a>, Fault> {
         let mut read = sys::pgmsg_negotiation::default();
-        let mut places = Vec::new();
-        let places = fill(&mut places, |room: &mut [sys::pgmsg_span]| {
-            answer(|fault| {
-                let (start, length) = (body.as_ptr(), body.len());
-                let (options, count) = (room.as_mut_ptr(), room.len());
-                // SAFETY: `body` and `room` are slices, valid for their lengths, and `&mut` keeps `room`,
-                // `read` and `fault` apart.
-                unsafe {
-                    sys::pgmsg_read_negotiate_version(
-                        start, length, &mut read, options, count, fault,
-                    )
-                }
-            })
-        })?;
+        let places =
+            items(|room| ask!(pgmsg_read_negotiate_version([body], &mut read, mut [room])))?;
         let options = places.iter().map(|&place| part(body, place).map(ByteStr));
         Ok(NegotiateProtocolVersion {
             minor: read.minor,
@@ -264,16 +217,7 @@ impl<'a> NegotiateProtocolVersion<'a> {
     /// Refused with [`TextHoldsNul`](Refusal::TextHoldsNul) where a name holds a NUL.
     pub fn write<B: Buffer>(&self, out: &mut B) -> Result<(), Refusal> {
         let options = texts_of(&self.options);
-        let call = |mut out: Spare<'_>| {
-            let room = out.len();
-            let (start, count) = (options.as_ptr(), options.len());
-            let minor = self.minor;
-            // SAFETY: both are slices, valid for their lengths, as are those that `options` points to;
-            // `&mut` keeps `out` apart.
-            unsafe { sys::pgmsg_put_negotiate_version(minor, start, count, out.as_mut_ptr(), room) }
-        };
-        // SAFETY: the call is one of the library, which writes a message so.
-        unsafe { append(out, call) }
+        put!(out, pgmsg_put_negotiate_version(self.minor, [options]))
     }
 }
 

@@ -1,15 +1,17 @@
 //! Values of parameters, and those of a function's arguments.
 
 use super::lists::formats;
-use crate::answer::{answer, part};
-use crate::buffer::{append, Buffer, Spare};
+use crate::answer::part;
+use crate::buffer::Buffer;
 use crate::byte_str::ByteStr;
+use crate::calls::{ask, put};
 use crate::error::{Fault, Refusal};
 use crate::format::Format;
 use crate::list::List;
 use crate::row::read_values;
 use crate::sys;
 use crate::value::Value;
+use core::slice;
 
 /// A portal that is made of a prepared statement and the values of its parameters.
 ///
@@ -49,8 +51,10 @@ pub struct Bind<'a> {
 impl<'a> Bind<'a> {
     /// Reads the body of a Bind.
     pub fn read(body: &'a [u8]) -> Result<Bind<'a>, Fault> {
-        // SAFETY: the call is one of the library, which reads a body so.
-        let (read, values) = unsafe { read_with_values(body, sys::pgmsg_read_bind)? };
+        let mut read = sys::pgmsg_bind::default();
+        let values = read_values(body, |room, length| {
+            ask!(pgmsg_read_bind([body], room, length, &mut read))
+        })?;
         Ok(Bind {
             portal: ByteStr(part(body, read.portal)?),
             statement: ByteStr(part(body, read.statement)?),
@@ -68,28 +72,18 @@ impl<'a> Bind<'a> {
     /// [`TooManyResultFormats`](Refusal::TooManyResultFormats) above 65535 formats.
     #[inline]
     pub fn write<B: Buffer>(&self, out: &mut B) -> Result<(), Refusal> {
-        let call = |mut out: Spare<'_>| {
-            // SAFETY: all are slices, valid for their lengths, as are those of the values; `&mut`
-            // keeps `out` apart. A value is one of the library, and a format 16 bits.
-            unsafe {
-                sys::pgmsg_put_bind(
-                    self.portal.as_ptr(),
-                    self.portal.len(),
-                    self.statement.as_ptr(),
-                    self.statement.len(),
-                    codes(&self.formats),
-                    self.formats.len(),
-                    Value::list(&self.values),
-                    self.values.len(),
-                    codes(&self.result_formats),
-                    self.result_formats.len(),
-                    out.as_mut_ptr(),
-                    out.len(),
-                )
-            }
-        };
-        // SAFETY: the call is one of the library, which writes a message so.
-        unsafe { append(out, call) }
+        let (formats, results) = (codes(&self.formats), codes(&self.result_formats));
+        let values = Value::list(&self.values);
+        put!(
+            out,
+            pgmsg_put_bind(
+                [self.portal],
+                [self.statement],
+                [formats],
+                [values],
+                [results]
+            )
+        )
     }
 }
 
@@ -119,8 +113,10 @@ pub struct FunctionCall<'a> {
 impl<'a> FunctionCall<'a> {
     /// Reads the body of a FunctionCall.
     pub fn read(body: &'a [u8]) -> Result<FunctionCall<'a>, Fault> {
-        // SAFETY: the call is one of the library, which reads a body so.
-        let (read, arguments) = unsafe { read_with_values(body, sys::pgmsg_read_function_call)? };
+        let mut read = sys::pgmsg_function_call::default();
+        let arguments = read_values(body, |room, length| {
+            ask!(pgmsg_read_function_call([body], room, length, &mut read))
+        })?;
         Ok(FunctionCall {
             object_id: read.function,
             formats: formats(body, read.formats)?,
@@ -131,71 +127,18 @@ impl<'a> FunctionCall<'a> {
 
     /// Appends the message. Refused as [`Bind::write`] is, for its arguments and their formats.
     pub fn write<B: Buffer>(&self, out: &mut B) -> Result<(), Refusal> {
-        let call = |mut out: Spare<'_>| {
-            // SAFETY: all are slices, valid for their lengths, as are those of the values; `&mut`
-            // keeps `out` apart. A value is one of the library, and a format 16 bits.
-            unsafe {
-                sys::pgmsg_put_function_call(
-                    self.object_id,
-                    codes(&self.formats),
-                    self.formats.len(),
-                    Value::list(&self.arguments),
-                    self.arguments.len(),
-                    self.result_format.0 as u16,
-                    out.as_mut_ptr(),
-                    out.len(),
-                )
-            }
-        };
-        // SAFETY: the call is one of the library, which writes a message so.
-        unsafe { append(out, call) }
+        let (formats, arguments) = (codes(&self.formats), Value::list(&self.arguments));
+        let result = self.result_format.0 as u16;
+        put!(
+            out,
+            pgmsg_put_function_call(self.object_id, [formats], [arguments], result)
+        )
     }
 }
 
 /// The formats as the library takes them: each is 16 bits.
 #[inline]
-fn codes(formats: &[Format]) -> *const u16 {
-    formats.as_ptr().cast()
-}
-
-/// A call of the library that reads a message with values: of its body it gives the places of as many values
-/// as there is room for, and what else the message has.
-type ReadValues<M> = unsafe extern "C" fn(
-    *const u8,
-    usize,
-    *mut sys::pgmsg_cell,
-    usize,
-    *mut M,
-    *mut sys::pgmsg_fault,
-) -> isize;
-
-/// What a call gives of a body, and the values.
-///
-/// # Safety
-///
-/// The call touches nothing but what it is passed, for the time of the call.
-#[inline]
-unsafe fn read_with_values<M: Default>(
-    body: &[u8],
-    call: ReadValues<M>,
-) -> Result<(M, List<'_, Value<'_>>), Fault> {
-    let mut read = M::default();
-    let values = read_values(body, |room| {
-        answer(|fault| {
-            let (start, length) = (body.as_ptr(), body.len());
-            // SAFETY: `body` and `room` are slices, valid for their lengths, and `&mut` keeps `room`,
-            // `read` and `fault` apart. A `Cell` is one of the library.
-            unsafe {
-                call(
-                    start,
-                    length,
-                    room.as_mut_ptr().cast(),
-                    room.len(),
-                    &mut read,
-                    fault,
-                )
-            }
-        })
-    })?;
-    Ok((read, values))
+fn codes(formats: &[Format]) -> &[u16] {
+    // SAFETY: it is the same slice, of numbers of as many bits.
+    unsafe { slice::from_raw_parts(formats.as_ptr().cast(), formats.len()) }
 }

@@ -2,10 +2,8 @@
 
 use crate::buffer::Buffer;
 use crate::byte_str::ByteStr;
+use crate::calls::{count, put};
 use crate::error::{Fault, Refusal};
-use crate::put::put_bytes;
-use crate::sys;
-use crate::version;
 
 /// The first five bytes of a CopyData message of either side, which `len` bytes of data follow.
 ///
@@ -21,13 +19,11 @@ use crate::version;
 /// ```
 #[inline]
 pub fn copy_head(len: usize) -> Result<[u8; 5], Refusal> {
-    version::check();
     let mut head = [0; 5];
-    // SAFETY: `head` is an array of the five bytes that the call writes.
-    let number = unsafe { sys::pgmsg_put_copy_head(len, head.as_mut_ptr()) };
-    match number {
+    // The call writes five bytes.
+    match count!(pgmsg_put_copy_head(len, head.as_mut_ptr())) {
         0 => Ok(head),
-        _ => Err(Refusal::from_number(number as isize)),
+        number => Err(Refusal::from_number(number as isize)),
     }
 }
 
@@ -39,6 +35,5 @@ pub(crate) fn read(body: &[u8]) -> Result<ByteStr<'_>, Fault> {
 
 #[inline]
 pub(crate) fn write<B: Buffer>(data: &[u8], out: &mut B) -> Result<(), Refusal> {
-    // SAFETY: the call is one of the library, which writes a message so.
-    unsafe { put_bytes(out, sys::pgmsg_put_copy_data, data) }
+    put!(out, pgmsg_put_copy_data([data]))
 }

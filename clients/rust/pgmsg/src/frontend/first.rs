@@ -1,13 +1,12 @@
 //! The first message of a connection, which has no tag.
 
 use super::Message;
-use crate::answer::part;
-use crate::buffer::{append, Buffer, Spare};
+use crate::answer::{items, part};
+use crate::buffer::Buffer;
 use crate::byte_str::{ByteStr, Secret};
+use crate::calls::{count, put, read};
 use crate::error::{Fault, Refusal};
 use crate::list::List;
-use crate::put::{put_numbered, put_same};
-use crate::reading::{list_items, read_parts};
 use crate::sys;
 use alloc::format;
 use alloc::vec::Vec;
@@ -73,15 +72,7 @@ impl<'a> Startup<'a> {
     /// would end there.
     pub fn write<B: Buffer>(&self, out: &mut B) -> Result<(), Refusal> {
         let settings: Vec<_> = self.settings.iter().map(setting_of).collect();
-        let call = |mut out: Spare<'_>| {
-            let room = out.len();
-            let (start, count) = (settings.as_ptr(), settings.len());
-            // SAFETY: both are slices, valid for their lengths, as are those that `settings` points to;
-            // `&mut` keeps `out` apart.
-            unsafe { sys::pgmsg_put_startup(self.minor, start, count, out.as_mut_ptr(), room) }
-        };
-        // SAFETY: the call is one of the library, which writes a message so.
-        unsafe { append(out, call) }
+        put!(out, pgmsg_put_startup(self.minor, [settings]))
     }
 }
 
@@ -110,20 +101,19 @@ impl CancelRequest<'_> {
     /// Refused with [`BadKeyLength`](Refusal::BadKeyLength) where the key has fewer than 4 bytes, or more
     /// than 256.
     pub fn write<B: Buffer>(&self, out: &mut B) -> Result<(), Refusal> {
-        let (process, key) = (self.process_id, self.secret_key.0);
-        // SAFETY: the call is one of the library, which writes a message so.
-        unsafe { put_numbered(out, sys::pgmsg_put_cancel_request, process, key) }
+        put!(
+            out,
+            pgmsg_put_cancel_request(self.process_id, [self.secret_key.0])
+        )
     }
 }
 
 pub(super) fn write_ssl_request<B: Buffer>(out: &mut B) -> Result<(), Refusal> {
-    // SAFETY: the call is one of the library, which writes a message so.
-    unsafe { put_same(out, sys::pgmsg_put_ssl_request) }
+    put!(out, pgmsg_put_ssl_request())
 }
 
 pub(super) fn write_gss_enc_request<B: Buffer>(out: &mut B) -> Result<(), Refusal> {
-    // SAFETY: the call is one of the library, which writes a message so.
-    unsafe { put_same(out, sys::pgmsg_put_gss_enc_request) }
+    put!(out, pgmsg_put_gss_enc_request())
 }
 
 /// Reads the body of a message without a tag.
@@ -131,8 +121,7 @@ pub(super) fn read_first(tag: Option<u8>, body: &[u8]) -> Result<Message<'_>, Fa
     if let Some(tag) = tag {
         return Err(Fault::unknown(format!("unknown message type: {tag}")));
     }
-    // SAFETY: the call is one of the library, which reads a body so.
-    let read = unsafe { read_parts(body, sys::pgmsg_read_first)? };
+    let read: sys::pgmsg_first = read!(pgmsg_read_first([body]))?;
     match read.kind {
         sys::PGMSG_FIRST_STARTUP => Ok(Message::Startup(Startup {
             minor: read.minor,
@@ -150,13 +139,14 @@ pub(super) fn read_first(tag: Option<u8>, body: &[u8]) -> Result<Message<'_>, Fa
 
 /// The settings in the body of a Startup.
 fn read_settings(body: &[u8]) -> Result<Settings<'_>, Fault> {
-    // SAFETY: the call is one of the library, which reads a body so.
-    let settings = unsafe { list_items(body, sys::pgmsg_read_settings)? };
-    let settings = settings.iter().map(|setting| {
-        Ok(Setting {
-            name: ByteStr(part(body, setting.name)?),
-            value: ByteStr(part(body, setting.value)?),
-        })
-    });
+    let settings = items(|room| Ok(count!(pgmsg_read_settings([body], mut [room]))))?;
+    let settings = settings
+        .iter()
+        .map(|setting: &sys::pgmsg_parameter_status| {
+            Ok(Setting {
+                name: ByteStr(part(body, setting.name)?),
+                value: ByteStr(part(body, setting.value)?),
+            })
+        });
     settings.collect()
 }

@@ -1,26 +1,33 @@
 //! The numbers of a list in a body.
 
-use crate::error::{Fault, Refusal};
+use crate::answer::grow;
+use crate::calls::count;
+use crate::error::Fault;
 use crate::format::Format;
 use crate::list::List;
 use crate::sys;
 use alloc::vec::Vec;
 
-/// A call of the library that gives as many numbers of a list as there is room for, and their count.
-type ReadNumbers<N> =
-    unsafe extern "C" fn(*const u8, usize, sys::pgmsg_list, *mut N, usize) -> usize;
-
 /// The codes of the formats of a list in a body.
 #[inline]
 pub(super) fn formats(body: &[u8], list: sys::pgmsg_list) -> Result<List<'static, Format>, Fault> {
-    let codes = numbers(body, list, sys::pgmsg_read_codes)?;
+    let codes = numbers(
+        body,
+        list,
+        |room: &mut [u16]| count!(pgmsg_read_codes([body], list, mut [room])),
+    )?;
     Ok(codes.into_iter().map(|code| Format(code as i16)).collect())
 }
 
 /// The types of the parameters of a list in a body.
 #[inline]
 pub(super) fn types(body: &[u8], list: sys::pgmsg_list) -> Result<List<'static, u32>, Fault> {
-    numbers(body, list, sys::pgmsg_read_types).map(List::from)
+    numbers(
+        body,
+        list,
+        |room| count!(pgmsg_read_types([body], list, mut [room])),
+    )
+    .map(List::from)
 }
 
 /// The numbers of a list that the library gave of a body, by one of its two calls.
@@ -28,23 +35,16 @@ pub(super) fn types(body: &[u8], list: sys::pgmsg_list) -> Result<List<'static, 
 fn numbers<N: Clone + Default>(
     body: &[u8],
     list: sys::pgmsg_list,
-    call: ReadNumbers<N>,
+    call: impl FnOnce(&mut [N]) -> usize,
 ) -> Result<Vec<N>, Fault> {
     let mut room = Vec::new();
-    if list.count > 0 {
-        // No list is longer than its body.
-        let count = list.count.min(body.len());
-        room.try_reserve_exact(count)
-            .map_err(|_| Refusal::OutOfMemory)?;
-        room.resize(count, N::default());
-        let (start, length) = (body.as_ptr(), body.len());
-        // SAFETY: both are slices, valid for their lengths, and `&mut` keeps `room` apart.
-        let count = unsafe { call(start, length, list, room.as_mut_ptr(), room.len()) };
-        if count != room.len() {
-            return Err(Fault::unexpected(list.at));
-        }
+    // No list is longer than its body.
+    grow(&mut room, list.count.min(body.len()))?;
+    match list.count {
+        0 => Ok(room),
+        _ if call(&mut room) == room.len() => Ok(room),
+        _ => Err(Fault::unexpected(list.at)),
     }
-    Ok(room)
 }
 
 #[cfg(test)]

@@ -2,11 +2,10 @@
 
 use super::text;
 use crate::answer::part;
-use crate::buffer::{append, Buffer, Spare};
+use crate::buffer::Buffer;
 use crate::byte_str::{ByteStr, Secret};
+use crate::calls::{put, read};
 use crate::error::{Fault, Refusal};
-use crate::put::{put_bytes, put_frame};
-use crate::reading::read_parts;
 use crate::row::Cell;
 use crate::sys;
 use core::fmt;
@@ -34,7 +33,7 @@ impl<'a> Password<'a> {
 
     /// Appends a message of this body.
     pub fn write<B: Buffer>(&self, out: &mut B) -> Result<(), Refusal> {
-        put_frame(out, b'p', self.0)
+        put!(out, pgmsg_put_frame(b'p', [self.0]))
     }
 
     /// The password of a PasswordMessage, in clear or its digest.
@@ -71,8 +70,7 @@ impl PasswordMessage<'_> {
     ///
     /// Refused with [`TextHoldsNul`](Refusal::TextHoldsNul) where the password holds a NUL.
     pub fn write<B: Buffer>(&self, out: &mut B) -> Result<(), Refusal> {
-        // SAFETY: the call is one of the library, which writes a message so.
-        unsafe { put_bytes(out, sys::pgmsg_put_password, self.0 .0) }
+        put!(out, pgmsg_put_password([self.0 .0]))
     }
 }
 
@@ -91,13 +89,8 @@ pub struct Md5Password(pub [u8; 16]);
 impl Md5Password {
     /// Appends the message.
     pub fn write<B: Buffer>(&self, out: &mut B) -> Result<(), Refusal> {
-        let call = |mut out: Spare<'_>| {
-            // SAFETY: the digest is an array of sixteen bytes, and `out` room, valid for its length and
-            // apart from it.
-            unsafe { sys::pgmsg_put_md5_password(self.0.as_ptr(), out.as_mut_ptr(), out.len()) }
-        };
-        // SAFETY: the call is one of the library, which writes a message so.
-        unsafe { append(out, call) }
+        // The call takes sixteen bytes.
+        put!(out, pgmsg_put_md5_password(self.0.as_ptr()))
     }
 }
 
@@ -124,8 +117,7 @@ pub struct SaslInitialResponse<'a> {
 impl<'a> SaslInitialResponse<'a> {
     /// Reads the body of a SASLInitialResponse.
     pub fn read(body: &'a [u8]) -> Result<SaslInitialResponse<'a>, Fault> {
-        // SAFETY: the call is one of the library, which reads a body so.
-        let read = unsafe { read_parts(body, sys::pgmsg_read_sasl_initial)? };
+        let read: sys::pgmsg_sasl_initial = read!(pgmsg_read_sasl_initial([body]))?;
         Ok(SaslInitialResponse {
             mechanism: ByteStr(part(body, read.mechanism)?),
             response: Cell::new(read.response).value(body).map(Secret),
@@ -137,21 +129,10 @@ impl<'a> SaslInitialResponse<'a> {
     /// Refused with [`TextHoldsNul`](Refusal::TextHoldsNul) where the name holds a NUL.
     pub fn write<B: Buffer>(&self, out: &mut B) -> Result<(), Refusal> {
         let response = self.response.unwrap_or_default().0;
-        let call = |mut out: Spare<'_>| {
-            // SAFETY: all are slices, valid for their lengths, and `&mut` keeps `out` apart.
-            unsafe {
-                sys::pgmsg_put_sasl_initial(
-                    self.mechanism.as_ptr(),
-                    self.mechanism.len(),
-                    self.response.is_some(),
-                    response.as_ptr(),
-                    response.len(),
-                    out.as_mut_ptr(),
-                    out.len(),
-                )
-            }
-        };
-        // SAFETY: the call is one of the library, which writes a message so.
-        unsafe { append(out, call) }
+        let has_response = self.response.is_some();
+        put!(
+            out,
+            pgmsg_put_sasl_initial([self.mechanism], has_response, [response])
+        )
     }
 }

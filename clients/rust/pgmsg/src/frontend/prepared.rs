@@ -2,12 +2,11 @@
 
 use super::lists::types;
 use crate::answer::part;
-use crate::buffer::{append, Buffer, Spare};
+use crate::buffer::Buffer;
 use crate::byte_str::ByteStr;
+use crate::calls::{put, read};
 use crate::error::{Fault, Refusal};
 use crate::list::List;
-use crate::put::put_tagged;
-use crate::reading::read_parts;
 use crate::sys;
 use core::num::NonZeroU32;
 
@@ -40,8 +39,7 @@ pub struct Parse<'a> {
 impl<'a> Parse<'a> {
     /// Reads the body of a Parse.
     pub fn read(body: &'a [u8]) -> Result<Parse<'a>, Fault> {
-        // SAFETY: the call is one of the library, which reads a body so.
-        let read = unsafe { read_parts(body, sys::pgmsg_read_parse)? };
+        let read: sys::pgmsg_parse = read!(pgmsg_read_parse([body]))?;
         Ok(Parse {
             statement: ByteStr(part(body, read.statement)?),
             query: ByteStr(part(body, read.query)?),
@@ -55,23 +53,10 @@ impl<'a> Parse<'a> {
     /// [`TooManyParamTypes`](Refusal::TooManyParamTypes) above 65535 types.
     #[inline]
     pub fn write<B: Buffer>(&self, out: &mut B) -> Result<(), Refusal> {
-        let call = |mut out: Spare<'_>| {
-            // SAFETY: all are slices, valid for their lengths, and `&mut` keeps `out` apart.
-            unsafe {
-                sys::pgmsg_put_parse(
-                    self.statement.as_ptr(),
-                    self.statement.len(),
-                    self.query.as_ptr(),
-                    self.query.len(),
-                    self.types.as_ptr(),
-                    self.types.len(),
-                    out.as_mut_ptr(),
-                    out.len(),
-                )
-            }
-        };
-        // SAFETY: the call is one of the library, which writes a message so.
-        unsafe { append(out, call) }
+        put!(
+            out,
+            pgmsg_put_parse([self.statement], [self.query], [self.types])
+        )
     }
 }
 
@@ -97,8 +82,7 @@ pub enum Target<'a> {
 impl<'a> Target<'a> {
     /// Reads the body of a Describe or a Close.
     pub fn read(body: &'a [u8]) -> Result<Target<'a>, Fault> {
-        // SAFETY: the call is one of the library, which reads a body so.
-        let read = unsafe { read_parts(body, sys::pgmsg_read_target)? };
+        let read: sys::pgmsg_target = read!(pgmsg_read_target([body]))?;
         let name = ByteStr(part(body, read.name)?);
         match read.letter {
             b'S' => Ok(Target::Statement(name)),
@@ -127,14 +111,12 @@ impl<'a> Target<'a> {
 
 #[inline]
 pub(super) fn write_describe<B: Buffer>(target: &Target<'_>, out: &mut B) -> Result<(), Refusal> {
-    // SAFETY: the call is one of the library, which writes a message so.
-    unsafe { put_tagged(out, sys::pgmsg_put_describe, target.kind(), &target.name()) }
+    put!(out, pgmsg_put_describe(target.kind(), [target.name()]))
 }
 
 #[inline]
 pub(super) fn write_close<B: Buffer>(target: &Target<'_>, out: &mut B) -> Result<(), Refusal> {
-    // SAFETY: the call is one of the library, which writes a message so.
-    unsafe { put_tagged(out, sys::pgmsg_put_close, target.kind(), &target.name()) }
+    put!(out, pgmsg_put_close(target.kind(), [target.name()]))
 }
 
 /// A portal that is run.
@@ -165,8 +147,7 @@ impl<'a> Execute<'a> {
 
     /// Reads the body of an Execute.
     pub fn read(body: &'a [u8]) -> Result<Execute<'a>, Fault> {
-        // SAFETY: the call is one of the library, which reads a body so.
-        let read = unsafe { read_parts(body, sys::pgmsg_read_execute)? };
+        let read: sys::pgmsg_execute = read!(pgmsg_read_execute([body]))?;
         Ok(Execute {
             portal: ByteStr(part(body, read.portal)?),
             max_rows: read.max_rows,
@@ -178,15 +159,6 @@ impl<'a> Execute<'a> {
     /// Refused with [`TextHoldsNul`](Refusal::TextHoldsNul) where the name holds a NUL.
     #[inline]
     pub fn write<B: Buffer>(&self, out: &mut B) -> Result<(), Refusal> {
-        let (portal, limit) = (self.portal, self.max_rows);
-        let call = |mut out: Spare<'_>| {
-            let room = out.len();
-            // SAFETY: both are slices, valid for their lengths, and `&mut` keeps `out` apart.
-            unsafe {
-                sys::pgmsg_put_execute(portal.as_ptr(), portal.len(), limit, out.as_mut_ptr(), room)
-            }
-        };
-        // SAFETY: the call is one of the library, which writes a message so.
-        unsafe { append(out, call) }
+        put!(out, pgmsg_put_execute([self.portal], self.max_rows))
     }
 }

@@ -1,9 +1,8 @@
 //! What goes out in a message's place.
 
-use crate::answer::answer;
+use crate::calls::ask;
 use crate::error::{Fault, Refusal};
 use crate::frame::Frame;
-use crate::sys;
 use alloc::vec::Vec;
 
 /// What its user answers to a whole message.
@@ -79,13 +78,6 @@ fn led(before: bool, bytes: &[u8], after: bool) -> Result<&[u8], Fault> {
 /// ```
 pub fn check_frames(bytes: &[u8], is_first: bool) -> Result<bool, Fault> {
     let mut expects_first = is_first;
-    answer(|fault| {
-        // SAFETY: `bytes` is a slice, valid for its length; `expects_first` and `fault` are apart from
-        // it.
-        let number = unsafe {
-            sys::pgmsg_check_frames(bytes.as_ptr(), bytes.len(), &mut expects_first, fault)
-        };
-        number as isize
-    })?;
+    ask!(pgmsg_check_frames([bytes], &mut expects_first))?;
     Ok(expects_first)
 }

@@ -1,7 +1,7 @@
 //! What is at the front of a stream that is passed on.
 
 use super::Wanted;
-use crate::answer::answer;
+use crate::calls::ask;
 use crate::error::Fault;
 use crate::sys;
 
@@ -24,21 +24,9 @@ pub(super) fn front_of(
 ) -> Result<Front, Fault> {
     let is_first = relay.is_first;
     let mut passage = sys::pgmsg_passage::default();
-    let number = answer(|fault| {
-        // SAFETY: `bytes` is a slice, valid for its length; what is written is apart from it, and of
-        // the types of the library.
-        let number = unsafe {
-            sys::pgmsg_relay_next(
-                relay,
-                wanted.flags().as_ptr(),
-                bytes.as_ptr(),
-                bytes.len(),
-                &mut passage,
-                fault,
-            )
-        };
-        number as isize
-    })?;
+    // The call takes 256 flags, as many as there are.
+    let flags = wanted.flags().as_ptr();
+    let number = ask!(pgmsg_relay_next(relay, flags, [bytes], &mut passage))?;
     Ok(match number {
         0 => Front::Short(passage.length),
         1 => Front::Whole(Some(passage.tag).filter(|_| !is_first), passage.length),

@@ -2,9 +2,10 @@
 
 use super::{base64, covered, is_nonce, is_same, proof_and_signature, without_proof};
 use super::{Digest, Error, Key, SCRAM_SHA_256, SCRAM_SHA_256_PLUS};
-use crate::answer::{answer, fill, grow};
+use crate::answer::{grow, items};
 use crate::backend::Authentication;
 use crate::buffer::Buffer;
+use crate::calls::ask;
 use crate::error::Fault;
 use crate::frontend::{Password, SaslInitialResponse};
 use crate::sys;
@@ -221,38 +222,12 @@ fn read_challenge(
     nonce: &mut [u8],
 ) -> Result<sys::pgmsg_challenge, Fault> {
     let mut read = sys::pgmsg_challenge::default();
-    answer(|fault| {
-        // SAFETY: `body`, `salt` and `nonce` are slices, valid for their lengths, and `&mut` keeps
-        // all that is written apart.
-        let number = unsafe {
-            sys::pgmsg_read_challenge(
-                body.as_ptr(),
-                body.len(),
-                &mut read,
-                salt.as_mut_ptr(),
-                salt.len(),
-                nonce.as_mut_ptr(),
-                nonce.len(),
-                fault,
-            )
-        };
-        number as isize
-    })?;
+    ask!(pgmsg_read_challenge([body], &mut read, mut [salt], mut [nonce]))?;
     Ok(read)
 }
 
 /// The value `v` of a message, of base64, or nothing where there is none.
 pub(super) fn read_verifier(data: &[u8]) -> Result<Vec<u8>, Fault> {
     let body = [&12u32.to_be_bytes(), data].concat();
-    let mut verifier = Vec::new();
-    let count = fill(&mut verifier, |room: &mut [u8]| {
-        answer(|fault| {
-            let (start, length) = (body.as_ptr(), body.len());
-            // SAFETY: both are slices, valid for their lengths, and `&mut` keeps `room` and `fault` apart.
-            unsafe { sys::pgmsg_read_verifier(start, length, room.as_mut_ptr(), room.len(), fault) }
-        })
-    })?
-    .len();
-    verifier.truncate(count);
-    Ok(verifier)
+    items(|room| ask!(pgmsg_read_verifier([body], mut [room])))
 }
