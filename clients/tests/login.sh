@@ -55,8 +55,23 @@ test_addresses() {
     expect 'help' 0
 }
 
+# Reads a table by the example in C, as those of Rust and Python do.
+test_read_table() {
+    local read_table=("$programs/read_table" -h 127.0.0.1 -d postgres -U)
+    sql "CREATE TABLE of_c AS SELECT * FROM (VALUES (1, 'a'), (2, NULL)) AS rows; GRANT SELECT ON of_c TO by_scram, by_trust"
+    PGPASSWORD="pass word '1" try "${read_table[@]}" by_scram of_c
+    same 'read_table by SCRAM' "$status $output" $'0 1\ta\n2\tNULL'
+    PGPASSWORD=wrong try "${read_table[@]}" by_scram of_c
+    expect 'read_table by SCRAM with a wrong password' 3 28P01
+    try "${read_table[@]}" by_trust no_such_table
+    expect 'read_table of a table that is not there' 4 42P01
+    try "${read_table[@]}" by_trust
+    expect 'read_table without a table' 1 usage
+}
+
 test_login() {
     make_users
+    test_read_table
     test_passwords
     test_addresses
 }

@@ -4,7 +4,7 @@
 
 #include "pg_message.h"
 
-/* The exit statuses of pg_copy and pg_listen. */
+/* The exit statuses of pg_copy, pg_listen and read_table. */
 enum status {
     STATUS_OK = 0,
     STATUS_USAGE = 1,        /* the arguments fit no form */

@@ -93,13 +93,15 @@ class TestReadme(unittest.TestCase):
         program = re.search(r"```python\n(.*?)```", (support.TOP / "README.md").read_text(), re.DOTALL)[1]
         connection = mock.Mock()
         connection.recv.side_effect = [
-            b"1\0\0\0\x042\0\0\0\x04D\0\0\0\x13\0\3\0\0", b"\0\x015\xff\xff\xff\xff\0\0\0\0C\0\0\0\x0dSELECT 1\0Z\0\0\0\5I", b""]
+            b"R\0\0\0\x08\0\0\0\3", b"R\0\0\0\x08\0\0\0\0Z\0\0\0\5I", b"T\0\0\0\x06\0\0D\0\0\0\x13\0\3\0\0",
+            b"\0\x015\xff\xff\xff\xff\0\0\0\0C\0\0\0\x0dSELECT 1\0Z\0\0\0\5I", b""]
         with redirect_stdout(io.StringIO()) as output:
             exec(program, {"connection": connection})
-        self.assertEqual(output.getvalue(), "('5', None, '')\nSELECT 1\n")
+        self.assertEqual(output.getvalue(), "('5', None, '')\n")
         sent = b"".join(call.args[0] for call in connection.sendall.call_args_list)
         self.assertEqual(sent, pgmsg.write(
-            pgmsg.Parse("SELECT $1::int"), pgmsg.Bind(["5"]), pgmsg.Execute(), pgmsg.Sync()))
+            pgmsg.StartupMessage({"user": "ann", "database": "shop"}), pgmsg.PasswordMessage("secret"),
+            pgmsg.Query("TABLE people"), pgmsg.Terminate()))
 
     def test_the_examples_are_short(self):
         for name in ("read_table.py", "read_table_asyncio.py"):

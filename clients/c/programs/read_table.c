@@ -1,0 +1,59 @@
+/* Logs in, by SCRAM-SHA-256 where the server asks for that, and prints the rows of a table. */
+#define _DEFAULT_SOURCE
+
+#include "connection.h"
+
+#include <stdio.h>
+#include <unistd.h>
+
+enum { MOST_CELLS = 1664 }; /* of a row of PostgreSQL */
+
+static enum status print_row(const struct message *row)
+{
+    pgmsg_cell cells[MOST_CELLS];
+    pgmsg_fault fault;
+    ptrdiff_t count = pgmsg_read_row(row->body, row->len, cells, MOST_CELLS, &fault);
+    if (count < 0)
+        return complain_of_fault(&fault);
+    for (ptrdiff_t i = 0; i < count && i < MOST_CELLS; i++) {
+        bool is_null = cells[i].len < 0;
+        const char *text = is_null ? "NULL" : (const char *)row->body + cells[i].at;
+        printf("%s%.*s", i > 0 ? "\t" : "", is_null ? 4 : (int)cells[i].len, text);
+    }
+    return putchar('\n') == EOF ? complain(STATUS_LOCAL, "standard output can't be written") : STATUS_OK;
+}
+
+/* Takes what answers a query, up to the ReadyForQuery. */
+static enum status print_rows(struct connection *connection)
+{
+    struct message message = {0};
+    enum status status = STATUS_OK;
+    while (message.tag != 'Z' && status == STATUS_OK && (status = connection_receive(connection, &message)) == STATUS_OK)
+        switch (message.tag) {
+        case 'D': status = print_row(&message); break;
+        case 'E': report(&message); return STATUS_SERVER;
+        }
+    return status;
+}
+
+int main(int argc, char **argv)
+{
+    struct options options = {.application = "read_table"};
+    struct connection connection;
+    char query[NAME_ROOM];
+    int letter;
+    while ((letter = getopt(argc, argv, OPTION_LETTERS)) != -1 && options_take(&options, letter, optarg))
+        ;
+    int len = optind == argc - 1 ? snprintf(query, sizeof query, "TABLE %s", argv[optind]) : -1;
+    if (letter != -1 || len < 0 || len >= NAME_ROOM)
+        return options_refuse("usage: read_table " OPTION_WORDS " TABLE\n");
+    enum status status = options_complete(&options);
+    if (status != STATUS_OK || (status = connection_open(&connection, &options)) != STATUS_OK)
+        return status;
+    PUT(&connection, pgmsg_put_query((const uint8_t *)query, (size_t)len, SPARE(&connection)));
+    if ((status = connection_flush(&connection)) == STATUS_OK)
+        status = print_rows(&connection);
+    connection_terminate(&connection);
+    connection_close(&connection);
+    return status;
+}
