@@ -122,18 +122,18 @@ class AuthenticationSASL(Authentication):
         return put(lib.pgmsg_put_authentication_sasl, names, count)
 
 
+@dataclass(frozen=True, slots=True, init=False)
 class AuthenticationWithData(Authentication):
     """What goes on in an exchange."""
 
-    __slots__ = ()
+    data: bytes = field(repr=False)
 
-    data: bytes
+    def __init__(self, data: Text) -> None:
+        fill(self, octets(data))
 
     @classmethod
     def _of(cls, content: bytes, body: bytes) -> Self:
-        made = object.__new__(cls)
-        fill(made, content)
-        return made
+        return cls(content)
 
     def write(self) -> bytes:
         return self._written(self.data)
@@ -144,10 +144,6 @@ class AuthenticationGSSContinue(AuthenticationWithData):
     """The next data of an exchange of GSSAPI or SSPI."""
 
     METHOD: ClassVar[int] = 8
-    data: bytes = field(repr=False)
-
-    def __init__(self, data: Text) -> None:
-        fill(self, octets(data))
 
 
 class Challenge(NamedTuple):
@@ -163,10 +159,6 @@ class AuthenticationSASLContinue(AuthenticationWithData):
     """The next data of an exchange of SASL."""
 
     METHOD: ClassVar[int] = 11
-    data: bytes = field(repr=False)
-
-    def __init__(self, data: Text) -> None:
-        fill(self, octets(data))
 
     def challenge(self) -> Challenge:
         """The data as a challenge of SCRAM."""
@@ -184,10 +176,6 @@ class AuthenticationSASLFinal(AuthenticationWithData):
     """The last data of an exchange of SASL."""
 
     METHOD: ClassVar[int] = 12
-    data: bytes = field(repr=False)
-
-    def __init__(self, data: Text) -> None:
-        fill(self, octets(data))
 
     def verifier(self) -> bytes:
         """What proves in SCRAM that the server knows the password."""

@@ -57,29 +57,25 @@ class CopyFail(FrontendMessage):
         return put(lib.pgmsg_put_copy_fail, *sized(self.reason))
 
 
+@dataclass(frozen=True, slots=True, init=False)
 class CopyResponse(BackendMessage):
     """How the data of a COPY is spelled as a whole, and how each of its columns is: 0 as text, 1 as binary."""
-
-    __slots__ = ()
 
     format: int
     columns: tuple[int, ...]
 
+    def __init__(self, format: int = 0, columns: Iterable[int] = ()) -> None:
+        fill(self, number(-8, format), numbers(-16, columns))
+
     @classmethod
     def _read(cls, body: bytes) -> Self:
-        response, made = ffi.new("pgmsg_copy_response *"), object.__new__(cls)
+        response = ffi.new("pgmsg_copy_response *")
         codes = listed(
             "int16_t", lambda room, size: read(lib.pgmsg_read_copy_response, body, response, room, size), int)
-        fill(made, response.format, codes)
-        return made
+        return cls(response.format, codes)
 
     def write(self) -> bytes:
         return put(lib.pgmsg_put_copy_response, self.TAG, self.format, self.columns, len(self.columns))
-
-
-def check_response(response: CopyResponse, format: int, columns: Iterable[int]) -> None:
-    """Gives a new message its parts."""
-    fill(response, number(-8, format), numbers(-16, columns))
 
 
 @dataclass(frozen=True, slots=True, init=False)
@@ -87,11 +83,6 @@ class CopyInResponse(CopyResponse):
     """Waits for the data of a COPY."""
 
     TAG: ClassVar[int] = ord("G")
-    format: int
-    columns: tuple[int, ...]
-
-    def __init__(self, format: int = 0, columns: Iterable[int] = ()) -> None:
-        check_response(self, format, columns)
 
 
 @dataclass(frozen=True, slots=True, init=False)
@@ -99,11 +90,6 @@ class CopyOutResponse(CopyResponse):
     """Announces the data of a COPY."""
 
     TAG: ClassVar[int] = ord("H")
-    format: int
-    columns: tuple[int, ...]
-
-    def __init__(self, format: int = 0, columns: Iterable[int] = ()) -> None:
-        check_response(self, format, columns)
 
 
 @dataclass(frozen=True, slots=True, init=False)
@@ -111,11 +97,6 @@ class CopyBothResponse(CopyResponse):
     """Begins a COPY both ways, as in replication."""
 
     TAG: ClassVar[int] = ord("W")
-    format: int
-    columns: tuple[int, ...]
-
-    def __init__(self, format: int = 0, columns: Iterable[int] = ()) -> None:
-        check_response(self, format, columns)
 
 
 def copy_head(length: int) -> bytes:

@@ -125,7 +125,7 @@ set_attribute = object.__setattr__
 
 def fill(made: Any, *parts: object) -> None:
     """Gives a new message its parts, in the order of its class."""
-    for name, part in zip(made.__slots__, parts):
+    for name, part in zip(made.__match_args__, parts):
         set_attribute(made, name, part)
 
 

@@ -28,13 +28,12 @@ class Severity(enum.IntEnum):
     LOG = 7
 
 
+@dataclass(frozen=True, slots=True, init=False)
 class WithFields(BackendMessage):
     """Fields in order, each a letter and a text: a client asks for `S`, `C` and `M` at least.
 
     The texts need not be UTF-8 where the error is one of a login.
     """
-
-    __slots__ = ()
 
     fields: tuple[tuple[str, bytes], ...]
 
@@ -44,11 +43,9 @@ class WithFields(BackendMessage):
 
     @classmethod
     def _read(cls, body: bytes) -> Self:
-        made = object.__new__(cls)
-        fill(made, listed(
+        return cls(listed(
             "pgmsg_field", lambda room, size: lib.pgmsg_read_fields(body, len(body), room, size),
             lambda it: (chr(it.letter), part(body, it.value))))
-        return made
 
     def write(self) -> bytes:
         held = [ffi.from_buffer("uint8_t[]", text) for _, text in self.fields]
@@ -81,7 +78,6 @@ class ErrorResponse(WithFields):
     """Ends a command by an error."""
 
     TAG: ClassVar[int] = ord("E")
-    fields: tuple[tuple[str, bytes], ...]
 
 
 @dataclass(frozen=True, slots=True, init=False)
@@ -89,4 +85,3 @@ class NoticeResponse(WithFields):
     """Says something beside the answers."""
 
     TAG: ClassVar[int] = ord("N")
-    fields: tuple[tuple[str, bytes], ...]

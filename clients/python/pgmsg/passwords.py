@@ -64,18 +64,18 @@ class SASLInitialResponse(AuthenticationResponse):
         return put(lib.pgmsg_put_sasl_initial, *sized(self.mechanism), has_data, *sized(self.data or b""))
 
 
+@dataclass(frozen=True, slots=True, init=False)
 class ResponseOfData(AuthenticationResponse):
     """Data of an exchange, which are all of the body."""
 
-    __slots__ = ()
+    data: bytes = field(repr=False)
 
-    data: bytes
+    def __init__(self, data: Text) -> None:
+        fill(self, octets(data))
 
     @classmethod
     def _read(cls, body: bytes) -> Self:
-        made = object.__new__(cls)
-        fill(made, body)
-        return made
+        return cls(body)
 
     def write(self) -> bytes:
         return put(lib.pgmsg_put_sasl_response, *sized(self.data))
@@ -85,17 +85,7 @@ class ResponseOfData(AuthenticationResponse):
 class SASLResponse(ResponseOfData):
     """The next data of an exchange of SASL."""
 
-    data: bytes = field(repr=False)
-
-    def __init__(self, data: Text) -> None:
-        fill(self, octets(data))
-
 
 @dataclass(frozen=True, slots=True, init=False)
 class GSSResponse(ResponseOfData):
     """Data of an exchange of GSSAPI or SSPI."""
-
-    data: bytes = field(repr=False)
-
-    def __init__(self, data: Text) -> None:
-        fill(self, octets(data))

@@ -122,20 +122,22 @@ class Target(enum.Enum):
     PORTAL = "P"
 
 
+@dataclass(frozen=True, slots=True, init=False)
 class OfTarget(FrontendMessage):
     """A message that names a statement or a portal."""
-
-    __slots__ = ()
 
     PUT: ClassVar[Callable[..., int]]
     target: Target
     name: bytes
+    name_text = AsText("name")
+
+    def __init__(self, target: Target, name: Text = b"") -> None:
+        fill(self, Target(target), octets(name))
 
     @classmethod
     def _read(cls, body: bytes) -> Self:
-        it, made = found("pgmsg_target", lib.pgmsg_read_target, body), object.__new__(cls)
-        fill(made, Target(chr(it.letter)), part(body, it.name))
-        return made
+        it = found("pgmsg_target", lib.pgmsg_read_target, body)
+        return cls(Target(chr(it.letter)), part(body, it.name))
 
     def write(self) -> bytes:
         return put(type(self).PUT, ord(self.target.value), *sized(self.name))
@@ -147,12 +149,6 @@ class Describe(OfTarget):
 
     TAG: ClassVar[int] = ord("D")
     PUT = lib.pgmsg_put_describe
-    target: Target
-    name: bytes
-    name_text = AsText("name")
-
-    def __init__(self, target: Target, name: Text = b"") -> None:
-        fill(self, Target(target), octets(name))
 
 
 @dataclass(frozen=True, slots=True, init=False)
@@ -161,12 +157,6 @@ class Close(OfTarget):
 
     TAG: ClassVar[int] = ord("C")
     PUT = lib.pgmsg_put_close
-    target: Target
-    name: bytes
-    name_text = AsText("name")
-
-    def __init__(self, target: Target, name: Text = b"") -> None:
-        fill(self, Target(target), octets(name))
 
 
 @dataclass(frozen=True, slots=True, init=False)

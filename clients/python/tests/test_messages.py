@@ -80,7 +80,7 @@ class TestEach(unittest.TestCase):
     def test_none_changes(self):
         for message, _ in samples.ALL:
             self.assertFalse(hasattr(message, "__dict__"))
-            for name in message.__slots__ or ["name"]:
+            for name in message.__match_args__ or ["name"]:
                 with self.assertRaises((dataclasses.FrozenInstanceError, TypeError)):
                     setattr(message, name, None)
 
