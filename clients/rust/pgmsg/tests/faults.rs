@@ -1,5 +1,5 @@
-//! What is refused, each by its offset and its words, with bytes written by hand in the layouts of "Message
-//! Formats" in the PostgreSQL documentation; and what a caller can't write.
+//! What each reader refuses, by its offset and its words, with bytes written by hand in the layouts of "Message Formats"
+//! in the PostgreSQL documentation; and what a caller can't write. The tests of the C library have the other faults of each.
 
 mod common;
 
@@ -27,15 +27,9 @@ fn assert_client_refused(rows: &[Row]) {
 fn first_messages() {
     assert_client_refused(&[
         (None, b"", Short, 0, "expected 4 bytes at offset 0, got 0"),
-        (None, b"\0\x03\0", Short, 0, "expected 4 bytes at offset 0, got 3"),
         (None, b"\0\x02\0\0", UnknownCode, 0, "unknown code: 131072"),
-        (None, b"\0\x04\0\0", UnknownCode, 0, "unknown code: 262144"),
-        (None, b"\x04\xd2\x16\x2d", UnknownCode, 0, "unknown code: 80877101"),
-        (None, b"\0\x03\0\0", MissingNul, 4, "expected NUL after offset 4"),
         (None, b"\0\x03\0\0user\0ann", MissingNul, 9, "expected NUL after offset 9"),
-        (None, b"\0\x03\0\0user\0ann\0", MissingNul, 13, "expected NUL after offset 13"),
         (None, b"\0\x03\0\0\0user\0ann\0\0", TrailingBytes, 5, "expected the end of the message at offset 5"),
-        (None, b"\x04\xd2\x16\x2e\0\0\0", Short, 4, "expected 4 bytes at offset 4, got 3"),
         (None, b"\x04\xd2\x16\x2e\0\0\0\x01abc", BadKeyLength, 0, "bad secret key length: 3"),
         (None, b"\x04\xd2\x16\x2f\0", TrailingBytes, 4, "expected the end of the message at offset 4"),
         (None, b"\x04\xd2\x16\x30\0", TrailingBytes, 4, "expected the end of the message at offset 4"),
@@ -49,18 +43,10 @@ fn first_messages() {
 #[rustfmt::skip]
 fn statements_and_portals() {
     assert_client_refused(&[
-        (Some(b'P'), b"", MissingNul, 0, "expected NUL after offset 0"),
-        (Some(b'P'), b"s\0q", MissingNul, 2, "expected NUL after offset 2"),
-        (Some(b'P'), b"\0\0\0", Short, 2, "expected 2 bytes at offset 2, got 1"),
         (Some(b'P'), b"\0\0\0\x02\0\0\0\x17\0", Short, 4, "expected 8 bytes at offset 4, got 5"),
         (Some(b'P'), b"\0\0\0\0x", TrailingBytes, 4, "expected the end of the message at offset 4"),
-        (Some(b'D'), b"", Short, 0, "expected 1 bytes at offset 0, got 0"),
         (Some(b'D'), b"Xs\0", UnknownTarget, 0, "neither a statement nor a portal: 88"),
-        (Some(b'D'), b"Sabc", MissingNul, 1, "expected NUL after offset 1"),
-        (Some(b'D'), b"Ps\0\0", TrailingBytes, 3, "expected the end of the message at offset 3"),
-        (Some(b'E'), b"p", MissingNul, 0, "expected NUL after offset 0"),
         (Some(b'E'), b"\0\0\0", Short, 1, "expected 4 bytes at offset 1, got 2"),
-        (Some(b'E'), b"\0\0\0\0\0\0", TrailingBytes, 5, "expected the end of the message at offset 5"),
     ]);
 }
 
@@ -68,7 +54,6 @@ fn statements_and_portals() {
 #[rustfmt::skip]
 fn texts_and_nothing() {
     assert_client_refused(&[
-        (Some(b'Q'), b"", MissingNul, 0, "expected NUL after offset 0"),
         (Some(b'Q'), b"SELECT 1", MissingNul, 0, "expected NUL after offset 0"),
         (Some(b'Q'), b"a\0b\0", TrailingBytes, 2, "expected the end of the message at offset 2"),
         (Some(b'S'), b"a", TrailingBytes, 0, "expected the end of the message at offset 0"),
@@ -78,37 +63,19 @@ fn texts_and_nothing() {
 #[test]
 #[rustfmt::skip]
 fn first_answers_by_sasl() {
-    let rows: [(&[u8], Refusal, usize, &str); 5] = [
-        (b"X", MissingNul, 0, "expected NUL after offset 0"),
-        (b"X\0\0\0\0", Short, 2, "expected 4 bytes at offset 2, got 3"),
-        (b"X\0\0\0\0\x02a", Short, 6, "expected 2 bytes at offset 6, got 1"),
-        (b"X\0\xff\xff\xff\xfe", BadValueLength, 2, "bad value length at offset 2: -2"),
-        (b"X\0\0\0\0\x01ab", TrailingBytes, 7, "expected the end of the message at offset 7"),
-    ];
-    for (body, refusal, at, words) in rows {
-        assert_fault(SaslInitialResponse::read(body), refusal, at, words);
-    }
+    let read = SaslInitialResponse::read(b"X\0\xff\xff\xff\xfe");
+    assert_fault(read, BadValueLength, 2, "bad value length at offset 2: -2");
 }
 
 #[test]
 #[rustfmt::skip]
 fn values() {
     assert_client_refused(&[
-        (Some(b'B'), b"p", MissingNul, 0, "expected NUL after offset 0"),
-        (Some(b'B'), b"p\0s", MissingNul, 2, "expected NUL after offset 2"),
-        (Some(b'B'), b"\0\0\0", Short, 2, "expected 2 bytes at offset 2, got 1"),
         (Some(b'B'), b"\0\0\0\x02\0\x01\0", Short, 4, "expected 4 bytes at offset 4, got 3"),
-        (Some(b'B'), b"\0\0\0\0\0", Short, 4, "expected 2 bytes at offset 4, got 1"),
-        (Some(b'B'), b"\0\0\0\0\0\x01\0\0\0", Short, 6, "expected 4 bytes at offset 6, got 3"),
-        (Some(b'B'), b"\0\0\0\0\0\x01\0\0\0\x02a", Short, 10, "expected 2 bytes at offset 10, got 1"),
         (Some(b'B'), b"\0\0\0\0\0\x01\x80\0\0\0\0\0", BadValueLength, 6, "bad value length at offset 6: -2147483648"),
-        (Some(b'B'), b"\0\0\0\0\0\x01\xff\xff\xff\xff\0", Short, 10, "expected 2 bytes at offset 10, got 1"),
-        (Some(b'B'), b"\0\0\0\0\0\0\0\x01\0", Short, 8, "expected 2 bytes at offset 8, got 1"),
         (Some(b'B'), b"\0\0\0\0\0\0\0\0\0", TrailingBytes, 8, "expected the end of the message at offset 8"),
         (Some(b'F'), b"\0\0\0", Short, 0, "expected 4 bytes at offset 0, got 3"),
-        (Some(b'F'), b"\0\0\0\x01\0\x01\0", Short, 6, "expected 2 bytes at offset 6, got 1"),
         (Some(b'F'), b"\0\0\0\x01\0\0\0\x01\xff\xff\xff\xfe\0\0", BadValueLength, 8, "bad value length at offset 8: -2"),
-        (Some(b'F'), b"\0\0\0\x01\0\0\0\0\0", Short, 8, "expected 2 bytes at offset 8, got 1"),
         (Some(b'F'), b"\0\0\0\x01\0\0\0\0\0\0\0", TrailingBytes, 10, "expected the end of the message at offset 10"),
     ]);
 }
@@ -116,33 +83,21 @@ fn values() {
 #[test]
 #[rustfmt::skip]
 fn messages_of_a_server() {
-    let rows: [Row; 28] = [
+    let rows: [Row; 16] = [
         (Some(b'R'), b"\0\0\0", Short, 0, "expected 4 bytes at offset 0, got 3"),
         (Some(b'R'), b"\0\0\0\x05\x01\x02\x03", Short, 4, "expected 4 bytes at offset 4, got 3"),
-        (Some(b'K'), b"\0\0\0", Short, 0, "expected 4 bytes at offset 0, got 3"),
         (Some(b'K'), b"\0\0\x04\xd2\xfe\xdc\xba", BadKeyLength, 0, "secret key length out of range for protocol: 3"),
-        (Some(b'A'), b"\0\0\0", Short, 0, "expected 4 bytes at offset 0, got 3"),
-        (Some(b'A'), b"\0\0\0\x2ach", MissingNul, 4, "expected NUL after offset 4"),
         (Some(b'A'), b"\0\0\0\x2ach\0hi", MissingNul, 7, "expected NUL after offset 7"),
         (Some(b'S'), b"TimeZone\0UTC", MissingNul, 9, "expected NUL after offset 9"),
         (Some(b'C'), b"BEGIN", MissingNul, 0, "expected NUL after offset 0"),
-        (Some(b'Z'), b"", Short, 0, "expected 1 bytes at offset 0, got 0"),
         (Some(b'Z'), b"X", UnknownStatus, 0, "unknown transaction status: 88"),
         (Some(b'G'), b"", Short, 0, "expected 1 bytes at offset 0, got 0"),
         (Some(b'W'), b"\0\0\x01\0", Short, 3, "expected 2 bytes at offset 3, got 1"),
-        (Some(b'D'), b"", Short, 0, "expected 2 bytes at offset 0, got 0"),
-        (Some(b'D'), b"\0\x01\0\0\0", Short, 2, "expected 4 bytes at offset 2, got 3"),
         (Some(b'D'), b"\0\x01\0\0\0\x02a", Short, 6, "expected 2 bytes at offset 6, got 1"),
-        (Some(b'T'), b"\0", Short, 0, "expected 2 bytes at offset 0, got 1"),
-        (Some(b'T'), b"\0\x01", Short, 2, "expected 19 bytes at offset 2, got 0"),
         (Some(b'T'), b"\0\x01ab\0\0\0\0\0\0\0\0\0\0\0\0\0\0\0\0\0\0", Short, 5, "expected 18 bytes at offset 5, got 17"),
         (Some(b't'), b"\0\x01\0", Short, 2, "expected 4 bytes at offset 2, got 1"),
         (Some(b'1'), b"a", TrailingBytes, 0, "expected the end of the message at offset 0"),
-        (Some(b'n'), b"ab", TrailingBytes, 0, "expected the end of the message at offset 0"),
-        (Some(b'V'), b"\0\0", Short, 0, "expected 4 bytes at offset 0, got 2"),
         (Some(b'V'), b"\0\0\0\x02a", Short, 4, "expected 2 bytes at offset 4, got 1"),
-        (Some(b'v'), b"\0\x03\0", Short, 0, "expected 4 bytes at offset 0, got 3"),
-        (Some(b'v'), b"\0\x03\0\0\0\0", Short, 4, "expected 4 bytes at offset 4, got 2"),
         (Some(b'v'), b"\0\x03\0\0\0\0\0\x02a\0b", MissingNul, 10, "expected NUL after offset 10"),
         (None, b"", UnknownMessageType, 0, "message without a tag"),
     ];
