@@ -21,9 +21,6 @@ pub trait Room {
     /// The bytes.
     fn bytes(&self) -> &[u8];
 
-    /// The bytes, to be changed.
-    fn bytes_mut(&mut self) -> &mut [u8];
-
     /// Removes all bytes after the first `length`.
     fn truncate(&mut self, length: usize);
 
@@ -63,11 +60,6 @@ impl Room for Vec<u8> {
     }
 
     #[inline]
-    fn bytes_mut(&mut self) -> &mut [u8] {
-        self
-    }
-
-    #[inline]
     fn truncate(&mut self, length: usize) {
         self.truncate(length);
     }
@@ -94,11 +86,6 @@ impl Room for Vec<u8> {
 impl Room for bytes::BytesMut {
     #[inline]
     fn bytes(&self) -> &[u8] {
-        self
-    }
-
-    #[inline]
-    fn bytes_mut(&mut self) -> &mut [u8] {
         self
     }
 
@@ -132,11 +119,6 @@ impl<B: Room> Room for &mut B {
     #[inline]
     fn bytes(&self) -> &[u8] {
         (**self).bytes()
-    }
-
-    #[inline]
-    fn bytes_mut(&mut self) -> &mut [u8] {
-        (**self).bytes_mut()
     }
 
     #[inline]

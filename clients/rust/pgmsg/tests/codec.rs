@@ -47,6 +47,11 @@ where
     framed.next().await.unwrap_or_else(|| Err(closed.into()))
 }
 
+/// Bytes that go out as they are.
+fn frame(bytes: &'static [u8]) -> SharedFrame {
+    SharedFrame { tag: None, bytes: bytes.into(), offset: 0 }
+}
+
 async fn serve(mut server: Framed<TcpStream, ServerCodec>) -> io::Result<()> {
     let startup = next(&mut server).await?;
     match frontend::Message::read(&startup.frame())? {
@@ -104,13 +109,7 @@ fn a_session_over_sockets() {
             assert!(shown.starts_with("Frame { tag: Some('D')") && shown.len() < 80);
             assert_eq!(next(&mut client).await?.tag, Some(b'C'));
         }
-        // A frame that is passed on as it is.
-        let frame = SharedFrame {
-            tag: Some(b'X'),
-            bytes: (&b"X\0\0\0\x04"[..]).into(),
-            offset: 0,
-        };
-        client.send(frame).await
+        client.send(frame(b"X\0\0\0\x04")).await
     };
     run(client, serve);
 }
@@ -120,14 +119,7 @@ fn faults_end_a_stream() {
     let client = |mut client: Framed<TcpStream, ClientCodec>| async move {
         let refused = client.send(frontend::Message::Query("\0".into())).await;
         assert_eq!(refused.unwrap_err().kind(), io::ErrorKind::InvalidInput);
-        let bytes = (&b"\0\0\0\x09\0\x03\0\0\0!\0\0\0\x04"[..]).into();
-        client
-            .send(SharedFrame {
-                tag: None,
-                bytes,
-                offset: 0,
-            })
-            .await
+        client.send(frame(b"\0\0\0\x09\0\x03\0\0\0!\0\0\0\x04")).await
     };
     let server = |mut server: Framed<TcpStream, ServerCodec>| async move {
         assert_eq!(next(&mut server).await?.tag, None);
@@ -144,14 +136,7 @@ fn faults_end_a_stream() {
 #[test]
 fn a_message_that_is_cut_off_is_a_fault() {
     let client = |mut client: Framed<TcpStream, ClientCodec>| async move {
-        let bytes = (&b"\0\0\0\x09\0\x03"[..]).into();
-        client
-            .send(SharedFrame {
-                tag: None,
-                bytes,
-                offset: 0,
-            })
-            .await
+        client.send(frame(b"\0\0\0\x09\0\x03")).await
     };
     let server = |mut server: Framed<TcpStream, ServerCodec>| async move {
         assert!(next(&mut server).await.is_err());

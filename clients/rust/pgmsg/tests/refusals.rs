@@ -1,39 +1,16 @@
 //! Each number of the header by which a call refuses has its refusal, of the same name.
 
-use pgmsg::Refusal;
+use pgmsg::{Refusal, Refusal::*};
 
 const HEADER: &str = include_str!("../../../c/include/pg_message.h");
 
+#[rustfmt::skip]
 const ALL: &[Refusal] = &[
-    Refusal::OutOfMemory,
-    Refusal::TooManyParamFormats,
-    Refusal::TooManyResultFormats,
-    Refusal::TooManyParamTypes,
-    Refusal::MessageTooLong,
-    Refusal::WrongFormat,
-    Refusal::BodyTooLong,
-    Refusal::UnknownMessageType,
-    Refusal::UnknownAuthentication,
-    Refusal::UnknownStatus,
-    Refusal::UnknownSeverity,
-    Refusal::Short,
-    Refusal::MissingNul,
-    Refusal::NotUtf8,
-    Refusal::NoticeNotUtf8,
-    Refusal::ShortSaslItem,
-    Refusal::Base64,
-    Refusal::BadLength,
-    Refusal::TextHoldsNul,
-    Refusal::BadParams,
-    Refusal::BadKeyLength,
-    Refusal::UnknownCode,
-    Refusal::UnknownTarget,
-    Refusal::BadValueLength,
-    Refusal::TrailingBytes,
-    Refusal::FirstTooLong,
-    Refusal::TooMany,
-    Refusal::NotFrames,
-    Refusal::FrameTooLong,
+    OutOfMemory, TooManyParamFormats, TooManyResultFormats, TooManyParamTypes, MessageTooLong,
+    WrongFormat, BodyTooLong, UnknownMessageType, UnknownAuthentication, UnknownStatus,
+    UnknownSeverity, Short, MissingNul, NotUtf8, NoticeNotUtf8, ShortSaslItem, Base64, BadLength,
+    TextHoldsNul, BadParams, BadKeyLength, UnknownCode, UnknownTarget, BadValueLength,
+    TrailingBytes, FirstTooLong, TooMany, NotFrames, FrameTooLong,
 ];
 
 #[test]
