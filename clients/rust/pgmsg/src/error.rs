@@ -1,114 +1,82 @@
 //! Why a call fails.
 
 use crate::sys;
+use crate::table::table;
 use alloc::string::String;
 use core::fmt;
 
-/// Why a message is refused.
-#[derive(Clone, Copy, Debug, PartialEq, Eq, Hash)]
-#[non_exhaustive]
-pub enum Refusal {
-    /// An allocation failed.
-    OutOfMemory,
-    /// More formats of parameters than a message can count.
-    TooManyParamFormats,
-    /// More formats of results than a message can count.
-    TooManyResultFormats,
-    /// More types of parameters than a message can count.
-    TooManyParamTypes,
-    /// The message is longer than its length field can say.
-    MessageTooLong,
-    /// The message was read as one of another kind.
-    WrongFormat,
-    /// The received body is longer than a length field can say.
-    BodyTooLong,
-    /// No message that is known here, from a server or from a client, has this tag.
-    UnknownMessageType,
-    /// The server asks for a method of authentication that is not supported.
-    UnknownAuthentication,
-    /// No transaction status has this letter.
-    UnknownStatus,
-    /// No severity has this word.
-    UnknownSeverity,
-    /// The body has fewer bytes than are needed.
-    Short,
-    /// A text has no NUL at its end.
-    MissingNul,
-    /// A text is not UTF-8.
-    NotUtf8,
-    /// A text of an error or a notice is not UTF-8.
-    NoticeNotUtf8,
-    /// An item of SASL data has no room for a key and its separator.
-    ShortSaslItem,
-    /// A value of SASL data is not base64.
-    Base64,
-    /// The length of the message is below 4, or that of a client's first message below 8.
-    BadLength,
-    /// A text to be sent holds a NUL, where the server would end it, or the name of a setting is empty.
-    TextHoldsNul,
-    /// The values of a Bind cannot be counted.
-    BadParams,
-    /// The secret key of a session has fewer than 4 or more than 256 bytes.
-    BadKeyLength,
-    /// No first message has this code.
-    UnknownCode,
-    /// A Describe or a Close names neither a statement nor a portal.
-    UnknownTarget,
-    /// A value has a length below -1, which says NULL.
-    BadValueLength,
-    /// Bytes follow the end of a message.
-    TrailingBytes,
-    /// A first message is longer than the caller takes.
-    FirstTooLong,
-    /// More items than a message to a client can count.
-    TooMany,
-    /// What is to be added to a stream is no run of whole messages.
-    NotFrames,
-    /// A message that is wanted whole is longer than the caller takes.
-    FrameTooLong,
-    /// The library gave this number, which its header excludes: it is defective.
-    Unexpected(i64),
+table! {
+    /// Why a message is refused.
+    pub enum Refusal as KNOWN: (i32, &str) {
+        /// An allocation failed.
+        OutOfMemory = (sys::PGMSG_OUT_OF_MEMORY, "out of memory");
+        /// More formats of parameters than a message can count.
+        TooManyParamFormats = (sys::PGMSG_TOO_MANY_PARAM_FORMATS, "too many formats of parameters");
+        /// More formats of results than a message can count.
+        TooManyResultFormats = (sys::PGMSG_TOO_MANY_RESULT_FORMATS, "too many formats of results");
+        /// More types of parameters than a message can count.
+        TooManyParamTypes = (sys::PGMSG_TOO_MANY_PARAM_TYPES, "too many types of parameters");
+        /// The message is longer than its length field can say.
+        MessageTooLong = (sys::PGMSG_MESSAGE_TOO_LONG, "message is too long for the protocol");
+        /// The message was read as one of another kind.
+        WrongFormat = (sys::PGMSG_WRONG_FORMAT, "message is of another kind");
+        /// The received body is longer than a length field can say.
+        BodyTooLong = (sys::PGMSG_BODY_TOO_LONG, "message body is too long for the protocol");
+        /// No message that is known here, from a server or from a client, has this tag.
+        UnknownMessageType = (sys::PGMSG_UNKNOWN_MESSAGE_TYPE, "unknown message type");
+        /// The server asks for a method of authentication that is not supported.
+        UnknownAuthentication = (sys::PGMSG_UNKNOWN_AUTHENTICATION, "unsupported method of authentication");
+        /// No transaction status has this letter.
+        UnknownStatus = (sys::PGMSG_UNKNOWN_STATUS, "unknown transaction status");
+        /// No severity has this word.
+        UnknownSeverity = (sys::PGMSG_UNKNOWN_SEVERITY, "unknown severity");
+        /// The body has fewer bytes than are needed.
+        Short = (sys::PGMSG_SHORT, "message body is too short");
+        /// A text has no NUL at its end.
+        MissingNul = (sys::PGMSG_MISSING_NUL, "text has no NUL at its end");
+        /// A text is not UTF-8.
+        NotUtf8 = (sys::PGMSG_NOT_UTF8, "text is not UTF-8");
+        /// A text of an error or a notice is not UTF-8.
+        NoticeNotUtf8 = (sys::PGMSG_NOTICE_NOT_UTF8, "text of an error or a notice is not UTF-8");
+        /// An item of SASL data has no room for a key and its separator.
+        ShortSaslItem = (sys::PGMSG_SHORT_SASL_ITEM, "SASL item has fewer than two bytes");
+        /// A value of SASL data is not base64.
+        Base64 = (sys::PGMSG_BASE64, "SASL value is not base64");
+        /// The length of the message is below 4, or that of a client's first message below 8.
+        BadLength = (sys::PGMSG_BAD_LENGTH, "message length is too small");
+        /// A text to be sent holds a NUL, where the server would end it, or the name of a setting is empty.
+        TextHoldsNul = (sys::PGMSG_TEXT_HOLDS_NUL, "text holds a NUL");
+        /// The values of a Bind cannot be counted.
+        BadParams = (sys::PGMSG_BAD_PARAMS, "too many values for a Bind");
+        /// The secret key of a session has fewer than 4 or more than 256 bytes.
+        BadKeyLength = (sys::PGMSG_BAD_KEY_LENGTH, "secret key of fewer than 4 or more than 256 bytes");
+        /// No first message has this code.
+        UnknownCode = (sys::PGMSG_UNKNOWN_CODE, "unknown code of a first message");
+        /// A Describe or a Close names neither a statement nor a portal.
+        UnknownTarget = (sys::PGMSG_UNKNOWN_TARGET, "neither a statement nor a portal");
+        /// A value has a length below -1, which says NULL.
+        BadValueLength = (sys::PGMSG_BAD_VALUE_LENGTH, "value length is below -1");
+        /// Bytes follow the end of a message.
+        TrailingBytes = (sys::PGMSG_TRAILING_BYTES, "bytes follow the end of a message");
+        /// A first message is longer than the caller takes.
+        FirstTooLong = (sys::PGMSG_FIRST_TOO_LONG, "first message is too long");
+        /// More items than a message to a client can count.
+        TooMany = (sys::PGMSG_TOO_MANY, "more items than can be counted");
+        /// What is to be added to a stream is no run of whole messages.
+        NotFrames = (sys::PGMSG_NOT_FRAMES, "not a run of whole messages");
+        /// A message that is wanted whole is longer than the caller takes.
+        FrameTooLong = (sys::PGMSG_FRAME_TOO_LONG, "message is longer than is taken whole");
+    } else {
+        /// The library gave this number, which its header excludes: it is defective.
+        Unexpected(i64)
+    }
 }
-
-/// Each refusal of the library: its number, and what it means in words.
-#[rustfmt::skip]
-const KNOWN: &[(i32, Refusal, &str)] = &[
-    (sys::PGMSG_OUT_OF_MEMORY, Refusal::OutOfMemory, "out of memory"),
-    (sys::PGMSG_TOO_MANY_PARAM_FORMATS, Refusal::TooManyParamFormats, "too many formats of parameters"),
-    (sys::PGMSG_TOO_MANY_RESULT_FORMATS, Refusal::TooManyResultFormats, "too many formats of results"),
-    (sys::PGMSG_TOO_MANY_PARAM_TYPES, Refusal::TooManyParamTypes, "too many types of parameters"),
-    (sys::PGMSG_MESSAGE_TOO_LONG, Refusal::MessageTooLong, "message is too long for the protocol"),
-    (sys::PGMSG_WRONG_FORMAT, Refusal::WrongFormat, "message is of another kind"),
-    (sys::PGMSG_BODY_TOO_LONG, Refusal::BodyTooLong, "message body is too long for the protocol"),
-    (sys::PGMSG_UNKNOWN_MESSAGE_TYPE, Refusal::UnknownMessageType, "unknown message type"),
-    (sys::PGMSG_UNKNOWN_AUTHENTICATION, Refusal::UnknownAuthentication, "unsupported method of authentication"),
-    (sys::PGMSG_UNKNOWN_STATUS, Refusal::UnknownStatus, "unknown transaction status"),
-    (sys::PGMSG_UNKNOWN_SEVERITY, Refusal::UnknownSeverity, "unknown severity"),
-    (sys::PGMSG_SHORT, Refusal::Short, "message body is too short"),
-    (sys::PGMSG_MISSING_NUL, Refusal::MissingNul, "text has no NUL at its end"),
-    (sys::PGMSG_NOT_UTF8, Refusal::NotUtf8, "text is not UTF-8"),
-    (sys::PGMSG_NOTICE_NOT_UTF8, Refusal::NoticeNotUtf8, "text of an error or a notice is not UTF-8"),
-    (sys::PGMSG_SHORT_SASL_ITEM, Refusal::ShortSaslItem, "SASL item has fewer than two bytes"),
-    (sys::PGMSG_BASE64, Refusal::Base64, "SASL value is not base64"),
-    (sys::PGMSG_BAD_LENGTH, Refusal::BadLength, "message length is too small"),
-    (sys::PGMSG_TEXT_HOLDS_NUL, Refusal::TextHoldsNul, "text holds a NUL"),
-    (sys::PGMSG_BAD_PARAMS, Refusal::BadParams, "too many values for a Bind"),
-    (sys::PGMSG_BAD_KEY_LENGTH, Refusal::BadKeyLength, "secret key of fewer than 4 or more than 256 bytes"),
-    (sys::PGMSG_UNKNOWN_CODE, Refusal::UnknownCode, "unknown code of a first message"),
-    (sys::PGMSG_UNKNOWN_TARGET, Refusal::UnknownTarget, "neither a statement nor a portal"),
-    (sys::PGMSG_BAD_VALUE_LENGTH, Refusal::BadValueLength, "value length is below -1"),
-    (sys::PGMSG_TRAILING_BYTES, Refusal::TrailingBytes, "bytes follow the end of a message"),
-    (sys::PGMSG_FIRST_TOO_LONG, Refusal::FirstTooLong, "first message is too long"),
-    (sys::PGMSG_TOO_MANY, Refusal::TooMany, "more items than can be counted"),
-    (sys::PGMSG_NOT_FRAMES, Refusal::NotFrames, "not a run of whole messages"),
-    (sys::PGMSG_FRAME_TOO_LONG, Refusal::FrameTooLong, "message is longer than is taken whole"),
-];
 
 impl Refusal {
     /// The refusal of a number that a call of the library gave.
     #[cold]
     pub(crate) fn from_number(number: isize) -> Refusal {
-        let known = KNOWN.iter().find(|known| known.0 as isize == number);
+        let known = KNOWN.iter().find(|known| known.0 .0 as isize == number);
         known.map_or(Refusal::Unexpected(number as i64), |known| known.1)
     }
 
@@ -120,20 +88,20 @@ impl Refusal {
     pub fn number(self) -> i64 {
         match self {
             Refusal::Unexpected(number) => number,
-            _ => self.known().map_or(0, |known| known.0.into()),
+            _ => self.known().map_or(0, |(number, _)| number.into()),
         }
     }
 
-    /// The row of a refusal of the library.
-    fn known(self) -> Option<&'static (i32, Refusal, &'static str)> {
-        KNOWN.iter().find(|known| known.1 == self)
+    /// The number of a refusal of the library, and what it means in words.
+    fn known(self) -> Option<(i32, &'static str)> {
+        Some(KNOWN.iter().find(|known| known.1 == self)?.0)
     }
 }
 
 impl fmt::Display for Refusal {
     fn fmt(&self, f: &mut fmt::Formatter<'_>) -> fmt::Result {
         match self.known() {
-            Some((_, _, words)) => f.write_str(words),
+            Some((_, words)) => f.write_str(words),
             None => write!(f, "unexpected answer of libpg_message: {}", self.number()),
         }
     }
@@ -247,7 +215,7 @@ mod tests {
 
     #[test]
     fn each_refusal_has_one_number() {
-        for &(number, refusal, words) in KNOWN {
+        for &((number, words), refusal) in KNOWN {
             assert_eq!(Refusal::from_number(number as isize), refusal);
             assert_eq!(refusal.number(), i64::from(number));
             assert_eq!(refusal.to_string(), words);

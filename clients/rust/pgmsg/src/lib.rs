@@ -68,6 +68,7 @@ mod message;
 pub mod relay;
 mod row;
 pub mod scram;
+mod table;
 mod value;
 mod values;
 mod version;

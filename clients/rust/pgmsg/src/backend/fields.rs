@@ -7,73 +7,53 @@ use crate::calls::{ask, count, put};
 use crate::error::{Fault, Refusal};
 use crate::list::List;
 use crate::sys;
+use crate::table::table;
 use alloc::vec::Vec;
 
-/// What a field of an error or a notice says.
-#[derive(Clone, Copy, Debug, PartialEq, Eq, Hash)]
-#[non_exhaustive]
-pub enum FieldKind {
-    /// The severity, in the language of the server's messages.
-    LocalizedSeverity,
-    /// The severity as a word that does not depend on a language.
-    Severity,
-    /// The SQLSTATE code.
-    Code,
-    /// The message.
-    Message,
-    /// More about the problem.
-    Detail,
-    /// What may be done about it.
-    Hint,
-    /// The position in the query of the client, in characters from 1 on.
-    Position,
-    /// The position in a query that the server made.
-    InternalPosition,
-    /// The query that the server made.
-    InternalQuery,
-    /// The context, such as a stack of calls.
-    Where,
-    /// The name of the schema.
-    Schema,
-    /// The name of the table.
-    Table,
-    /// The name of the column.
-    Column,
-    /// The name of the data type.
-    DataType,
-    /// The name of the constraint.
-    Constraint,
-    /// The file of the server's source code.
-    File,
-    /// The line of that file.
-    Line,
-    /// The routine of the server's source code.
-    Routine,
-    /// A field with another letter, which a client should ignore.
-    Other(u8),
+table! {
+    /// What a field of an error or a notice says.
+    pub enum FieldKind as LETTERS: u8 {
+        /// The severity, in the language of the server's messages.
+        LocalizedSeverity = b'S';
+        /// The severity as a word that does not depend on a language.
+        Severity = b'V';
+        /// The SQLSTATE code.
+        Code = b'C';
+        /// The message.
+        Message = b'M';
+        /// More about the problem.
+        Detail = b'D';
+        /// What may be done about it.
+        Hint = b'H';
+        /// The position in the query of the client, in characters from 1 on.
+        Position = b'P';
+        /// The position in a query that the server made.
+        InternalPosition = b'p';
+        /// The query that the server made.
+        InternalQuery = b'q';
+        /// The context, such as a stack of calls.
+        Where = b'W';
+        /// The name of the schema.
+        Schema = b's';
+        /// The name of the table.
+        Table = b't';
+        /// The name of the column.
+        Column = b'c';
+        /// The name of the data type.
+        DataType = b'd';
+        /// The name of the constraint.
+        Constraint = b'n';
+        /// The file of the server's source code.
+        File = b'F';
+        /// The line of that file.
+        Line = b'L';
+        /// The routine of the server's source code.
+        Routine = b'R';
+    } else {
+        /// A field with another letter, which a client should ignore.
+        Other(u8)
+    }
 }
-
-/// The letters of fields, with what they say.
-const LETTERS: [(u8, FieldKind); 18] = [
-    (b'S', FieldKind::LocalizedSeverity),
-    (b'V', FieldKind::Severity),
-    (b'C', FieldKind::Code),
-    (b'M', FieldKind::Message),
-    (b'D', FieldKind::Detail),
-    (b'H', FieldKind::Hint),
-    (b'P', FieldKind::Position),
-    (b'p', FieldKind::InternalPosition),
-    (b'q', FieldKind::InternalQuery),
-    (b'W', FieldKind::Where),
-    (b's', FieldKind::Schema),
-    (b't', FieldKind::Table),
-    (b'c', FieldKind::Column),
-    (b'd', FieldKind::DataType),
-    (b'n', FieldKind::Constraint),
-    (b'F', FieldKind::File),
-    (b'L', FieldKind::Line),
-    (b'R', FieldKind::Routine),
-];
 
 impl FieldKind {
     /// What a field with this letter says.
@@ -196,26 +176,26 @@ fn text_of(field: &Field<'_>) -> sys::pgmsg_field_text {
     }
 }
 
-/// The severity of an error or a notice.
-#[derive(Clone, Copy, Debug, PartialEq, Eq, Hash)]
-#[non_exhaustive]
-pub enum Severity {
-    /// An error that ends every session of the server.
-    Panic,
-    /// An error that ends the session.
-    Fatal,
-    /// An error that ends the command.
-    Error,
-    /// A warning.
-    Warning,
-    /// A notice.
-    Notice,
-    /// A message for who debugs the server.
-    Debug,
-    /// A message that the client asked for.
-    Info,
-    /// A message for the server's log.
-    Log,
+table! {
+    /// The severity of an error or a notice, by the number that the library gives of it.
+    pub enum Severity as SEVERITIES: usize {
+        /// An error that ends every session of the server.
+        Panic = 0;
+        /// An error that ends the session.
+        Fatal = 1;
+        /// An error that ends the command.
+        Error = 2;
+        /// A warning.
+        Warning = 3;
+        /// A notice.
+        Notice = 4;
+        /// A message for who debugs the server.
+        Debug = 5;
+        /// A message that the client asked for.
+        Info = 6;
+        /// A message for the server's log.
+        Log = 7;
+    }
 }
 
 impl Severity {
@@ -233,19 +213,9 @@ impl Severity {
     /// ```
     pub fn read(body: &[u8]) -> Result<Severity, Fault> {
         let number = ask!(pgmsg_read_severity([body]))?;
-        let severity = SEVERITIES.get(number).copied();
-        severity.ok_or_else(|| Fault::unexpected(number))
+        let severity = SEVERITIES.iter().find(|row| row.0 == number);
+        severity
+            .map(|row| row.1)
+            .ok_or_else(|| Fault::unexpected(number))
     }
 }
-
-/// The severities in the order of their numbers, from 0 up.
-const SEVERITIES: [Severity; 8] = [
-    Severity::Panic,
-    Severity::Fatal,
-    Severity::Error,
-    Severity::Warning,
-    Severity::Notice,
-    Severity::Debug,
-    Severity::Info,
-    Severity::Log,
-];
