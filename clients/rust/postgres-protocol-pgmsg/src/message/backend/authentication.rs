@@ -1,12 +1,13 @@
 //! What the server asks of a client that opens a session.
 
-use super::items::{iterate, Items};
+use super::items::{list, Items};
 use super::Message;
 use crate::lacking::{ends, ends_list, refused, text, text_len};
 use bytes::Bytes;
 use fallible_iterator::FallibleIterator;
 use pgmsg::backend::Authentication;
 use std::io;
+use std::marker::PhantomData;
 
 /// The bytes of the number of the method, which all else follows.
 const METHOD: usize = 4;
@@ -105,18 +106,14 @@ impl AuthenticationSaslBody {
     /// The names of the mechanisms.
     #[inline]
     pub fn mechanisms(&self) -> SaslMechanisms<'_> {
-        SaslMechanisms {
-            items: Items::new(mechanisms(&self.0)),
-        }
+        SaslMechanisms::of(&self.0)
     }
 }
 
-/// The names of mechanisms of SASL.
-pub struct SaslMechanisms<'a> {
-    items: Items<&'a str>,
+list! {
+    /// The names of mechanisms of SASL.
+    SaslMechanisms: &'a str = mechanisms
 }
-
-iterate!(SaslMechanisms, &'a str);
 
 fn mechanisms(body: &[u8]) -> io::Result<Vec<&str>> {
     match Authentication::read(body)? {

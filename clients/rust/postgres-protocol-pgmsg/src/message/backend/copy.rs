@@ -1,6 +1,6 @@
 //! The data of a COPY, and how it is spelled.
 
-use super::items::{iterate, Items};
+use super::items::{list, Items};
 use crate::lacking::{ends, refused};
 use bytes::Bytes;
 use fallible_iterator::FallibleIterator;
@@ -58,10 +58,7 @@ macro_rules! response {
             /// The formats of the columns.
             #[inline]
             pub fn column_formats(&self) -> ColumnFormats<'_> {
-                ColumnFormats {
-                    items: Items::new(column_formats(&self.0)),
-                    body: PhantomData,
-                }
+                ColumnFormats::of(&self.0)
             }
         }
     };
@@ -77,13 +74,10 @@ response! {
     CopyOutResponseBody
 }
 
-/// The formats of columns.
-pub struct ColumnFormats<'a> {
-    items: Items<u16>,
-    body: PhantomData<&'a [u8]>,
+list! {
+    /// The formats of columns.
+    ColumnFormats: u16 = column_formats
 }
-
-iterate!(ColumnFormats, u16);
 
 fn column_formats(body: &[u8]) -> io::Result<Vec<u16>> {
     let columns = CopyResponse::read(body)?.columns;

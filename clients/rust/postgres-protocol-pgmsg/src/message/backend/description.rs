@@ -1,6 +1,7 @@
 //! The columns of a result, and the types of a statement's parameters.
 
-use super::items::{iterate, Items};
+use super::items::{list, Items};
+use crate::getters::getters;
 use crate::lacking::{ends, has_count, refused, text, text_len};
 use crate::Oid;
 use bytes::Bytes;
@@ -29,18 +30,14 @@ impl RowDescriptionBody {
     /// The columns.
     #[inline]
     pub fn fields(&self) -> Fields<'_> {
-        Fields {
-            items: Items::new(fields(&self.storage)),
-        }
+        Fields::of(&self.storage)
     }
 }
 
-/// The columns of a result.
-pub struct Fields<'a> {
-    items: Items<Field<'a>>,
+list! {
+    /// The columns of a result.
+    Fields: Field<'a> = fields
 }
-
-iterate!(Fields, Field<'a>);
 
 fn fields(body: &[u8]) -> io::Result<Vec<Field<'_>>> {
     let columns = match backend::Message::read_body(Some(b'T'), body)? {
@@ -63,46 +60,21 @@ pub struct Field<'a> {
 }
 
 impl<'a> Field<'a> {
-    /// The name of the column.
-    #[inline]
-    pub fn name(&self) -> &'a str {
-        self.name
-    }
-
-    /// The object id of the table that the column is of, or 0.
-    #[inline]
-    pub fn table_oid(&self) -> Oid {
-        self.column.table
-    }
-
-    /// The number of the column in its table, or 0.
-    #[inline]
-    pub fn column_id(&self) -> i16 {
-        self.column.attribute
-    }
-
-    /// The object id of the type.
-    #[inline]
-    pub fn type_oid(&self) -> Oid {
-        self.column.type_id
-    }
-
-    /// How many bytes a value has, below 0 where that varies.
-    #[inline]
-    pub fn type_size(&self) -> i16 {
-        self.column.type_size
-    }
-
-    /// The modifier of the type.
-    #[inline]
-    pub fn type_modifier(&self) -> i32 {
-        self.column.type_modifier
-    }
-
-    /// The format of the values: 0 for text, 1 for binary.
-    #[inline]
-    pub fn format(&self) -> i16 {
-        self.column.format.0
+    getters! {
+        /// The name of the column.
+        name(self) -> &'a str = self.name;
+        /// The object id of the table that the column is of, or 0.
+        table_oid(self) -> Oid = self.column.table;
+        /// The number of the column in its table, or 0.
+        column_id(self) -> i16 = self.column.attribute;
+        /// The object id of the type.
+        type_oid(self) -> Oid = self.column.type_id;
+        /// How many bytes a value has, below 0 where that varies.
+        type_size(self) -> i16 = self.column.type_size;
+        /// The modifier of the type.
+        type_modifier(self) -> i32 = self.column.type_modifier;
+        /// The format of the values: 0 for text, 1 for binary.
+        format(self) -> i16 = self.column.format.0;
     }
 }
 
@@ -120,20 +92,14 @@ impl ParameterDescriptionBody {
     /// The object ids of the types.
     #[inline]
     pub fn parameters(&self) -> Parameters<'_> {
-        Parameters {
-            items: Items::new(parameters(&self.storage)),
-            body: PhantomData,
-        }
+        Parameters::of(&self.storage)
     }
 }
 
-/// The object ids of types.
-pub struct Parameters<'a> {
-    items: Items<Oid>,
-    body: PhantomData<&'a [u8]>,
+list! {
+    /// The object ids of types.
+    Parameters: Oid = parameters
 }
-
-iterate!(Parameters, Oid);
 
 fn parameters(body: &[u8]) -> io::Result<Vec<Oid>> {
     let types = match backend::Message::read_body(Some(b't'), body)? {

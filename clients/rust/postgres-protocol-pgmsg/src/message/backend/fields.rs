@@ -1,11 +1,13 @@
 //! The fields of an error or a notice.
 
-use super::items::{iterate, Items};
+use super::items::{list, Items};
+use crate::getters::getters;
 use crate::lacking::{ends_list, text, text_len};
 use bytes::Bytes;
 use fallible_iterator::FallibleIterator;
 use pgmsg::backend::Fields;
 use std::io;
+use std::marker::PhantomData;
 
 /// A body that is a list of fields.
 macro_rules! fields {
@@ -23,9 +25,7 @@ macro_rules! fields {
             /// The fields.
             #[inline]
             pub fn fields(&self) -> ErrorFields<'_> {
-                ErrorFields {
-                    items: Items::new(error_fields(&self.storage)),
-                }
+                ErrorFields::of(&self.storage)
             }
         }
     };
@@ -41,12 +41,10 @@ fields! {
     NoticeResponseBody
 }
 
-/// The fields of an error or a notice.
-pub struct ErrorFields<'a> {
-    items: Items<ErrorField<'a>>,
+list! {
+    /// The fields of an error or a notice.
+    ErrorFields: ErrorField<'a> = error_fields
 }
-
-iterate!(ErrorFields, ErrorField<'a>);
 
 /// A field of an error or a notice.
 pub struct ErrorField<'a> {
@@ -55,16 +53,11 @@ pub struct ErrorField<'a> {
 }
 
 impl<'a> ErrorField<'a> {
-    /// The letter that says what the field is.
-    #[inline]
-    pub fn type_(&self) -> u8 {
-        self.letter
-    }
-
-    /// The text of the field.
-    #[inline]
-    pub fn value(&self) -> &str {
-        self.value
+    getters! {
+        /// The letter that says what the field is.
+        type_(self) -> u8 = self.letter;
+        /// The text of the field.
+        value(self) -> &str = self.value;
     }
 }
 

@@ -35,9 +35,22 @@ impl<T> Items<T> {
     }
 }
 
-/// An iterator that gives items.
-macro_rules! iterate {
-    ($name:ident, $item:ty) => {
+/// Makes an iterator over a list, which a function reads of a body as a whole.
+macro_rules! list {
+    ($(#[$doc:meta])* $name:ident: $item:ty = $read:ident) => {
+        $(#[$doc])*
+        pub struct $name<'a> {
+            items: Items<$item>,
+            body: PhantomData<&'a [u8]>,
+        }
+
+        impl<'a> $name<'a> {
+            #[inline]
+            fn of(body: &'a [u8]) -> $name<'a> {
+                $name { items: Items::new($read(body)), body: PhantomData }
+            }
+        }
+
         impl<'a> FallibleIterator for $name<'a> {
             type Item = $item;
             type Error = io::Error;
@@ -55,4 +68,4 @@ macro_rules! iterate {
     };
 }
 
-pub(super) use iterate;
+pub(super) use list;

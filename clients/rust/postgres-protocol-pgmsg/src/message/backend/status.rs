@@ -1,5 +1,6 @@
 //! What a session and a command report of themselves.
 
+use crate::getters::getters;
 use crate::lacking::{ends, refused, text, text_len};
 use bytes::{Buf, Bytes};
 use pgmsg::backend::{
@@ -31,16 +32,11 @@ impl BackendKeyDataBody {
         })
     }
 
-    /// The process of this session.
-    #[inline]
-    pub fn process_id(&self) -> i32 {
-        self.process_id
-    }
-
-    /// The key that proves that the request comes from its client.
-    #[inline]
-    pub fn secret_key(&self) -> i32 {
-        self.secret_key
+    getters! {
+        /// The process of this session.
+        process_id(self) -> i32 = self.process_id;
+        /// The key that proves that the request comes from its client.
+        secret_key(self) -> i32 = self.secret_key;
     }
 }
 
@@ -61,10 +57,9 @@ impl CommandCompleteBody {
         Ok(CommandCompleteBody { storage })
     }
 
-    /// The name of the command, and how many rows it had to do with.
-    #[inline]
-    pub fn tag(&self) -> io::Result<&str> {
-        text(ByteStr(&self.storage))
+    getters! {
+        /// The name of the command, and how many rows it had to do with.
+        tag(self) -> io::Result<&str> = text(ByteStr(&self.storage));
     }
 }
 
@@ -92,22 +87,13 @@ impl NotificationResponseBody {
         })
     }
 
-    /// The process of the session that sent it.
-    #[inline]
-    pub fn process_id(&self) -> i32 {
-        self.process_id
-    }
-
-    /// The name of the channel.
-    #[inline]
-    pub fn channel(&self) -> io::Result<&str> {
-        text(ByteStr(&self.channel))
-    }
-
-    /// What the sender passed on.
-    #[inline]
-    pub fn message(&self) -> io::Result<&str> {
-        text(ByteStr(&self.message))
+    getters! {
+        /// The process of the session that sent it.
+        process_id(self) -> i32 = self.process_id;
+        /// The name of the channel.
+        channel(self) -> io::Result<&str> = text(ByteStr(&self.channel));
+        /// What the sender passed on.
+        message(self) -> io::Result<&str> = text(ByteStr(&self.message));
     }
 }
 
@@ -127,16 +113,11 @@ impl ParameterStatusBody {
         })
     }
 
-    /// The name of the setting.
-    #[inline]
-    pub fn name(&self) -> io::Result<&str> {
-        text(ByteStr(&self.name))
-    }
-
-    /// Its value.
-    #[inline]
-    pub fn value(&self) -> io::Result<&str> {
-        text(ByteStr(&self.value))
+    getters! {
+        /// The name of the setting.
+        name(self) -> io::Result<&str> = text(ByteStr(&self.name));
+        /// Its value.
+        value(self) -> io::Result<&str> = text(ByteStr(&self.value));
     }
 }
 
@@ -153,10 +134,9 @@ impl ReadyForQueryBody {
         Ok(ReadyForQueryBody { status })
     }
 
-    /// The letter of the transaction's status: I where none is open, T in one, E in one that has
-    /// failed.
-    #[inline]
-    pub fn status(&self) -> u8 {
-        self.status
+    getters! {
+        /// The letter of the transaction's status: I where none is open, T in one, E in one that has
+        /// failed.
+        status(self) -> u8 = self.status;
     }
 }
