@@ -63,9 +63,7 @@ fn installed() -> Option<PathBuf> {
     if !is_there.ok()?.success() {
         return None;
     }
-    let said = Command::new(&program)
-        .args(["--variable=libdir", "pg_message"])
-        .output();
+    let said = Command::new(&program).args(["--variable=libdir", "pg_message"]).output();
     let folder = String::from_utf8(said.ok()?.stdout).ok()?;
     Some(PathBuf::from(folder.trim_end()))
 }

@@ -33,10 +33,7 @@ extern "C" {
 /// The processor time of this process so far.
 fn processor_time() -> Duration {
     const CLOCK_PROCESS_CPUTIME_ID: i32 = 2;
-    let mut time = Timespec {
-        seconds: 0,
-        nanoseconds: 0,
-    };
+    let mut time = Timespec { seconds: 0, nanoseconds: 0 };
     // SAFETY: it is a `timespec` of 64-bit Linux, which the call fills.
     let status = unsafe { clock_gettime(CLOCK_PROCESS_CPUTIME_ID, &mut time) };
     assert_eq!(status, 0);
@@ -81,10 +78,7 @@ fn compare(
         of_theirs.push(time_of(&mut theirs, times) / messages as f64);
     }
     let (ours, theirs) = (median(of_ours), median(of_theirs));
-    println!(
-        "| {name} | {ours:.1} | {theirs:.1} | {:.2} |",
-        ours / theirs
-    );
+    println!("| {name} | {ours:.1} | {theirs:.1} | {:.2} |", ours / theirs);
 }
 
 /// A stream of rows, each of so many cells of 8 bytes.
@@ -116,27 +110,12 @@ fn main() {
         let stream = rows(200, cells);
         let name = format!("row of {cells} cells");
         let mut reader = ours::Reader::default();
-        compare(
-            &name,
-            200,
-            || reader.read(&stream),
-            || theirs::read(&stream),
-        );
+        compare(&name, 200, || reader.read(&stream), || theirs::read(&stream));
     }
     let (mut writer, mut other) = (ours::Writer::default(), theirs::Writer::default());
     let short = query_of(8, 8);
-    compare(
-        "Parse of 8 types",
-        1,
-        || writer.parse(&short),
-        || other.parse(&short),
-    );
-    compare(
-        "Bind of 8 values, Execute and Sync",
-        1,
-        || writer.run(&short),
-        || other.run(&short),
-    );
+    compare("Parse of 8 types", 1, || writer.parse(&short), || other.parse(&short));
+    compare("Bind of 8 values, Execute and Sync", 1, || writer.run(&short), || other.run(&short));
     let long = query_of(2, 4096);
     compare(
         "Bind of 2 values of 4 KiB, Execute and Sync",

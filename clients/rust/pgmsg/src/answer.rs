@@ -25,12 +25,7 @@ const _: () = assert!(size_of::<Report>() == size_of::<sys::pgmsg_fault>());
 impl Report {
     #[inline]
     fn new() -> Report {
-        Report {
-            _number: 0,
-            at: 0,
-            words_len: 0,
-            words: [MaybeUninit::uninit(); 256],
-        }
+        Report { _number: 0, at: 0, words_len: 0, words: [MaybeUninit::uninit(); 256] }
     }
 
     fn words(&self) -> &[u8] {
@@ -84,8 +79,7 @@ pub(crate) fn answer(call: impl FnOnce(*mut sys::pgmsg_fault) -> isize) -> Resul
 #[inline]
 pub(crate) fn part(bytes: &[u8], span: sys::pgmsg_span) -> Result<&[u8], Fault> {
     let rest = bytes.get(span.at..);
-    rest.and_then(|rest| rest.get(..span.len))
-        .ok_or_else(|| Fault::unexpected(span.at))
+    rest.and_then(|rest| rest.get(..span.len)).ok_or_else(|| Fault::unexpected(span.at))
 }
 
 /// The items that a call writes into `room`. It calls again with more room where the first room is
@@ -117,8 +111,7 @@ pub(crate) fn items<T: Clone + Default>(
 #[cold]
 pub(crate) fn grow<T: Clone + Default>(room: &mut Vec<T>, length: usize) -> Result<(), Refusal> {
     let missing = length.saturating_sub(room.len());
-    room.try_reserve(missing)
-        .map_err(|_| Refusal::OutOfMemory)?;
+    room.try_reserve(missing).map_err(|_| Refusal::OutOfMemory)?;
     room.resize(length, T::default());
     Ok(())
 }

@@ -76,8 +76,7 @@ impl Room for Vec<u8> {
     }
 
     fn reserve(&mut self, length: usize) -> Result<(), Refusal> {
-        self.try_reserve(length.max(LEAST_GROWTH))
-            .map_err(|_| Refusal::OutOfMemory)
+        self.try_reserve(length.max(LEAST_GROWTH)).map_err(|_| Refusal::OutOfMemory)
     }
 }
 

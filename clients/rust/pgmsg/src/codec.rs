@@ -49,11 +49,7 @@ impl SharedFrame {
     /// `Bytes` of their own by [`Bytes::slice_ref`].
     #[inline]
     pub fn frame(&self) -> Frame<'_> {
-        Frame {
-            tag: self.tag,
-            bytes: &self.bytes,
-            offset: self.offset,
-        }
+        Frame { tag: self.tag, bytes: &self.bytes, offset: self.offset }
     }
 }
 

@@ -63,11 +63,7 @@ impl Decoder {
     }
 
     const fn of(side: Side) -> Decoder {
-        Decoder {
-            side,
-            limit: usize::MAX,
-            offset: 0,
-        }
+        Decoder { side, limit: usize::MAX, offset: 0 }
     }
 
     /// Refuses messages of more than so many bytes, tag and length among them. One without a tag is refused
@@ -121,9 +117,7 @@ impl Decoder {
         }
         let frame = Frame {
             tag,
-            bytes: bytes
-                .get(..head.length)
-                .ok_or_else(|| Fault::unexpected(head.length))?,
+            bytes: bytes.get(..head.length).ok_or_else(|| Fault::unexpected(head.length))?,
             offset: self.offset,
         };
         if tag.is_none() && !check_frames(frame.bytes, true)? {

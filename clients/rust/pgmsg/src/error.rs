@@ -136,21 +136,13 @@ impl Fault {
     /// The fault of a tag that no message of a side has.
     #[cold]
     pub(crate) fn unknown(words: String) -> Fault {
-        Fault {
-            refusal: Refusal::UnknownMessageType,
-            at: 0,
-            words,
-        }
+        Fault { refusal: Refusal::UnknownMessageType, at: 0, words }
     }
 }
 
 impl From<Refusal> for Fault {
     fn from(refusal: Refusal) -> Fault {
-        Fault {
-            refusal,
-            at: 0,
-            words: String::new(),
-        }
+        Fault { refusal, at: 0, words: String::new() }
     }
 }
 

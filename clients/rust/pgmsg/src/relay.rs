@@ -74,11 +74,7 @@ impl Relay {
 
     fn new(limit: usize, wanted: Wanted, is_first: bool) -> Relay {
         Relay {
-            relay: sys::pgmsg_relay {
-                limit,
-                left: 0,
-                is_first,
-            },
+            relay: sys::pgmsg_relay { limit, left: 0, is_first },
             wanted,
             held: Vec::new(),
             needed: 0,
@@ -257,8 +253,7 @@ impl fmt::Debug for Relay {
 
 /// Adds bytes to what is held, or leaves it as it was.
 fn hold(held: &mut Vec<u8>, bytes: &[u8]) -> Result<(), Refusal> {
-    held.try_reserve(bytes.len())
-        .map_err(|_| Refusal::OutOfMemory)?;
+    held.try_reserve(bytes.len()).map_err(|_| Refusal::OutOfMemory)?;
     held.extend_from_slice(bytes);
     Ok(())
 }

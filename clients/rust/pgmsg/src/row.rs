@@ -39,9 +39,7 @@ pub(crate) fn read_values(
 /// Reads the body of a DataRow.
 #[inline]
 pub(crate) fn read(body: &[u8]) -> Result<List<'_, Value<'_>>, Fault> {
-    read_values(body, |room, length| {
-        ask!(pgmsg_read_row([body], room, length))
-    })
+    read_values(body, |room, length| ask!(pgmsg_read_row([body], room, length)))
 }
 
 /// Appends a DataRow.
@@ -74,9 +72,7 @@ impl RowIndex {
 
     /// A reader with room for rows of so many cells.
     pub fn with_capacity(cells: usize) -> RowIndex {
-        RowIndex {
-            cells: vec![Cell::default(); cells],
-        }
+        RowIndex { cells: vec![Cell::default(); cells] }
     }
 
     /// Reads the body of a DataRow.

@@ -120,10 +120,7 @@ fn is_same(key: &Key, other: &[u8]) -> bool {
 
 /// Whether a nonce, or a part of one, can stand in a message: printable ASCII but the comma.
 fn is_nonce(text: &[u8]) -> bool {
-    !text.is_empty()
-        && text
-            .iter()
-            .all(|byte| byte.is_ascii_graphic() && *byte != b',')
+    !text.is_empty() && text.iter().all(|byte| byte.is_ascii_graphic() && *byte != b',')
 }
 
 /// The messages that the proof and the signature cover.
@@ -133,8 +130,5 @@ fn covered(first: &[u8], challenge: &[u8], without_proof: &[u8]) -> Vec<u8> {
 
 /// The message of the client's proof but for that.
 fn without_proof(header: &str, binding: &[u8], nonce: &str) -> alloc::string::String {
-    format!(
-        "c={},r={nonce}",
-        base64::encode(&[header.as_bytes(), binding].concat())
-    )
+    format!("c={},r={nonce}", base64::encode(&[header.as_bytes(), binding].concat()))
 }

@@ -42,11 +42,7 @@ impl<'a> Value<'a> {
     #[inline]
     const fn of(bytes: &'a [u8], is_null: bool) -> Value<'a> {
         Value {
-            value: sys::pgmsg_value {
-                bytes: bytes.as_ptr(),
-                bytes_len: bytes.len(),
-                is_null,
-            },
+            value: sys::pgmsg_value { bytes: bytes.as_ptr(), bytes_len: bytes.len(), is_null },
             bytes: PhantomData,
         }
     }

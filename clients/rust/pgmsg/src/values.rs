@@ -99,8 +99,6 @@ impl<B: Buffer> Values<B> {
 /// Shows the number of values alone, since the bytes may hold a password.
 impl<B> fmt::Debug for Values<B> {
     fn fmt(&self, f: &mut fmt::Formatter<'_>) -> fmt::Result {
-        f.debug_struct("Values")
-            .field("len", &self.values.len())
-            .finish_non_exhaustive()
+        f.debug_struct("Values").field("len", &self.values.len()).finish_non_exhaustive()
     }
 }

@@ -53,10 +53,7 @@ fn values_of_each_length() {
     for length in 0..20 {
         let bytes: Vec<u8> = (1..=length).collect();
         let values = [Value::new(&bytes), Value::new(&bytes)];
-        let bind = Bind {
-            values: (&values).into(),
-            ..Bind::default()
-        };
+        let bind = Bind { values: (&values).into(), ..Bind::default() };
         let mut out = Vec::new();
         bind.write(&mut out).expect("it has no fault");
         let value = [&[0, 0, 0, length][..], &bytes].concat();
@@ -67,12 +64,7 @@ fn values_of_each_length() {
 
 #[test]
 fn values_of_each_form() {
-    let values = [
-        Value::new(b"\xff"),
-        "a".into(),
-        Some("").into(),
-        Value::NULL,
-    ];
+    let values = [Value::new(b"\xff"), "a".into(), Some("").into(), Value::NULL];
     let bytes = values.iter().map(|value| value.bytes());
     assert!(bytes.eq([Some(&b"\xff"[..]), Some(b"a"), Some(b""), None]));
     assert_eq!(Value::from(None::<&str>), Value::NULL);

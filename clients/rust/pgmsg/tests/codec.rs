@@ -58,26 +58,17 @@ async fn serve(mut server: Framed<TcpStream, ServerCodec>) -> io::Result<()> {
         frontend::Message::Startup(it) => assert_eq!(it.settings.value("user"), Some("ann".into())),
         other => panic!("{other:?}"),
     }
-    server
-        .feed(backend::Message::Authentication(Authentication::Ok))
-        .await?;
-    let key = BackendKeyData {
-        process_id: 7,
-        secret_key: b"key!".into(),
-    };
+    server.feed(backend::Message::Authentication(Authentication::Ok)).await?;
+    let key = BackendKeyData { process_id: 7, secret_key: b"key!".into() };
     server.feed(backend::Message::BackendKeyData(key)).await?;
-    server
-        .send(backend::Message::ReadyForQuery(TransactionStatus::Idle))
-        .await?;
+    server.send(backend::Message::ReadyForQuery(TransactionStatus::Idle)).await?;
     while let Some(frame) = server.next().await {
         let frame = frame?;
         match frontend::Message::read(&frame.frame())? {
             frontend::Message::Query(query) => {
                 let row = backend::Message::DataRow([Value::new(&query), Value::NULL].into());
                 server.feed(row).await?;
-                server
-                    .send(backend::Message::CommandComplete("SELECT 1".into()))
-                    .await?;
+                server.send(backend::Message::CommandComplete("SELECT 1".into())).await?;
             }
             frontend::Message::Terminate => return Ok(()),
             other => panic!("{other:?}"),
@@ -123,9 +114,7 @@ fn faults_end_a_stream() {
     };
     let server = |mut server: Framed<TcpStream, ServerCodec>| async move {
         assert_eq!(next(&mut server).await?.tag, None);
-        let fault = next(&mut server)
-            .await
-            .expect_err("no client sends the tag");
+        let fault = next(&mut server).await.expect_err("no client sends the tag");
         assert_eq!(fault.kind(), io::ErrorKind::InvalidData);
         assert_eq!(fault.to_string(), "unknown message type: 33");
         Ok(())
@@ -149,10 +138,7 @@ fn a_message_that_is_cut_off_is_a_fault() {
 fn room_is_made_as_the_bytes_come() {
     use bytes::BytesMut;
     let mut stream = BytesMut::from(&b"d\x7f\xff\xff\xff"[..]);
-    assert_eq!(
-        ClientCodec::new().decode(&mut stream).expect("no fault"),
-        None
-    );
+    assert_eq!(ClientCodec::new().decode(&mut stream).expect("no fault"), None);
     assert!(stream.capacity() < 1 << 22);
     assert!(ClientCodec::with_limit(100).decode(&mut stream).is_err());
     assert_eq!(stream.len(), 5);

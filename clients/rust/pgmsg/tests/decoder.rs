@@ -32,10 +32,7 @@ fn read_pieces<'a>(pieces: impl Iterator<Item = &'a [u8]>) -> (Vec<(u64, String)
             rest.drain(..length);
         }
     }
-    assert_eq!(
-        decoder.offset(),
-        found.last().map_or(0, |_| decoder.offset())
-    );
+    assert_eq!(decoder.offset(), found.last().map_or(0, |_| decoder.offset()));
     (found, rest)
 }
 
@@ -46,10 +43,7 @@ fn a_stream_that_is_cut_anywhere_has_the_same_messages() {
     let starts = whole.iter().map(|(offset, _)| *offset as usize);
     assert!(starts.eq(STARTS[..8].iter().copied()));
     let words = |at: usize| whole[at].1.as_str();
-    assert_eq!(
-        (words(0), words(5), words(7)),
-        ("SslRequest", "Sync", "Terminate")
-    );
+    assert_eq!((words(0), words(5), words(7)), ("SslRequest", "Sync", "Terminate"));
     for at in 0..=STREAM.len() {
         let (first, second) = STREAM.split_at(at);
         let read = read_pieces([first, second].into_iter());
@@ -82,16 +76,10 @@ fn incomplete_messages_say_their_tag_and_how_many_bytes_they_need() {
             assert_eq!(next, Ok(Next::Incomplete { tag, needed }));
             assert_eq!(next.map(Next::frame), Ok(None));
         }
-        let longest = Next::Incomplete {
-            tag: Some(b'd'),
-            needed: 1 << 31,
-        };
+        let longest = Next::Incomplete { tag: Some(b'd'), needed: 1 << 31 };
         assert_eq!(decoder.next(b"d\x7f\xff\xff\xff"), Ok(longest));
         let head = copy_head(3).expect("it is short");
-        let part = Next::Incomplete {
-            tag: Some(b'd'),
-            needed: 8,
-        };
+        let part = Next::Incomplete { tag: Some(b'd'), needed: 8 };
         assert_eq!(decoder.next(&head), Ok(part));
         assert_eq!(decoder.offset(), 0);
         assert!(!decoder.expects_first());
@@ -110,33 +98,15 @@ fn broken_streams() {
     let refused = |mut decoder: Decoder, bytes| fault_of(decoder.next(bytes));
     let sides = [Decoder::of_server(), Decoder::of_open_client()];
     for decoder in sides.clone() {
-        assert_eq!(
-            refused(decoder.clone(), b"S\0\0\0\x03"),
-            (Refusal::BadLength, 0)
-        );
-        assert_eq!(
-            refused(decoder, b"S\xff\xff\xff\xff"),
-            (Refusal::BadLength, 0)
-        );
+        assert_eq!(refused(decoder.clone(), b"S\0\0\0\x03"), (Refusal::BadLength, 0));
+        assert_eq!(refused(decoder, b"S\xff\xff\xff\xff"), (Refusal::BadLength, 0));
     }
-    assert_eq!(
-        refused(sides[1].clone(), b"!\0\0\0\x04"),
-        (Refusal::UnknownMessageType, 0)
-    );
+    assert_eq!(refused(sides[1].clone(), b"!\0\0\0\x04"), (Refusal::UnknownMessageType, 0));
     let first = Decoder::of_client();
-    assert_eq!(
-        refused(first.clone(), b"\0\0\0\x07"),
-        (Refusal::BadLength, 0)
-    );
+    assert_eq!(refused(first.clone(), b"\0\0\0\x07"), (Refusal::BadLength, 0));
     assert_eq!(refused(first, b"\0\0\x27\x15"), (Refusal::FirstTooLong, 0));
     let longest = Decoder::of_client().next(b"\0\0\x27\x14");
-    assert_eq!(
-        longest,
-        Ok(Next::Incomplete {
-            tag: None,
-            needed: MAX_FIRST_LENGTH
-        })
-    );
+    assert_eq!(longest, Ok(Next::Incomplete { tag: None, needed: MAX_FIRST_LENGTH }));
 }
 
 #[test]
@@ -147,10 +117,7 @@ fn messages_above_a_limit_are_refused_by_their_head() {
         assert_eq!(next(14), Ok(()));
         assert_eq!(fault_of(next(13)), (Refusal::FrameTooLong, 0));
         let mut decoder = side.clone().with_limit(13);
-        assert_eq!(
-            fault_of(decoder.next(&message[..5])),
-            (Refusal::FrameTooLong, 0)
-        );
+        assert_eq!(fault_of(decoder.next(&message[..5])), (Refusal::FrameTooLong, 0));
     }
 }
 
@@ -161,10 +128,7 @@ fn an_unknown_first_message_is_followed_by_messages_with_tags() {
     let frame = frame.expect("no fault").expect("it is whole");
     assert_eq!(fault_of(Message::read(&frame)), (Refusal::UnknownCode, 0));
     assert!(!decoder.expects_first());
-    assert_eq!(
-        format!("{frame:?}"),
-        "Frame { tag: None, length: 8, offset: 0, .. }"
-    );
+    assert_eq!(format!("{frame:?}"), "Frame { tag: None, length: 8, offset: 0, .. }");
 }
 
 #[test]

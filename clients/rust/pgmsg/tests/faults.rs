@@ -129,14 +129,8 @@ fn every_letter_of_a_field() {
         let is_other = kind == FieldKind::Other(letter);
         assert_eq!(is_other, !letters.contains(&letter), "{letter}");
     }
-    let fields = [
-        Field::new(FieldKind::Hint, "a"),
-        Field::new(FieldKind::Hint, "b"),
-    ];
-    assert_eq!(
-        backend::Fields::from(&fields).value(FieldKind::Hint),
-        Some("a".into())
-    );
+    let fields = [Field::new(FieldKind::Hint, "a"), Field::new(FieldKind::Hint, "b")];
+    assert_eq!(backend::Fields::from(&fields).value(FieldKind::Hint), Some("a".into()));
     assert_eq!(backend::Fields::from(&fields).value(FieldKind::Code), None);
 }
 

@@ -44,21 +44,13 @@ const TAGS: &[u8] = b"RK23CdcGHWDIEnNAtS1sZTBFPQXfp!";
 fn parts_of_client<'a>(message: &frontend::Message<'a>) -> Vec<&'a [u8]> {
     use frontend::Message::*;
     match message {
-        Startup(it) => it
-            .settings
-            .iter()
-            .flat_map(|it| [it.name.0, it.value.0])
-            .collect(),
+        Startup(it) => it.settings.iter().flat_map(|it| [it.name.0, it.value.0]).collect(),
         CancelRequest(it) => vec![it.secret_key.0],
         Bind(it) => {
             let values = it.values.iter().filter_map(|value| value.bytes());
             values.chain([it.portal.0, it.statement.0]).collect()
         }
-        FunctionCall(it) => it
-            .arguments
-            .iter()
-            .filter_map(|value| value.bytes())
-            .collect(),
+        FunctionCall(it) => it.arguments.iter().filter_map(|value| value.bytes()).collect(),
         Parse(it) => vec![it.statement.0, it.query.0],
         Close(it) | Describe(it) => vec![it.name().0],
         Execute(it) => vec![it.portal.0],
@@ -132,9 +124,7 @@ fn read_all(reader: &mut RowIndex, body: &[u8]) {
     }
     read_of_client(None, body);
     if let Some(row) = checked(body, reader.read(body)) {
-        row.iter()
-            .flatten()
-            .for_each(|value| assert_within(body, value));
+        row.iter().flatten().for_each(|value| assert_within(body, value));
         let ranges = row.places().iter().map(|place| place.range());
         assert!(ranges.map(|range| Some(&body[range?])).eq(&row));
     }
@@ -193,16 +183,10 @@ fn a_body_beyond_the_limit_is_refused() {
         let read = backend::Message::read_body(Some(tag), &body);
         assert_eq!(common::fault_of(read).0, Refusal::BodyTooLong, "{tag}");
     }
-    for tag in [None]
-        .into_iter()
-        .chain(b"BCfDEHFPQSX".iter().copied().map(Some))
-    {
+    for tag in [None].into_iter().chain(b"BCfDEHFPQSX".iter().copied().map(Some)) {
         let fault = frontend::Message::read_body(tag, &body).expect_err("it is too long");
         let words = "message body out of range for protocol: 2147483644";
-        assert_eq!(
-            (fault.refusal, fault.words.as_str()),
-            (Refusal::BodyTooLong, words)
-        );
+        assert_eq!((fault.refusal, fault.words.as_str()), (Refusal::BodyTooLong, words));
     }
 }
 

@@ -68,24 +68,13 @@ fn numbers_and_columns() {
     for length in lengths() {
         let types: List<'_, u32> = (0..length as u32).map(|number| number << 8).collect();
         assert_read_of_server(backend::Message::ParameterDescription(types.clone()));
-        let parse = Parse {
-            types,
-            ..Parse::default()
-        };
+        let parse = Parse { types, ..Parse::default() };
         assert_read_of_client(frontend::Message::Parse(parse));
         let names = texts(length);
-        let columns = names
-            .iter()
-            .zip(1..)
-            .map(|(name, id)| Column::new(name, id));
+        let columns = names.iter().zip(1..).map(|(name, id)| Column::new(name, id));
         assert_read_of_server(backend::Message::RowDescription(columns.collect()));
-        let columns = (0..length.min(32767))
-            .map(|number| Format(number as i16))
-            .collect();
-        let response = CopyResponse {
-            format: -1,
-            columns,
-        };
+        let columns = (0..length.min(32767)).map(|number| Format(number as i16)).collect();
+        let response = CopyResponse { format: -1, columns };
         assert_read_of_server(backend::Message::CopyOutResponse(response));
     }
 }
@@ -97,19 +86,10 @@ fn texts_without_a_count() {
         let names = texts.iter().map(|text| text.into());
         let sasl = backend::Authentication::Sasl(names.collect());
         assert_read_of_server(backend::Message::Authentication(sasl));
-        let fields = texts.iter().map(|text| Field {
-            letter: b'M',
-            value: text.into(),
-        });
+        let fields = texts.iter().map(|text| Field { letter: b'M', value: text.into() });
         assert_read_of_server(backend::Message::ErrorResponse(fields.collect()));
-        let settings = texts.iter().map(|text| Setting {
-            name: text.into(),
-            value: text.into(),
-        });
-        let startup = Startup {
-            minor: 0,
-            settings: settings.collect(),
-        };
+        let settings = texts.iter().map(|text| Setting { name: text.into(), value: text.into() });
+        let startup = Startup { minor: 0, settings: settings.collect() };
         for text in &texts {
             assert_eq!(startup.settings.value(text), Some(text.into()));
         }
@@ -133,13 +113,7 @@ fn codes_of_a_copy_below_zero_are_none() {
 
 #[test]
 fn limits_of_an_execute() {
-    let limit = |max_rows| {
-        frontend::Execute {
-            portal: "".into(),
-            max_rows,
-        }
-        .limit()
-    };
+    let limit = |max_rows| frontend::Execute { portal: "".into(), max_rows }.limit();
     let limits = [0, 1, i32::MAX as u32, 1 << 31, u32::MAX].map(limit);
     let limits = limits.map(|limit| limit.map(u32::from));
     assert_eq!(limits, [None, Some(1), Some(i32::MAX as u32), None, None]);

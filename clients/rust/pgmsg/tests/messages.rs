@@ -208,10 +208,8 @@ fn messages_of_a_client() {
 fn each_tag_has_a_message() {
     let tags: Vec<_> = of_server().iter().filter_map(|it| it.1.tag()).collect();
     for tag in 0..=u8::MAX {
-        let is_other = matches!(
-            backend::Message::read_body(Some(tag), b""),
-            Ok(backend::Message::Other(_))
-        );
+        let is_other =
+            matches!(backend::Message::read_body(Some(tag), b""), Ok(backend::Message::Other(_)));
         assert_eq!(is_other, !tags.contains(&tag) || tag == b'!', "{tag}");
     }
     let tags: Vec<_> = of_client().iter().filter_map(|it| it.1.tag()).collect();
@@ -238,15 +236,9 @@ fn secrets_are_named_and_not_shown() {
             (bytes[0], bytes[8])
         })
         .collect();
-    assert_eq!(
-        secret_tags,
-        [(b'R', 11), (b'R', 12), (b'R', 8), (b'K', 0xd2)]
-    );
-    let secrets: Vec<_> = of_client()
-        .iter()
-        .filter(|it| it.1.is_secret())
-        .map(|it| format!("{:?}", it.1))
-        .collect();
+    assert_eq!(secret_tags, [(b'R', 11), (b'R', 12), (b'R', 8), (b'K', 0xd2)]);
+    let secrets: Vec<_> =
+        of_client().iter().filter(|it| it.1.is_secret()).map(|it| format!("{:?}", it.1)).collect();
     assert_eq!(
         secrets,
         [

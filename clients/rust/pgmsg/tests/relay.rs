@@ -59,19 +59,9 @@ fn a_client_s_stream_passes_unchanged() {
 
 #[test]
 fn a_stream_that_is_cut_anywhere_passes_unchanged() {
-    let tail = [
-        tagged(b'Q', b"SELECT 1\0"),
-        tagged(b'd', b""),
-        tagged(b'd', b"12"),
-    ]
-    .concat();
+    let tail = [tagged(b'Q', b"SELECT 1\0"), tagged(b'd', b""), tagged(b'd', b"12")].concat();
     let stream = [FIRSTS[0], FIRSTS[1], &tail[..]].concat();
-    for wanted in [
-        Wanted::ALL,
-        Wanted::NONE,
-        Wanted::tags(b"d"),
-        Wanted::tags(b"Q"),
-    ] {
+    for wanted in [Wanted::ALL, Wanted::NONE, Wanted::tags(b"d"), Wanted::tags(b"Q")] {
         for at in 0..=stream.len() {
             let (first, second) = stream.split_at(at);
             let mut relay = Relay::of_client(LIMIT, wanted);
@@ -87,12 +77,7 @@ fn a_stream_that_is_cut_anywhere_passes_unchanged() {
 
 #[test]
 fn a_stream_that_ends_anywhere_is_what_went_out_and_what_is_held() {
-    let stream = [
-        tagged(b'D', b"123"),
-        tagged(b'd', b"456"),
-        tagged(b'Z', b"I"),
-    ]
-    .concat();
+    let stream = [tagged(b'D', b"123"), tagged(b'd', b"456"), tagged(b'Z', b"I")].concat();
     for wanted in [Wanted::ALL, Wanted::NONE, Wanted::tags(b"D")] {
         for end in 0..=stream.len() {
             let mut relay = Relay::of_server(LIMIT, wanted);
@@ -132,10 +117,7 @@ fn frames_have_a_tag_and_a_body() {
         });
         passed.expect("no fault");
     }
-    let due = [
-        (None, FIRSTS[1][4..].to_vec()),
-        (Some(b'Q'), b"SELECT 1\0".to_vec()),
-    ];
+    let due = [(None, FIRSTS[1][4..].to_vec()), (Some(b'Q'), b"SELECT 1\0".to_vec())];
     assert_eq!(found, due);
 }
 
@@ -148,9 +130,7 @@ fn a_gigabyte_passes_in_parts_without_being_held() {
         let mut relay = Relay::of_server(100, Wanted::ALL.without(b"d"));
         let (mut went, mut left) = (0, LENGTH);
         let pieces = [&head[..cut], &head[cut..]];
-        let pieces = pieces
-            .into_iter()
-            .chain((0..LENGTH >> 16).map(|_| &data[..]));
+        let pieces = pieces.into_iter().chain((0..LENGTH >> 16).map(|_| &data[..]));
         for mut piece in pieces {
             while let Some(event) = relay.next(&mut piece).expect("no fault") {
                 match event {

@@ -37,14 +37,8 @@ fn each_answer_whatever_the_pieces() {
         assert_eq!(given(Answer::Omit), Ok(with(&[])));
         assert_eq!(given(Answer::Replace(ADDED.to_vec())), Ok(with(&[ADDED])));
         assert_eq!(given(Answer::Replace(Vec::new())), Ok(with(&[])));
-        assert_eq!(
-            given(Answer::AddBefore(ADDED.to_vec())),
-            Ok(with(&[ADDED, row]))
-        );
-        assert_eq!(
-            given(Answer::AddAfter(ADDED.to_vec())),
-            Ok(with(&[row, ADDED]))
-        );
+        assert_eq!(given(Answer::AddBefore(ADDED.to_vec())), Ok(with(&[ADDED, row])));
+        assert_eq!(given(Answer::AddAfter(ADDED.to_vec())), Ok(with(&[row, ADDED])));
     }
 }
 
@@ -71,11 +65,7 @@ fn of_client(at: usize, answer: Answer) -> Result<Vec<u8>, Refusal> {
     let passed = relay.pass(&[REQUEST, STARTUP].concat(), &mut out, |frame| {
         assert_eq!(frame.tag, None);
         count += 1;
-        Ok(if count == at + 1 {
-            answer.clone()
-        } else {
-            Answer::Keep
-        })
+        Ok(if count == at + 1 { answer.clone() } else { Answer::Keep })
     });
     passed.map(|()| out).map_err(|fault| fault.refusal)
 }
@@ -87,26 +77,17 @@ fn answers_to_messages_without_a_tag() {
     let due = |parts: &[&[u8]]| Ok(parts.concat());
     let refused = Err(Refusal::NotFrames);
     assert_eq!(of_client(0, Answer::Omit), due(&[STARTUP]));
-    assert_eq!(
-        of_client(0, Answer::Replace(REQUEST.repeat(2))),
-        due(&[REQUEST, REQUEST, STARTUP])
-    );
+    assert_eq!(of_client(0, Answer::Replace(REQUEST.repeat(2))), due(&[REQUEST, REQUEST, STARTUP]));
     assert_eq!(
         of_client(0, Answer::AddBefore(REQUEST.to_vec())),
         due(&[REQUEST, REQUEST, STARTUP])
     );
-    assert_eq!(
-        of_client(1, Answer::Replace(other.to_vec())),
-        due(&[REQUEST, other])
-    );
+    assert_eq!(of_client(1, Answer::Replace(other.to_vec())), due(&[REQUEST, other]));
     assert_eq!(
         of_client(1, Answer::AddBefore(REQUEST.to_vec())),
         due(&[REQUEST, REQUEST, STARTUP])
     );
-    assert_eq!(
-        of_client(1, Answer::AddAfter(sync.to_vec())),
-        due(&[REQUEST, STARTUP, sync])
-    );
+    assert_eq!(of_client(1, Answer::AddAfter(sync.to_vec())), due(&[REQUEST, STARTUP, sync]));
     // After these the stream would not go on as it does.
     assert_eq!(of_client(1, Answer::Omit), refused);
     assert_eq!(of_client(0, Answer::Replace(STARTUP.to_vec())), refused);
@@ -121,10 +102,7 @@ fn whole_messages_are_checked() {
     assert_eq!(check_frames(b"", false), Ok(false));
     assert_eq!(check_frames(b"", true), Ok(true));
     assert_eq!(check_frames(ADDED, false), Ok(false));
-    assert_eq!(
-        check_frames(&[REQUEST, STARTUP, ADDED].concat(), true),
-        Ok(false)
-    );
+    assert_eq!(check_frames(&[REQUEST, STARTUP, ADDED].concat(), true), Ok(false));
     assert_eq!(check_frames(&REQUEST.repeat(3), true), Ok(true));
     for (bytes, is_first) in [(ADDED, true), (STARTUP, false), (&STARTUP[..17], true)] {
         let fault = check_frames(bytes, is_first).expect_err("a fault");

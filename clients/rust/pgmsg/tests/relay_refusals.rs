@@ -49,10 +49,7 @@ fn first_messages_above_the_limit_are_refused() {
     for cut in 0..4 {
         let mut relay = Relay::of_client(17, Wanted::NONE);
         assert_eq!(passed(&mut relay, &[&FIRSTS[1][..cut]]).0, b"");
-        assert_eq!(
-            refused(&mut relay, &FIRSTS[1][cut..]),
-            Refusal::FrameTooLong
-        );
+        assert_eq!(refused(&mut relay, &FIRSTS[1][cut..]), Refusal::FrameTooLong);
         let mut relay = Relay::of_client(18, Wanted::NONE);
         let (out, _) = passed(&mut relay, &[&FIRSTS[1][..cut], &FIRSTS[1][cut..]]);
         assert_eq!(out, FIRSTS[1]);

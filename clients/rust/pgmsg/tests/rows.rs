@@ -53,9 +53,7 @@ fn places_in_an_array() {
         let mut room = vec![Cell::default(); length];
         assert_eq!(places_in(body, &mut room), Ok(3));
         let given = room.iter().map(|cell| cell.value(body));
-        assert!(given.eq([Some(&b"ab"[..]), None, Some(b""), Some(b"")]
-            .into_iter()
-            .take(length)));
+        assert!(given.eq([Some(&b"ab"[..]), None, Some(b""), Some(b"")].into_iter().take(length)));
     }
     let fault = places_in(b"\0\x01", &mut []).map(|_| ());
     assert_eq!(fault_of(fault), (Refusal::Short, 2));
@@ -65,19 +63,10 @@ fn places_in_an_array() {
 fn a_reader_is_used_again() {
     let mut reader = RowIndex::new();
     let wide = b"\0\x02\0\0\0\x01a\0\0\0\x01b";
-    let values: Vec<_> = reader
-        .read(wide)
-        .expect("the row is complete")
-        .iter()
-        .collect();
-    let narrow = reader
-        .read(b"\0\x01\xff\xff\xff\xff")
-        .expect("the row is complete");
+    let values: Vec<_> = reader.read(wide).expect("the row is complete").iter().collect();
+    let narrow = reader.read(b"\0\x01\xff\xff\xff\xff").expect("the row is complete");
     assert!(narrow.iter().eq([None]));
-    assert!(reader
-        .read(b"\0\0")
-        .expect("the row is complete")
-        .is_empty());
+    assert!(reader.read(b"\0\0").expect("the row is complete").is_empty());
     assert_eq!(values, [Some(&b"a"[..]), Some(b"b")]);
 }
 

@@ -26,10 +26,7 @@ fn kept() -> Credentials {
 #[test]
 fn the_example_of_the_rfc() {
     let kept = kept();
-    let (mut client, mut server) = (
-        client(b"pencil"),
-        Server::<Sha256>::new(&kept, SERVER_NONCE),
-    );
+    let (mut client, mut server) = (client(b"pencil"), Server::<Sha256>::new(&kept, SERVER_NONCE));
     assert_eq!(client.first(), FIRST);
     assert_eq!(server.challenge(FIRST).as_deref(), Ok(CHALLENGE));
     assert_eq!(client.answer(CHALLENGE).as_deref(), Ok(ANSWER));
@@ -54,10 +51,8 @@ fn an_exchange_in_messages() {
     let offer = Authentication::Sasl(["SCRAM-SHA-256-PLUS".into(), "SCRAM-SHA-256".into()].into());
     client.respond(&offer, &mut out).expect("it is offered");
     let initial = SaslInitialResponse::read(&out[5..]).expect("no fault");
-    let due = SaslInitialResponse {
-        mechanism: "SCRAM-SHA-256".into(),
-        response: Some(FIRST.into()),
-    };
+    let due =
+        SaslInitialResponse { mechanism: "SCRAM-SHA-256".into(), response: Some(FIRST.into()) };
     assert_eq!(initial, due);
     out.clear();
     let challenge = Authentication::SaslContinue(CHALLENGE.into());
@@ -65,9 +60,7 @@ fn an_exchange_in_messages() {
     let mut due = Vec::new();
     Password(ANSWER).write(&mut due).expect("no refusal");
     assert_eq!(out, due);
-    client
-        .respond(&Authentication::SaslFinal(LAST.into()), &mut out)
-        .expect("no fault");
+    client.respond(&Authentication::SaslFinal(LAST.into()), &mut out).expect("no fault");
     assert!(client.is_finished() && out == due);
     let again = client.respond(&Authentication::Ok, &mut out);
     assert_eq!(again, Err(Error::OutOfTurn));
@@ -81,9 +74,7 @@ fn channels_that_are_bound() {
         let mut client = client(b"pencil").with_channel_binding(b"hash");
         let offered = offered.iter().map(|&name| name.into()).collect();
         let mut out = Vec::new();
-        client
-            .respond(&Authentication::Sasl(offered), &mut out)
-            .expect("it is offered");
+        client.respond(&Authentication::Sasl(offered), &mut out).expect("it is offered");
         let initial = SaslInitialResponse::read(&out[5..]).expect("no fault");
         let first = initial.response.expect("a response").0.to_vec();
         let answer = client.answer(CHALLENGE).expect("no fault");
@@ -130,10 +121,7 @@ fn challenges_that_are_refused() {
         assert_eq!(refused(changed.as_bytes()), Error::Nonce, "{changed}");
     }
     assert!(matches!(refused(b""), Error::Fault(_)));
-    assert!(matches!(
-        refused(text.replace("s=W", "s=?").as_bytes()),
-        Error::Fault(_)
-    ));
+    assert!(matches!(refused(text.replace("s=W", "s=?").as_bytes()), Error::Fault(_)));
     let mut comma = Client::<Sha256>::new(b"pencil", "a,b");
     assert_eq!(comma.answer(b"r=a,bc,s=AAEC,i=1"), Err(Error::Nonce));
 }
@@ -155,17 +143,10 @@ fn every_byte_of_each_answer_matters() {
 fn first_messages_that_are_refused() {
     let kept = kept();
     let first = |message: &[u8]| Server::<Sha256>::new(&kept, SERVER_NONCE).challenge(message);
-    assert_eq!(
-        first(b"p=tls-server-end-point,,n=,r=a"),
-        Err(Error::WrongProof)
-    );
-    for message in [
-        &b"n,,n=user"[..],
-        b"n,,n=,r=",
-        b"n,,m=ext,n=,r=a",
-        b"n,,r=a,n=",
-        b"n,,n=,r=\x7f",
-    ] {
+    assert_eq!(first(b"p=tls-server-end-point,,n=,r=a"), Err(Error::WrongProof));
+    for message in
+        [&b"n,,n=user"[..], b"n,,n=,r=", b"n,,m=ext,n=,r=a", b"n,,r=a,n=", b"n,,n=,r=\x7f"]
+    {
         assert_eq!(first(message), Err(Error::Nonce));
     }
     assert!(first(b"y,,n=,r=a,ext=1").is_ok());
@@ -180,12 +161,6 @@ fn users_are_escaped_and_secrets_not_shown() {
     let client = Client::<Sha256>::new(b"pencil", "nonce").with_user("a,b=c");
     assert_eq!(client.first(), b"n,,n=a=2Cb=3Dc,r=nonce");
     let kept = kept();
-    let shown = format!(
-        "{client:?} {kept:?} {:?}",
-        Server::<Sha256>::new(&kept, "nonce")
-    );
-    assert_eq!(
-        shown,
-        "Client { .. } Credentials { iterations: 4096, .. } Server { .. }"
-    );
+    let shown = format!("{client:?} {kept:?} {:?}", Server::<Sha256>::new(&kept, "nonce"));
+    assert_eq!(shown, "Client { .. } Credentials { iterations: 4096, .. } Server { .. }");
 }

@@ -11,12 +11,8 @@ type Call = (&'static str, fn() -> bool);
 
 /// A call of each form.
 const CALLS: &[Call] = &[
-    ("decoder of a server", || {
-        Decoder::of_server().next(b"").is_ok()
-    }),
-    ("decoder of a client", || {
-        Decoder::of_client().next(b"").is_ok()
-    }),
+    ("decoder of a server", || Decoder::of_server().next(b"").is_ok()),
+    ("decoder of a client", || Decoder::of_client().next(b"").is_ok()),
     ("places_in", || backend::places_in(b"", &mut []).is_err()),
     ("row", || backend::RowIndex::new().read(b"").is_err()),
     ("end", || backend::end(b'Z', b"").is_err()),
@@ -30,9 +26,7 @@ const CALLS: &[Call] = &[
     ("relay", || passes(b"Z")),
     ("copy_head", || frontend::copy_head(0).is_ok()),
     ("Sync", || writes(|out| frontend::Message::Sync.write(out))),
-    ("NoData", || {
-        writes(|out| backend::Message::NoData.write(out))
-    }),
+    ("NoData", || writes(|out| backend::Message::NoData.write(out))),
 ];
 
 /// Whether a message of a server is refused without a body.

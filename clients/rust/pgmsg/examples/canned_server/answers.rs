@@ -5,10 +5,7 @@ use pgmsg::{Format, Refusal};
 
 /// The two columns of a COPY, as text.
 pub fn texts() -> CopyResponse<'static> {
-    CopyResponse {
-        format: 0,
-        columns: [Format::TEXT; 2].into(),
-    }
+    CopyResponse { format: 0, columns: [Format::TEXT; 2].into() }
 }
 
 /// What is answered to a query that has some words in it.
@@ -21,10 +18,7 @@ pub struct Canned {
 
 pub enum Answer {
     /// Columns, with the object ids of their types, and rows.
-    Rows(
-        &'static [(&'static str, u32)],
-        &'static [&'static [&'static str]],
-    ),
+    Rows(&'static [(&'static str, u32)], &'static [&'static [&'static str]]),
     CopyIn,
     /// Lines of data.
     CopyOut(&'static [&'static str]),
@@ -50,11 +44,8 @@ static TABLE: &[Canned] = &[
 ];
 
 /// The answer to any other query.
-pub static OTHER: Canned = Canned {
-    words: "",
-    tag: "0A000",
-    answer: Answer::Failure("there is no answer to that"),
-};
+pub static OTHER: Canned =
+    Canned { words: "", tag: "0A000", answer: Answer::Failure("there is no answer to that") };
 
 impl Canned {
     pub fn of(query: &str) -> &'static Canned {

@@ -39,10 +39,7 @@ impl Session {
             let (name, value) = (name.into(), value.into());
             ParameterStatus { name, value }.write(&mut self.out)?;
         }
-        let key = BackendKeyData {
-            process_id: PROCESS,
-            secret_key: (&[1, 2, 3, 4]).into(),
-        };
+        let key = BackendKeyData { process_id: PROCESS, secret_key: (&[1, 2, 3, 4]).into() };
         key.write(&mut self.out)?;
         self.ready()
     }

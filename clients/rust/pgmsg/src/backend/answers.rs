@@ -62,10 +62,7 @@ impl<'a> FunctionCallResponse<'a> {
     /// Refused with [`MessageTooLong`](Refusal::MessageTooLong) above 2147483639 bytes.
     pub fn write<B: Buffer>(&self, out: &mut B) -> Result<(), Refusal> {
         let bytes = self.0.bytes().unwrap_or_default();
-        put!(
-            out,
-            pgmsg_put_function_result([bytes], self.0.bytes().is_none())
-        )
+        put!(out, pgmsg_put_function_result([bytes], self.0.bytes().is_none()))
     }
 }
 

@@ -109,8 +109,7 @@ impl<'a> Authentication<'a> {
 /// The salt, whose four bytes have to be there.
 fn read_salt(body: &[u8]) -> Result<[u8; 4], Fault> {
     let salt = body.get(METHOD..end(b'R', body)?);
-    salt.and_then(|salt| salt.try_into().ok())
-        .ok_or_else(|| Fault::unexpected(METHOD))
+    salt.and_then(|salt| salt.try_into().ok()).ok_or_else(|| Fault::unexpected(METHOD))
 }
 
 fn read_mechanisms<'a>(body: &'a [u8]) -> Result<List<'a, ByteStr<'a>>, Fault> {

@@ -35,27 +35,16 @@ impl CopyResponse<'_> {
         // A `Format` is a number of the library.
         let columns = items(|room: &mut [Format]| {
             let (start, length) = (room.as_mut_ptr().cast(), room.len());
-            ask!(pgmsg_read_copy_response(
-                [body],
-                &mut response,
-                start,
-                length
-            ))
+            ask!(pgmsg_read_copy_response([body], &mut response, start, length))
         })?;
-        Ok(CopyResponse {
-            format: response.format,
-            columns: columns.into(),
-        })
+        Ok(CopyResponse { format: response.format, columns: columns.into() })
     }
 
     /// Appends the message of a tag. Refused with [`TooMany`](Refusal::TooMany) above 32767 columns.
     fn write<B: Buffer>(&self, tag: u8, out: &mut B) -> Result<(), Refusal> {
         // A `Format` is a number of the library.
         let (start, length) = (self.columns.as_ptr().cast(), self.columns.len());
-        put!(
-            out,
-            pgmsg_put_copy_response(tag, self.format, start, length)
-        )
+        put!(out, pgmsg_put_copy_response(tag, self.format, start, length))
     }
 }
 

@@ -95,10 +95,7 @@ impl<'a> Field<'a> {
     /// assert_eq!((field.letter, field.value), (b'C', "42P01".into()));
     /// ```
     pub fn new<T: AsRef<[u8]> + ?Sized>(kind: FieldKind, value: &'a T) -> Field<'a> {
-        Field {
-            letter: kind.letter(),
-            value: value.into(),
-        }
+        Field { letter: kind.letter(), value: value.into() }
     }
 
     /// What the field says.
@@ -127,10 +124,7 @@ impl<'a> Fields<'a> {
     pub fn read(body: &'a [u8]) -> Result<Fields<'a>, Fault> {
         let fields = items(|room| Ok(count!(pgmsg_read_fields([body], mut [room]))))?;
         let fields = fields.iter().map(|field: &sys::pgmsg_field| {
-            Ok(Field {
-                letter: field.letter,
-                value: ByteStr(part(body, field.value)?),
-            })
+            Ok(Field { letter: field.letter, value: ByteStr(part(body, field.value)?) })
         });
         fields.collect()
     }
@@ -214,8 +208,6 @@ impl Severity {
     pub fn read(body: &[u8]) -> Result<Severity, Fault> {
         let number = ask!(pgmsg_read_severity([body]))?;
         let severity = SEVERITIES.iter().find(|row| row.0 == number);
-        severity
-            .map(|row| row.1)
-            .ok_or_else(|| Fault::unexpected(number))
+        severity.map(|row| row.1).ok_or_else(|| Fault::unexpected(number))
     }
 }

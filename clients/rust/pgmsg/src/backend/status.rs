@@ -44,10 +44,7 @@ impl<'a> BackendKeyData<'a> {
     /// Refused with [`BadKeyLength`](Refusal::BadKeyLength) where the key has fewer than 4 bytes, or more
     /// than 256.
     pub fn write<B: Buffer>(&self, out: &mut B) -> Result<(), Refusal> {
-        put!(
-            out,
-            pgmsg_put_backend_key_data(self.process_id, [self.secret_key.0])
-        )
+        put!(out, pgmsg_put_backend_key_data(self.process_id, [self.secret_key.0]))
     }
 }
 
@@ -87,10 +84,7 @@ impl<'a> NotificationResponse<'a> {
     ///
     /// Refused with [`TextHoldsNul`](Refusal::TextHoldsNul) where a text holds a NUL.
     pub fn write<B: Buffer>(&self, out: &mut B) -> Result<(), Refusal> {
-        put!(
-            out,
-            pgmsg_put_notification(self.process_id, [self.channel], [self.payload])
-        )
+        put!(out, pgmsg_put_notification(self.process_id, [self.channel], [self.payload]))
     }
 }
 
@@ -223,9 +217,7 @@ impl<'a> NegotiateProtocolVersion<'a> {
 
 /// Texts as the library takes them. It points to them.
 pub(super) fn texts_of(texts: &[ByteStr<'_>]) -> Vec<sys::pgmsg_bytes> {
-    let texts = texts.iter().map(|text| sys::pgmsg_bytes {
-        bytes: text.as_ptr(),
-        bytes_len: text.len(),
-    });
+    let texts =
+        texts.iter().map(|text| sys::pgmsg_bytes { bytes: text.as_ptr(), bytes_len: text.len() });
     texts.collect()
 }

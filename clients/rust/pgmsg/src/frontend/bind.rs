@@ -74,16 +74,7 @@ impl<'a> Bind<'a> {
     pub fn write<B: Buffer>(&self, out: &mut B) -> Result<(), Refusal> {
         let (formats, results) = (codes(&self.formats), codes(&self.result_formats));
         let values = Value::list(&self.values);
-        put!(
-            out,
-            pgmsg_put_bind(
-                [self.portal],
-                [self.statement],
-                [formats],
-                [values],
-                [results]
-            )
-        )
+        put!(out, pgmsg_put_bind([self.portal], [self.statement], [formats], [values], [results]))
     }
 }
 
@@ -129,10 +120,7 @@ impl<'a> FunctionCall<'a> {
     pub fn write<B: Buffer>(&self, out: &mut B) -> Result<(), Refusal> {
         let (formats, arguments) = (codes(&self.formats), Value::list(&self.arguments));
         let result = self.result_format.0 as u16;
-        put!(
-            out,
-            pgmsg_put_function_call(self.object_id, [formats], [arguments], result)
-        )
+        put!(out, pgmsg_put_function_call(self.object_id, [formats], [arguments], result))
     }
 }
 

@@ -55,14 +55,10 @@ impl<'a> Startup<'a> {
     /// # Ok::<(), pgmsg::Refusal>(())
     /// ```
     pub fn new<T: AsRef<[u8]> + ?Sized>(settings: &[(&'a T, &'a T)]) -> Startup<'a> {
-        let settings = settings.iter().map(|&(name, value)| Setting {
-            name: name.into(),
-            value: value.into(),
-        });
-        Startup {
-            minor: 0,
-            settings: settings.collect(),
-        }
+        let settings = settings
+            .iter()
+            .map(|&(name, value)| Setting { name: name.into(), value: value.into() });
+        Startup { minor: 0, settings: settings.collect() }
     }
 
     /// Appends the message.
@@ -101,10 +97,7 @@ impl CancelRequest<'_> {
     /// Refused with [`BadKeyLength`](Refusal::BadKeyLength) where the key has fewer than 4 bytes, or more
     /// than 256.
     pub fn write<B: Buffer>(&self, out: &mut B) -> Result<(), Refusal> {
-        put!(
-            out,
-            pgmsg_put_cancel_request(self.process_id, [self.secret_key.0])
-        )
+        put!(out, pgmsg_put_cancel_request(self.process_id, [self.secret_key.0]))
     }
 }
 
@@ -123,10 +116,9 @@ pub(super) fn read_first(tag: Option<u8>, body: &[u8]) -> Result<Message<'_>, Fa
     }
     let read: sys::pgmsg_first = read!(pgmsg_read_first([body]))?;
     match read.kind {
-        sys::PGMSG_FIRST_STARTUP => Ok(Message::Startup(Startup {
-            minor: read.minor,
-            settings: read_settings(body)?,
-        })),
+        sys::PGMSG_FIRST_STARTUP => {
+            Ok(Message::Startup(Startup { minor: read.minor, settings: read_settings(body)? }))
+        }
         sys::PGMSG_FIRST_CANCEL_REQUEST => Ok(Message::CancelRequest(CancelRequest {
             process_id: read.process_id,
             secret_key: Secret(part(body, read.secret_key)?),
@@ -140,13 +132,11 @@ pub(super) fn read_first(tag: Option<u8>, body: &[u8]) -> Result<Message<'_>, Fa
 /// The settings in the body of a Startup.
 fn read_settings(body: &[u8]) -> Result<Settings<'_>, Fault> {
     let settings = items(|room| Ok(count!(pgmsg_read_settings([body], mut [room]))))?;
-    let settings = settings
-        .iter()
-        .map(|setting: &sys::pgmsg_parameter_status| {
-            Ok(Setting {
-                name: ByteStr(part(body, setting.name)?),
-                value: ByteStr(part(body, setting.value)?),
-            })
-        });
+    let settings = settings.iter().map(|setting: &sys::pgmsg_parameter_status| {
+        Ok(Setting {
+            name: ByteStr(part(body, setting.name)?),
+            value: ByteStr(part(body, setting.value)?),
+        })
+    });
     settings.collect()
 }

@@ -11,23 +11,15 @@ use alloc::vec::Vec;
 /// The codes of the formats of a list in a body.
 #[inline]
 pub(super) fn formats(body: &[u8], list: sys::pgmsg_list) -> Result<List<'static, Format>, Fault> {
-    let codes = numbers(
-        body,
-        list,
-        |room: &mut [u16]| count!(pgmsg_read_codes([body], list, mut [room])),
-    )?;
+    let codes =
+        numbers(body, list, |room: &mut [u16]| count!(pgmsg_read_codes([body], list, mut [room])))?;
     Ok(codes.into_iter().map(|code| Format(code as i16)).collect())
 }
 
 /// The types of the parameters of a list in a body.
 #[inline]
 pub(super) fn types(body: &[u8], list: sys::pgmsg_list) -> Result<List<'static, u32>, Fault> {
-    numbers(
-        body,
-        list,
-        |room| count!(pgmsg_read_types([body], list, mut [room])),
-    )
-    .map(List::from)
+    numbers(body, list, |room| count!(pgmsg_read_types([body], list, mut [room]))).map(List::from)
 }
 
 /// The numbers of a list that the library gave of a body, by one of its two calls.
@@ -54,13 +46,7 @@ mod tests {
     #[test]
     fn a_list_outside_the_body_is_a_fault() {
         let new = |at, count| types(&[0; 8], sys::pgmsg_list { at, count }).map(|it| it.len());
-        for (at, count) in [
-            (0, 3),
-            (5, 1),
-            (8, usize::MAX),
-            (usize::MAX, 1),
-            (1, 1 << 62),
-        ] {
+        for (at, count) in [(0, 3), (5, 1), (8, usize::MAX), (usize::MAX, 1), (1, 1 << 62)] {
             assert_eq!(new(at, count), Err(Fault::unexpected(at)));
         }
         assert_eq!((new(0, 2), new(4, 1), new(8, 0)), (Ok(2), Ok(1), Ok(0)));

@@ -130,9 +130,6 @@ impl<'a> SaslInitialResponse<'a> {
     pub fn write<B: Buffer>(&self, out: &mut B) -> Result<(), Refusal> {
         let response = self.response.unwrap_or_default().0;
         let has_response = self.response.is_some();
-        put!(
-            out,
-            pgmsg_put_sasl_initial([self.mechanism], has_response, [response])
-        )
+        put!(out, pgmsg_put_sasl_initial([self.mechanism], has_response, [response]))
     }
 }

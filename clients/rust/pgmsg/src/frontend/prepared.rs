@@ -53,10 +53,7 @@ impl<'a> Parse<'a> {
     /// [`TooManyParamTypes`](Refusal::TooManyParamTypes) above 65535 types.
     #[inline]
     pub fn write<B: Buffer>(&self, out: &mut B) -> Result<(), Refusal> {
-        put!(
-            out,
-            pgmsg_put_parse([self.statement], [self.query], [self.types])
-        )
+        put!(out, pgmsg_put_parse([self.statement], [self.query], [self.types]))
     }
 }
 
@@ -148,10 +145,7 @@ impl<'a> Execute<'a> {
     /// Reads the body of an Execute.
     pub fn read(body: &'a [u8]) -> Result<Execute<'a>, Fault> {
         let read: sys::pgmsg_execute = read!(pgmsg_read_execute([body]))?;
-        Ok(Execute {
-            portal: ByteStr(part(body, read.portal)?),
-            max_rows: read.max_rows,
-        })
+        Ok(Execute { portal: ByteStr(part(body, read.portal)?), max_rows: read.max_rows })
     }
 
     /// Appends the message.

@@ -30,15 +30,8 @@ impl<'a> Event<'a> {
         let start = *offset;
         *offset += bytes.len() as u64;
         match message {
-            Some(tag) => Event::Frame(Frame {
-                tag,
-                bytes,
-                offset: start,
-            }),
-            None => Event::Part {
-                bytes,
-                left: relay.left,
-            },
+            Some(tag) => Event::Frame(Frame { tag, bytes, offset: start }),
+            None => Event::Part { bytes, left: relay.left },
         }
     }
 }

@@ -53,8 +53,7 @@ impl Relay {
 
 /// Adds bytes to what goes out.
 fn put(out: &mut Vec<u8>, bytes: &[u8]) -> Result<(), Refusal> {
-    out.try_reserve(bytes.len())
-        .map_err(|_| Refusal::OutOfMemory)?;
+    out.try_reserve(bytes.len()).map_err(|_| Refusal::OutOfMemory)?;
     out.extend_from_slice(bytes);
     Ok(())
 }

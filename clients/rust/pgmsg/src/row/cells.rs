@@ -82,10 +82,7 @@ impl<'b, 'r> Cells<'b, 'r> {
     /// Each cell is NULL or lies in the body.
     #[inline]
     pub(super) unsafe fn new(body: &'b [u8], cells: &'r [Cell]) -> Cells<'b, 'r> {
-        Cells {
-            body,
-            cells: cells.iter(),
-        }
+        Cells { body, cells: cells.iter() }
     }
 }
 

@@ -12,11 +12,7 @@ pub(super) fn encode(bytes: &[u8]) -> String {
         for digit in 0..4 {
             let is_padding = digit > three.len();
             let index = bits >> (18 - 6 * digit) & 63;
-            text.push(if is_padding {
-                '='
-            } else {
-                DIGITS[index as usize].into()
-            });
+            text.push(if is_padding { '=' } else { DIGITS[index as usize].into() });
         }
     }
     text
@@ -28,9 +24,7 @@ mod tests {
 
     #[test]
     fn vectors_of_the_rfc() {
-        let texts = [
-            "", "Zg==", "Zm8=", "Zm9v", "Zm9vYg==", "Zm9vYmE=", "Zm9vYmFy",
-        ];
+        let texts = ["", "Zg==", "Zm8=", "Zm9v", "Zm9vYg==", "Zm9vYmE=", "Zm9vYmFy"];
         for (len, text) in texts.into_iter().enumerate() {
             assert_eq!(encode(&b"foobar"[..len]), text);
         }

@@ -156,14 +156,8 @@ impl<'a, D: Digest> Client<'a, D> {
             return Err(Error::Nonce);
         }
         let salted = D::salted(self.password, &read.salt, read.iterations);
-        let keys = (
-            D::hmac(&salted, b"Client Key"),
-            D::hmac(&salted, b"Server Key"),
-        );
-        let binding = self
-            .binding
-            .filter(|_| header == HEADERS[2])
-            .unwrap_or_default();
+        let keys = (D::hmac(&salted, b"Client Key"), D::hmac(&salted, b"Server Key"));
+        let binding = self.binding.filter(|_| header == HEADERS[2]).unwrap_or_default();
         let answer = without_proof(header, binding, &read.nonce);
         let messages = covered(self.bare().as_bytes(), challenge, answer.as_bytes());
         let (proof, signature) = proof_and_signature::<D>(&keys.0, &keys.1, &messages);

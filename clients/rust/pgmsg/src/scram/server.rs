@@ -38,9 +38,7 @@ impl Credentials {
 /// Shows no key.
 impl fmt::Debug for Credentials {
     fn fmt(&self, f: &mut fmt::Formatter<'_>) -> fmt::Result {
-        f.debug_struct("Credentials")
-            .field("iterations", &self.iterations)
-            .finish_non_exhaustive()
+        f.debug_struct("Credentials").field("iterations", &self.iterations).finish_non_exhaustive()
     }
 }
 
@@ -64,12 +62,7 @@ enum State {
     First,
     /// The proof, after messages that it covers: the header of the first one and the rest of it, the nonce of
     /// both and the challenge.
-    Proof {
-        header: String,
-        bare: Vec<u8>,
-        nonce: String,
-        challenge: Vec<u8>,
-    },
+    Proof { header: String, bare: Vec<u8>, nonce: String, challenge: Vec<u8> },
     /// Nothing: the password was the client's.
     Finished,
 }
@@ -77,12 +70,7 @@ enum State {
 impl<'a, D: Digest> Server<'a, D> {
     /// A server with what it keeps of a password, and a nonce, as of a [`Client`](super::Client).
     pub const fn new(kept: &'a Credentials, nonce: &'a str) -> Server<'a, D> {
-        Server {
-            kept,
-            nonce,
-            state: State::First,
-            digest: PhantomData,
-        }
+        Server { kept, nonce, state: State::First, digest: PhantomData }
     }
 
     /// Whether the client has shown that it knows the password.
@@ -96,46 +84,30 @@ impl<'a, D: Digest> Server<'a, D> {
             return Err(Error::OutOfTurn);
         }
         // A client that could bind the channel says so, and was not offered it.
-        let header = ["n,,", "y,,"]
-            .into_iter()
-            .find(|header| first.starts_with(header.as_bytes()));
+        let header = ["n,,", "y,,"].into_iter().find(|header| first.starts_with(header.as_bytes()));
         let header = header.ok_or(Error::WrongProof)?.to_string();
         let bare = first[header.len()..].to_vec();
         let theirs = bare.split(|&byte| byte == b',').nth(1);
-        let theirs = theirs
-            .and_then(|it| it.strip_prefix(b"r="))
-            .unwrap_or_default();
+        let theirs = theirs.and_then(|it| it.strip_prefix(b"r=")).unwrap_or_default();
         if !bare.starts_with(b"n=") || !is_nonce(theirs) || !is_nonce(self.nonce.as_bytes()) {
             return Err(Error::Nonce);
         }
         let nonce = String::from_utf8_lossy(theirs).into_owned() + self.nonce;
         let salt = base64::encode(&self.kept.salt);
         let challenge: Vec<u8> = format!("r={nonce},s={salt},i={}", self.kept.iterations).into();
-        self.state = State::Proof {
-            header,
-            bare,
-            nonce,
-            challenge: challenge.clone(),
-        };
+        self.state = State::Proof { header, bare, nonce, challenge: challenge.clone() };
         Ok(challenge)
     }
 
     /// Tests the client's proof. What it gives shows the client that the server knows the password too.
     pub fn verify(&mut self, answer: &[u8]) -> Result<Vec<u8>, Error> {
         let (header, bare, nonce, challenge) = match &self.state {
-            State::Proof {
-                header,
-                bare,
-                nonce,
-                challenge,
-            } => (header, bare, nonce, challenge),
+            State::Proof { header, bare, nonce, challenge } => (header, bare, nonce, challenge),
             _ => return Err(Error::OutOfTurn),
         };
         let due = without_proof(header, b"", nonce);
         let proof = answer.strip_prefix(due.as_bytes());
-        let proof = proof
-            .and_then(|rest| rest.strip_prefix(b",p="))
-            .ok_or(Error::WrongProof)?;
+        let proof = proof.and_then(|rest| rest.strip_prefix(b",p=")).ok_or(Error::WrongProof)?;
         let proof = read_verifier(&[b"v=", proof].concat())?;
         let messages = covered(bare, challenge, due.as_bytes());
         let mut client_key = D::hmac(&self.kept.stored_key, &messages);

@@ -7,10 +7,8 @@ use pgmsg::relay::{Answer, Relay, Wanted};
 pub const LIMIT: usize = 1 << 16;
 
 /// An SSLRequest and a Startup by hand.
-pub const FIRSTS: [&[u8]; 2] = [
-    b"\0\0\0\x08\x04\xd2\x16\x2f",
-    b"\0\0\0\x12\0\x03\0\0user\0ann\0\0",
-];
+pub const FIRSTS: [&[u8]; 2] =
+    [b"\0\0\0\x08\x04\xd2\x16\x2f", b"\0\0\0\x12\0\x03\0\0user\0ann\0\0"];
 
 /// A message with a tag.
 pub fn tagged(tag: u8, body: &[u8]) -> Vec<u8> {

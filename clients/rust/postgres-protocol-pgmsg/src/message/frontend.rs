@@ -26,10 +26,7 @@ fn surely(appended: Result<(), Refusal>) {
 #[inline]
 pub fn cancel_request(process_id: i32, secret_key: i32, buf: &mut BytesMut) {
     let key = secret_key.to_be_bytes();
-    let cancel = CancelRequest {
-        process_id: process_id as u32,
-        secret_key: (&key).into(),
-    };
+    let cancel = CancelRequest { process_id: process_id as u32, secret_key: (&key).into() };
     surely(cancel.write(buf));
 }
 
@@ -90,10 +87,7 @@ pub fn query(query: &str, buf: &mut BytesMut) -> io::Result<()> {
 /// Chooses a mechanism of SASL, with its first message: SASLInitialResponse.
 #[inline]
 pub fn sasl_initial_response(mechanism: &str, data: &[u8], buf: &mut BytesMut) -> io::Result<()> {
-    let initial = SaslInitialResponse {
-        mechanism: mechanism.into(),
-        response: Some(data.into()),
-    };
+    let initial = SaslInitialResponse { mechanism: mechanism.into(), response: Some(data.into()) };
     Ok(initial.write(buf)?)
 }
 

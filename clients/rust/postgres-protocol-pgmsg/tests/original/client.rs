@@ -90,9 +90,7 @@ fn assert_first(name: &str, it: &Arguments, bytes: &[u8]) {
             let due = it.settings.iter();
             let due = due.map(|(name, value)| (name.as_bytes(), value.as_bytes()));
             let read = startup.settings.iter();
-            assert!(read
-                .map(|setting| (setting.name.0, setting.value.0))
-                .eq(due));
+            assert!(read.map(|setting| (setting.name.0, setting.value.0)).eq(due));
             assert_eq!((name, startup.minor), ("startup_message", 0));
         }
         Ok(Message::CancelRequest(cancel)) => {

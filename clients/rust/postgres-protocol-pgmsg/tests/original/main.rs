@@ -29,10 +29,7 @@ fn random_streams_are_read_alike() {
         let theirs = read::theirs::read(&[front, back]);
         refused += usize::from(ours.last().map_or(false, |last| last == "refused"));
         if ours != theirs {
-            assert!(
-                is_named(&ours, &theirs),
-                "{stream:02x?}:\n{ours:#?}\n{theirs:#?}"
-            );
+            assert!(is_named(&ours, &theirs), "{stream:02x?}:\n{ours:#?}\n{theirs:#?}");
             named += 1;
         }
     }
@@ -42,15 +39,9 @@ fn random_streams_are_read_alike() {
 /// Whether the readings differ in one of the ways that the documentation names: all is the same, up
 /// to a message that is refused here.
 fn is_named(ours: &[String], theirs: &[String]) -> bool {
-    let same = ours
-        .iter()
-        .zip(theirs)
-        .take_while(|(ours, theirs)| ours == theirs)
-        .count();
+    let same = ours.iter().zip(theirs).take_while(|(ours, theirs)| ours == theirs).count();
     let is_refused = same + 1 == ours.len() && ours[same] == "refused";
-    let other = theirs[same]
-        .split_once(' ')
-        .map_or("", |(_, message)| message);
+    let other = theirs[same].split_once(' ').map_or("", |(_, message)| message);
     let is_ready =
         other.starts_with("Ready ") && !["Ready 73", "Ready 84", "Ready 69"].contains(&other);
     let is_long = same > 0 && ours[same - 1] == "refused" && theirs[same].parse::<usize>().is_ok();
@@ -72,10 +63,7 @@ fn random_calls_write_alike() {
             let same = theirs(&arguments, &mut their_bytes) == is_refused;
             refused += usize::from(is_refused);
             if is_refused {
-                assert_eq!(
-                    our_bytes, before,
-                    "{name} changes the buffer where it refuses"
-                );
+                assert_eq!(our_bytes, before, "{name} changes the buffer where it refuses");
             }
             if is_different(name, &arguments) {
                 named += usize::from(!same);

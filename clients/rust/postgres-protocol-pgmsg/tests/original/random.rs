@@ -39,9 +39,7 @@ impl Random {
     }
 
     pub fn bytes(&mut self, longest: usize) -> Vec<u8> {
-        (0..self.below(longest + 1))
-            .map(|_| self.number() as u8)
-            .collect()
+        (0..self.below(longest + 1)).map(|_| self.number() as u8).collect()
     }
 
     /// A text, rarely with a NUL in it, or empty.

@@ -127,11 +127,7 @@ macro_rules! reader {
             }
 
             fn fields(fields: ErrorFields<'_>) -> String {
-                words(
-                    fields
-                        .map(|it| Ok((it.type_(), it.value().to_string())))
-                        .collect::<Vec<_>>(),
-                )
+                words(fields.map(|it| Ok((it.type_(), it.value().to_string()))).collect::<Vec<_>>())
             }
 
             fn columns(columns: Fields<'_>) -> String {

@@ -57,21 +57,12 @@ fn body(tag: u8, random: &mut Random) -> Vec<u8> {
         b'G' | b'H' => copy_response(random),
         b'D' => row(random),
         b'E' | b'N' => fields(random),
-        b'A' => [
-            random.i32().to_be_bytes().to_vec(),
-            random.ended(),
-            random.ended(),
-        ]
-        .concat(),
+        b'A' => [random.i32().to_be_bytes().to_vec(), random.ended(), random.ended()].concat(),
         b't' => list(random, 4, |random| random.i32().to_be_bytes().to_vec()),
         b'S' => [random.ended(), random.ended()].concat(),
         b'Z' => vec![random.pick(b"ITEITEITEITEITEx\0")],
         b'T' => list(random, 4, |random| {
-            [
-                random.ended(),
-                (0..18).map(|_| random.number() as u8).collect(),
-            ]
-            .concat()
+            [random.ended(), (0..18).map(|_| random.number() as u8).collect()].concat()
         }),
         _ => Vec::new(),
     }
@@ -103,12 +94,8 @@ fn row(random: &mut Random) -> Vec<u8> {
 
 fn copy_response(random: &mut Random) -> Vec<u8> {
     let format = random.pick(&[0, 1, 0, 1, 2, 0xff]);
-    let columns = list(random, 4, |random| {
-        random
-            .pick(&[0u16, 1, 0, 1, 7, 0xffff])
-            .to_be_bytes()
-            .to_vec()
-    });
+    let columns =
+        list(random, 4, |random| random.pick(&[0u16, 1, 0, 1, 7, 0xffff]).to_be_bytes().to_vec());
     [vec![format], columns].concat()
 }
 

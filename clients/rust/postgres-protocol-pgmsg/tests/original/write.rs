@@ -29,24 +29,16 @@ impl Arguments {
             numbers: [random.i32(), random.i32()],
             variant: random.pick(b"SPSPSPSPx\0"),
             types: (0..count(random)).map(|_| random.number() as u32).collect(),
-            formats: (0..count(random))
-                .map(|_| random.pick(&[0, 1, -1, 7]))
-                .collect(),
-            result_formats: (0..count(random))
-                .map(|_| random.pick(&[0, 1, -1, 7]))
-                .collect(),
+            formats: (0..count(random)).map(|_| random.pick(&[0, 1, -1, 7])).collect(),
+            result_formats: (0..count(random)).map(|_| random.pick(&[0, 1, -1, 7])).collect(),
             values: (0..count(random)).map(|_| value(random)).collect(),
-            settings: (0..random.below(4))
-                .map(|_| (random.text(), random.text()))
-                .collect(),
+            settings: (0..random.below(4)).map(|_| (random.text(), random.text())).collect(),
         }
     }
 
     /// The settings by their texts.
     fn settings(&self) -> impl Iterator<Item = (&str, &str)> {
-        self.settings
-            .iter()
-            .map(|(name, value)| (&name[..], &value[..]))
+        self.settings.iter().map(|(name, value)| (&name[..], &value[..]))
     }
 }
 
@@ -99,58 +91,40 @@ macro_rules! writer {
 
             pub const CALLS: [Call; 17] = [
                 ("bind", |it, out| {
-                    let (formats, results) = (
-                        it.formats.iter().copied(),
-                        it.result_formats.iter().copied(),
-                    );
-                    bind(
-                        &it.first, &it.second, formats, &it.values, serialize, results, out,
-                    )
-                    .is_err()
+                    let (formats, results) =
+                        (it.formats.iter().copied(), it.result_formats.iter().copied());
+                    bind(&it.first, &it.second, formats, &it.values, serialize, results, out)
+                        .is_err()
                 }),
                 ("cancel_request", |it, out| {
                     cancel_request(it.numbers[0], it.numbers[1], out);
                     false
                 }),
-                ("close", |it, out| {
-                    close(it.variant, &it.first, out).is_err()
-                }),
+                ("close", |it, out| close(it.variant, &it.first, out).is_err()),
                 ("CopyData", |it, out| {
-                    CopyData::new(&it.data[..])
-                        .map(|data| data.write(out))
-                        .is_err()
+                    CopyData::new(&it.data[..]).map(|data| data.write(out)).is_err()
                 }),
                 ("copy_done", |_, out| {
                     copy_done(out);
                     false
                 }),
                 ("copy_fail", |it, out| copy_fail(&it.first, out).is_err()),
-                ("describe", |it, out| {
-                    describe(it.variant, &it.first, out).is_err()
-                }),
-                ("execute", |it, out| {
-                    execute(&it.first, it.numbers[0], out).is_err()
-                }),
+                ("describe", |it, out| describe(it.variant, &it.first, out).is_err()),
+                ("execute", |it, out| execute(&it.first, it.numbers[0], out).is_err()),
                 ("parse", |it, out| {
                     parse(&it.first, &it.second, it.types.iter().copied(), out).is_err()
                 }),
-                ("password_message", |it, out| {
-                    password_message(&it.data, out).is_err()
-                }),
+                ("password_message", |it, out| password_message(&it.data, out).is_err()),
                 ("query", |it, out| query(&it.first, out).is_err()),
                 ("sasl_initial_response", |it, out| {
                     sasl_initial_response(&it.first, &it.data, out).is_err()
                 }),
-                ("sasl_response", |it, out| {
-                    sasl_response(&it.data, out).is_err()
-                }),
+                ("sasl_response", |it, out| sasl_response(&it.data, out).is_err()),
                 ("ssl_request", |_, out| {
                     ssl_request(out);
                     false
                 }),
-                ("startup_message", |it, out| {
-                    startup_message(it.settings(), out).is_err()
-                }),
+                ("startup_message", |it, out| startup_message(it.settings(), out).is_err()),
                 ("sync", |_, out| {
                     sync(out);
                     false

@@ -28,22 +28,11 @@ const PART: usize = 1 << 12;
 const PARTS: usize = 1 << 10;
 
 pub enum Case {
-    Select {
-        statement: Statement,
-        rows: i32,
-        times: usize,
-    },
-    Insert {
-        statement: Statement,
-        at_once: usize,
-    },
-    CopyIn {
-        part: Bytes,
-    },
+    Select { statement: Statement, rows: i32, times: usize },
+    Insert { statement: Statement, at_once: usize },
+    CopyIn { part: Bytes },
     CopyOut,
-    Listen {
-        count: Count,
-    },
+    Listen { count: Count },
 }
 
 impl Case {
@@ -52,27 +41,19 @@ impl Case {
             .batch_execute("CREATE TEMP TABLE measured (id int, number int8, name text); CREATE TEMP TABLE loaded (line text)")
             .await?;
         Ok(match name {
-            "select-1" => Case::Select {
-                statement: client.prepare(SELECT).await?,
-                rows: 1,
-                times: 500,
-            },
-            "select-1000" => Case::Select {
-                statement: client.prepare(SELECT).await?,
-                rows: 1000,
-                times: 20,
-            },
-            "insert" => Case::Insert {
-                statement: client.prepare(INSERT).await?,
-                at_once: 1,
-            },
-            "insert-pipelined" => Case::Insert {
-                statement: client.prepare(INSERT).await?,
-                at_once: 100,
-            },
-            "copy-in" => Case::CopyIn {
-                part: [&[b'x'; 63][..], b"\n"].concat().repeat(PART / 64).into(),
-            },
+            "select-1" => {
+                Case::Select { statement: client.prepare(SELECT).await?, rows: 1, times: 500 }
+            }
+            "select-1000" => {
+                Case::Select { statement: client.prepare(SELECT).await?, rows: 1000, times: 20 }
+            }
+            "insert" => Case::Insert { statement: client.prepare(INSERT).await?, at_once: 1 },
+            "insert-pipelined" => {
+                Case::Insert { statement: client.prepare(INSERT).await?, at_once: 100 }
+            }
+            "copy-in" => {
+                Case::CopyIn { part: [&[b'x'; 63][..], b"\n"].concat().repeat(PART / 64).into() }
+            }
             "copy-out" => Case::CopyOut,
             "listen" => {
                 client.batch_execute("LISTEN measured").await?;
@@ -84,11 +65,9 @@ impl Case {
 
     pub async fn run(&self, client: &Client) -> Result<()> {
         match self {
-            Case::Select {
-                statement,
-                rows,
-                times,
-            } => select(client, statement, *rows, *times).await,
+            Case::Select { statement, rows, times } => {
+                select(client, statement, *rows, *times).await
+            }
             Case::Insert { statement, at_once } => insert(client, statement, *at_once).await,
             Case::CopyIn { part } => copy_in(client, part).await,
             Case::CopyOut => copy_out(client).await,
@@ -117,9 +96,7 @@ async fn select(client: &Client, statement: &Statement, rows: i32, times: usize)
 async fn insert(client: &Client, statement: &Statement, at_once: usize) -> Result<()> {
     client.batch_execute("BEGIN; TRUNCATE measured").await?;
     for turn in 0..500 / at_once {
-        let values: Vec<_> = (0..at_once)
-            .map(|at| (at as i32, (turn * at) as i64))
-            .collect();
+        let values: Vec<_> = (0..at_once).map(|at| (at as i32, (turn * at) as i64)).collect();
         let inserts = values.iter().map(|(id, number)| async move {
             let parameters: [&(dyn ToSql + Sync); 3] = [id, number, &"a name of some length"];
             client.execute(statement, &parameters).await

@@ -63,9 +63,7 @@ fn main() -> Result<()> {
         [_, case, rounds, config] => (case, rounds, config),
         _ => return Err("end-to-end CASE ROUNDS CONFIG".into()),
     };
-    let runtime = tokio::runtime::Builder::new_current_thread()
-        .enable_all()
-        .build()?;
+    let runtime = tokio::runtime::Builder::new_current_thread().enable_all().build()?;
     let local = tokio::task::LocalSet::new();
     local.block_on(&runtime, measure(case, rounds.parse()?, config))
 }

@@ -31,16 +31,10 @@ pub(super) fn read(body: Bytes) -> io::Result<Message> {
 /// Reads the body of an Authentication that an exchange is part of.
 fn read_exchange(method: u32, body: Bytes) -> io::Result<Message> {
     match method {
-        8 => Ok(Message::AuthenticationGssContinue(
-            AuthenticationGssContinueBody(body),
-        )),
+        8 => Ok(Message::AuthenticationGssContinue(AuthenticationGssContinueBody(body))),
         10 => Ok(Message::AuthenticationSasl(AuthenticationSaslBody(body))),
-        11 => Ok(Message::AuthenticationSaslContinue(
-            AuthenticationSaslContinueBody(body),
-        )),
-        12 => Ok(Message::AuthenticationSaslFinal(
-            AuthenticationSaslFinalBody(body),
-        )),
+        11 => Ok(Message::AuthenticationSaslContinue(AuthenticationSaslContinueBody(body))),
+        12 => Ok(Message::AuthenticationSaslFinal(AuthenticationSaslFinalBody(body))),
         _ => Err(refused("unknown method of authentication")),
     }
 }

@@ -15,10 +15,7 @@ impl<T> Items<T> {
             Ok(items) => (items, None),
             Err(refused) => (Vec::new(), Some(refused)),
         };
-        Items {
-            items: items.into_iter(),
-            refused,
-        }
+        Items { items: items.into_iter(), refused }
     }
 
     #[inline]

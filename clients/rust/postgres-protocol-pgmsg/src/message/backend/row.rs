@@ -28,10 +28,7 @@ impl DataRowBody {
     /// Where the values lie in the buffer.
     #[inline]
     pub fn ranges(&self) -> DataRowRanges<'_> {
-        DataRowRanges {
-            body: &self.storage,
-            left: None,
-        }
+        DataRowRanges { body: &self.storage, left: None }
     }
 
     /// The bytes that the values lie in.
@@ -54,8 +51,7 @@ pub struct DataRowRanges<'a> {
 /// How many cells a row says it has.
 #[inline]
 fn announced(body: &[u8]) -> usize {
-    body.get(..COUNT)
-        .map_or(0, |mut count| count.get_u16().into())
+    body.get(..COUNT).map_or(0, |mut count| count.get_u16().into())
 }
 
 /// The cells of a row, in `few` where there is room for them, else in `many`.

@@ -80,11 +80,7 @@ impl NotificationResponseBody {
         let channel = body.split_to(channel);
         body.advance(NUL);
         body.truncate(message);
-        Ok(NotificationResponseBody {
-            process_id: process_id as i32,
-            channel,
-            message: body,
-        })
+        Ok(NotificationResponseBody { process_id: process_id as i32, channel, message: body })
     }
 
     getters! {

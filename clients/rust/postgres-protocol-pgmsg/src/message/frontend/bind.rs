@@ -63,11 +63,7 @@ where
     F: FnMut(T, &mut BytesMut) -> Result<IsNull, Box<dyn Error + Sync + Send>>,
     K: IntoIterator<Item = i16>,
 {
-    let mut parts = PARTS
-        .try_with(Cell::take)
-        .ok()
-        .flatten()
-        .unwrap_or_default();
+    let mut parts = PARTS.try_with(Cell::take).ok().flatten().unwrap_or_default();
     parts.formats.extend(formats.into_iter().map(Format));
     for value in values {
         parts.values.push(|bytes| {

@@ -15,10 +15,7 @@ impl<T: Buf> CopyData<T> {
     /// Takes the data, which is refused where no message can be as long.
     #[inline]
     pub fn new(buf: T) -> io::Result<CopyData<T>> {
-        Ok(CopyData {
-            head: copy_head(buf.remaining())?,
-            data: buf,
-        })
+        Ok(CopyData { head: copy_head(buf.remaining())?, data: buf })
     }
 
     /// Appends the message: CopyData.

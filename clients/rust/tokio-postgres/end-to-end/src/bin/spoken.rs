@@ -28,10 +28,7 @@ async fn connect() -> Result<Client> {
 
 async fn query(client: &Client) -> Result<()> {
     let statement = client
-        .prepare_typed(
-            "SELECT $1 + n, $2 FROM generate_series(1, 3) n",
-            &[Type::INT4, Type::TEXT],
-        )
+        .prepare_typed("SELECT $1 + n, $2 FROM generate_series(1, 3) n", &[Type::INT4, Type::TEXT])
         .await?;
     for row in client.query(&statement, &[&7, &"text"]).await? {
         println!("{} {}", row.get::<_, i32>(0), row.get::<_, &str>(1));
@@ -45,10 +42,7 @@ async fn query(client: &Client) -> Result<()> {
     if let Err(error) = client.query("SELECT missing", &[]).await {
         println!("{:?} {}", error.code(), error);
     }
-    for message in client
-        .simple_query("SELECT 1 AS a; SELECT 'b' AS b")
-        .await?
-    {
+    for message in client.simple_query("SELECT 1 AS a; SELECT 'b' AS b").await? {
         if let SimpleQueryMessage::Row(row) = message {
             println!("{:?}", row.get(0));
         }
@@ -57,19 +51,14 @@ async fn query(client: &Client) -> Result<()> {
 }
 
 async fn copy(client: &mut Client) -> Result<()> {
-    client
-        .batch_execute("CREATE TEMPORARY TABLE spoken (a text)")
-        .await?;
+    client.batch_execute("CREATE TEMPORARY TABLE spoken (a text)").await?;
     let transaction = client.transaction().await?;
     let sink = transaction.copy_in("COPY spoken FROM STDIN").await?;
     pin_mut!(sink);
     sink.send(Bytes::from_static(b"one\ntwo\n")).await?;
     println!("{} rows", sink.finish().await?);
-    let rows: Vec<Bytes> = transaction
-        .copy_out("COPY spoken TO STDOUT")
-        .await?
-        .try_collect()
-        .await?;
+    let rows: Vec<Bytes> =
+        transaction.copy_out("COPY spoken TO STDOUT").await?.try_collect().await?;
     println!("{:?}", rows);
     let portal = transaction.bind("SELECT * FROM spoken", &[]).await?;
     println!("{}", transaction.query_portal(&portal, 1).await?.len());
@@ -81,15 +70,9 @@ async fn speak() -> Result<()> {
     let mut client = connect().await?;
     query(&client).await?;
     copy(&mut client).await?;
-    client
-        .batch_execute("DO 'BEGIN RAISE NOTICE ''n''; END'")
-        .await?;
-    client
-        .batch_execute("LISTEN c; NOTIFY c, 'payload'")
-        .await?;
-    let rows = client
-        .query_raw("SELECT generate_series(1, 5)", Vec::<String>::new())
-        .await?;
+    client.batch_execute("DO 'BEGIN RAISE NOTICE ''n''; END'").await?;
+    client.batch_execute("LISTEN c; NOTIFY c, 'payload'").await?;
+    let rows = client.query_raw("SELECT generate_series(1, 5)", Vec::<String>::new()).await?;
     pin_mut!(rows);
     while let Some(row) = rows.next().await {
         println!("{}", row?.get::<_, i32>(0));
@@ -98,8 +81,6 @@ async fn speak() -> Result<()> {
 }
 
 fn main() -> Result<()> {
-    let runtime = tokio::runtime::Builder::new_current_thread()
-        .enable_all()
-        .build()?;
+    let runtime = tokio::runtime::Builder::new_current_thread().enable_all().build()?;
     tokio::task::LocalSet::new().block_on(&runtime, speak())
 }
