@@ -133,19 +133,6 @@ test_tape() {
     expect "the crates of pg_record, without a warning: $count tests" 0
 }
 
-# Loads a table, and fails to, by the example of the crate.
-test_rust_copy() {
-    build_rust_examples || return
-    local rust_copy=$rust_examples/copy
-    sql 'CREATE TABLE by_rust (id int, name text)'
-    printf '1\ta\n2\t\\N\n' > "$work/rust.tsv"
-    try "$rust_copy" "127.0.0.1:$PGPORT" postgres postgres by_rust < "$work/rust.tsv"
-    same 'a COPY by Rust' "$status $output$(sql 'SELECT * FROM by_rust ORDER BY id')" $'0 COPY 21|a\n2|'
-    printf 'x\n' > "$work/rust.tsv"
-    try "$rust_copy" "127.0.0.1:$PGPORT" postgres postgres by_rust < "$work/rust.tsv"
-    expect 'a COPY by Rust that the server refuses' 1 'invalid input syntax'
-}
-
 # Logs in by SCRAM and reads a table, by the example of the crate.
 test_rust_scram() {
     build_rust_examples && [ -x "$rust_examples/read_table" ] || return
