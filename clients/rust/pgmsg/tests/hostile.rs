@@ -1,12 +1,12 @@
-//! Bytes that nobody of the protocol sends: no reader panics, what it gives lies within the bytes, and what
-//! it takes is what the crate writes of it.
+//! Bytes that nobody of the protocol sends: no reader panics, the cells of a row lie within the bytes, and what
+//! a reader takes is what the crate writes of it.
 
 mod common;
 
 use common::{assert_within, checked, Numbers};
-use pgmsg::backend::{self, end, rows_affected, Authentication, RowIndex, Severity};
+use pgmsg::backend::{self, end, rows_affected, RowIndex, Severity};
 use pgmsg::frontend::{self, SaslInitialResponse};
-use pgmsg::{ByteStr, Refusal};
+use pgmsg::Refusal;
 use std::thread;
 
 /// A body of each form of either side.
@@ -40,53 +40,12 @@ const BODIES: [&[u8]; 24] = [
 /// The tags of either side, and one that is of neither.
 const TAGS: &[u8] = b"RK23CdcGHWDIEnNAtS1sZTBFPQXfp!";
 
-/// The parts of a client's message.
-fn parts_of_client<'a>(message: &frontend::Message<'a>) -> Vec<&'a [u8]> {
-    use frontend::Message::*;
-    match message {
-        Startup(it) => it.settings.iter().flat_map(|it| [it.name.0, it.value.0]).collect(),
-        CancelRequest(it) => vec![it.secret_key.0],
-        Bind(it) => {
-            let values = it.values.iter().filter_map(|value| value.bytes());
-            values.chain([it.portal.0, it.statement.0]).collect()
-        }
-        FunctionCall(it) => it.arguments.iter().filter_map(|value| value.bytes()).collect(),
-        Parse(it) => vec![it.statement.0, it.query.0],
-        Close(it) | Describe(it) => vec![it.name().0],
-        Execute(it) => vec![it.portal.0],
-        CopyData(ByteStr(it)) | CopyFail(ByteStr(it)) | Query(ByteStr(it)) => vec![it],
-        Password(it) => vec![it.0],
-        _ => vec![],
-    }
-}
-
-/// The parts of a server's message.
-fn parts_of_server<'a>(message: &backend::Message<'a>) -> Vec<&'a [u8]> {
-    use backend::Message::*;
-    match message {
-        Authentication(self::Authentication::Sasl(it)) => it.iter().map(|name| name.0).collect(),
-        Authentication(self::Authentication::SaslContinue(it)) => vec![it.0],
-        BackendKeyData(it) => vec![it.secret_key.0],
-        CommandComplete(ByteStr(it)) | CopyData(ByteStr(it)) => vec![it],
-        DataRow(it) => it.iter().filter_map(|value| value.bytes()).collect(),
-        ErrorResponse(it) | NoticeResponse(it) => it.iter().map(|field| field.value.0).collect(),
-        NotificationResponse(it) => vec![it.channel.0, it.payload.0],
-        ParameterStatus(it) => vec![it.name.0, it.value.0],
-        RowDescription(it) => it.iter().map(|column| column.name.0).collect(),
-        Other(it) => vec![it.body.0],
-        _ => vec![],
-    }
-}
-
 /// Reads a body as a client's message. Whatever is taken is written as it was.
 fn read_of_client(tag: Option<u8>, body: &[u8]) {
     let message = match checked(body, frontend::Message::read_body(tag, body)) {
         Some(message) => message,
         None => return,
     };
-    for part in parts_of_client(&message) {
-        assert_within(body, part);
-    }
     let mut out = Vec::new();
     assert_eq!(message.write(&mut out), Ok(()));
     assert_eq!(out[4 + usize::from(tag.is_some())..], *body);
@@ -99,9 +58,6 @@ fn read_of_server(tag: u8, body: &[u8]) {
         Some(message) => message,
         None => return,
     };
-    for part in parts_of_server(&message) {
-        assert_within(body, part);
-    }
     let mut out = Vec::new();
     match message.write(&mut out) {
         Ok(()) => {
