@@ -45,25 +45,6 @@ impl Report {
     }
 }
 
-/// A number of a call: below 0 it refuses.
-pub(crate) trait Number {
-    fn to_isize(self) -> isize;
-}
-
-impl Number for i32 {
-    #[inline]
-    fn to_isize(self) -> isize {
-        self as isize
-    }
-}
-
-impl Number for isize {
-    #[inline]
-    fn to_isize(self) -> isize {
-        self
-    }
-}
-
 /// The number that a call gives, or the fault that it reports. The call writes nothing to the pointer
 /// that it is passed but a fault, as the calls of the library do.
 #[inline]

@@ -53,26 +53,33 @@ impl Spare<'_> {
     }
 }
 
-impl Room for Vec<u8> {
-    #[inline]
-    fn bytes(&self) -> &[u8] {
-        self
-    }
+/// What a vector and a `BytesMut` do by methods of the same names.
+macro_rules! as_vector {
+    () => {
+        #[inline]
+        fn bytes(&self) -> &[u8] {
+            self
+        }
 
-    #[inline]
-    fn truncate(&mut self, length: usize) {
-        self.truncate(length);
-    }
+        #[inline]
+        fn truncate(&mut self, length: usize) {
+            self.truncate(length);
+        }
+
+        #[inline]
+        unsafe fn extend(&mut self, length: usize) {
+            // SAFETY: so much of the spare capacity is initialised.
+            unsafe { self.set_len(self.len() + length) }
+        }
+    };
+}
+
+impl Room for Vec<u8> {
+    as_vector!();
 
     #[inline]
     fn spare(&mut self) -> Spare<'_> {
         Spare(self.spare_capacity_mut())
-    }
-
-    #[inline]
-    unsafe fn extend(&mut self, length: usize) {
-        // SAFETY: so much of the spare capacity is initialised.
-        unsafe { self.set_len(self.len() + length) }
     }
 
     fn reserve(&mut self, length: usize) -> Result<(), Refusal> {
@@ -83,15 +90,7 @@ impl Room for Vec<u8> {
 /// Where there is no memory, the program ends, as it does in each call of that crate.
 #[cfg(feature = "bytes")]
 impl Room for bytes::BytesMut {
-    #[inline]
-    fn bytes(&self) -> &[u8] {
-        self
-    }
-
-    #[inline]
-    fn truncate(&mut self, length: usize) {
-        self.truncate(length);
-    }
+    as_vector!();
 
     #[inline]
     fn spare(&mut self) -> Spare<'_> {
@@ -100,12 +99,6 @@ impl Room for bytes::BytesMut {
         // SAFETY: the two are of a slice that is borrowed for as long, whose bytes need not be
         // initialised.
         Spare(unsafe { core::slice::from_raw_parts_mut(start.cast(), length) })
-    }
-
-    #[inline]
-    unsafe fn extend(&mut self, length: usize) {
-        // SAFETY: so much of the spare capacity is initialised.
-        unsafe { self.set_len(self.len() + length) }
     }
 
     fn reserve(&mut self, length: usize) -> Result<(), Refusal> {

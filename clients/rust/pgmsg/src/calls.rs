@@ -42,7 +42,7 @@ macro_rules! ask {
         $crate::answer::answer(|fault| {
             // SAFETY: as the module says.
             let number = unsafe { $crate::calls::call!($call($($arguments)*, fault)) };
-            $crate::answer::Number::to_isize(number)
+            number as isize
         })
     };
 }

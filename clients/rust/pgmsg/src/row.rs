@@ -187,13 +187,3 @@ impl<'b, 'r> IntoIterator for Row<'b, 'r> {
         self.iter()
     }
 }
-
-impl<'b, 'r> IntoIterator for &Row<'b, 'r> {
-    type Item = Option<&'b [u8]>;
-    type IntoIter = Cells<'b, 'r>;
-
-    #[inline]
-    fn into_iter(self) -> Cells<'b, 'r> {
-        self.iter()
-    }
-}

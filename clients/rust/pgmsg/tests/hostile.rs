@@ -82,7 +82,7 @@ fn read_all(reader: &mut RowIndex, body: &[u8]) {
     if let Some(row) = checked(body, reader.read(body)) {
         row.iter().flatten().for_each(|value| assert_within(body, value));
         let ranges = row.places().iter().map(|place| place.range());
-        assert!(ranges.map(|range| Some(&body[range?])).eq(&row));
+        assert!(ranges.map(|range| Some(&body[range?])).eq(row));
     }
     if let Some(initial) = checked(body, SaslInitialResponse::read(body)) {
         let mut out = Vec::new();

@@ -26,7 +26,7 @@ fn rows() {
     assert_eq!(row.get(3), None);
     assert_eq!(format!("{row:?}"), "[Some([97, 98]), None, Some([])]");
     let mut count = 0;
-    for cell in &row {
+    for cell in row {
         count += cell.map_or(0, <[u8]>::len);
     }
     assert_eq!((count, row.into_iter().len()), (2, 3));
@@ -42,7 +42,7 @@ fn places_of_cells() {
     assert!(row.places()[1].is_null() && !row.places()[2].is_null());
     let places = row.places().to_vec();
     let values = places.iter().map(|place| place.value(body));
-    assert!(values.eq(&row));
+    assert!(values.eq(row));
     assert_eq!(places[0].value(b"too short"[..7].as_ref()), None);
 }
 
