@@ -22,69 +22,41 @@ fn messages(numbers: &mut Numbers) -> Vec<Vec<u8>> {
 #[test]
 fn random_messages_in_random_pieces_pass_unchanged() {
     let mut numbers = Numbers::new(0x9e37_79b9_7f4a_7c15);
-    for _ in 0..500 {
+    for turn in 0..800 {
         let (wanted, messages) = (wanted(&mut numbers), messages(&mut numbers));
-        let stream = messages.concat();
+        let (mut relay, mut firsts) = (Relay::of_server(LIMIT, wanted), Vec::new());
+        if turn % 2 == 1 {
+            relay = Relay::of_client(LIMIT, wanted);
+            firsts = vec![FIRSTS[0].to_vec(); numbers.below(3)];
+            firsts.push(FIRSTS[1].to_vec());
+        }
+        let stream = [firsts.concat(), messages.concat()].concat();
         let most = numbers.below(100) + 1;
-        let pieces = pieces(&stream, most, &mut numbers);
-        let mut relay = Relay::of_server(LIMIT, wanted);
-        let (out, whole) = passed(&mut relay, &pieces);
+        let (out, whole) = passed(&mut relay, &pieces(&stream, most, &mut numbers));
         assert_eq!(out, stream);
         let due = messages.iter().filter(|it| wanted.wants(it[0]));
-        assert!(whole.iter().eq(due));
-        assert_eq!((relay.held(), relay.left()), (&b""[..], 0));
+        assert!(whole.iter().eq(firsts.iter().chain(due)));
+        assert_eq!((relay.held(), relay.left(), relay.expects_first()), (&b""[..], 0, false));
     }
 }
 
 #[test]
-fn a_client_s_stream_passes_unchanged() {
-    let mut numbers = Numbers::new(0x9e37_79b9_7f4a_7c16);
-    for _ in 0..300 {
-        let (wanted, messages) = (wanted(&mut numbers), messages(&mut numbers));
-        let requests = numbers.below(3);
-        let mut stream = FIRSTS[0].repeat(requests);
-        stream.extend(FIRSTS[1]);
-        stream.extend(messages.concat());
-        let pieces = pieces(&stream, 40, &mut numbers);
-        let mut relay = Relay::of_client(LIMIT, wanted);
-        let (out, whole) = passed(&mut relay, &pieces);
-        assert_eq!(out, stream);
-        assert_eq!(whole[..requests], vec![FIRSTS[0].to_vec(); requests]);
-        assert_eq!(whole[requests], FIRSTS[1]);
-        let due = messages.iter().filter(|it| wanted.wants(it[0]));
-        assert!(whole[requests + 1..].iter().eq(due));
-        assert!(!relay.expects_first());
-    }
-}
-
-#[test]
-fn a_stream_that_is_cut_anywhere_passes_unchanged() {
+fn a_stream_that_is_cut_or_ends_anywhere_passes_unchanged() {
     let tail = [tagged(b'Q', b"SELECT 1\0"), tagged(b'd', b""), tagged(b'd', b"12")].concat();
     let stream = [FIRSTS[0], FIRSTS[1], &tail[..]].concat();
     for wanted in [Wanted::ALL, Wanted::NONE, Wanted::tags(b"d"), Wanted::tags(b"Q")] {
         for at in 0..=stream.len() {
             let (first, second) = stream.split_at(at);
             let mut relay = Relay::of_client(LIMIT, wanted);
-            assert_eq!(passed(&mut relay, &[first, second]).0, stream);
+            let (mut out, _) = passed(&mut relay, &[first]);
+            assert_eq!([&out[..], relay.held()].concat(), first);
+            out.extend(passed(&mut relay, &[second]).0);
+            assert_eq!(out, stream);
         }
         for size in 1..stream.len() {
             let pieces: Vec<_> = stream.chunks(size).collect();
             let mut relay = Relay::of_client(LIMIT, wanted);
             assert_eq!(passed(&mut relay, &pieces).0, stream);
-        }
-    }
-}
-
-#[test]
-fn a_stream_that_ends_anywhere_is_what_went_out_and_what_is_held() {
-    let stream = [tagged(b'D', b"123"), tagged(b'd', b"456"), tagged(b'Z', b"I")].concat();
-    for wanted in [Wanted::ALL, Wanted::NONE, Wanted::tags(b"D")] {
-        for end in 0..=stream.len() {
-            let mut relay = Relay::of_server(LIMIT, wanted);
-            let pieces: Vec<_> = stream[..end].chunks(2).collect();
-            let (mut out, _) = passed(&mut relay, &pieces);
-            out.extend(relay.held());
-            assert_eq!(out, stream[..end]);
         }
     }
 }
