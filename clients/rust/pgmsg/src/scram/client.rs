@@ -197,27 +197,16 @@ impl Challenge {
     fn read(data: &[u8]) -> Result<Challenge, Fault> {
         let body = [&11u32.to_be_bytes(), data].concat();
         let (mut salt, mut nonce) = (Vec::new(), Vec::new());
-        let lengths = read_challenge(&body, &mut salt, &mut nonce)?;
-        grow(&mut salt, lengths.salt_len)?;
-        grow(&mut nonce, lengths.nonce_len)?;
-        let read = read_challenge(&body, &mut salt, &mut nonce)?;
-        Ok(Challenge {
-            iterations: read.iterations,
-            salt,
-            nonce: String::from_utf8(nonce).map_err(|_| Fault::unexpected(read.nonce_len))?,
-        })
+        let mut read = sys::pgmsg_challenge::default();
+        // No part of a body is longer than the body.
+        grow(&mut salt, body.len())?;
+        grow(&mut nonce, body.len())?;
+        ask!(pgmsg_read_challenge([body], &mut read, mut [salt], mut [nonce]))?;
+        salt.truncate(read.salt_len);
+        nonce.truncate(read.nonce_len);
+        let nonce = String::from_utf8(nonce).map_err(|_| Fault::unexpected(read.nonce_len))?;
+        Ok(Challenge { iterations: read.iterations, salt, nonce })
     }
-}
-
-/// Reads a challenge. Salt and nonce are written where they fit.
-fn read_challenge(
-    body: &[u8],
-    salt: &mut [u8],
-    nonce: &mut [u8],
-) -> Result<sys::pgmsg_challenge, Fault> {
-    let mut read = sys::pgmsg_challenge::default();
-    ask!(pgmsg_read_challenge([body], &mut read, mut [salt], mut [nonce]))?;
-    Ok(read)
 }
 
 /// The value `v` of a message, of base64, or nothing where there is none.
