@@ -388,40 +388,10 @@ static void drop_values(struct values *values)
     Py_XDECREF(values->items);
 }
 
-/* Codes of formats. */
-struct codes {
-    uint16_t few[FEW], *items;
-    Py_ssize_t count;
-};
-
-static void drop_codes(struct codes *codes)
-{
-    if (codes->items != codes->few)
-        PyMem_Free(codes->items);
-}
-
-/* Takes the codes of a tuple. */
-static bool take_codes(struct codes *codes, PyObject *given)
-{
-    codes->count = PyTuple_Size(given);
-    codes->items = codes->few;
-    if (codes->count > FEW)
-        codes->items = PyMem_Malloc((size_t)codes->count * sizeof *codes->items);
-    if (codes->items == NULL)
-        PyErr_NoMemory();
-    for (Py_ssize_t at = 0; codes->items != NULL && at < codes->count && !PyErr_Occurred(); at++) {
-        long code = PyLong_AsLong(PyTuple_GetItem(given, at));
-        if (!PyErr_Occurred() && (code < 0 || code > UINT16_MAX))
-            PyErr_Format(PyExc_OverflowError, "%ld is not a number of 16 bits", code);
-        codes->items[at] = (uint16_t)code;
-    }
-    return codes->count >= 0 && !PyErr_Occurred();
-}
-
-/* All that a message with values says. */
+/* All that a message with values says. The formats are arrays of numbers of 16 bits. */
 struct said {
     pgmsg_bytes portal, statement;
-    struct codes formats, result_formats;
+    Py_buffer formats, result_formats;
     struct values values;
     uint32_t limit;
 };
@@ -431,8 +401,8 @@ typedef ptrdiff_t put_call(const struct said *said, uint8_t *out, size_t room);
 static ptrdiff_t put_bind(const struct said *said, uint8_t *out, size_t room)
 {
     return pgmsg_put_bind(said->portal.bytes, said->portal.bytes_len, said->statement.bytes, said->statement.bytes_len,
-        said->formats.items, (size_t)said->formats.count, said->values.places, (size_t)said->values.count,
-        said->result_formats.items, (size_t)said->result_formats.count, out, room);
+        said->formats.buf, (size_t)said->formats.len / sizeof(uint16_t), said->values.places, (size_t)said->values.count,
+        said->result_formats.buf, (size_t)said->result_formats.len / sizeof(uint16_t), out, room);
 }
 
 static ptrdiff_t put_execute(const struct said *said, uint8_t *out, size_t room)
@@ -485,7 +455,7 @@ static bool take_number(PyObject *object, uint32_t *number)
 }
 
 PyDoc_STRVAR(binds_words, "binds(many, statement, portal, formats, result_formats, limit)\n--\n\nA Bind for each of many "
-                          "values, and after each an Execute, unless its limit is None.");
+                          "values, by arrays of formats, and after each an Execute, unless its limit is None.");
 
 static PyObject *binds(PyObject *module, PyObject *const *args, Py_ssize_t count)
 {
@@ -497,14 +467,15 @@ static PyObject *binds(PyObject *module, PyObject *const *args, Py_ssize_t count
     bool has_limit = args[5] != Py_None;
     if (has_limit && !take_number(args[5], &said.limit))
         return NULL;
+    if (PyObject_GetBuffer(args[3], &said.formats, PyBUF_SIMPLE) < 0)
+        return NULL;
     begin(&out);
-    bool is_right = take_codes(&said.formats, args[3]);
+    bool is_right = PyObject_GetBuffer(args[4], &said.result_formats, PyBUF_SIMPLE) == 0;
     if (is_right) {
-        is_right = take_codes(&said.result_formats, args[4])
-            && append_each(&out, args[0], put_bind, has_limit ? put_execute : NULL, &said);
-        drop_codes(&said.result_formats);
+        is_right = append_each(&out, args[0], put_bind, has_limit ? put_execute : NULL, &said);
+        PyBuffer_Release(&said.result_formats);
     }
-    drop_codes(&said.formats);
+    PyBuffer_Release(&said.formats);
     return end(&out, is_right);
 }
 

@@ -3,6 +3,7 @@
 from __future__ import annotations
 
 import enum
+from array import array
 from collections.abc import Iterable
 from dataclasses import dataclass
 from typing import Any, Callable, ClassVar, Self
@@ -112,7 +113,8 @@ class Bind(FrontendMessage):
             codes_of(body, it.result_formats))
 
     def write(self) -> bytes:
-        return _fast.binds((self.values,), self.statement, self.portal, self.formats, self.result_formats, None)
+        formats, result_formats = array("H", self.formats), array("H", self.result_formats)
+        return _fast.binds((self.values,), self.statement, self.portal, formats, result_formats, None)
 
 
 class Target(enum.Enum):
@@ -217,7 +219,7 @@ def executions(
     formats: Iterable[int] = (), result_formats: Iterable[int] = (), limit: int = 0,
 ) -> bytes:
     """The bytes of a Bind and an Execute for each of many values, written in one call. A Sync has to follow."""
-    return _fast.binds(many, statement, portal, tuple(formats), tuple(result_formats), limit)
+    return _fast.binds(many, statement, portal, array("H", formats), array("H", result_formats), limit)
 
 
 def read_values(call: Callable[..., int], body: bytes, it: Any) -> tuple[bytes | None, ...]:
