@@ -39,12 +39,17 @@ macro_rules! put {
 /// The number that a call gives, or the fault that it fills, which is passed last.
 macro_rules! ask {
     ($call:ident($($arguments:tt)*)) => {
-        $crate::answer::answer(|fault| {
-            // SAFETY: as the module says.
-            let number = unsafe { $crate::calls::call!($call($($arguments)*, fault)) };
-            number as isize
-        })
+        $crate::answer::answer(|fault| $crate::calls::number!($call($($arguments)*, fault)))
     };
+}
+
+/// The number that a call gives, which is passed the place of a fault last.
+macro_rules! number {
+    ($call:ident($($arguments:tt)*)) => {{
+        // SAFETY: as the module says.
+        let number = unsafe { $crate::calls::call!($call($($arguments)*)) };
+        number as isize
+    }};
 }
 
 /// The parts of a message that a call fills, which are passed last but for the fault.
@@ -55,13 +60,15 @@ macro_rules! read {
     }};
 }
 
-/// The count that a call gives which refuses nothing.
-macro_rules! count {
+/// The items of a call that refuses nothing, which it writes into room that is passed last.
+macro_rules! list {
     ($call:ident($($arguments:tt)*)) => {{
         $crate::version::check();
-        // SAFETY: as the module says.
-        unsafe { $crate::calls::call!($call($($arguments)*)) }
+        $crate::answer::items(|room| {
+            // SAFETY: as the module says.
+            Ok(unsafe { $crate::calls::call!($call($($arguments)*, mut [room])) })
+        })
     }};
 }
 
-pub(crate) use {ask, call, count, put, read};
+pub(crate) use {ask, call, list, number, put, read};

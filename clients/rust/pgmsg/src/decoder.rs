@@ -1,6 +1,7 @@
 //! The messages of a stream, one after the other.
 
-use crate::calls::ask;
+use crate::answer::answer;
+use crate::calls::number;
 use crate::error::{Fault, Refusal};
 use crate::frame::{Frame, Next};
 use crate::frontend::MAX_FIRST_LENGTH;
@@ -102,11 +103,13 @@ impl Decoder {
     #[inline]
     pub fn next<'a>(&mut self, bytes: &'a [u8]) -> Result<Next<'a>, Fault> {
         let mut head = sys::pgmsg_frame::default();
-        let is_whole = match self.side {
-            Side::Server => ask!(pgmsg_next_frame([bytes], &mut head)),
-            Side::Client => ask!(pgmsg_next_frontend_frame([bytes], &mut head)),
-            Side::ClientFirst => ask!(pgmsg_next_first_frame([bytes], MAX_FIRST_LENGTH, &mut head)),
-        }?;
+        let is_whole = answer(|fault| match self.side {
+            Side::Server => number!(pgmsg_next_frame([bytes], &mut head, fault)),
+            Side::Client => number!(pgmsg_next_frontend_frame([bytes], &mut head, fault)),
+            Side::ClientFirst => {
+                number!(pgmsg_next_first_frame([bytes], MAX_FIRST_LENGTH, &mut head, fault))
+            }
+        })?;
         if head.length > self.limit {
             return Err(Refusal::FrameTooLong.into());
         }

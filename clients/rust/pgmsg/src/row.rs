@@ -9,7 +9,6 @@ use crate::buffer::Buffer;
 use crate::calls::{ask, put};
 use crate::error::{Fault, Refusal};
 use crate::list::List;
-use crate::sys;
 use crate::value::Value;
 use alloc::vec;
 use alloc::vec::Vec;
@@ -22,31 +21,30 @@ const FEW: usize = 32;
 #[inline]
 pub(crate) fn read_values(
     body: &[u8],
-    mut call: impl FnMut(*mut sys::pgmsg_cell, usize) -> Result<usize, Fault>,
+    mut call: impl FnMut(&mut [Cell]) -> Result<usize, Fault>,
 ) -> Result<List<'_, Value<'_>>, Fault> {
-    // A `Cell` is one of the library.
-    let mut call = |room: &mut [Cell]| call(room.as_mut_ptr().cast(), room.len());
     let mut few = [Cell::default(); FEW];
     let count = call(&mut few)?;
-    let mut many = Vec::new();
-    let cells = match few.get(..count) {
-        Some(cells) => cells,
-        None => fill(&mut many, call)?,
-    };
-    Ok(cells.iter().map(|cell| cell.value(body).into()).collect())
+    match few.get(..count) {
+        Some(cells) => Ok(values_at(body, cells)),
+        None => Ok(values_at(body, fill(&mut vec![Cell::default(); count], call)?)),
+    }
+}
+
+fn values_at<'b>(body: &'b [u8], cells: &[Cell]) -> List<'b, Value<'b>> {
+    cells.iter().map(|cell| cell.value(body).into()).collect()
 }
 
 /// Reads the body of a DataRow.
 #[inline]
 pub(crate) fn read(body: &[u8]) -> Result<List<'_, Value<'_>>, Fault> {
-    read_values(body, |room, length| ask!(pgmsg_read_row([body], room, length)))
+    read_values(body, |room| places_in(body, room))
 }
 
 /// Appends a DataRow.
 #[inline]
 pub(crate) fn write<B: Buffer>(values: &[Value<'_>], out: &mut B) -> Result<(), Refusal> {
-    let values = Value::list(values);
-    put!(out, pgmsg_put_row([values]))
+    put!(out, pgmsg_put_row([Value::list(values)]))
 }
 
 /// Reads rows, and keeps the room for the places of their cells from one row to the next.

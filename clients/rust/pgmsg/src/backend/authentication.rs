@@ -2,10 +2,10 @@
 
 use super::end::end;
 use super::status::texts_of;
-use crate::answer::{items, part};
+use crate::answer::part;
 use crate::buffer::Buffer;
 use crate::byte_str::{ByteStr, Secret};
-use crate::calls::{count, put, read};
+use crate::calls::{list, put, read};
 use crate::error::{Fault, Refusal};
 use crate::list::List;
 use crate::sys;
@@ -113,7 +113,7 @@ fn read_salt(body: &[u8]) -> Result<[u8; 4], Fault> {
 }
 
 fn read_mechanisms<'a>(body: &'a [u8]) -> Result<List<'a, ByteStr<'a>>, Fault> {
-    let places = items(|room| Ok(count!(pgmsg_read_mechanisms([body], mut [room]))))?;
+    let places = list!(pgmsg_read_mechanisms([body]))?;
     let names = places.iter().map(|&place| part(body, place).map(ByteStr));
     names.collect()
 }

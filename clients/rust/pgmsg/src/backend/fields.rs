@@ -1,9 +1,9 @@
 //! The fields of an error or a notice.
 
-use crate::answer::{items, part};
+use crate::answer::part;
 use crate::buffer::Buffer;
 use crate::byte_str::ByteStr;
-use crate::calls::{ask, count, put};
+use crate::calls::{ask, list, put};
 use crate::error::{Fault, Refusal};
 use crate::list::List;
 use crate::sys;
@@ -122,7 +122,7 @@ impl<'a> Fields<'a> {
     /// The list ends at the first byte 0 in the place of a letter, at a text without a NUL, or where the
     /// body ends. No body is refused for what it holds.
     pub fn read(body: &'a [u8]) -> Result<Fields<'a>, Fault> {
-        let fields = items(|room| Ok(count!(pgmsg_read_fields([body], mut [room]))))?;
+        let fields = list!(pgmsg_read_fields([body]))?;
         let fields = fields.iter().map(|field: &sys::pgmsg_field| {
             Ok(Field { letter: field.letter, value: ByteStr(part(body, field.value)?) })
         });

@@ -52,8 +52,9 @@ impl<'a> Bind<'a> {
     /// Reads the body of a Bind.
     pub fn read(body: &'a [u8]) -> Result<Bind<'a>, Fault> {
         let mut read = sys::pgmsg_bind::default();
-        let values = read_values(body, |room, length| {
-            ask!(pgmsg_read_bind([body], room, length, &mut read))
+        let values = read_values(body, |room| {
+            // A `Cell` is one of the library.
+            ask!(pgmsg_read_bind([body], room.as_mut_ptr().cast(), room.len(), &mut read))
         })?;
         Ok(Bind {
             portal: ByteStr(part(body, read.portal)?),
@@ -72,9 +73,16 @@ impl<'a> Bind<'a> {
     /// [`TooManyResultFormats`](Refusal::TooManyResultFormats) above 65535 formats.
     #[inline]
     pub fn write<B: Buffer>(&self, out: &mut B) -> Result<(), Refusal> {
-        let (formats, results) = (codes(&self.formats), codes(&self.result_formats));
-        let values = Value::list(&self.values);
-        put!(out, pgmsg_put_bind([self.portal], [self.statement], [formats], [values], [results]))
+        put!(
+            out,
+            pgmsg_put_bind(
+                [self.portal],
+                [self.statement],
+                [codes(&self.formats)],
+                [Value::list(&self.values)],
+                [codes(&self.result_formats)]
+            )
+        )
     }
 }
 
@@ -105,8 +113,9 @@ impl<'a> FunctionCall<'a> {
     /// Reads the body of a FunctionCall.
     pub fn read(body: &'a [u8]) -> Result<FunctionCall<'a>, Fault> {
         let mut read = sys::pgmsg_function_call::default();
-        let arguments = read_values(body, |room, length| {
-            ask!(pgmsg_read_function_call([body], room, length, &mut read))
+        let arguments = read_values(body, |room| {
+            // A `Cell` is one of the library.
+            ask!(pgmsg_read_function_call([body], room.as_mut_ptr().cast(), room.len(), &mut read))
         })?;
         Ok(FunctionCall {
             object_id: read.function,

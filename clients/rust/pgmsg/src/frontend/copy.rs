@@ -2,8 +2,10 @@
 
 use crate::buffer::Buffer;
 use crate::byte_str::ByteStr;
-use crate::calls::{count, put};
+use crate::calls::put;
 use crate::error::{Fault, Refusal};
+use crate::sys;
+use crate::version;
 
 /// The first five bytes of a CopyData message of either side, which `len` bytes of data follow.
 ///
@@ -19,9 +21,10 @@ use crate::error::{Fault, Refusal};
 /// ```
 #[inline]
 pub fn copy_head(len: usize) -> Result<[u8; 5], Refusal> {
+    version::check();
     let mut head = [0; 5];
-    // The call writes five bytes.
-    match count!(pgmsg_put_copy_head(len, head.as_mut_ptr())) {
+    // SAFETY: `head` is an array of the five bytes that the call writes.
+    match unsafe { sys::pgmsg_put_copy_head(len, head.as_mut_ptr()) } {
         0 => Ok(head),
         number => Err(Refusal::from_number(number as isize)),
     }

@@ -1,10 +1,10 @@
 //! The first message of a connection, which has no tag.
 
 use super::Message;
-use crate::answer::{items, part};
+use crate::answer::part;
 use crate::buffer::Buffer;
 use crate::byte_str::{ByteStr, Secret};
-use crate::calls::{count, put, read};
+use crate::calls::{list, put, read};
 use crate::error::{Fault, Refusal};
 use crate::list::List;
 use crate::sys;
@@ -131,7 +131,7 @@ pub(super) fn read_first(tag: Option<u8>, body: &[u8]) -> Result<Message<'_>, Fa
 
 /// The settings in the body of a Startup.
 fn read_settings(body: &[u8]) -> Result<Settings<'_>, Fault> {
-    let settings = items(|room| Ok(count!(pgmsg_read_settings([body], mut [room]))))?;
+    let settings = list!(pgmsg_read_settings([body]))?;
     let settings = settings.iter().map(|setting: &sys::pgmsg_parameter_status| {
         Ok(Setting {
             name: ByteStr(part(body, setting.name)?),

@@ -1,8 +1,7 @@
 //! The numbers of a list in a body.
 
-use crate::answer::grow;
-use crate::calls::count;
-use crate::error::Fault;
+use crate::calls::call;
+use crate::error::{Fault, Refusal};
 use crate::format::Format;
 use crate::list::List;
 use crate::sys;
@@ -11,15 +10,18 @@ use alloc::vec::Vec;
 /// The codes of the formats of a list in a body.
 #[inline]
 pub(super) fn formats(body: &[u8], list: sys::pgmsg_list) -> Result<List<'static, Format>, Fault> {
-    let codes =
-        numbers(body, list, |room: &mut [u16]| count!(pgmsg_read_codes([body], list, mut [room])))?;
+    // SAFETY: as `calls` says, and the version was compared by the call that gave the list.
+    let call = |room: &mut [u16]| unsafe { call!(pgmsg_read_codes([body], list, mut [room])) };
+    let codes = numbers(body, list, call)?;
     Ok(codes.into_iter().map(|code| Format(code as i16)).collect())
 }
 
 /// The types of the parameters of a list in a body.
 #[inline]
 pub(super) fn types(body: &[u8], list: sys::pgmsg_list) -> Result<List<'static, u32>, Fault> {
-    numbers(body, list, |room| count!(pgmsg_read_types([body], list, mut [room]))).map(List::from)
+    // SAFETY: the same.
+    let call = |room: &mut [u32]| unsafe { call!(pgmsg_read_types([body], list, mut [room])) };
+    numbers(body, list, call).map(List::from)
 }
 
 /// The numbers of a list that the library gave of a body, by one of its two calls.
@@ -30,13 +32,16 @@ fn numbers<N: Clone + Default>(
     call: impl FnOnce(&mut [N]) -> usize,
 ) -> Result<Vec<N>, Fault> {
     let mut room = Vec::new();
-    // No list is longer than its body.
-    grow(&mut room, list.count.min(body.len()))?;
-    match list.count {
-        0 => Ok(room),
-        _ if call(&mut room) == room.len() => Ok(room),
-        _ => Err(Fault::unexpected(list.at)),
+    if list.count > 0 {
+        // No list is longer than its body.
+        let count = list.count.min(body.len());
+        room.try_reserve_exact(count).map_err(|_| Refusal::OutOfMemory)?;
+        room.resize(count, N::default());
+        if call(&mut room) != count {
+            return Err(Fault::unexpected(list.at));
+        }
     }
+    Ok(room)
 }
 
 #[cfg(test)]
