@@ -12,6 +12,10 @@ abbrev pub IsAnswer : {A : Type 0} → Option ProtocolFault → Result A Error �
 IsAnswer (Some fault) result = result ≡ Err (Protocol None fault)
 IsAnswer None result = IsOkUnless result OutOfMemory
 
+-- the spare room of a buffer is less than so many bytes
+abbrev pub IsShort : Vec ℕ Global → ℕ → Type 0
+IsShort buf needed = vec_capacity buf < vec_len buf + needed
+
 -- A text is added as a whole or not at all. It is refused for its fault exactly where it has one, and
 -- the buffer stays as it was, its capacity too; memory runs out only where the spare room is less
 -- than `room`; and no room is given back.
@@ -20,7 +24,7 @@ pub record Encodes (text : List ℕ) (fault : Option ProtocolFault) (room : ℕ)
   pub err : OnErr result (new.items ≡ old.items)
   pub answer : IsAnswer fault result
   pub refused : OnSome fault (new ≡ old)
-  pub memory : IsErrOf result OutOfMemory → vec_capacity old < vec_len old + room
+  pub memory : IsErrOf result OutOfMemory → IsShort old room
   pub capacity : vec_capacity old ≤ vec_capacity new
 
 -- the same of a tagged message, which tag and length cut off as that message and no other

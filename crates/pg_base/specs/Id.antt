@@ -20,6 +20,12 @@ name prefix id = if id == 0 then [] else prefix ++ decimal id
 abbrev pub named : List ℕ → ℕ → List ℕ
 named prefix id = ended (name prefix id)
 
+abbrev pub statement_text : ℕ → List ℕ
+statement_text id = named statement_prefix id
+
+abbrev pub portal_text : ℕ → List ℕ
+portal_text id = named portal_prefix id
+
 -- the id that is handed out after another
 abbrev pub next_id : ℕ → ℕ
 next_id id = if id == 0 then 0 else (if id == max_id then 1 else id + 1)

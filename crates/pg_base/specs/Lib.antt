@@ -2,6 +2,7 @@ pub mod Atoi
 pub mod BufMut
 pub mod Cutting
 pub mod Decode
+pub mod Derived
 pub mod Either
 pub mod Encode
 pub mod Error

@@ -3,8 +3,7 @@
 //! A function without a body states a law, and is there to be proved and not to be called. One with
 //! a body pins a number that code has by a cast.
 
-ghost use Rattle.std.specs.Prelude.{◌≡◌, ◌==◌, ◌≤◌, ℕ, List, Decides};
-ghost use Rattle.std.specs.Ordering.{nat_cmp};
+ghost use Rattle.std.specs.Prelude.{◌≡◌, ◌==◌, ◌≤◌, ℕ, List};
 ghost use Rattle.pg_base.specs.declared.error.Error.{Error};
 ghost use Rattle.pg_base.specs.declared.error.ErrorKind.{ErrorKind};
 ghost use Rattle.pg_base.specs.declared.error.ProtocolFault.{ProtocolFault};
@@ -14,6 +13,7 @@ ghost use Rattle.pg_base.specs.declared.io.Oid.{Oid};
 ghost use Rattle.pg_base.specs.declared.io.PgValueFormat.{PgValueFormat};
 ghost use Rattle.pg_base.specs.Format.{frontend_tag, backend_number, format_code};
 ghost use Rattle.pg_base.specs.Id.{name, max_id};
+ghost use Rattle.pg_base.specs.Derived.{IsEqualByValue, IsClonedByValue, IsOrderedBy};
 
 use crate::error::{Error, ErrorKind, ProtocolFault};
 use crate::format::{BackendMessageFormat, FrontendMessageFormat};
@@ -21,9 +21,9 @@ use crate::io::{MAX_BODY, MAX_LENGTH, Oid, PgValueFormat, PortalId, StatementId}
 
 /// Faults, errors and kinds of error are equal where they are the same.
 pub fn errors_are_equal_by_value()
-    ensures faults { (a b : ProtocolFault) → Decides (⟦<ProtocolFault as PartialEq>⟧.eq a b) (a ≡ b) }
-    ensures errors { (a b : Error) → Decides (⟦<Error as PartialEq>⟧.eq a b) (a ≡ b) }
-    ensures kinds { (a b : ErrorKind) → Decides (⟦<ErrorKind as PartialEq>⟧.eq a b) (a ≡ b) }
+    ensures faults { IsEqualByValue ⟦<ProtocolFault as PartialEq>⟧.eq }
+    ensures errors { IsEqualByValue ⟦<Error as PartialEq>⟧.eq }
+    ensures kinds { IsEqualByValue ⟦<ErrorKind as PartialEq>⟧.eq }
 {}
 
 /// The id of a type that is none: 0, as the catalog has it.
@@ -35,16 +35,16 @@ pub fn default_type() -> Oid
 
 /// Types and formats of values, and kinds of message, are equal where they are the same.
 pub fn formats_are_equal_by_value()
-    ensures types { (a b : Oid) → Decides (⟦<Oid as PartialEq>⟧.eq a b) (a ≡ b) }
-    ensures values { (a b : PgValueFormat) → Decides (⟦<PgValueFormat as PartialEq>⟧.eq a b) (a ≡ b) }
-    ensures frontend { (a b : FrontendMessageFormat) → Decides (⟦<FrontendMessageFormat as PartialEq>⟧.eq a b) (a ≡ b) }
-    ensures backend { (a b : BackendMessageFormat) → Decides (⟦<BackendMessageFormat as PartialEq>⟧.eq a b) (a ≡ b) }
+    ensures types { IsEqualByValue ⟦<Oid as PartialEq>⟧.eq }
+    ensures values { IsEqualByValue ⟦<PgValueFormat as PartialEq>⟧.eq }
+    ensures frontend { IsEqualByValue ⟦<FrontendMessageFormat as PartialEq>⟧.eq }
+    ensures backend { IsEqualByValue ⟦<BackendMessageFormat as PartialEq>⟧.eq }
 {}
 
 /// The order of both kinds of message formats is that of their numbers.
 pub fn formats_are_ordered_by_number()
-    ensures frontend { (a b : FrontendMessageFormat) → ⟦<FrontendMessageFormat as Ord>⟧.cmp a b ≡ nat_cmp (frontend_tag a) (frontend_tag b) }
-    ensures backend { (a b : BackendMessageFormat) → ⟦<BackendMessageFormat as Ord>⟧.cmp a b ≡ nat_cmp (backend_number a) (backend_number b) }
+    ensures frontend { IsOrderedBy frontend_tag ⟦<FrontendMessageFormat as Ord>⟧.cmp }
+    ensures backend { IsOrderedBy backend_number ⟦<BackendMessageFormat as Ord>⟧.cmp }
 {}
 
 /// The number of a kind of message to the server is its tag.
@@ -103,13 +103,13 @@ pub fn names_are_distinct()
 
 /// A clone is the value that was cloned.
 pub fn clones_are_equal()
-    ensures statements { (a b : ℕ) → ⟦<StatementId as Clone>⟧.is_clone a b → b ≡ a }
-    ensures portals { (a b : ℕ) → ⟦<PortalId as Clone>⟧.is_clone a b → b ≡ a }
-    ensures types { (a b : Oid) → ⟦<Oid as Clone>⟧.is_clone a b → b ≡ a }
-    ensures values { (a b : PgValueFormat) → ⟦<PgValueFormat as Clone>⟧.is_clone a b → b ≡ a }
-    ensures frontend { (a b : FrontendMessageFormat) → ⟦<FrontendMessageFormat as Clone>⟧.is_clone a b → b ≡ a }
-    ensures backend { (a b : BackendMessageFormat) → ⟦<BackendMessageFormat as Clone>⟧.is_clone a b → b ≡ a }
-    ensures faults { (a b : ProtocolFault) → ⟦<ProtocolFault as Clone>⟧.is_clone a b → b ≡ a }
-    ensures errors { (a b : Error) → ⟦<Error as Clone>⟧.is_clone a b → b ≡ a }
-    ensures kinds { (a b : ErrorKind) → ⟦<ErrorKind as Clone>⟧.is_clone a b → b ≡ a }
+    ensures statements { IsClonedByValue ⟦<StatementId as Clone>⟧.is_clone }
+    ensures portals { IsClonedByValue ⟦<PortalId as Clone>⟧.is_clone }
+    ensures types { IsClonedByValue ⟦<Oid as Clone>⟧.is_clone }
+    ensures values { IsClonedByValue ⟦<PgValueFormat as Clone>⟧.is_clone }
+    ensures frontend { IsClonedByValue ⟦<FrontendMessageFormat as Clone>⟧.is_clone }
+    ensures backend { IsClonedByValue ⟦<BackendMessageFormat as Clone>⟧.is_clone }
+    ensures faults { IsClonedByValue ⟦<ProtocolFault as Clone>⟧.is_clone }
+    ensures errors { IsClonedByValue ⟦<Error as Clone>⟧.is_clone }
+    ensures kinds { IsClonedByValue ⟦<ErrorKind as Clone>⟧.is_clone }
 {}

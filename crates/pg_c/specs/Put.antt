@@ -1,5 +1,6 @@
 -- What a call that writes a message into the caller's room answers, as a number of C's `ptrdiff_t`.
 pub mod NoBody
+pub mod Session
 pub mod Startup
 pub mod Values
 use Rattle.std.specs.Prelude.{◌≡◌, ◌⊎◌, ℕ, ℤ, pos, List, [], ◌∷◌, ◌++◌, length, Option, Some, None, MatchOption, Result, Ok, Err}

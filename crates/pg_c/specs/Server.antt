@@ -3,6 +3,7 @@
 pub mod Authentication
 pub mod Letters
 pub mod Lists
+pub mod Messages
 use Rattle.std.specs.Prelude.{◌≡◌, ◌≢◌, ◌≤◌, ℕ, ℤ, pos, List, length, Result, Ok, Err, IfOk}
 use Rattle.pg_base.specs.declared.error.ProtocolFault.{ProtocolFault}
 use Rattle.pg_server.specs.Backend.BackendText.{IsWritten}

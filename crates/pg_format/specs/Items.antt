@@ -1,5 +1,5 @@
 -- Items after a count of two bytes: read one by one, each when it is asked for, or all of them into what keeps them.
-use Rattle.std.specs.Prelude.{◌≡◌, ℕ, zero, suc, ◌+◌, ◌*◌, ◌<◌, ◌≤◌, List, [], ◌∷◌, ◌++◌, length, map, drop, ◌⊎◌, Result, Ok, Err}
+use Rattle.std.specs.Prelude.{◌≡◌, ℕ, zero, suc, ◌+◌, ◌*◌, ◌<◌, ◌≤◌, List, [], ◌∷◌, ◌++◌, length, map, drop, ◌⊎◌, Result, Ok, Err, Option, IfOk, MatchOption}
 use Rattle.pg_base.specs.declared.error.ProtocolFault.{ProtocolFault}
 use Rattle.pg_format.specs.Format.{Format, Means, IsFaultOf}
 use Rattle.pg_format.specs.Format.Parts.{Lacks, be_u16}
@@ -48,6 +48,10 @@ pub record NextBreaks {A : Type 0} (g : Format A) (old new : Reading) (fault : P
   pub some : 0 < old.left
   pub breaks : BreaksAt g old.body old.at fault
   pub same : new ≡ old
+
+-- what the next is: nothing where none is left, else an item
+abbrev pub GivesNext : {I A : Type 0} → Format A → (I → A) → Reading → Reading → Result (Option I) ProtocolFault → Type 0
+GivesNext g shown old new result = IfOk result (λ found. MatchOption found (NoneIsLeft old new) (λ item. IsRead g old new (shown item)))
 
 -- one step after the other reads these items
 abbrev pub Steps : {A : Type 0} → Format A → Reading → List A → Reading → Type 0

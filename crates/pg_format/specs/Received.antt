@@ -1,9 +1,11 @@
 -- What reading a message by its kind answers.
 pub mod Message
-use Rattle.std.specs.Prelude.{◌≡◌, Some, Result, Ok, Err, ℕ}
+use Rattle.std.specs.Prelude.{◌≡◌, Some, Result, Ok, Err, ℕ, List, None}
 use Rattle.pg_base.specs.declared.format.BackendMessageFormat.{BackendMessageFormat}
 use Rattle.pg_base.specs.declared.error.Error.{Error}
 use Rattle.pg_base.specs.declared.error.Error.TheVariants.{Protocol, OutOfMemory}
+use Rattle.pg_base.specs.Decode.{Decodes}
+use Rattle.pg_format.specs.Format.{Format, Means, IsFaultOf}
 
 -- the greatest length of a body
 abbrev pub max_body : ℕ
@@ -19,3 +21,7 @@ IsValue shown v (Err OutOfMemory) = Unit {0}
 abbrev pub error_while_reading : BackendMessageFormat → Error → Error
 error_while_reading format (Protocol _ fault) = Protocol (Some format) fault
 error_while_reading format OutOfMemory = OutOfMemory
+
+-- a body is decoded by its line: to the value that it means, or not at all
+abbrev pub DecodesBody : {A V : Type 0} → Format V → (List ℕ → Type 0) → (A → V) → List ℕ → Result A Error → Type 0
+DecodesBody line NeedsNoMemory shown body result = Decodes (Means line) (IsFaultOf line) NeedsNoMemory shown None body result

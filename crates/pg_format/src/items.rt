@@ -3,8 +3,8 @@
 mod item;
 mod keeper;
 
-ghost use Rattle.std.specs.Prelude.{◌≡◌, ◌==◌, ℕ, ◌+◌, ◌*◌, ◌≤◌, length, drop, IfOk, IfErr, MatchOption};
-ghost use Rattle.pg_format.specs.Items.{AreKept, IsCountFault, Begins, IsRead, NoneIsLeft, NextBreaks, KeepsAll, EndsBody};
+ghost use Rattle.std.specs.Prelude.{◌≡◌, ◌==◌, ℕ, ◌+◌, ◌*◌, ◌≤◌, length, drop, IfOk, IfErr};
+ghost use Rattle.pg_format.specs.Items.{AreKept, IsCountFault, Begins, NextBreaks, KeepsAll, EndsBody, GivesNext};
 
 pub use item::{Item, QuickItem};
 pub use keeper::{Keeper, Nothing};
@@ -76,8 +76,7 @@ impl<'a> Items<'a> {
     /// The next item; or nothing where none is left. After a fault all is as it was.
     #[inline(always)]
     pub fn next<I: Item<'a>>(&mut self) -> Result<Option<I>, ProtocolFault>
-        ensures item { IfOk result (λ found. MatchOption found (NoneIsLeft self.old self.new)
-            (λ item. IsRead I.format self.old self.new (I.shown item))) }
+        ensures item { GivesNext I.format I.shown self.old self.new result }
         ensures fault { IfErr result (NextBreaks I.format self.old self.new) }
     {
         if self.left == 0 {

@@ -1,10 +1,9 @@
 //! What a message from a server is, and its decoding by kind.
 
-ghost use Rattle.std.specs.Prelude.{◌≡◌, ◌≤◌, ℕ, List, None, length};
+ghost use Rattle.std.specs.Prelude.{◌≡◌, ◌≤◌, ℕ, List, length};
 ghost use Rattle.pg_base.specs.declared.format.BackendMessageFormat.{BackendMessageFormat};
-ghost use Rattle.pg_base.specs.Decode.{Decodes};
-ghost use Rattle.pg_format.specs.Format.{Format, Lawful, Means, IsFaultOf};
-ghost use Rattle.pg_format.specs.Received.{error_while_reading};
+ghost use Rattle.pg_format.specs.Format.{Format, Lawful};
+ghost use Rattle.pg_format.specs.Received.{error_while_reading, DecodesBody};
 
 use bytes::Bytes;
 use pg_base::io::MAX_BODY;
@@ -31,7 +30,7 @@ pub trait BackendMessage: Sized {
     /// the body, only if it means none; or `OutOfMemory`.
     fn decode_body(alloc: Global, buf: Bytes) -> Result<Self, Error>
         requires { length buf ≤ MAX_BODY }
-        ensures { Decodes (Means format) (IsFaultOf format) NeedsNoMemory shown None buf result };
+        ensures { DecodesBody format NeedsNoMemory shown buf result };
 
     /// A body means one value, or has one fault, never both.
     ghost lawful: { Lawful format };

@@ -1,7 +1,8 @@
 //! A value that may be NULL, after its length.
 
-ghost use Rattle.std.specs.Prelude.{◌≡◌, ◌+◌, ◌≤◌, ◌++◌, length, option_copied};
+ghost use Rattle.std.specs.Prelude.{◌≡◌, ◌+◌, ◌≤◌, ◌++◌, option_copied};
 ghost use Rattle.pg_format.specs.Format.Nullable.{value};
+ghost use Rattle.pg_base.specs.Sink.{HasRoom};
 
 use pg_base::ProtocolFault;
 use pg_base::io::Sink;
@@ -50,7 +51,7 @@ impl Part for Value<'_> {
 // Adds bytes, in room that is there. A number is as long as an array, which is copied without a call.
 #[inline(always)]
 fn put_number_or_more<S: Sink>(bytes: &[u8], sink: &mut S)
-    requires { length (S.written sink.old) + length bytes.now ≤ S.capacity sink.old }
+    requires { HasRoom (S.capacity sink.old) (S.written sink.old) bytes.now }
     ensures written { S.written sink.new ≡ S.written sink.old ++ bytes.now }
     ensures capacity { S.capacity sink.old ≤ S.capacity sink.new }
     ensures loan { S.loan sink.new ≡ S.loan sink.old }

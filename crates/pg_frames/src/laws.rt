@@ -1,13 +1,14 @@
 //! What follows of streams from what a stream is, for whoever proves more: the contract of each
 //! function is a law. Those of clones call the clone; the others do nothing.
 
-ghost use Rattle.std.specs.Prelude.{◌≡◌, ◌++◌, ℕ, List, Result, Ok, Decides};
+ghost use Rattle.std.specs.Prelude.{◌≡◌, ◌++◌, ℕ, List, Result, Ok};
 ghost use Rattle.pg_base.specs.declared.error.ProtocolFault.{ProtocolFault};
 ghost use Rattle.pg_frames.specs.declared.pieces.StreamEnd.{StreamEnd};
 ghost use Rattle.pg_frames.specs.Pieces.{IsRead};
 ghost use Rattle.pg_frames.specs.Values.{HaveValues, HaveAnswers, EachAgree};
 ghost use Rattle.pg_base.specs.declared.error.Error.{Error};
 ghost use Rattle.pg_frames.specs.Stream.{Stream, Whole, WantsMore, IsStreamFault};
+ghost use Rattle.pg_base.specs.Derived.{IsEqualByValue};
 
 use crate::frame::Frame;
 use crate::pieces::StreamEnd;
@@ -59,7 +60,7 @@ pub fn values_are_those_of_the_stream<T: BackendMessage>()
 
 /// Ends are equal where they are the same.
 pub fn ends_are_equal_by_value()
-    ensures { (a b : StreamEnd) → Decides (⟦<StreamEnd as PartialEq>⟧.eq a b) (a ≡ b) }
+    ensures { IsEqualByValue ⟦<StreamEnd as PartialEq>⟧.eq }
 {}
 
 /// A clone of an end is that end.

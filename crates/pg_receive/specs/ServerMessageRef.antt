@@ -11,6 +11,7 @@ use Rattle.pg_format.specs.Items.{Reading, IsCountFault, Begins}
 use Rattle.pg_receive.specs.ReadyForQuery.{shown_status}
 use Rattle.pg_receive.specs.declared.message.server_message_ref.ServerMessageRef.{ServerMessageRef}
 use Rattle.pg_receive.specs.declared.message.server_message_ref.ServerMessageRef.TheVariants as messages
+use Rattle.pg_receive.specs.ParameterStatus.{setting_borrowed}
 
 abbrev pub Answer : Type 0
 Answer = Result ServerMessageRef ProtocolFault
@@ -52,7 +53,7 @@ Borrows formats.NoData body result = result ≡ Ok messages.NoData
 Borrows formats.NoticeResponse body result = result ≡ Ok (messages.NoticeResponse (fields_in body))
 Borrows formats.NotificationResponse body result = Reads messages.NotificationResponse notification (λ n. record { process_id = n.process_id; channel = n.channel.now; payload = n.payload.now }) body result
 Borrows formats.ParameterDescription body result = Gives messages.ParameterDescription body result
-Borrows formats.ParameterStatus body result = Reads messages.ParameterStatus parameter_status (λ status. record { name = status.name.now; value = status.value.now }) body result
+Borrows formats.ParameterStatus body result = Reads messages.ParameterStatus parameter_status setting_borrowed body result
 Borrows formats.ParseComplete body result = result ≡ Ok messages.ParseComplete
 Borrows formats.PortalSuspended body result = result ≡ Ok messages.PortalSuspended
 Borrows formats.ReadyForQuery body result = Reads messages.ReadyForQuery ready_for_query (λ ready. shown_status ready.transaction_status) body result

@@ -1,6 +1,6 @@
 -- The values of a Bind's parameters as they are collected, one after the other with their count.
 -- Documentation: "Message Formats", Bind (F).
-use Rattle.std.specs.Prelude.{◌≡◌, ℕ, ◌+◌, List, [], ◌++◌, Option}
+use Rattle.std.specs.Prelude.{◌≡◌, ℕ, ◌+◌, List, [], ◌++◌, Option, ◌<◌, length}
 use Rattle.pg_send.specs.Values.{value_text}
 
 -- the capacity is how many bytes there can be before memory is asked for
@@ -16,3 +16,7 @@ no_values capacity = record { count = 0; bytes = []; capacity = capacity }
 pub record HasOneMore (value : Option (List ℕ)) (old new : HeldValues) : Type 0 where
   pub count : new.count ≡ old.count + 1
   pub bytes : new.bytes ≡ old.bytes ++ value_text value
+
+-- there is room for fewer bytes than these
+abbrev pub AreShort : HeldValues → ℕ → Type 0
+AreShort values needed = values.capacity < length values.bytes + needed

@@ -1,9 +1,11 @@
 -- CancelRequest: asks the server to stop what a session does; it has no tag. Documentation: "Message
 -- Formats", CancelRequest (F).
-use Rattle.std.specs.Prelude.{ℕ, ◌+◌, List, ◌++◌, length}
+use Rattle.std.specs.Prelude.{ℕ, ◌+◌, List, ◌++◌, length, ◌≡◌, ◌<◌, ◌^◌, ◌↔◌, Some, None}
 use Rattle.pg_base.specs.Numbers.{be32}
 use Rattle.pg_format.specs.Messages as page
 use Rattle.pg_send.specs.declared.message.cancel_request.CancelRequest.{CancelRequest}
+use Rattle.pg_base.specs.declared.error.ProtocolFault.{ProtocolFault}
+use Rattle.pg_format.specs.Format.{Means}
 
 -- 1234 in the upper two bytes and 5678 in the lower, in the place of a version
 abbrev pub cancel_request_code : ℕ
@@ -16,6 +18,18 @@ cancel_request_body cancel = page.first_message.Writes (page.cancelling cancel)
 -- the whole, after its length: of itself, the code, the process and the key
 abbrev pub cancel_request_text : page.Cancel → List ℕ
 cancel_request_text cancel = be32 (length cancel.secret_key + 12) ++ cancel_request_body cancel
+
+-- the key has no length that keys have, for this fault
+abbrev pub IsKeyFault : List ℕ → ProtocolFault → Type 0
+IsKeyFault key fault = page.key_fault (length key) ≡ Some fault
+
+-- what holds of a request whose numbers are in range and whose key has a length that keys have
+abbrev pub IfSent : page.Cancel → Type 0 → Type 0
+IfSent cancel Holds = cancel.process_id < 2 ^ 32 → page.key_fault (length cancel.secret_key) ≡ None → Holds
+
+-- a server reads the request as itself, and as no other
+abbrev pub IsReadBack : page.Cancel → Type 0
+IsReadBack cancel = (read : page.First) → Means page.first_message (cancel_request_body cancel) read ↔ (read ≡ page.cancelling cancel)
 
 abbrev pub cancel_request_fields : CancelRequest → page.Cancel
 cancel_request_fields cancel = record { process_id = cancel.process_id; secret_key = cancel.secret_key.now }

@@ -1,18 +1,19 @@
 -- What defines a message to the server, the limits on one, and its frame. Documentation: "Messaging
 -- Overview" and "Message Formats".
-use Rattle.std.specs.Prelude.{◌≡◌, ℕ, ◌+◌, List, length, Option, Some, None, Result, Ok, Err, MatchOption, Vec}
+use Rattle.std.specs.Prelude.{◌≡◌, ℕ, ◌+◌, List, length, Option, Some, None, Result, Ok, Err, MatchOption, Vec, IfErr}
 use Rattle.std.specs.declared.alloc.Global.{Global}
 use Rattle.pg_base.specs.declared.error.ProtocolFault.{ProtocolFault}
 use Rattle.pg_base.specs.declared.error.Error.{Error}
 use Rattle.pg_base.specs.declared.error.Error.TheVariants.{Protocol, OutOfMemory}
 use Rattle.pg_base.specs.declared.format.FrontendMessageFormat.{FrontendMessageFormat}
 use Rattle.pg_base.specs.Cutting.{frame}
-use Rattle.pg_base.specs.Encode.{EncodesFrame}
+use Rattle.pg_base.specs.Encode.{EncodesFrame, IsShort}
 use Rattle.pg_base.specs.Format.{frontend_tag}
 use Rattle.pg_base.specs.Part.{PartLaw, saturated}
 use Rattle.pg_base.specs.Tagged as tagged
 use Rattle.pg_base.specs.Tagged.{first_fault}
 use Rattle.pg_send.specs.Kind.{Kind}
+use Rattle.pg_base.specs.declared.error.ProtocolFault.TheVariants.{TextHoldsNul}
 
 -- the length of a body within the limits
 abbrev pub checked_len : Option ProtocolFault → ℕ → Result ℕ Error
@@ -62,6 +63,22 @@ IsMeasured law len = tagged.IsMeasured (part_of law) len
 abbrev pub EncodesMessage : Law → Vec ℕ Global → Vec ℕ Global → Result (Unit {0}) Error → Type 0
 EncodesMessage law old new result = EncodesFrame (tag law) law.body (fault law) (hint law) old new result
 
+-- within the limits, and the spare room of the buffer is less than the message asks for
+abbrev pub IsShortFor : Law → Vec ℕ Global → Type 0
+IsShortFor law buf = fault law ≡ None → IsShort buf (hint law + 5)
+
+-- the same of a message that can make the round trip
+abbrev pub IsShortIfItCan : Law → Vec ℕ Global → Type 0
+IsShortIfItCan law buf = fault law ≡ None → law.CanRoundTrip → IsShort buf (hint law + 5)
+
+-- the message is added
+abbrev pub Adds : Law → Vec ℕ Global → Vec ℕ Global → Type 0
+Adds law old new = EncodesMessage law old new (Ok tt)
+
+-- refused as a text that holds a NUL, and not where it may be
+abbrev pub RefusesNul : Result (Unit {0}) ProtocolFault → Type 0 → Type 0
+RefusesNul result MayBe = IfErr result (λ fault. (fault ≡ TextHoldsNul) × ¬ MayBe)
+
 -- a reader wouldn't get the message back, for this fault
 abbrev pub CannotRoundTrip : Law → ProtocolFault → Type 0
 CannotRoundTrip law fault = (law.round_trip_fault ≡ Some fault) × ¬ law.CanRoundTrip
@@ -84,3 +101,6 @@ IsStrictAnswer law answer = IsStrictAnswerOf (fault law) law.CanRoundTrip law.ro
 abbrev pub room_or_fault : Option ProtocolFault → ℕ → Result ℕ Error
 room_or_fault None hint = Ok (saturated (hint + 5))
 room_or_fault (Some fault) hint = Err (Protocol None fault)
+
+abbrev pub room_asked : Law → Result ℕ Error
+room_asked law = room_or_fault (fault law) (hint law)

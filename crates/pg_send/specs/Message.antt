@@ -1,5 +1,5 @@
 -- Any tagged message to the server as a plain value, and what its law says of it.
-use Rattle.std.specs.Prelude.{◌≡◌, ℕ, List, Option}
+use Rattle.std.specs.Prelude.{◌≡◌, ℕ, List, Option, None}
 use Rattle.pg_base.specs.declared.error.ProtocolFault.{ProtocolFault}
 use Rattle.pg_format.specs.Messages as page
 use Rattle.pg_send.specs.declared.message.password.Password.{Password}
@@ -114,3 +114,18 @@ Reads kind bytes m = (kind_of m ≡ kind) × (law_of m).Reads bytes
 pub record RoundTrips (m : Message) : Type 0 where
   pub reads : Reads (kind_of m) (body m) m
   pub only : (other : Message) → Reads (kind_of m) (body m) other → other ≡ m
+
+abbrev pub RoundTripsIfItCan : Message → Type 0
+RoundTripsIfItCan m = CanRoundTrip m → RoundTrips m
+
+-- what holds of a message within the limits whose numbers are in range and that can make the round trip
+abbrev pub IfReadable : Message → Type 0 → Type 0
+IfReadable m Holds = fault m ≡ None → IsInRange m → CanRoundTrip m → Holds
+
+-- two messages have one frame
+abbrev pub HaveOneText : Message → Message → Type 0
+HaveOneText m n = text m ≡ text n
+
+-- messages of one kind with one frame are one
+abbrev pub AreOneIfAlike : Message → Message → Type 0
+AreOneIfAlike m n = kind_of m ≡ kind_of n → HaveOneText m n → m ≡ n

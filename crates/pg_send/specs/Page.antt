@@ -1,7 +1,7 @@
 -- What is sent, by the page of all messages: the line of a message, and what it means by it.
 use Rattle.std.specs.Prelude.{◌≡◌, ℕ, List, []}
 use Rattle.pg_base.specs.Id.{name, statement_prefix, portal_prefix}
-use Rattle.pg_format.specs.Format.{Format}
+use Rattle.pg_format.specs.Format.{Format, Means}
 use Rattle.pg_format.specs.Format.Lists.{times}
 use Rattle.pg_format.specs.Format.Nullable as nullable
 use Rattle.pg_format.specs.Messages as page
@@ -9,7 +9,7 @@ use Rattle.pg_format.specs.Messages.{Meaning, means, from_client}
 use Rattle.pg_send.specs.Bind.{BindFields}
 use Rattle.pg_send.specs.Execute.{execute_value}
 use Rattle.pg_send.specs.Message as message
-use Rattle.pg_send.specs.Message.{Message, law_of}
+use Rattle.pg_send.specs.Message.{Message, law_of, body}
 use Rattle.pg_send.specs.Parse.{parse_value}
 use Rattle.pg_send.specs.Password.{md5_value}
 use Rattle.pg_send.specs.SaslInitialResponse.{sasl_initial_value}
@@ -62,3 +62,11 @@ Meant (message.SaslInitialResponse s) v = v ≡ sasl_initial_value s
 Meant (message.SaslResponse bytes) v = v ≡ bytes
 Meant message.Sync v = v ≡ tt
 Meant message.Terminate v = v ≡ tt
+
+-- the body of a message is what is written of what the page means by it
+abbrev pub IsWrittenOfPage : Message → Type 0
+IsWrittenOfPage m = (v : (line m).Value) × Meant m v × IsWritten (line m).format (body m) v
+
+-- the bytes mean what the page means by a message
+abbrev pub IsMeantBy : Message → List ℕ → Type 0
+IsMeantBy m bytes = (v : (line m).Value) × Meant m v × Means (line m).format bytes v

@@ -1,12 +1,12 @@
 -- A run of messages into one buffer, each with its answer.
-use Rattle.std.specs.Prelude.{◌≡◌, ℕ, ◌+◌, ◌<◌, ◌≤◌, Vec, vec_len, vec_capacity, List, [], ◌∷◌, ◌++◌, length, Bool, true, false, Result, Ok, Err, OnOk, OnErr, IsErrOf}
+use Rattle.std.specs.Prelude.{◌≡◌, ℕ, ◌+◌, ◌<◌, ◌≤◌, Vec, vec_len, vec_capacity, List, [], ◌∷◌, ◌++◌, length, Bool, true, false, Result, Ok, Err, OnOk, OnErr, IsErrOf, drop, IfOk}
 use Rattle.pg_base.specs.declared.error.Error.{Error}
 use Rattle.pg_base.specs.declared.error.Error.TheVariants.{Protocol, OutOfMemory}
 use Rattle.std.specs.declared.alloc.Global.{Global}
 use Rattle.pg_base.specs.Cutting.{IsCutInto}
-use Rattle.pg_base.specs.Encode.{IsAnswer}
+use Rattle.pg_base.specs.Encode.{IsAnswer, IsShort}
 use Rattle.pg_send.specs.FrontendMessage as law
-use Rattle.pg_send.specs.Message.{Message, law_of, tag, body, hint, fault, text, CanRoundTrip, RoundTrips}
+use Rattle.pg_send.specs.Message.{Message, law_of, tag, body, hint, fault, text, CanRoundTrip, RoundTrips, RoundTripsIfItCan}
 use Rattle.pg_format.specs.Format.{Means}
 use Rattle.pg_send.specs.Page.{line, Meant}
 
@@ -63,7 +63,7 @@ EachRoundTrips (m ∷ ms) (Err _ ∷ answers) = EachRoundTrips ms answers
 abbrev pub AllRoundTrip : List Message → List Answer → Type 0
 AllRoundTrip [] answers = Unit {0}
 AllRoundTrip (m ∷ ms) [] = Unit {0}
-AllRoundTrip (m ∷ ms) (Ok _ ∷ answers) = (CanRoundTrip m → RoundTrips m) × AllRoundTrip ms answers
+AllRoundTrip (m ∷ ms) (Ok _ ∷ answers) = RoundTripsIfItCan m × AllRoundTrip ms answers
 AllRoundTrip (m ∷ ms) (Err _ ∷ answers) = AllRoundTrip ms answers
 
 -- memory ran out only where the capacity that there was before the run, and len bytes of which were
@@ -98,8 +98,8 @@ pub record EncodesOne (IsAnswerTo : Message → Answer → Type 0) (m : Message)
   pub ok : OnOk answer (new.items ≡ old.items ++ text m)
   pub err : OnErr answer (new.items ≡ old.items)
   pub is : IsAnswerTo m answer
-  pub round_trip : OnOk answer (CanRoundTrip m → RoundTrips m)
-  pub memory : IsErrOf answer OutOfMemory → vec_capacity old < vec_len old + (hint m + 5)
+  pub round_trip : OnOk answer (RoundTripsIfItCan m)
+  pub memory : IsErrOf answer OutOfMemory → IsShort old (hint m + 5)
   pub capacity : vec_capacity old ≤ vec_capacity new
 
 -- What a run gives. The buffer gains the texts of exactly the accepted messages; each message has its
@@ -143,3 +143,39 @@ pub record AreReadByTag (IsFrameOf : Message → ℕ × List ℕ → Type 0) (ms
   pub frames : List (ℕ × List ℕ)
   pub cut : IsCutInto bytes frames
   pub read : AreFrames IsFrameOf ms answers frames
+
+-- what was added to a buffer
+abbrev pub added_since : Vec ℕ Global → Vec ℕ Global → List ℕ
+added_since old new = drop (length old.items) new.items
+
+-- ---- what a call gives
+
+-- what holds of the answers, where there are answers
+abbrev pub OnAnswers : Result (Vec Answer Global) Error → (List Answer → Type 0) → Type 0
+OnAnswers result Holds = IfOk result (λ answers. Holds answers.items)
+
+abbrev pub IsReadByTag : (Message → ℕ × List ℕ → Type 0) → Message → Answer → Vec ℕ Global → Vec ℕ Global → Type 0
+IsReadByTag IsFrameOf m answer old new = AreReadByTag IsFrameOf (m ∷ []) (answer ∷ []) (added_since old new)
+
+abbrev pub GivesRun : (Message → Answer → Type 0) → List Message → Vec ℕ Global → Vec ℕ Global → Result (Vec Answer Global) Error → Type 0
+GivesRun IsAnswerTo ms old new result = OnAnswers result (λ answers. EncodesRun IsAnswerTo ms answers old new)
+
+abbrev pub GivesRead : (Message → ℕ × List ℕ → Type 0) → List Message → Vec ℕ Global → Vec ℕ Global → Result (Vec Answer Global) Error → Type 0
+GivesRead IsFrameOf ms old new result = OnAnswers result (λ answers. AreReadByTag IsFrameOf ms answers (added_since old new))
+
+-- ---- by a rule that may be strict
+
+-- the same of a message that can make the round trip
+abbrev pub IsShortIfItCan : Law → Vec ℕ Global → Type 0
+IsShortIfItCan law buf = fault law ≡ None → law.CanRoundTrip → IsShort buf (hint law + 5)
+
+-- the message is added
+abbrev pub AddsOne : Bool → Message → Vec ℕ Global → Vec ℕ Global → Type 0
+AddsOne strict m old new = EncodesOne (IsAnswerOf strict) m (Ok tt) old new
+
+abbrev pub AddsRun : Bool → List Message → List Answer → Vec ℕ Global → Vec ℕ Global → Type 0
+AddsRun strict ms answers old new = EncodesRun (IsAnswerOf strict) ms answers old new
+
+-- the rule accepts the message, and the spare room is less than the message asks for
+abbrev pub IsShortByRule : Bool → Message → Vec ℕ Global → Type 0
+IsShortByRule strict m buf = IsAnswerOf strict m (Ok tt) → IsShort buf (hint m + 5)

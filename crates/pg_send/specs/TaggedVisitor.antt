@@ -1,25 +1,25 @@
 -- What is made of a message by its law, whichever type it has.
-use Rattle.std.specs.Prelude.{◌≡◌, ℕ, ◌+◌, ◌<◌, ◌≤◌, ◌++◌, List, length, Bool, Result, Ok, None, OnOk, IfErr, Vec, vec_len, vec_capacity}
+use Rattle.std.specs.Prelude.{◌≡◌, ℕ, ◌+◌, ◌≤◌, ◌++◌, List, length, Bool, Result, None, OnOk, IfErr, Vec}
 use Rattle.std.specs.Bool.{OnTrue, OnFalse}
 use Rattle.std.specs.declared.alloc.Global.{Global}
 use Rattle.pg_base.specs.declared.error.Error.{Error}
 use Rattle.pg_base.specs.declared.error.ProtocolFault.{ProtocolFault}
-use Rattle.pg_send.specs.FrontendMessage.{Law, CannotRoundTrip, fault, hint, text, EncodesMessage}
+use Rattle.pg_send.specs.FrontendMessage.{Law, CannotRoundTrip, fault, text, EncodesMessage, IsShortFor, IsShortIfItCan, Adds}
 
 -- the frame is added, or the buffer stays: where a limit is broken or the spare room is short
 pub record PutsIfFits (law : Law) (old new : Vec ℕ Global) (result : Bool) : Type 0 where
-  pub encodes : OnTrue result (EncodesMessage law old new (Ok tt))
+  pub encodes : OnTrue result (Adds law old new)
   pub range : OnTrue result law.IsInRange
   pub same : OnFalse result (new ≡ old)
-  pub short : OnFalse result (fault law ≡ None → vec_capacity old < vec_len old + (hint law + 5))
+  pub short : OnFalse result (IsShortFor law old)
 
 -- the same of a message that can make the round trip
 pub record PutsIfReadBack (law : Law) (old new : Vec ℕ Global) (result : Bool) : Type 0 where
-  pub encodes : OnTrue result (EncodesMessage law old new (Ok tt))
+  pub encodes : OnTrue result (Adds law old new)
   pub range : OnTrue result law.IsInRange
   pub can : OnTrue result law.CanRoundTrip
   pub same : OnFalse result (new ≡ old)
-  pub short : OnFalse result (fault law ≡ None → law.CanRoundTrip → vec_capacity old < vec_len old + (hint law + 5))
+  pub short : OnFalse result (IsShortIfItCan law old)
 
 -- Ok where it can, else why not
 pub record IsRoundTripCheck (law : Law) (result : Result (Unit {0}) ProtocolFault) : Type 0 where

@@ -11,9 +11,13 @@ use Rattle.pg_send.specs.Counted.{too_many}
 abbrev pub value_text : Option (List ℕ) → List ℕ
 value_text v = value.Writes v
 
+-- values, one after the other
+abbrev pub values_text : List (Option (List ℕ)) → List ℕ
+values_text values = flat_map value_text values
+
 -- values after their count
 abbrev pub counted_values : List (Option (List ℕ)) → List ℕ
-counted_values values = be16 (length values) ++ flat_map value_text values
+counted_values values = be16 (length values) ++ values_text values
 
 abbrev pub values : List (Option (List ℕ)) → PartLaw
 values vs = record { text = counted_values vs; fault = too_many (λ _. BadParams) (length vs); IsInRange = Unit {0} }

@@ -6,8 +6,9 @@ ghost use Rattle.pg_base.specs.declared.error.Error.TheVariants.{OutOfMemory, Pr
 ghost use Rattle.pg_base.specs.declared.error.ProtocolFault.TheVariants.{MessageTooLong};
 ghost use Rattle.pg_base.specs.Numbers.{be32};
 ghost use Rattle.pg_base.specs.Cutting.{max_length};
-ghost use Rattle.pg_base.specs.Id.{named, statement_prefix, portal_prefix, max_id};
+ghost use Rattle.pg_base.specs.Id.{max_id, statement_text, portal_text};
 ghost use Rattle.pg_base.specs.BufMut.{IsCallableOn, OnlyAppends, KeepsRoom, Fits, WhyRefused, four_zeros, prefixed};
+ghost use Rattle.pg_base.specs.Encode.{IsShort};
 
 use crate::error::{Error, ProtocolFault};
 use crate::io::{MAX_LENGTH, PortalId, StatementId};
@@ -44,20 +45,20 @@ pub trait PgBufMutExt {
     /// Adds the name of a statement and a NUL. Refused with `OutOfMemory`, only where the room was
     /// short.
     fn put_statement_name(&mut self, id: StatementId) -> Result<(), Error>
-        ensures ok { OnOk result (bytes self.new ≡ bytes self.old ++ named statement_prefix id) }
+        ensures ok { OnOk result (bytes self.new ≡ bytes self.old ++ statement_text id) }
         ensures err { OnErr result (bytes self.new ≡ bytes self.old) }
         ensures memory { IsOkUnless result OutOfMemory }
-        ensures room { OnErr result (capacity self.old < length (bytes self.old) + length (named statement_prefix id)) }
+        ensures room { OnErr result (capacity self.old < length (bytes self.old) + length (statement_text id)) }
         ensures capacity { capacity self.old ≤ capacity self.new }
         ensures range { id ≤ max_id };
 
     /// Adds the name of a portal and a NUL. Refused with `OutOfMemory`, only where the room was
     /// short.
     fn put_portal_name(&mut self, id: PortalId) -> Result<(), Error>
-        ensures ok { OnOk result (bytes self.new ≡ bytes self.old ++ named portal_prefix id) }
+        ensures ok { OnOk result (bytes self.new ≡ bytes self.old ++ portal_text id) }
         ensures err { OnErr result (bytes self.new ≡ bytes self.old) }
         ensures memory { IsOkUnless result OutOfMemory }
-        ensures room { OnErr result (capacity self.old < length (bytes self.old) + length (named portal_prefix id)) }
+        ensures room { OnErr result (capacity self.old < length (bytes self.old) + length (portal_text id)) }
         ensures capacity { capacity self.old ≤ capacity self.new }
         ensures range { id ≤ max_id };
 }
@@ -91,7 +92,7 @@ fn put_zeros(buf: &mut Vec<u8>) -> Result<(), AllocError>
     ensures ok { OnOk result (buf.new.items ≡ buf.old.items ++ four_zeros) }
     ensures err { OnErr result (buf.new.items ≡ buf.old.items) }
     ensures same { OnErr result (vec_capacity buf.new ≡ vec_capacity buf.old) }
-    ensures room { OnErr result (vec_capacity buf.old < vec_len buf.old + 4) }
+    ensures room { OnErr result (IsShort buf.old 4) }
     ensures capacity { vec_capacity buf.old ≤ vec_capacity buf.new }
 {
     buf.reserve(LENGTH_SIZE)?;

@@ -1,6 +1,7 @@
 //! The decimal digits of a number, written at the end of a sink.
 
 ghost use Rattle.std.specs.Prelude.{◌≡◌, ◌+◌, ◌/◌, ◌%◌, ◌<◌, ◌≤◌, [], ◌∷◌, ◌++◌, length, decimal};
+ghost use Rattle.pg_base.specs.Sink.{HasRoom};
 
 use crate::io::Sink;
 use itoa::Buffer;
@@ -8,7 +9,7 @@ use itoa::Buffer;
 /// Adds the digits of a number, in room that is there. Most numbers are small, and need no buffer.
 #[inline(always)]
 pub fn put_decimal<S: Sink>(number: u32, sink: &mut S)
-    requires { length (S.written sink.old) + length (decimal number) ≤ S.capacity sink.old }
+    requires { HasRoom (S.capacity sink.old) (S.written sink.old) (decimal number) }
     ensures written { S.written sink.new ≡ S.written sink.old ++ decimal number }
     ensures capacity { S.capacity sink.old ≤ S.capacity sink.new }
     ensures loan { S.loan sink.new ≡ S.loan sink.old }
@@ -27,7 +28,7 @@ pub fn put_decimal<S: Sink>(number: u32, sink: &mut S)
 #[inline(always)]
 fn put_short<S: Sink>(number: u32, sink: &mut S)
     requires number { number < 100 }
-    requires room { length (S.written sink.old) + length (decimal number) ≤ S.capacity sink.old }
+    requires room { HasRoom (S.capacity sink.old) (S.written sink.old) (decimal number) }
     ensures written { S.written sink.new ≡ S.written sink.old ++ decimal number }
     ensures capacity { S.capacity sink.old ≤ S.capacity sink.new }
     ensures loan { S.loan sink.new ≡ S.loan sink.old }
@@ -55,7 +56,7 @@ fn put_pair<S: Sink>(number: u32, sink: &mut S)
 // The digits of any number.
 #[inline(never)]
 fn put_digits<S: Sink>(number: u32, sink: &mut S)
-    requires { length (S.written sink.old) + length (decimal number) ≤ S.capacity sink.old }
+    requires { HasRoom (S.capacity sink.old) (S.written sink.old) (decimal number) }
     ensures written { S.written sink.new ≡ S.written sink.old ++ decimal number }
     ensures capacity { S.capacity sink.old ≤ S.capacity sink.new }
     ensures loan { S.loan sink.new ≡ S.loan sink.old }

@@ -1,8 +1,10 @@
 //! The names of prepared statements and portals, each kept as a number.
 
-ghost use Rattle.std.specs.Prelude.{Some, ◌≡◌, ◌≢◌, ◌==◌, ℕ, ◌+◌, ◌<◌, ◌≤◌, ◌^◌, List, [], ◌∷◌, ◌++◌, length, decimal, OnOk, OnErr, IsOkUnless, IfSome, IfNone, vec_len, vec_capacity};
+ghost use Rattle.std.specs.Prelude.{Some, ◌≡◌, ◌≢◌, ◌==◌, ℕ, ◌+◌, ◌<◌, ◌≤◌, ◌^◌, List, [], ◌∷◌, ◌++◌, length, decimal, OnOk, OnErr, IsOkUnless, IfSome, IfNone, vec_capacity};
 ghost use Rattle.pg_base.specs.declared.error.Error.TheVariants.{OutOfMemory};
-ghost use Rattle.pg_base.specs.Id.{name, next_id, named, statement_prefix, portal_prefix, max_id};
+ghost use Rattle.pg_base.specs.Id.{name, next_id, named, statement_prefix, portal_prefix, max_id, statement_text, portal_text};
+ghost use Rattle.pg_base.specs.Sink.{HasRoom};
+ghost use Rattle.pg_base.specs.Encode.{IsShort};
 
 use crate::error::Error;
 use crate::io::Sink;
@@ -65,10 +67,10 @@ impl StatementId {
     /// Adds the name and a NUL to the buffer. `OutOfMemory`, only where the room was short, leaves
     /// its bytes as they were.
     pub fn put_name_with_nul(&self, buf: &mut Vec<u8>) -> Result<(), Error>
-        ensures ok { OnOk result (buf.new.items ≡ buf.old.items ++ named statement_prefix self.now) }
+        ensures ok { OnOk result (buf.new.items ≡ buf.old.items ++ statement_text self.now) }
         ensures err { OnErr result (buf.new.items ≡ buf.old.items) }
         ensures memory { IsOkUnless result OutOfMemory }
-        ensures room { OnErr result (vec_capacity buf.old < vec_len buf.old + length (named statement_prefix self.now)) }
+        ensures room { OnErr result (IsShort buf.old (length (statement_text self.now))) }
         ensures capacity { vec_capacity buf.old ≤ vec_capacity buf.new }
         ensures range { self.now ≤ max_id }
     {
@@ -79,8 +81,8 @@ impl StatementId {
     /// Writes the name and a NUL, in room that is there.
     #[inline(always)]
     pub fn put_name<S: Sink>(&self, sink: &mut S)
-        requires { length (S.written sink.old) + length (named statement_prefix self.now) ≤ S.capacity sink.old }
-        ensures written { S.written sink.new ≡ S.written sink.old ++ named statement_prefix self.now }
+        requires { HasRoom (S.capacity sink.old) (S.written sink.old) (statement_text self.now) }
+        ensures written { S.written sink.new ≡ S.written sink.old ++ statement_text self.now }
         ensures capacity { S.capacity sink.old ≤ S.capacity sink.new }
         ensures loan { S.loan sink.new ≡ S.loan sink.old }
         ensures range { self.now ≤ max_id }
@@ -153,10 +155,10 @@ impl PortalId {
     /// Adds the name and a NUL to the buffer. `OutOfMemory`, only where the room was short, leaves
     /// its bytes as they were.
     pub fn put_name_with_nul(&self, buf: &mut Vec<u8>) -> Result<(), Error>
-        ensures ok { OnOk result (buf.new.items ≡ buf.old.items ++ named portal_prefix self.now) }
+        ensures ok { OnOk result (buf.new.items ≡ buf.old.items ++ portal_text self.now) }
         ensures err { OnErr result (buf.new.items ≡ buf.old.items) }
         ensures memory { IsOkUnless result OutOfMemory }
-        ensures room { OnErr result (vec_capacity buf.old < vec_len buf.old + length (named portal_prefix self.now)) }
+        ensures room { OnErr result (IsShort buf.old (length (portal_text self.now))) }
         ensures capacity { vec_capacity buf.old ≤ vec_capacity buf.new }
         ensures range { self.now ≤ max_id }
     {
@@ -167,8 +169,8 @@ impl PortalId {
     /// Writes the name and a NUL, in room that is there.
     #[inline(always)]
     pub fn put_name<S: Sink>(&self, sink: &mut S)
-        requires { length (S.written sink.old) + length (named portal_prefix self.now) ≤ S.capacity sink.old }
-        ensures written { S.written sink.new ≡ S.written sink.old ++ named portal_prefix self.now }
+        requires { HasRoom (S.capacity sink.old) (S.written sink.old) (portal_text self.now) }
+        ensures written { S.written sink.new ≡ S.written sink.old ++ portal_text self.now }
         ensures capacity { S.capacity sink.old ≤ S.capacity sink.new }
         ensures loan { S.loan sink.new ≡ S.loan sink.old }
         ensures range { self.now ≤ max_id }
@@ -229,7 +231,7 @@ fn put_name_with_nul(prefix: &str, number: u32, buf: &mut Vec<u8>) -> Result<(),
     requires { length prefix.now < 100 }
     ensures ok { OnOk result (buf.new.items ≡ buf.old.items ++ named prefix.now number) }
     ensures err { OnErr result (buf.new.items ≡ buf.old.items) }
-    ensures room { OnErr result (vec_capacity buf.old < vec_len buf.old + length (named prefix.now number)) }
+    ensures room { OnErr result (IsShort buf.old (length (named prefix.now number))) }
     ensures capacity { vec_capacity buf.old ≤ vec_capacity buf.new }
 {
     buf.reserve(name_len(prefix, number))?;
@@ -240,7 +242,7 @@ fn put_name_with_nul(prefix: &str, number: u32, buf: &mut Vec<u8>) -> Result<(),
 // Inlined, so that the prefix is known where it is copied.
 #[inline(always)]
 fn put_name<S: Sink>(prefix: &str, number: u32, sink: &mut S)
-    requires { length (S.written sink.old) + length (named prefix.now number) ≤ S.capacity sink.old }
+    requires { HasRoom (S.capacity sink.old) (S.written sink.old) (named prefix.now number) }
     ensures written { S.written sink.new ≡ S.written sink.old ++ named prefix.now number }
     ensures capacity { S.capacity sink.old ≤ S.capacity sink.new }
     ensures loan { S.loan sink.new ≡ S.loan sink.old }

@@ -6,6 +6,7 @@
 ghost use Rattle.std.specs.Prelude.{◌≡◌, ◌+◌, ◌≤◌, ◌++◌, length, None};
 ghost use Rattle.pg_base.specs.Cutting.{max_length};
 ghost use Rattle.pg_base.specs.Part.{PartLaw, saturated};
+ghost use Rattle.pg_base.specs.Sink.{HasRoom};
 
 use crate::error::ProtocolFault;
 use crate::io::{Sink, Text};
@@ -27,7 +28,7 @@ pub trait Part: Copy {
     fn put<S: Sink>(&self, sink: &mut S)
         requires counted { (part self.now).fault ≡ None }
         requires small { length (part self.now).text ≤ max_length }
-        requires room { length (S.written sink.old) + length (part self.now).text ≤ S.capacity sink.old }
+        requires room { HasRoom (S.capacity sink.old) (S.written sink.old) (part self.now).text }
         ensures written { S.written sink.new ≡ S.written sink.old ++ (part self.now).text }
         ensures capacity { S.capacity sink.old ≤ S.capacity sink.new }
         ensures loan { S.loan sink.new ≡ S.loan sink.old }

@@ -4,7 +4,7 @@ ghost use Rattle.std.specs.Prelude.{◌≡◌, ℕ, ◌+◌, ◌^◌, ◌<◌, �
 ghost use Rattle.std.specs.Borrow.{GName};
 ghost use Rattle.pg_base.specs.Cutting.{max_length};
 ghost use Rattle.pg_base.specs.Numbers.{be16, be32};
-ghost use Rattle.pg_base.specs.Sink.{IsGiven};
+ghost use Rattle.pg_base.specs.Sink.{IsGiven, HasRoom};
 ghost use Rattle.pg_base.specs.Text.{ended};
 
 /// Takes bytes at the end of what is written, in room that is there.
@@ -27,7 +27,7 @@ pub trait Sink {
 
     /// Adds some bytes.
     fn put_slice(&mut self, bytes: &[u8])
-        requires { length (written self.old) + length bytes.now ≤ capacity self.old }
+        requires { HasRoom (capacity self.old) (written self.old) bytes.now }
         ensures written { written self.new ≡ written self.old ++ bytes.now }
         ensures capacity { capacity self.old ≤ capacity self.new }
         ensures loan { loan self.new ≡ loan self.old };
@@ -79,7 +79,7 @@ pub trait Sink {
     /// Adds a text and a NUL.
     #[inline(always)]
     final fn put_text(&mut self, text: &[u8])
-        requires { length (written self.old) + length (ended text.now) ≤ capacity self.old }
+        requires { HasRoom (capacity self.old) (written self.old) (ended text.now) }
         ensures written { written self.new ≡ written self.old ++ ended text.now }
         ensures capacity { capacity self.old ≤ capacity self.new }
         ensures loan { loan self.new ≡ loan self.old }
@@ -192,7 +192,7 @@ pub trait Text {
     /// Adds them, in room that is there.
     fn put<S: Sink>(&self, sink: &mut S)
         requires can { can self.now }
-        requires room { length (S.written sink.old) + length (text self.now) ≤ S.capacity sink.old }
+        requires room { HasRoom (S.capacity sink.old) (S.written sink.old) (text self.now) }
         ensures written { S.written sink.new ≡ S.written sink.old ++ text self.now }
         ensures capacity { S.capacity sink.old ≤ S.capacity sink.new }
         ensures loan { S.loan sink.new ≡ S.loan sink.old }

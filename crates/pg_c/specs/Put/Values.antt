@@ -1,7 +1,11 @@
 -- Values as a C program passes them, and the messages that have them.
-use Rattle.std.specs.Prelude.{ℕ, List, Option, Some, None, map, if◌then◌else◌}
+use Rattle.std.specs.Prelude.{ℕ, List, Option, Some, None, map, if◌then◌else◌, ◌≡◌, ◌≢◌, ℤ}
 use Rattle.pg_format.specs.Messages as page
 use Rattle.pg_c.specs.declared.put.prepared.PgmsgValue.{PgmsgValue}
+use Rattle.pg_send.specs.Message as message
+use Rattle.pg_send.specs.Message.{Message}
+use Rattle.pg_c.specs.Put.{PutsMessage}
+use Rattle.pg_c.specs.Refusal.{unknown_target_number}
 
 -- NULL, or a value
 abbrev pub value_of : PgmsgValue → Option (List ℕ)
@@ -18,3 +22,15 @@ bind_of portal statement formats values result_formats = record {
 
 abbrev pub function_call_of : ℕ → List ℕ → List PgmsgValue → ℕ → page.FunctionCall
 function_call_of object_id formats arguments result_format = record { object_id = object_id; formats = formats; arguments = map value_of arguments; result_format = result_format }
+
+abbrev pub parse_of : List ℕ → List ℕ → List ℕ → Message
+parse_of statement query types = message.RawParse (record { statement = statement; query = query; types = types })
+
+abbrev pub execute_of : List ℕ → ℕ → Message
+execute_of portal limit = message.RawExecute (record { portal = portal; limit = limit })
+
+-- the message of a statement or of a portal is put, as the letter says; another letter is refused
+pub record PutsTargeted (message_of : page.Targeted → Message) (letter : ℕ) (name old new : List ℕ) (result : ℤ) : Type 0 where
+  pub statement : letter ≡ page.target_letter page.statement → PutsMessage (message_of (record { target = page.statement; name = name })) old new result
+  pub portal : letter ≡ page.target_letter page.portal → PutsMessage (message_of (record { target = page.portal; name = name })) old new result
+  pub neither : letter ≢ page.target_letter page.statement → letter ≢ page.target_letter page.portal → (result ≡ unknown_target_number) × (new ≡ old)

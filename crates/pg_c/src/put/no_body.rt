@@ -1,10 +1,9 @@
 //! Messages without a body, of either side.
 
-ghost use Rattle.std.specs.Prelude.{◌≡◌, [], Some, None, if◌then◌else◌};
+ghost use Rattle.std.specs.Prelude.{◌≡◌, []};
 ghost use Rattle.pg_base.specs.Cutting.{frame};
-ghost use Rattle.pg_base.specs.declared.error.ProtocolFault.TheVariants.{UnknownMessageType};
 ghost use Rattle.pg_c.specs.Put.{PutsText};
-ghost use Rattle.pg_c.specs.Put.NoBody.{has_no_body};
+ghost use Rattle.pg_c.specs.Put.NoBody.{has_no_body, unknown_unless_empty};
 
 use crate::put::{HEADER, put_text};
 use crate::refusal::UNKNOWN_MESSAGE_TYPE;
@@ -34,8 +33,7 @@ impl Text for NoBody {
 /// PortalSuspended; of both `c` is CopyDone. Of other tags it is refused with PGMSG_UNKNOWN_MESSAGE_TYPE.
 #[unsafe(no_mangle)]
 pub extern "C" fn pgmsg_put_no_body(tag: u8, out: &mut [u8]) -> isize
-    ensures { PutsText (frame tag []) (if has_no_body tag then None else Some (UnknownMessageType tag))
-        out.old out.new result }
+    ensures { PutsText (frame tag []) (unknown_unless_empty tag) out.old out.new result }
 {
     if !has_no_body(tag) {
         return UNKNOWN_MESSAGE_TYPE as isize;

@@ -1,12 +1,10 @@
 //! Prepared statements, portals and their values, and calls of functions. A name is any bytes but NUL,
 //! and empty for the statement or the portal without one.
 
-ghost use Rattle.std.specs.Prelude.{◌≡◌, ◌≢◌};
 ghost use Rattle.pg_format.specs.Messages as page;
 ghost use Rattle.pg_send.specs.Message as message;
 ghost use Rattle.pg_c.specs.Put.{PutsMessage};
-ghost use Rattle.pg_c.specs.Put.Values.{bind_of, function_call_of, value_of};
-ghost use Rattle.pg_c.specs.Refusal.{unknown_target_number};
+ghost use Rattle.pg_c.specs.Put.Values.{bind_of, function_call_of, value_of, parse_of, execute_of, PutsTargeted};
 
 use crate::put::put;
 use crate::refusal::UNKNOWN_TARGET;
@@ -40,7 +38,7 @@ pub extern "C" fn pgmsg_put_parse(
     types: &[u32],
     out: &mut [u8],
 ) -> isize
-    ensures { PutsMessage (message.RawParse (record { statement = statement.now; query = query.now; types = types.now })) out.old out.new result }
+    ensures { PutsMessage (parse_of statement.now query.now types.now) out.old out.new result }
 {
     let parse = RawParse {
         statement,
@@ -78,12 +76,7 @@ pub extern "C" fn pgmsg_put_bind(
 /// is refused with PGMSG_UNKNOWN_TARGET. So is then a name that holds a NUL, as a text that holds one.
 #[unsafe(no_mangle)]
 pub extern "C" fn pgmsg_put_describe(kind: u8, name: &[u8], out: &mut [u8]) -> isize
-    ensures statement { kind ≡ page.target_letter page.statement
-        → PutsMessage (message.RawDescribe (record { target = page.statement; name = name.now })) out.old out.new result }
-    ensures portal { kind ≡ page.target_letter page.portal
-        → PutsMessage (message.RawDescribe (record { target = page.portal; name = name.now })) out.old out.new result }
-    ensures neither { kind ≢ page.target_letter page.statement → kind ≢ page.target_letter page.portal
-        → (result ≡ unknown_target_number) × (out.new ≡ out.old) }
+    ensures { PutsTargeted message.RawDescribe kind name.now out.old out.new result }
 {
     match kind {
         b'S' => put(&RawDescribe::Statement(name), out),
@@ -96,12 +89,7 @@ pub extern "C" fn pgmsg_put_describe(kind: u8, name: &[u8], out: &mut [u8]) -> i
 /// `pgmsg_put_describe`.
 #[unsafe(no_mangle)]
 pub extern "C" fn pgmsg_put_close(kind: u8, name: &[u8], out: &mut [u8]) -> isize
-    ensures statement { kind ≡ page.target_letter page.statement
-        → PutsMessage (message.RawClose (record { target = page.statement; name = name.now })) out.old out.new result }
-    ensures portal { kind ≡ page.target_letter page.portal
-        → PutsMessage (message.RawClose (record { target = page.portal; name = name.now })) out.old out.new result }
-    ensures neither { kind ≢ page.target_letter page.statement → kind ≢ page.target_letter page.portal
-        → (result ≡ unknown_target_number) × (out.new ≡ out.old) }
+    ensures { PutsTargeted message.RawClose kind name.now out.old out.new result }
 {
     match kind {
         b'S' => put(&RawClose::Statement(name), out),
@@ -114,7 +102,7 @@ pub extern "C" fn pgmsg_put_close(kind: u8, name: &[u8], out: &mut [u8]) -> isiz
 /// number from 2147483648 on for all of them too. A name that holds a NUL is refused.
 #[unsafe(no_mangle)]
 pub extern "C" fn pgmsg_put_execute(portal: &[u8], limit: u32, out: &mut [u8]) -> isize
-    ensures { PutsMessage (message.RawExecute (record { portal = portal.now; limit = limit })) out.old out.new result }
+    ensures { PutsMessage (execute_of portal.now limit) out.old out.new result }
 {
     let execute = RawExecute { portal, limit };
     put(&execute, out)

@@ -1,13 +1,13 @@
 //! What a client sends beside the opening of a session: requests for encryption and to cancel, and its
 //! part of authentication.
 
-ghost use Rattle.std.specs.Prelude.{◌≡◌, length, Some, None, option_copied, if◌then◌else◌};
+ghost use Rattle.std.specs.Prelude.{◌≡◌, Some, None, option_copied, if◌then◌else◌};
 ghost use Rattle.pg_format.specs.Messages as page;
-ghost use Rattle.pg_send.specs.CancelRequest.{cancel_request_text};
 ghost use Rattle.pg_send.specs.GssEncRequest.{gss_enc_request_text};
 ghost use Rattle.pg_send.specs.Message as message;
 ghost use Rattle.pg_send.specs.SslRequest.{ssl_request_text};
 ghost use Rattle.pg_c.specs.Put.{PutsMessage, PutsText};
+ghost use Rattle.pg_c.specs.Put.Session.{PutsCancel, sasl_of};
 
 use crate::put::{put, put_text};
 use crate::refusal::number_of;
@@ -45,7 +45,7 @@ pub extern "C" fn pgmsg_put_cancel_request(
     secret_key: &[u8],
     out: &mut [u8],
 ) -> isize
-    ensures { PutsText (cancel_request_text (record { process_id = process_id; secret_key = secret_key.now })) (page.key_fault (length secret_key.now)) out.old out.new result }
+    ensures { PutsCancel process_id secret_key.now out.old out.new result }
 {
     let cancel = CancelRequest {
         process_id,
@@ -86,7 +86,7 @@ pub extern "C" fn pgmsg_put_sasl_initial(
     response: &[u8],
     out: &mut [u8],
 ) -> isize
-    ensures { PutsMessage (message.SaslInitial (record { mechanism = mechanism.now; response = if has_response then Some response.now else None })) out.old out.new result }
+    ensures { PutsMessage (sasl_of mechanism.now has_response response.now) out.old out.new result }
 {
     let sasl = SaslInitial {
         mechanism,

@@ -4,7 +4,7 @@ ghost use Rattle.std.specs.Prelude.{◌≡◌, ◌≤◌, ◌<◌, ◌<ℤ◌, �
 ghost use Rattle.pg_base.specs.declared.error.ProtocolFault.TheVariants.{UnknownAuthentication};
 ghost use Rattle.pg_base.specs.Sink.{IsGiven};
 ghost use Rattle.pg_receive.specs.Authentication.Mechanisms.{raw_mechanisms_in};
-ghost use Rattle.pg_receive.specs.Authentication.Raw.{raw_request};
+ghost use Rattle.pg_receive.specs.Authentication.Raw.{raw_request, request_of};
 ghost use Rattle.pg_format.specs.Format.{Means};
 ghost use Rattle.pg_receive.specs.Authentication.{requests, sasl_continue, sasl_final, method_of};
 ghost use Rattle.pg_receive.specs.Authentication.Shown.{authentication_borrowed, continue_borrowed};
@@ -80,7 +80,7 @@ pub extern "C" fn pgmsg_read_authentication(
 
 fn request_of(body: &[u8]) -> Result<RawAuthentication<'_>, ProtocolFault>
     ensures { ReadsBody raw_request
-        (λ request. record { method = request.method; content = request.content.now })
+        request_of
         body.now result }
 {
     check_body(body)?;

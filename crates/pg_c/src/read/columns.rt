@@ -3,13 +3,12 @@
 ghost use Rattle.std.specs.Prelude.{◌≡◌, ◌≤◌, ◌<ℤ◌, ◌≤ℤ◌, ℕ, List, pos, length, Some, OnOk, IfOk, IfErr};
 ghost use Rattle.std.specs.Option.{option_map_or};
 ghost use Rattle.pg_format.specs.Format.{IsFaultOf};
-ghost use Rattle.pg_format.specs.Format.Parts.{be_u32};
 ghost use Rattle.pg_format.specs.Format.Places.{IsReadAt};
 ghost use Rattle.pg_format.specs.Messages.{parameter_description};
 ghost use Rattle.pg_receive.specs.RowDescription.Raw.{column_of_raw, raw_column, raw_row_description};
 ghost use Rattle.pg_format.specs.Received.{max_body};
-ghost use Rattle.pg_c.specs.Read.Columns.{column_in};
-ghost use Rattle.pg_c.specs.Read.{ReadsItems, GivesFront, IsBodyFault, RefusesBody};
+ghost use Rattle.pg_c.specs.Read.Columns.{column_in, ReadsColumns, GivesColumns, ReadsTypes, GivesTypes};
+ghost use Rattle.pg_c.specs.Read.{IsBodyFault, RefusesBody};
 
 use crate::place::PgmsgSpan;
 use crate::read::check_body;
@@ -51,11 +50,11 @@ pub extern "C" fn pgmsg_read_columns(
     fault: &mut PgmsgFault,
 ) -> isize
     ensures columns { pos 0 ≤ℤ result
-        → ReadsItems raw_row_description (column_in body.now) body.now columns.old columns.new result }
+        → ReadsColumns body.now columns.old columns.new result }
     ensures fault { RefusesBody raw_row_description body.now fault.old fault.new result }
     ensures within { pos 0 ≤ℤ result → length body.now ≤ max_body }
     ensures front { result <ℤ pos 0
-        → GivesFront raw_column (column_in body.now) body.now 2 columns.old columns.new }
+        → GivesColumns body.now columns.old columns.new }
     ensures untouched { pos 0 ≤ℤ result → fault.new ≡ fault.old }
 {
     match columns_of(body, columns) {
@@ -67,12 +66,11 @@ pub extern "C" fn pgmsg_read_columns(
 fn columns_of(body: &[u8], columns: &mut [PgmsgColumn]) -> Result<usize, ProtocolFault>
     ensures small { IfOk result (λ count. count ≤ 65535) }
     ensures columns { IfOk result
-        (λ count. ReadsItems raw_row_description (column_in body.now) body.now
-        columns.old columns.new (pos count)) }
+        (λ count. ReadsColumns body.now columns.old columns.new (pos count)) }
     ensures within { OnOk result (length body.now ≤ max_body) }
     ensures fault { IfErr result (IsBodyFault (IsFaultOf raw_row_description) body.now) }
     ensures front { IfErr result
-        (λ _. GivesFront raw_column (column_in body.now) body.now 2 columns.old columns.new) }
+        (λ _. GivesColumns body.now columns.old columns.new) }
 {
     check_body(body)?;
     let count = usize::from(u16_at(body, 0)?);
@@ -127,12 +125,11 @@ pub extern "C" fn pgmsg_read_parameter_types(
     fault: &mut PgmsgFault,
 ) -> isize
     ensures types { pos 0 ≤ℤ result
-        → ReadsItems parameter_description (λ number. Some number) body.now
-        types.old types.new result }
+        → ReadsTypes body.now types.old types.new result }
     ensures fault { RefusesBody parameter_description body.now fault.old fault.new result }
     ensures within { pos 0 ≤ℤ result → length body.now ≤ max_body }
     ensures front { result <ℤ pos 0
-        → GivesFront be_u32 (λ number. Some number) body.now 2 types.old types.new }
+        → GivesTypes body.now types.old types.new }
     ensures untouched { pos 0 ≤ℤ result → fault.new ≡ fault.old }
 {
     match types_of(body, types) {
@@ -144,12 +141,11 @@ pub extern "C" fn pgmsg_read_parameter_types(
 fn types_of(body: &[u8], types: &mut [u32]) -> Result<usize, ProtocolFault>
     ensures small { IfOk result (λ count. count ≤ 65535) }
     ensures types { IfOk result
-        (λ count. ReadsItems parameter_description (λ number. Some number) body.now
-        types.old types.new (pos count)) }
+        (λ count. ReadsTypes body.now types.old types.new (pos count)) }
     ensures within { OnOk result (length body.now ≤ max_body) }
     ensures fault { IfErr result (IsBodyFault (IsFaultOf parameter_description) body.now) }
     ensures front { IfErr result
-        (λ _. GivesFront be_u32 (λ number. Some number) body.now 2 types.old types.new) }
+        (λ _. GivesTypes body.now types.old types.new) }
 {
     check_body(body)?;
     let count = usize::from(u16_at(body, 0)?);

@@ -1,12 +1,11 @@
 //! How the data of a COPY is spelled.
 
-ghost use Rattle.std.specs.Prelude.{◌≡◌, ◌≤◌, ◌<ℤ◌, ◌≤ℤ◌, pos, length, Some, OnOk, IfOk, IfErr};
+ghost use Rattle.std.specs.Prelude.{◌≡◌, ◌≤◌, ◌<ℤ◌, ◌≤ℤ◌, pos, length, OnOk, IfOk, IfErr};
 ghost use Rattle.pg_format.specs.Format.{IsFaultOf};
-ghost use Rattle.pg_format.specs.Format.Parts.{be_i16};
 ghost use Rattle.pg_format.specs.Messages.{columns_of, copy_response};
 ghost use Rattle.pg_format.specs.Received.{max_body};
-ghost use Rattle.pg_c.specs.Read.Copy.{ReadsFormats};
-ghost use Rattle.pg_c.specs.Read.{GivesFront, IsBodyFault, RefusesBody};
+ghost use Rattle.pg_c.specs.Read.Copy.{ReadsFormats, GivesCodes};
+ghost use Rattle.pg_c.specs.Read.{IsBodyFault, RefusesBody};
 
 use crate::read::check_body;
 use crate::refusal::{PgmsgFault, report};
@@ -45,7 +44,7 @@ pub extern "C" fn pgmsg_read_copy_response(
     ensures fault { RefusesBody copy_response body.now fault.old fault.new result }
     ensures within { pos 0 ≤ℤ result → length body.now ≤ max_body }
     ensures front { result <ℤ pos 0
-        → GivesFront be_i16 (λ code. Some code) body.now 3 codes.old codes.new }
+        → GivesCodes body.now codes.old codes.new }
     ensures untouched { pos 0 ≤ℤ result → fault.new ≡ fault.old }
     ensures kept { result <ℤ pos 0 → response.new ≡ response.old }
 {
@@ -66,7 +65,7 @@ fn codes_of(
     ensures within { OnOk result (length body.now ≤ max_body) }
     ensures fault { IfErr result (IsBodyFault (IsFaultOf copy_response) body.now) }
     ensures front { IfErr result
-        (λ _. GivesFront be_i16 (λ code. Some code) body.now 3 codes.old codes.new) }
+        (λ _. GivesCodes body.now codes.old codes.new) }
     ensures kept { IfErr result (λ _. response.new ≡ response.old) }
 {
     check_body(body)?;

@@ -2,12 +2,10 @@
 
 ghost use Rattle.std.specs.Prelude.{◌≡◌, ◌≤◌, ◌<ℤ◌, ◌≤ℤ◌, pos, length, OnOk, IfOk, IfErr};
 ghost use Rattle.pg_format.specs.Format.{IsFaultOf};
-ghost use Rattle.pg_format.specs.Format.Parts.{until_nul};
 ghost use Rattle.pg_format.specs.Messages.{negotiate_protocol_version};
 ghost use Rattle.pg_format.specs.Received.{max_body};
-ghost use Rattle.pg_c.specs.Place.{part};
-ghost use Rattle.pg_c.specs.Read.{GivesFront, IsBodyFault, RefusesBody};
-ghost use Rattle.pg_c.specs.Read.Negotiation.{ReadsNegotiation};
+ghost use Rattle.pg_c.specs.Read.{IsBodyFault, RefusesBody};
+ghost use Rattle.pg_c.specs.Read.Negotiation.{ReadsNegotiation, GivesOptions};
 
 use crate::place::PgmsgSpan;
 use crate::read::check_body;
@@ -46,7 +44,7 @@ pub extern "C" fn pgmsg_read_negotiate_version(
     ensures fault { RefusesBody negotiate_protocol_version body.now fault.old fault.new result }
     ensures within { pos 0 ≤ℤ result → length body.now ≤ max_body }
     ensures front { result <ℤ pos 0
-        → GivesFront until_nul (part body.now) body.now 8 options.old options.new }
+        → GivesOptions body.now options.old options.new }
     ensures untouched { pos 0 ≤ℤ result → fault.new ≡ fault.old }
     ensures kept { result <ℤ pos 0 → version.new ≡ version.old }
 {
@@ -67,7 +65,7 @@ fn options_of(
     ensures within { OnOk result (length body.now ≤ max_body) }
     ensures fault { IfErr result (IsBodyFault (IsFaultOf negotiate_protocol_version) body.now) }
     ensures front { IfErr result
-        (λ _. GivesFront until_nul (part body.now) body.now 8 options.old options.new) }
+        (λ _. GivesOptions body.now options.old options.new) }
     ensures kept { IfErr result (λ _. version.new ≡ version.old) }
 {
     check_body(body)?;

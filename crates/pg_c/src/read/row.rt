@@ -7,8 +7,8 @@ ghost use Rattle.pg_format.specs.Format.Parts.{be_u16};
 ghost use Rattle.pg_format.specs.Format.Places.{IsReadAt};
 ghost use Rattle.pg_format.specs.Messages.{data_row};
 ghost use Rattle.pg_format.specs.Received.{max_body};
-ghost use Rattle.pg_c.specs.Read.{ReadsItems, GivesItems, GivesFront, IsBodyFault, RefusesBody};
-ghost use Rattle.pg_c.specs.Read.Row.{cell_in, FindsCell};
+ghost use Rattle.pg_c.specs.Read.{IsBodyFault, RefusesBody};
+ghost use Rattle.pg_c.specs.Read.Row.{cell_in, FindsCell, ReadsRow, GivesCells, GivesFrontCells, After};
 
 use crate::read::check_body;
 use crate::refusal::{PgmsgFault, report};
@@ -42,11 +42,11 @@ pub extern "C" fn pgmsg_read_row(
     fault: &mut PgmsgFault,
 ) -> isize
     ensures row { pos 0 ≤ℤ result
-        → ReadsItems data_row (cell_in body.now) body.now cells.old cells.new result }
+        → ReadsRow body.now cells.old cells.new result }
     ensures fault { RefusesBody data_row body.now fault.old fault.new result }
     ensures within { pos 0 ≤ℤ result → length body.now ≤ max_body }
     ensures front { result <ℤ pos 0
-        → GivesFront cell (cell_in body.now) body.now 2 cells.old cells.new }
+        → GivesFrontCells body.now cells.old cells.new }
     ensures untouched { pos 0 ≤ℤ result → fault.new ≡ fault.old }
 {
     let count = match count_of(body) {
@@ -82,7 +82,7 @@ fn read_front(body: &[u8], cells: &mut [PgmsgCell], count: usize) -> (usize, usi
     requires fits { 2 + 4 * count ≤ length body.now }
     requires short { length body.now ≤ MAX_BODY }
     ensures few { result.0 ≤ count }
-    ensures front { GivesItems cell (cell_in body.now) body.now 2 result.1 result.0 cells.old cells.new }
+    ensures front { GivesCells body.now result.1 result.0 cells.old cells.new }
 {
     let room = count.min(cells.len());
     // Where a cell ends at most, since each that follows takes the bytes of its length.
@@ -151,15 +151,12 @@ fn read_rest(
     requires fits { 2 + 4 * count ≤ length body.now }
     requires small { count ≤ 65535 }
     requires few { first ≤ count }
-    ensures row { pos 0 ≤ℤ result → (before : List PgmsgCell)
-        → GivesItems cell (cell_in body.now) body.now 2 start first before cells.old
-        → ReadsItems data_row (cell_in body.now) body.now before cells.new result }
-    ensures fault { (before : List PgmsgCell)
-        → GivesItems cell (cell_in body.now) body.now 2 start first before cells.old
-        → RefusesBody data_row body.now fault.old fault.new result }
-    ensures front { result <ℤ pos 0 → (before : List PgmsgCell)
-        → GivesItems cell (cell_in body.now) body.now 2 start first before cells.old
-        → GivesFront cell (cell_in body.now) body.now 2 before cells.new }
+    ensures row { pos 0 ≤ℤ result
+        → After body.now start first cells.old (λ before. ReadsRow body.now before cells.new result) }
+    ensures fault { After body.now start first cells.old
+        (λ _. RefusesBody data_row body.now fault.old fault.new result) }
+    ensures front { result <ℤ pos 0
+        → After body.now start first cells.old (λ before. GivesFrontCells body.now before cells.new) }
     ensures untouched { pos 0 ≤ℤ result → fault.new ≡ fault.old }
 {
     match rest_of(body, cells, count, first, start) {
@@ -180,15 +177,12 @@ fn rest_of(
     requires counted { be_u16.Reads body.now count (drop 2 body.now) }
     requires fits { 2 + 4 * count ≤ length body.now }
     requires few { first ≤ count }
-    ensures row { OnOk result ((before : List PgmsgCell)
-        → GivesItems cell (cell_in body.now) body.now 2 start first before cells.old
-        → ReadsItems data_row (cell_in body.now) body.now before cells.new (pos count)) }
-    ensures fault { IfErr result (λ fault. (before : List PgmsgCell)
-        → GivesItems cell (cell_in body.now) body.now 2 start first before cells.old
-        → IsBodyFault (IsFaultOf data_row) body.now fault) }
-    ensures front { OnErr result ((before : List PgmsgCell)
-        → GivesItems cell (cell_in body.now) body.now 2 start first before cells.old
-        → GivesFront cell (cell_in body.now) body.now 2 before cells.new) }
+    ensures row { OnOk result
+        (After body.now start first cells.old (λ before. ReadsRow body.now before cells.new (pos count))) }
+    ensures fault { IfErr result (λ fault. After body.now start first cells.old
+        (λ _. IsBodyFault (IsFaultOf data_row) body.now fault)) }
+    ensures front { OnErr result
+        (After body.now start first cells.old (λ before. GivesFrontCells body.now before cells.new)) }
 {
     let mut at = start;
     for index in first..count {

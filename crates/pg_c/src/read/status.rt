@@ -2,9 +2,9 @@
 
 ghost use Rattle.std.specs.Prelude.{◌≡◌, ◌≤◌, ◌<ℤ◌, ◌≤ℤ◌, pos, length};
 ghost use Rattle.pg_format.specs.Messages as page;
-ghost use Rattle.pg_receive.specs.BackendKeyData.{raw_key_data};
+ghost use Rattle.pg_receive.specs.BackendKeyData.{raw_key_data, raw_key};
 ghost use Rattle.pg_receive.specs.CommandComplete.{tag_text};
-ghost use Rattle.pg_receive.specs.ParameterStatus.{raw_parameter_status};
+ghost use Rattle.pg_receive.specs.ParameterStatus.{raw_parameter_status, raw_setting};
 ghost use Rattle.pg_receive.specs.ReadyForQuery.{shown_status};
 ghost use Rattle.pg_format.specs.Received.{max_body};
 ghost use Rattle.pg_c.specs.Read.{ReadsBody, RefusesBody};
@@ -139,7 +139,7 @@ pub extern "C" fn pgmsg_read_parameter_status(
 
 fn setting_of(body: &[u8]) -> Result<RawParameterStatus<'_>, ProtocolFault>
     ensures { ReadsBody raw_parameter_status
-        (λ status. record { name = status.name.now; value = status.value.now }) body.now result }
+        raw_setting body.now result }
 {
     check_body(body)?;
     RawParameterStatus::read(body)
@@ -178,7 +178,7 @@ pub extern "C" fn pgmsg_read_key_data(
 
 fn key_of(body: &[u8]) -> Result<RawKeyData<'_>, ProtocolFault>
     ensures { ReadsBody raw_key_data
-        (λ key. record { process_id = key.process_id; secret_key = key.secret_key.now })
+        raw_key
         body.now result }
 {
     check_body(body)?;

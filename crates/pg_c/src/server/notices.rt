@@ -7,6 +7,7 @@ ghost use Rattle.pg_server.specs.Backend.Notice.{notice_tag};
 ghost use Rattle.pg_c.specs.Server.{PutsServerMessage, PutsByLetter};
 ghost use Rattle.pg_c.specs.Server.Letters.{notice_kind_of};
 ghost use Rattle.pg_c.specs.Server.Lists.{field_of, field_text_of};
+ghost use Rattle.pg_c.specs.Server.Messages.{notification_of};
 
 use crate::refusal::UNKNOWN_MESSAGE_TYPE;
 use crate::server::put;
@@ -66,7 +67,7 @@ pub extern "C" fn pgmsg_put_notification(
     out: &mut [u8],
 ) -> isize
     ensures { PutsServerMessage
-        (messages.Notification (record { process_id = process_id; channel = channel.now; payload = payload.now }))
+        (notification_of process_id channel.now payload.now)
         out.old out.new result }
 {
     let notification = NotificationText {

@@ -1,11 +1,12 @@
 //! What a command has done, and what only passes through.
 
-ghost use Rattle.std.specs.Prelude.{◌≡◌, Some, None, if◌then◌else◌};
+ghost use Rattle.std.specs.Prelude.{◌≡◌, Some, None};
 ghost use Rattle.pg_base.specs.declared.error.ProtocolFault.TheVariants.{UnknownMessageType};
 ghost use Rattle.pg_server.specs.Backend.Copy.{direction_tag};
 ghost use Rattle.pg_server.specs.Backend.Message as messages;
 ghost use Rattle.pg_c.specs.Server.{PutsServerMessage, PutsByLetter};
 ghost use Rattle.pg_c.specs.Server.Letters.{direction_of};
+ghost use Rattle.pg_c.specs.Server.Messages.{result_of};
 
 use crate::put::prepared::PgmsgValue;
 use crate::refusal::UNKNOWN_MESSAGE_TYPE;
@@ -64,7 +65,7 @@ fn direction_of(tag: u8) -> Option<CopyDirection>
 #[unsafe(no_mangle)]
 pub extern "C" fn pgmsg_put_function_result(value: &[u8], is_null: bool, out: &mut [u8]) -> isize
     ensures { PutsServerMessage
-        (messages.FunctionCallResponse (if is_null then None else Some value.now))
+        (result_of is_null value.now)
         out.old out.new result }
 {
     let value = PgmsgValue {

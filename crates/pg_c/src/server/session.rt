@@ -6,6 +6,7 @@ ghost use Rattle.pg_server.specs.Backend.Message as messages;
 ghost use Rattle.pg_c.specs.Server.{PutsServerMessage, PutsByLetter};
 ghost use Rattle.pg_c.specs.Server.Lists.{bytes_of};
 ghost use Rattle.pg_c.specs.Server.Letters.{ready_letter, ready_of};
+ghost use Rattle.pg_c.specs.Server.Messages.{negotiation_of, key_of, setting_of};
 
 use crate::refusal::UNKNOWN_STATUS;
 use crate::server::authentication::PgmsgBytes;
@@ -23,11 +24,7 @@ pub extern "C" fn pgmsg_put_negotiate_version(
     out: &mut [u8],
 ) -> isize
     ensures { PutsServerMessage
-        (messages.NegotiateProtocolVersion (record {
-          major = 3;
-          minor = minor;
-          options = map bytes_of options.now;
-        }))
+        (negotiation_of minor (map bytes_of options.now))
         out.old out.new result }
 {
     put(&NegotiateProtocolVersionText { minor, options }, out)
@@ -42,7 +39,7 @@ pub extern "C" fn pgmsg_put_backend_key_data(
     out: &mut [u8],
 ) -> isize
     ensures { PutsServerMessage
-        (messages.BackendKeyData (record { process_id = process_id; secret_key = secret_key.now }))
+        (key_of process_id secret_key.now)
         out.old out.new result }
 {
     let key = BackendKeyDataText {
@@ -57,7 +54,7 @@ pub extern "C" fn pgmsg_put_backend_key_data(
 #[unsafe(no_mangle)]
 pub extern "C" fn pgmsg_put_parameter_status(name: &[u8], value: &[u8], out: &mut [u8]) -> isize
     ensures { PutsServerMessage
-        (messages.ParameterStatus (record { name = name.now; value = value.now }))
+        (setting_of name.now value.now)
         out.old out.new result }
 {
     put(&ParameterStatusText { name, value }, out)

@@ -1,5 +1,5 @@
 -- Values that stand between two offsets of a body.
-use Rattle.std.specs.Prelude.{ℕ, ◌≤◌, List, length, drop}
+use Rattle.std.specs.Prelude.{ℕ, ◌≤◌, List, length, drop, Result, IfOk}
 use Rattle.pg_base.specs.declared.error.ProtocolFault.{ProtocolFault}
 use Rattle.pg_format.specs.Format.{Format}
 
@@ -16,3 +16,7 @@ pub record EndsAt {A : Type 0} (g : Format A) (body : List ℕ) (at end : ℕ) :
 -- what stands at an offset can't be read
 abbrev pub BreaksAt : {A : Type 0} → Format A → List ℕ → ℕ → ProtocolFault → Type 0
 BreaksAt g body at fault = g.Breaks (length body) (drop at body) fault
+
+-- what stands at an offset, and the offset after it
+abbrev pub ReadsAt : {I A : Type 0} → Format A → (I → A) → List ℕ → ℕ → Result (I × ℕ) ProtocolFault → Type 0
+ReadsAt g shown body at result = IfOk result (λ found. IsReadAt g body at (shown found.0) found.1)

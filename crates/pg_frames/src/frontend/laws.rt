@@ -1,7 +1,7 @@
 //! What follows of clients' streams from what a stream is, for whoever proves more: the contract of each
 //! function is a law.
 
-ghost use Rattle.std.specs.Prelude.{◌≡◌, ◌++◌, ℕ, List, Decides};
+ghost use Rattle.std.specs.Prelude.{◌≡◌, ◌++◌, ℕ, List};
 ghost use Rattle.pg_server.specs.declared.frontend.error.FrontendFault.{FrontendFault};
 ghost use Rattle.pg_frames.specs.declared.frontend.error.FrontendError.{FrontendError};
 ghost use Rattle.pg_frames.specs.declared.frontend.frame.Expects.{Expects};
@@ -9,6 +9,7 @@ ghost use Rattle.pg_frames.specs.declared.frontend.message.ClientMessageKind.{Cl
 ghost use Rattle.pg_frames.specs.declared.frontend.pieces.ClientStreamEnd.{ClientStreamEnd};
 ghost use Rattle.pg_frames.specs.Frontend.Frame.{Whole, WantsMore, IsStreamFault};
 ghost use Rattle.pg_frames.specs.Frontend.Pieces.{Stream, IsRead};
+ghost use Rattle.pg_base.specs.Derived.{IsEqualByValue, IsClonedByValue};
 
 use crate::frontend::error::FrontendError;
 use crate::frontend::frame::Expects;
@@ -53,20 +54,16 @@ pub fn a_fault_stays()
 
 /// Values are equal where they are the same.
 pub fn values_are_equal_where_they_are_the_same()
-    ensures kinds { (a b : ClientMessageKind) → Decides (⟦<ClientMessageKind as PartialEq>⟧.eq a b)
-        (a ≡ b) }
-    ensures expected { (a b : Expects) → Decides (⟦<Expects as PartialEq>⟧.eq a b) (a ≡ b) }
-    ensures errors { (a b : FrontendError) → Decides (⟦<FrontendError as PartialEq>⟧.eq a b)
-        (a ≡ b) }
-    ensures ends { (a b : ClientStreamEnd) → Decides (⟦<ClientStreamEnd as PartialEq>⟧.eq a b)
-        (a ≡ b) }
+    ensures kinds { IsEqualByValue ⟦<ClientMessageKind as PartialEq>⟧.eq }
+    ensures expected { IsEqualByValue ⟦<Expects as PartialEq>⟧.eq }
+    ensures errors { IsEqualByValue ⟦<FrontendError as PartialEq>⟧.eq }
+    ensures ends { IsEqualByValue ⟦<ClientStreamEnd as PartialEq>⟧.eq }
 {}
 
 /// A clone is the value that was cloned.
 pub fn clones_are_equal()
-    ensures kinds { (a b : ClientMessageKind) → ⟦<ClientMessageKind as Clone>⟧.is_clone a b
-        → b ≡ a }
-    ensures expected { (a b : Expects) → ⟦<Expects as Clone>⟧.is_clone a b → b ≡ a }
-    ensures errors { (a b : FrontendError) → ⟦<FrontendError as Clone>⟧.is_clone a b → b ≡ a }
-    ensures ends { (a b : ClientStreamEnd) → ⟦<ClientStreamEnd as Clone>⟧.is_clone a b → b ≡ a }
+    ensures kinds { IsClonedByValue ⟦<ClientMessageKind as Clone>⟧.is_clone }
+    ensures expected { IsClonedByValue ⟦<Expects as Clone>⟧.is_clone }
+    ensures errors { IsClonedByValue ⟦<FrontendError as Clone>⟧.is_clone }
+    ensures ends { IsClonedByValue ⟦<ClientStreamEnd as Clone>⟧.is_clone }
 {}

@@ -1,7 +1,7 @@
 //! What follows of what a relay passes on: the contract of each function is a law. Those of clones call the
 //! clone; the others do nothing.
 
-ghost use Rattle.std.specs.Prelude.{◌≡◌, ◌++◌, ℕ, ℤ, List, [], Option, Ok, Decides};
+ghost use Rattle.std.specs.Prelude.{◌≡◌, ◌++◌, ℕ, ℤ, List, [], Option, Ok};
 ghost use Rattle.pg_base.specs.Cutting.{IsCutInto};
 ghost use Rattle.pg_frames.specs.declared.frontend.frame.Expects.{Expects};
 ghost use Rattle.pg_frames.specs.declared.frontend.frame.Expects.TheVariants.{Tagged};
@@ -12,6 +12,7 @@ ghost use Rattle.pg_frames.specs.declared.relay.answer.Answer.{Answer};
 ghost use Rattle.pg_frames.specs.declared.relay.answer.Answer.TheVariants.{Keep};
 ghost use Rattle.pg_frames.specs.declared.relay.error.RelayError.{RelayError};
 ghost use Rattle.pg_frames.specs.declared.relay.error.RelayError.TheVariants.{BadLength};
+ghost use Rattle.pg_base.specs.Derived.{IsEqualByValue};
 
 use crate::relay::answer::Answer;
 use crate::relay::error::RelayError;
@@ -74,8 +75,8 @@ pub fn frames_are_messages()
 
 /// Values are equal where they are the same.
 pub fn values_are_equal_where_they_are_the_same()
-    ensures answers { (a b : Answer) → Decides (⟦<Answer as PartialEq>⟧.eq a b) (a ≡ b) }
-    ensures errors { (a b : RelayError) → Decides (⟦<RelayError as PartialEq>⟧.eq a b) (a ≡ b) }
+    ensures answers { IsEqualByValue ⟦<Answer as PartialEq>⟧.eq }
+    ensures errors { IsEqualByValue ⟦<RelayError as PartialEq>⟧.eq }
 {}
 
 /// A clone is the value that was cloned.

@@ -4,6 +4,7 @@ use Rattle.std.specs.Prelude.{ℕ, List}
 use Rattle.pg_format.specs.Format.{Format}
 use Rattle.pg_format.specs.Format.Parts.{be_u32, remaining}
 use Rattle.pg_format.specs.Format.Sequences.{◌⨾◌, record_of}
+use Rattle.pg_receive.specs.declared.message.authentication.raw.RawAuthentication.{RawAuthentication}
 
 pub record Request : Type 0 where
   pub method : ℕ
@@ -11,3 +12,6 @@ pub record Request : Type 0 where
 
 abbrev pub raw_request : Format Request
 raw_request = record_of (λ r. (r.method, r.content)) (be_u32 ⨾ remaining)
+
+abbrev pub request_of : RawAuthentication → Request
+request_of request = record { method = request.method; content = request.content.now }

@@ -1,8 +1,9 @@
 //! Which letters the cases of enums have, and when two values are equal.
 
-ghost use Rattle.std.specs.Prelude.{◌≡◌, Ok, Decides};
+ghost use Rattle.std.specs.Prelude.{◌≡◌, Ok};
 ghost use Rattle.pg_format.specs.Messages.{status_letter};
 ghost use Rattle.pg_receive.specs.ReadyForQuery.{shown_status};
+ghost use Rattle.pg_base.specs.Derived.{IsEqualByValue};
 
 use crate::message::{BackendKeyData, ReadyForQuery, TransactionStatus};
 use std::alloc::AllocError;
@@ -16,9 +17,9 @@ pub fn letter_of_status(status: TransactionStatus) -> u8
 
 /// Statuses and keys are equal where they are the same.
 pub fn values_are_equal_where_they_are_the_same()
-    ensures statuses { (a b : TransactionStatus) → Decides (⟦<TransactionStatus as PartialEq>⟧.eq a b) (a ≡ b) }
-    ensures ready { (a b : ReadyForQuery) → Decides (⟦<ReadyForQuery as PartialEq>⟧.eq a b) (a ≡ b) }
-    ensures keys { (a b : BackendKeyData) → Decides (⟦<BackendKeyData as PartialEq>⟧.eq a b) (a ≡ b) }
+    ensures statuses { IsEqualByValue ⟦<TransactionStatus as PartialEq>⟧.eq }
+    ensures ready { IsEqualByValue ⟦<ReadyForQuery as PartialEq>⟧.eq }
+    ensures keys { IsEqualByValue ⟦<BackendKeyData as PartialEq>⟧.eq }
 {}
 
 /// A clone of a status is that status.

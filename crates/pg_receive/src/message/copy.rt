@@ -1,11 +1,10 @@
 //! The messages of a COPY.
 
-ghost use Rattle.std.specs.Prelude.{◌≡◌, ℕ, ◌≤◌, List, length, None};
-ghost use Rattle.pg_base.specs.Decode.{Decodes};
+ghost use Rattle.std.specs.Prelude.{◌≡◌, ℕ, ◌≤◌, List, length};
 ghost use Rattle.pg_base.specs.declared.format.BackendMessageFormat.TheVariants as formats;
-ghost use Rattle.pg_format.specs.Format.{Means, IsFaultOf};
 ghost use Rattle.pg_format.specs.Messages.{columns_of, copy_response};
 ghost use Rattle.pg_receive.specs.Copy.{shown_response, FormatsNeedsNoMemory};
+ghost use Rattle.pg_format.specs.Received.{DecodesBody};
 
 use crate::message::BackendMessage;
 use bytes::Bytes;
@@ -91,7 +90,7 @@ impl BackendMessage for CopyOutResponse {
 
 fn decode_formats(alloc: Global, body: &[u8]) -> Result<CopyResponseData, Error>
     requires { length body.now ≤ MAX_BODY }
-    ensures { Decodes (Means copy_response) (IsFaultOf copy_response) FormatsNeedsNoMemory shown_response None body.now result }
+    ensures { DecodesBody copy_response FormatsNeedsNoMemory shown_response body.now result }
 {
     let format = i8_at(body, 0)?;
     let num_columns = i16_at(body, COLUMNS)?;

@@ -7,14 +7,13 @@ mod row;
 mod row_index;
 mod row_reader;
 
-ghost use Rattle.std.specs.Prelude.{◌≡◌, ◌==◌, ℕ, ◌<◌, ◌≤◌, List, Option, length, None, Some, IfOk, slice_get};
+ghost use Rattle.std.specs.Prelude.{◌≡◌, ◌==◌, ℕ, ◌<◌, ◌≤◌, List, Option, length, Some, IfOk, slice_get};
 ghost use Rattle.std.specs.Option.{option_copied};
-ghost use Rattle.pg_base.specs.Decode.{Decodes};
 ghost use Rattle.pg_base.specs.declared.format.BackendMessageFormat.TheVariants as formats;
-ghost use Rattle.pg_format.specs.Format.{Means, IsFaultOf};
 ghost use Rattle.pg_format.specs.Messages.{data_row};
 ghost use Rattle.pg_receive.specs.DataRow.{RowNeedsNoMemory};
 ghost use Rattle.pg_receive.specs.DataRow.CellEnd.{cells_from, first_cell, EndsRise};
+ghost use Rattle.pg_format.specs.Received.{DecodesBody};
 
 use crate::message::BackendMessage;
 use bytes::Bytes;
@@ -119,7 +118,7 @@ impl BackendMessage for DataRow {
 // take no memory of their own.
 fn ends_of(alloc: Global, body: &[u8]) -> Result<SmallVec<CellEnd, 8>, Error>
     requires { length body.now ≤ MAX_BODY }
-    ensures answer { Decodes (Means data_row) (IsFaultOf data_row) RowNeedsNoMemory (λ ends. cells_from body.now first_cell ends.items) None body.now result }
+    ensures answer { DecodesBody data_row RowNeedsNoMemory (λ ends. cells_from body.now first_cell ends.items) body.now result }
     ensures rise { IfOk result (λ ends. EndsRise first_cell ends.items (length body.now)) }
 {
     let cells = Items::begin(body, CELL_LENGTH)?;

@@ -1,12 +1,11 @@
 //! The types of a statement's parameters.
 
-ghost use Rattle.std.specs.Prelude.{◌≤◌, length, None};
-ghost use Rattle.pg_base.specs.Decode.{Decodes};
+ghost use Rattle.std.specs.Prelude.{◌≤◌, length};
 ghost use Rattle.pg_base.specs.declared.format.BackendMessageFormat.TheVariants as formats;
 ghost use Rattle.pg_base.specs.Numbers.{numbers_of};
-ghost use Rattle.pg_format.specs.Format.{Means, IsFaultOf};
 ghost use Rattle.pg_format.specs.Messages.{parameter_description};
 ghost use Rattle.pg_receive.specs.ParameterDescription.{TypesNeedsNoMemory};
+ghost use Rattle.pg_format.specs.Received.{DecodesBody};
 
 use crate::message::BackendMessage;
 use bytes::Bytes;
@@ -58,7 +57,7 @@ impl BackendMessage for ParameterDescription {
 
 fn types_of(alloc: Global, body: &[u8]) -> Result<SmallVec<Oid, 6>, Error>
     requires { length body.now ≤ MAX_BODY }
-    ensures { Decodes (Means parameter_description) (IsFaultOf parameter_description) TypesNeedsNoMemory (λ types. numbers_of types.items) None body.now result }
+    ensures { DecodesBody parameter_description TypesNeedsNoMemory (λ types. numbers_of types.items) body.now result }
 {
     let count = usize::from(u16_at(body, 0)?);
     bytes_at(body, FIRST_TYPE, TYPE_LENGTH * count)?;

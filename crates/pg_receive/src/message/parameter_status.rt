@@ -1,11 +1,10 @@
 //! A setting of the server.
 
-ghost use Rattle.std.specs.Prelude.{None, string_bytes};
-ghost use Rattle.pg_base.specs.Decode.{Decodes};
 ghost use Rattle.pg_base.specs.declared.format.BackendMessageFormat.TheVariants as formats;
-ghost use Rattle.pg_format.specs.Format.{Means, IsFaultOf, ReadsAs};
+ghost use Rattle.pg_format.specs.Format.{ReadsAs};
 ghost use Rattle.pg_format.specs.Messages.{parameter_status};
-ghost use Rattle.pg_receive.specs.ParameterStatus.{SettingNeedsNoMemory, raw_parameter_status};
+ghost use Rattle.pg_receive.specs.ParameterStatus.{SettingNeedsNoMemory, raw_parameter_status, setting_shown, setting_borrowed, raw_setting};
+ghost use Rattle.pg_format.specs.Received.{DecodesBody};
 
 use crate::message::{BackendMessage, str_at, text_at};
 use bytes::Bytes;
@@ -23,10 +22,9 @@ pub struct ParameterStatus {
 }
 
 impl BackendMessage for ParameterStatus {
-    ghost use Rattle.std.specs.Prelude.{string_bytes};
     ghost use Rattle.pg_format.specs.Messages.{Setting, parameter_status};
     ghost use Rattle.pg_format.proofs.FormatLaws.FromServer.{lawful_parameter_status};
-    ghost use Rattle.pg_receive.specs.ParameterStatus.{SettingNeedsNoMemory};
+    ghost use Rattle.pg_receive.specs.ParameterStatus.{setting_shown, SettingNeedsNoMemory};
 
     const FORMAT: BackendMessageFormat = BackendMessageFormat::ParameterStatus;
 
@@ -34,7 +32,7 @@ impl BackendMessage for ParameterStatus {
 
     ghost Shown = { Setting };
 
-    ghost shown = { λ status. record { name = string_bytes status.name; value = string_bytes status.value } };
+    ghost shown = { setting_shown };
 
     ghost format = { parameter_status };
 
@@ -48,7 +46,7 @@ impl BackendMessage for ParameterStatus {
 }
 
 fn setting_of(alloc: Global, body: &[u8]) -> Result<ParameterStatus, Error>
-    ensures { Decodes (Means parameter_status) (IsFaultOf parameter_status) SettingNeedsNoMemory (λ status. record { name = string_bytes status.name; value = string_bytes status.value }) None body.now result }
+    ensures { DecodesBody parameter_status SettingNeedsNoMemory setting_shown body.now result }
 {
     let ParameterStatusRef { name, value } = ParameterStatusRef::read(body)?;
     Ok(ParameterStatus {
@@ -69,7 +67,7 @@ pub struct ParameterStatusRef<'a> {
 impl<'a> ParameterStatusRef<'a> {
     /// Reads a body. Its value and its faults are those of [`ParameterStatus`].
     pub fn read(body: &'a [u8]) -> Result<ParameterStatusRef<'a>, ProtocolFault>
-        ensures { ReadsAs parameter_status (λ status. record { name = status.name.now; value = status.value.now }) body.now result }
+        ensures { ReadsAs parameter_status setting_borrowed body.now result }
     {
         let (name, after) = str_at(body, 0)?;
         let (value, _) = str_at(body, after)?;
@@ -90,7 +88,7 @@ pub struct RawParameterStatus<'a> {
 impl<'a> RawParameterStatus<'a> {
     /// Reads a body. Refused with `MissingNul` where a text has no end.
     pub fn read(body: &'a [u8]) -> Result<RawParameterStatus<'a>, ProtocolFault>
-        ensures { ReadsAs raw_parameter_status (λ status. record { name = status.name.now; value = status.value.now }) body.now result }
+        ensures { ReadsAs raw_parameter_status raw_setting body.now result }
     {
         let (name, after) = text_at(body, 0)?;
         let (value, _) = text_at(body, after)?;

@@ -4,12 +4,11 @@ mod column_reader;
 mod columns;
 mod raw_columns;
 
-ghost use Rattle.std.specs.Prelude.{◌≡◌, ◌≤◌, [], length, map, None};
-ghost use Rattle.pg_base.specs.Decode.{Decodes};
+ghost use Rattle.std.specs.Prelude.{◌≡◌, ◌≤◌, [], length, map};
 ghost use Rattle.pg_base.specs.declared.format.BackendMessageFormat.TheVariants as formats;
-ghost use Rattle.pg_format.specs.Format.{Means, IsFaultOf};
 ghost use Rattle.pg_format.specs.Messages.{row_description};
 ghost use Rattle.pg_receive.specs.RowDescription.{column_of, ColumnsNeedsNoMemory, HasRoomFor};
+ghost use Rattle.pg_format.specs.Received.{DecodesBody};
 
 use crate::message::BackendMessage;
 use bytes::Bytes;
@@ -129,7 +128,7 @@ impl<'a> Keeper<'a, FieldRef<'a>> for OwnFields {
 
 fn fields_of(alloc: Global, body: &[u8]) -> Result<Vec<Field>, Error>
     requires { length body.now ≤ MAX_BODY }
-    ensures { Decodes (Means row_description) (IsFaultOf row_description) ColumnsNeedsNoMemory (λ fields. map column_of fields.items) None body.now result }
+    ensures { DecodesBody row_description ColumnsNeedsNoMemory (λ fields. map column_of fields.items) body.now result }
 {
     let columns = Items::begin(body, LEAST_COLUMN)?;
     if columns.is_empty() {

@@ -4,7 +4,7 @@ ghost use Rattle.std.specs.Prelude.{◌≡◌, ◌+◌, ◌<◌, ◌≤◌, ◌�
 ghost use Rattle.pg_base.specs.declared.error.Error.TheVariants.{OutOfMemory};
 ghost use Rattle.pg_base.specs.Encode.{IsAnswer};
 ghost use Rattle.pg_base.specs.Reading.{Values};
-ghost use Rattle.pg_send.specs.BindValues.{no_values, HasOneMore};
+ghost use Rattle.pg_send.specs.BindValues.{no_values, HasOneMore, AreShort};
 ghost use Rattle.pg_base.specs.Tagged.{first_fault};
 
 use pg_base::io::{MAX_BODY, Sink};
@@ -102,7 +102,7 @@ impl BindValues {
         ensures ok { OnOk result (length self.new.bytes + additional ≤ self.new.capacity) }
         ensures err { OnErr result (self.new ≡ self.old) }
         ensures memory { IsOkUnless result OutOfMemory }
-        ensures room { OnErr result (self.old.capacity < length self.old.bytes + additional) }
+        ensures room { OnErr result (AreShort self.old additional) }
         ensures capacity { self.old.capacity ≤ self.new.capacity }
     {
         self.bytes.reserve(additional)?;
@@ -118,7 +118,7 @@ impl BindValues {
         ensures ok { OnOk result (HasOneMore (Some value.now) self.old self.new) }
         ensures err { OnErr result (self.new ≡ self.old) }
         ensures answer { IsAnswer (first_fault None (length value.now)) result }
-        ensures room { IsErrOf result OutOfMemory → self.old.capacity < length self.old.bytes + (length value.now + 4) }
+        ensures room { IsErrOf result OutOfMemory → AreShort self.old (length value.now + 4) }
         ensures capacity { self.old.capacity ≤ self.new.capacity }
     {
         if value.len() > MAX_BODY {
@@ -138,7 +138,7 @@ impl BindValues {
         ensures ok { OnOk result (HasOneMore None self.old self.new) }
         ensures err { OnErr result (self.new ≡ self.old) }
         ensures memory { IsOkUnless result OutOfMemory }
-        ensures room { OnErr result (self.old.capacity < length self.old.bytes + 4) }
+        ensures room { OnErr result (AreShort self.old 4) }
         ensures capacity { self.old.capacity ≤ self.new.capacity }
     {
         self.bytes.reserve(LENGTH_SIZE)?;

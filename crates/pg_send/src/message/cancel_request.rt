@@ -2,7 +2,7 @@
 
 ghost use Rattle.std.specs.Prelude.{◌≡◌, ◌+◌, ◌≤◌, Some, None, length, IfNone, IfOk, IfErr};
 ghost use Rattle.pg_format.specs.Messages.{key_fault};
-ghost use Rattle.pg_send.specs.CancelRequest.{cancel_request_text, cancel_request_fields};
+ghost use Rattle.pg_send.specs.CancelRequest.{cancel_request_text, cancel_request_fields, IsKeyFault};
 
 use crate::message::untagged::Untagged;
 use pg_base::io::part::{Number32, Slice, Then};
@@ -36,7 +36,7 @@ impl CancelRequest<'_> {
     pub fn checked_len(&self) -> Result<usize, ProtocolFault>
         ensures sound { IfOk result (λ _. key_fault (length self.now.secret_key.now) ≡ None) }
         ensures len { IfOk result (λ len. len ≡ length self.now.secret_key.now + 12) }
-        ensures fault { IfErr result (λ fault. key_fault (length self.now.secret_key.now) ≡ Some fault) }
+        ensures fault { IfErr result (IsKeyFault self.now.secret_key.now) }
     {
         let key_len = self.secret_key.len();
         if let Some(fault) = fault_of_key(key_len) {

@@ -1,13 +1,14 @@
 //! The law of a message that is sent, and the frame round each.
 
-ghost use Rattle.std.specs.Prelude.{◌≡◌, ◌+◌, ◌≤◌, ◌<◌, ◌++◌, length, None, Ok, OnOk, OnErr, IfErr, IsOkUnless, vec_len, vec_capacity};
+ghost use Rattle.std.specs.Prelude.{◌≡◌, ◌+◌, ◌≤◌, ◌<◌, ◌++◌, length, None, Ok, OnOk, OnErr, IfErr, IsOkUnless, vec_capacity};
 ghost use Rattle.std.specs.Bool.{OnTrue, OnFalse};
 ghost use Rattle.pg_base.specs.declared.error.Error.TheVariants.{OutOfMemory};
 ghost use Rattle.pg_base.specs.declared.error.ProtocolFault.{ProtocolFault};
-ghost use Rattle.pg_base.specs.Sink.{IsGiven};
+ghost use Rattle.pg_base.specs.Sink.{IsGiven, HasRoom};
 ghost use Rattle.pg_base.specs.Cutting.{max_length};
 ghost use Rattle.pg_base.specs.Part.{saturated};
-ghost use Rattle.pg_send.specs.FrontendMessage.{Law, CannotRoundTrip, tag, fault, hint, text, checked_len, room_or_fault, EncodesMessage};
+ghost use Rattle.pg_send.specs.FrontendMessage.{Law, CannotRoundTrip, tag, fault, hint, text, checked_len, EncodesMessage, IsShortFor, room_asked};
+ghost use Rattle.pg_base.specs.Encode.{IsShort};
 
 use pg_base::io::part::Part;
 use pg_base::io::{HEADER, ProtocolEncode, Sink, Tagged, Text, checked_len, write_text};
@@ -53,7 +54,7 @@ pub trait FrontendMessage: Sized + Drop {
     fn put_body<S: Sink>(&self, sink: &mut S)
         requires counted { (law self.now).count_fault ≡ None }
         requires small { length (law self.now).body ≤ max_length }
-        requires room { length (S.written sink.old) + length (law self.now).body ≤ S.capacity sink.old }
+        requires room { HasRoom (S.capacity sink.old) (S.written sink.old) (law self.now).body }
         ensures written { S.written sink.new ≡ S.written sink.old ++ (law self.now).body }
         ensures capacity { S.capacity sink.old ≤ S.capacity sink.new }
         ensures loan { S.loan sink.new ≡ S.loan sink.old }
@@ -81,7 +82,7 @@ pub trait FrontendMessage: Sized + Drop {
     /// The spare room in bytes with which the message is encoded without asking for memory, or the
     /// first limit that it breaks.
     final fn frame_room(&self) -> Result<usize, Error>
-        ensures { result ≡ room_or_fault (fault (law self.now)) (hint (law self.now)) }
+        ensures { result ≡ room_asked (law self.now) }
     {
         let len = self.checked_body_len()?;
         Ok(self.room_for(len).saturating_add(HEADER))
@@ -94,7 +95,7 @@ pub trait FrontendMessage: Sized + Drop {
         ensures ok { OnOk result (buf.new.items ≡ buf.old.items ++ (law self.now).body) }
         ensures memory { IsOkUnless result OutOfMemory }
         ensures err { OnErr result (buf.new.items ≡ buf.old.items) }
-        ensures room { OnErr result (vec_capacity buf.old < vec_len buf.old + length (law self.now).body) }
+        ensures room { OnErr result (IsShort buf.old (length (law self.now).body)) }
         ensures capacity { vec_capacity buf.old ≤ vec_capacity buf.new }
         ensures range { OnOk result (law self.now).IsInRange }
     {
@@ -139,8 +140,7 @@ pub fn put_if_fits<F: FrontendMessage>(message: &F, buf: &mut Vec<u8>) -> bool
     ensures range { OnTrue result (F.law message.now).IsInRange }
     ensures same { OnFalse result (buf.new ≡ buf.old) }
     // It is false only where a limit is broken or the spare room is short.
-    ensures short { OnFalse result (fault (F.law message.now) ≡ None
-        → vec_capacity buf.old < vec_len buf.old + (hint (F.law message.now) + 5)) }
+    ensures short { OnFalse result (IsShortFor (F.law message.now) buf.old) }
 {
     let Ok(len) = checked_len(&BodyOf(message)) else {
         return false;

@@ -1,10 +1,9 @@
 //! Runs of messages into one buffer.
 
-ghost use Rattle.std.specs.Prelude.{◌≡◌, ◌+◌, ◌<◌, ◌≤◌, [], ◌∷◌, length, drop, replicate, Ok, OnErr, IfOk, IsOkUnless, vec_len, vec_capacity};
+ghost use Rattle.std.specs.Prelude.{◌≡◌, ◌<◌, ◌≤◌, [], ◌∷◌, length, replicate, Ok, OnErr, IfOk, IsOkUnless, vec_capacity};
 ghost use Rattle.std.specs.Bool.{OnTrue, OnFalse};
 ghost use Rattle.pg_base.specs.declared.error.Error.TheVariants.{OutOfMemory};
-ghost use Rattle.pg_send.specs.Message.{hint};
-ghost use Rattle.pg_send.specs.Run.{IsLimitAnswer, IsStrictAnswer, IsAnswerOf, EachRoundTrips, NoneRanOut, EncodesOne, EncodesRun, IsMeantByTag, IsMeantIfItCan, AreReadByTag};
+ghost use Rattle.pg_send.specs.Run.{IsLimitAnswer, IsStrictAnswer, IsAnswerOf, EachRoundTrips, NoneRanOut, EncodesOne, IsMeantByTag, IsMeantIfItCan, OnAnswers, GivesRun, GivesRead, AddsOne, AddsRun, IsShortByRule};
 ghost use Rattle.pg_send.specs.TaggedMessage.{message_of, messages_of};
 
 use crate::message::TaggedMessage;
@@ -25,11 +24,9 @@ pub fn encode_all(
     messages: &[TaggedMessage<'_>],
     buf: &mut Vec<u8>,
 ) -> Result<Vec<Result<(), Error>>, Error>
-    ensures run { IfOk result (λ answers.
-        EncodesRun IsLimitAnswer (messages_of messages.now) answers.items buf.old buf.new) }
+    ensures run { GivesRun IsLimitAnswer (messages_of messages.now) buf.old buf.new result }
     // By the tag and the body of its frame alone, the page means each accepted message that can make the round trip.
-    ensures by_tag { IfOk result (λ answers. AreReadByTag IsMeantIfItCan (messages_of messages.now)
-        answers.items (drop (length buf.old.items) buf.new.items)) }
+    ensures by_tag { GivesRead IsMeantIfItCan (messages_of messages.now) buf.old buf.new result }
     ensures memory { IsOkUnless result OutOfMemory }
     ensures some { OnErr result (0 < length messages.now) }
     ensures err { OnErr result (buf.new ≡ buf.old) }
@@ -46,13 +43,11 @@ pub fn encode_strict(
     messages: &[TaggedMessage<'_>],
     buf: &mut Vec<u8>,
 ) -> Result<Vec<Result<(), Error>>, Error>
-    ensures run { IfOk result (λ answers.
-        EncodesRun IsStrictAnswer (messages_of messages.now) answers.items buf.old buf.new) }
+    ensures run { GivesRun IsStrictAnswer (messages_of messages.now) buf.old buf.new result }
     // A reader that is given the kinds gets back each accepted message.
-    ensures round_trip { IfOk result (λ answers. EachRoundTrips (messages_of messages.now) answers.items) }
+    ensures round_trip { OnAnswers result (EachRoundTrips (messages_of messages.now)) }
     // And the page means each by the tag and the body of its frame alone.
-    ensures by_tag { IfOk result (λ answers. AreReadByTag IsMeantByTag (messages_of messages.now)
-        answers.items (drop (length buf.old.items) buf.new.items)) }
+    ensures by_tag { GivesRead IsMeantByTag (messages_of messages.now) buf.old buf.new result }
     ensures memory { IsOkUnless result OutOfMemory }
     ensures some { OnErr result (0 < length messages.now) }
     ensures err { OnErr result (buf.new ≡ buf.old) }
@@ -86,7 +81,7 @@ fn encode_each(
     buf: &mut Vec<u8>,
 )
     requires { answers.old ≡ replicate (length messages.now) (Ok tt) }
-    ensures { EncodesRun (IsAnswerOf strict) (messages_of messages.now) answers.new buf.old buf.new }
+    ensures { AddsRun strict (messages_of messages.now) answers.new buf.old buf.new }
 {
     let mut asked = false;
     for index in 0..messages.len() {
@@ -101,12 +96,10 @@ fn encode_each(
 // Adds a message that the rule accepts where the spare room holds it, and says whether it did.
 #[inline(always)]
 fn put_by_rule(message: &TaggedMessage<'_>, strict: bool, buf: &mut Vec<u8>) -> bool
-    ensures put { OnTrue result
-        (EncodesOne (IsAnswerOf strict) (message_of message.now) (Ok tt) buf.old buf.new) }
+    ensures put { OnTrue result (AddsOne strict (message_of message.now) buf.old buf.new) }
     ensures same { OnFalse result (buf.new ≡ buf.old) }
     // It is false only where the rule refuses the message or the spare room is short.
-    ensures short { OnFalse result (IsAnswerOf strict (message_of message.now) (Ok tt)
-        → vec_capacity buf.old < vec_len buf.old + (hint (message_of message.now) + 5)) }
+    ensures short { OnFalse result (IsShortByRule strict (message_of message.now) buf.old) }
 {
     if strict {
         return message.put_if_read_back(buf);

@@ -1,11 +1,13 @@
 //! The settings that open a session, each a name and a value.
 
-ghost use Rattle.std.specs.Prelude.{◌≡◌, ℕ, ◌+◌, ◌≤◌, ◌++◌, List, IfErr, OnOk, length, map};
+ghost use Rattle.std.specs.Prelude.{◌≡◌, ℕ, ◌+◌, ◌≤◌, ◌++◌, List, OnOk, length, map};
 ghost use Rattle.std.specs.List.{flat_map, All};
 ghost use Rattle.pg_base.specs.declared.error.ProtocolFault.TheVariants.{TextHoldsNul};
 ghost use Rattle.pg_base.specs.Cutting.{max_length};
 ghost use Rattle.pg_base.specs.Part.{saturated};
 ghost use Rattle.pg_send.specs.Startup.{setting, IsReadable};
+ghost use Rattle.pg_base.specs.Sink.{HasRoom};
+ghost use Rattle.pg_send.specs.FrontendMessage.{RefusesNul};
 
 use crate::message::round_trip::check_ended;
 use pg_base::ProtocolFault;
@@ -87,7 +89,7 @@ fn setting_len<T: AsSetting>(pair: &T) -> usize
 #[inline(always)]
 fn put_setting<T: AsSetting, S: Sink>(pair: &T, sink: &mut S)
     requires small { length (setting (T.pair pair.now)) ≤ max_length }
-    requires room { length (S.written sink.old) + length (setting (T.pair pair.now)) ≤ S.capacity sink.old }
+    requires room { HasRoom (S.capacity sink.old) (S.written sink.old) (setting (T.pair pair.now)) }
     ensures written { S.written sink.new ≡ S.written sink.old ++ setting (T.pair pair.now) }
     ensures capacity { S.capacity sink.old ≤ S.capacity sink.new }
     ensures loan { S.loan sink.new ≡ S.loan sink.old }
@@ -99,7 +101,7 @@ fn put_setting<T: AsSetting, S: Sink>(pair: &T, sink: &mut S)
 /// which ends it for the server, or a name is empty, which ends the settings.
 pub fn check_settings<T: AsSetting>(settings: &[T]) -> Result<(), ProtocolFault>
     ensures ok { OnOk result (All IsReadable (map T.pair settings.now)) }
-    ensures fault { IfErr result (λ fault. (fault ≡ TextHoldsNul) × ¬ (All IsReadable (map T.pair settings.now))) }
+    ensures fault { RefusesNul result (All IsReadable (map T.pair settings.now)) }
 {
     for setting in settings {
         check_setting(setting)?;
@@ -109,7 +111,7 @@ pub fn check_settings<T: AsSetting>(settings: &[T]) -> Result<(), ProtocolFault>
 
 fn check_setting<T: AsSetting>(pair: &T) -> Result<(), ProtocolFault>
     ensures ok { OnOk result (IsReadable (T.pair pair.now)) }
-    ensures fault { IfErr result (λ fault. (fault ≡ TextHoldsNul) × ¬ (IsReadable (T.pair pair.now))) }
+    ensures fault { RefusesNul result (IsReadable (T.pair pair.now)) }
 {
     if pair.name().is_empty() {
         return Err(ProtocolFault::TextHoldsNul);

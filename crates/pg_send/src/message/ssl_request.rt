@@ -1,8 +1,9 @@
 //! A request for an encrypted connection.
 
-ghost use Rattle.std.specs.Prelude.{◌≡◌, ◌+◌, ◌≤◌, ◌++◌, None, length};
+ghost use Rattle.std.specs.Prelude.{◌≡◌, ◌+◌, ◌≤◌, ◌++◌, None};
 ghost use Rattle.pg_base.specs.Encode.{Encodes};
 ghost use Rattle.pg_send.specs.SslRequest.{code_text, ssl_request_text};
+ghost use Rattle.pg_base.specs.Sink.{HasRoom};
 
 use pg_base::Error;
 use pg_base::io::{ProtocolEncode, Sink, Text};
@@ -56,7 +57,7 @@ pub fn encode_code(code: u32, buf: &mut Vec<u8>) -> Result<(), Error>
 /// The same in room that is there.
 #[inline(always)]
 pub fn put_code<S: Sink>(code: u32, sink: &mut S)
-    requires { length (S.written sink.old) + length (code_text code) ≤ S.capacity sink.old }
+    requires { HasRoom (S.capacity sink.old) (S.written sink.old) (code_text code) }
     ensures written { S.written sink.new ≡ S.written sink.old ++ code_text code }
     ensures capacity { S.capacity sink.old ≤ S.capacity sink.new }
     ensures loan { S.loan sink.new ≡ S.loan sink.old }

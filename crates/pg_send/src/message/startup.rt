@@ -1,9 +1,9 @@
 //! The opening of a session.
 
-ghost use Rattle.std.specs.Prelude.{◌≡◌, None, IfErr, OnOk, length, option_copied};
-ghost use Rattle.pg_base.specs.declared.error.ProtocolFault.TheVariants.{TextHoldsNul};
+ghost use Rattle.std.specs.Prelude.{None, OnOk, length, option_copied};
 ghost use Rattle.pg_base.specs.Tagged.{first_fault};
 ghost use Rattle.pg_send.specs.Startup.{setting_where_there, startup_body, startup_text, IsReadableWhereThere, StartupCanRoundTrip};
+ghost use Rattle.pg_send.specs.FrontendMessage.{RefusesNul};
 
 use crate::message::round_trip::check_text;
 use crate::message::settings::{Settings, check_settings};
@@ -35,7 +35,7 @@ impl Startup<'_> {
     /// a NUL, which ends it for the server, or a name is empty, which ends the settings.
     pub fn check_round_trip(&self) -> Result<(), ProtocolFault>
         ensures ok { OnOk result (StartupCanRoundTrip (startup_fields self.now)) }
-        ensures fault { IfErr result (λ fault. (fault ≡ TextHoldsNul) × ¬ (StartupCanRoundTrip (startup_fields self.now))) }
+        ensures fault { RefusesNul result (StartupCanRoundTrip (startup_fields self.now)) }
     {
         check_optional(self.username)?;
         check_optional(self.database)?;
@@ -101,7 +101,7 @@ impl Part for Optional<'_> {
 
 fn check_optional(value: Option<&str>) -> Result<(), ProtocolFault>
     ensures ok { OnOk result (IsReadableWhereThere (option_copied value.entry)) }
-    ensures fault { IfErr result (λ fault. (fault ≡ TextHoldsNul) × ¬ (IsReadableWhereThere (option_copied value.entry))) }
+    ensures fault { RefusesNul result (IsReadableWhereThere (option_copied value.entry)) }
 {
     match value {
         Some(value) => check_text(value),

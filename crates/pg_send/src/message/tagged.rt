@@ -1,10 +1,10 @@
 //! Any message that has a tag.
 
-ghost use Rattle.std.specs.Prelude.{◌≡◌, ◌+◌, ◌<◌, ◌≤◌, [], ◌∷◌, ◌++◌, length, drop, None, Ok, OnOk, IfErr, vec_len, vec_capacity};
+ghost use Rattle.std.specs.Prelude.{◌≡◌, ◌+◌, ◌<◌, ◌≤◌, ◌++◌, length, None, Ok, OnOk, IfErr};
 ghost use Rattle.std.specs.Bool.{OnTrue, OnFalse};
-ghost use Rattle.pg_send.specs.FrontendMessage.{CannotRoundTrip, EncodesMessage, room_or_fault};
-ghost use Rattle.pg_send.specs.Message.{law_of, body, fault, hint, text, IsInRange, CanRoundTrip, RoundTrips};
-ghost use Rattle.pg_send.specs.Run.{IsMeantIfItCan, AreReadByTag};
+ghost use Rattle.pg_send.specs.FrontendMessage.{CannotRoundTrip, EncodesMessage, IsShortFor, IsShortIfItCan, Adds, room_asked};
+ghost use Rattle.pg_send.specs.Message.{law_of, body, fault, text, IsInRange, CanRoundTrip, RoundTripsIfItCan};
+ghost use Rattle.pg_send.specs.Run.{IsMeantIfItCan, IsReadByTag};
 ghost use Rattle.pg_send.specs.TaggedMessage.{message_of};
 
 use crate::message::tagged_visitor::{
@@ -53,9 +53,9 @@ impl TaggedMessage<'_> {
         ensures encodes { EncodesMessage (law_of (message_of self.now)) buf.old buf.new result }
         ensures range { OnOk result (IsInRange (message_of self.now)) }
         // A reader that is given the kind gets the message back from its body, and no other.
-        ensures round_trip { OnOk result (CanRoundTrip (message_of self.now) → RoundTrips (message_of self.now)) }
+        ensures round_trip { OnOk result (RoundTripsIfItCan (message_of self.now)) }
         // By the tag and the body of its frame alone, the page means it.
-        ensures by_tag { AreReadByTag IsMeantIfItCan (message_of self.now ∷ []) (result ∷ []) (drop (length buf.old.items) buf.new.items) }
+        ensures by_tag { IsReadByTag IsMeantIfItCan (message_of self.now) result buf.old buf.new }
     {
         self.put_or_encode(buf)
     }
@@ -76,11 +76,11 @@ impl TaggedMessage<'_> {
     /// holds.
     #[inline(always)]
     pub fn put_if_fits(&self, buf: &mut Vec<u8>) -> bool
-        ensures encodes { OnTrue result (EncodesMessage (law_of (message_of self.now)) buf.old buf.new (Ok tt)) }
+        ensures encodes { OnTrue result (Adds (law_of (message_of self.now)) buf.old buf.new) }
         ensures range { OnTrue result (IsInRange (message_of self.now)) }
         ensures same { OnFalse result (buf.new ≡ buf.old) }
         // It is false only where a limit is broken or the spare room is short.
-        ensures short { OnFalse result (fault (message_of self.now) ≡ None → vec_capacity buf.old < vec_len buf.old + (hint (message_of self.now) + 5)) }
+        ensures short { OnFalse result (IsShortFor (law_of (message_of self.now)) buf.old) }
     {
         self.visit::<Vec<u8>, PutIfFits>(buf)
     }
@@ -88,11 +88,11 @@ impl TaggedMessage<'_> {
     // The same of a message that a reader would get back.
     #[inline(always)]
     pub(crate) fn put_if_read_back(&self, buf: &mut Vec<u8>) -> bool
-        ensures encodes { OnTrue result (EncodesMessage (law_of (message_of self.now)) buf.old buf.new (Ok tt)) }
+        ensures encodes { OnTrue result (Adds (law_of (message_of self.now)) buf.old buf.new) }
         ensures range { OnTrue result (IsInRange (message_of self.now)) }
         ensures can { OnTrue result (CanRoundTrip (message_of self.now)) }
         ensures same { OnFalse result (buf.new ≡ buf.old) }
-        ensures short { OnFalse result (fault (message_of self.now) ≡ None → CanRoundTrip (message_of self.now) → vec_capacity buf.old < vec_len buf.old + (hint (message_of self.now) + 5)) }
+        ensures short { OnFalse result (IsShortIfItCan (law_of (message_of self.now)) buf.old) }
     {
         self.visit::<Vec<u8>, PutIfReadBack>(buf)
     }
@@ -112,7 +112,7 @@ impl TaggedMessage<'_> {
     // Inlined, so that a run needn't copy the answer.
     #[inline(always)]
     pub fn frame_room(&self) -> Result<usize, Error>
-        ensures { result ≡ room_or_fault (fault (message_of self.now)) (hint (message_of self.now)) }
+        ensures { result ≡ room_asked (law_of (message_of self.now)) }
     {
         self.visit::<(), FrameRoom>(&mut ())
     }

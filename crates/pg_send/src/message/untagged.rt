@@ -3,8 +3,8 @@
 ghost use Rattle.std.specs.Prelude.{◌≡◌, ◌+◌, ◌≤◌, length, IfOk, IfErr, Some, None};
 ghost use Rattle.pg_base.specs.BufMut.{prefixed};
 ghost use Rattle.pg_base.specs.Cutting.{max_length};
-ghost use Rattle.pg_base.specs.Encode.{Encodes};
 ghost use Rattle.pg_base.specs.Tagged.{fault_of};
+ghost use Rattle.pg_send.specs.Untagged.{EncodesUntagged};
 
 use pg_base::io::part::Part;
 use pg_base::io::{Sink, Text, checked_len};
@@ -26,8 +26,7 @@ pub fn untagged_len<P: Part>(parts: &P) -> Result<usize, ProtocolFault>
 /// Adds parts after the length of it all, or refuses them for the first limit that they break, or with
 /// `OutOfMemory`.
 pub fn encode_untagged<P: Part>(parts: P, buf: &mut Vec<u8>) -> Result<(), Error>
-    ensures { Encodes (prefixed (P.part parts).text) (fault_of (P.part parts))
-        (length (P.part parts).text + 4) buf.old buf.new result }
+    ensures { EncodesUntagged (P.part parts) buf.old buf.new result }
 {
     let len = untagged_len(&parts)?;
     buf.reserve(len)?;

@@ -1,6 +1,6 @@
 -- Any message to a client as a plain value, what its law says of it, and what a reader makes of it. Documentation:
 -- "Message Formats", the messages marked (B).
-use Rattle.std.specs.Prelude.{◌≡◌, ◌↔◌, ℕ, ◌^◌, ◌<◌, ℤ, List, length, Option, None, All, IsUtf8}
+use Rattle.std.specs.Prelude.{◌≡◌, ◌↔◌, ℕ, ◌^◌, ◌<◌, ℤ, List, length, Option, None, All, IsUtf8, Result}
 use Rattle.std.specs.List.{list_any}
 use Rattle.std.specs.Option.{option_or}
 use Rattle.pg_base.specs.Format.{backend_tag}
@@ -26,6 +26,7 @@ use Rattle.pg_server.specs.declared.backend.copy.CopyDirection.{CopyDirection}
 use Rattle.pg_server.specs.declared.backend.no_body.NoBodyText.{NoBodyText}
 use Rattle.pg_server.specs.declared.backend.notice.NoticeKind.{NoticeKind}
 use Rattle.pg_server.specs.declared.backend.ready_for_query.ReadyForQueryText.{ReadyForQueryText}
+use Rattle.pg_base.specs.Tagged.{checked_len}
 
 pub data Message : Type 0 where
   Authentication : page.Authentication → Message
@@ -92,6 +93,10 @@ fault m = law.fault (law_of m)
 
 abbrev pub text : Message → List ℕ
 text m = law.text (law_of m)
+
+-- its length, or its first fault
+abbrev pub text_len : Message → Result ℕ ProtocolFault
+text_len m = checked_len (fault m) (length (text m))
 
 abbrev pub IsInRange : Message → Type 0
 IsInRange m = (law_of m).IsInRange

@@ -4,7 +4,7 @@ ghost use Rattle.std.specs.Prelude.{◌≡◌, ◌+◌, ◌≤◌, length, OnOk,
 ghost use Rattle.pg_base.specs.Cutting.{max_length};
 ghost use Rattle.pg_base.specs.Tagged.{checked_len, IsSame};
 ghost use Rattle.pg_server.specs.Backend.BackendText.{part_of, Encodes, IsWritten};
-ghost use Rattle.pg_server.specs.Backend.Message.{Message, law_of, tag, fault, text, IsRead};
+ghost use Rattle.pg_server.specs.Backend.Message.{Message, law_of, tag, IsRead, text_len};
 
 use pg_base::io::part::Part;
 use pg_base::io::{HEADER, Tagged, Text, checked_len, write_text};
@@ -33,7 +33,7 @@ pub trait BackendText: Sized + Drop {
     /// The exact length of the whole message in bytes, or its first fault: of its counts, then of its
     /// texts, then of its length.
     final fn checked_len(&self) -> Result<usize, ProtocolFault>
-        ensures { result ≡ checked_len (fault (message self.now)) (length (text (message self.now))) }
+        ensures { result ≡ text_len (message self.now) }
     {
         let len = checked_len(&self.parts())?;
         Ok(len + HEADER)

@@ -1,11 +1,12 @@
 //! Laws of messages to a client. Each is a function whose contract is the law.
 
-ghost use Rattle.std.specs.Prelude.{◌≡◌, None, Decides};
+ghost use Rattle.std.specs.Prelude.{◌≡◌, None};
 ghost use Rattle.pg_server.specs.declared.backend.copy.CopyDirection.{CopyDirection};
 ghost use Rattle.pg_server.specs.declared.backend.notice.NoticeKind.{NoticeKind};
 ghost use Rattle.pg_server.specs.declared.backend.no_body.NoBodyText.{NoBodyText};
 ghost use Rattle.pg_server.specs.declared.backend.ready_for_query.ReadyForQueryText.{ReadyForQueryText};
 ghost use Rattle.pg_server.specs.Backend.Message.{Message, fault, IsInRange, IsRead};
+ghost use Rattle.pg_base.specs.Derived.{IsEqualByValue, IsClonedByValue};
 
 use crate::backend::{CopyDirection, NoBodyText, NoticeKind, ReadyForQueryText};
 
@@ -17,17 +18,16 @@ pub fn own_messages_are_read()
 
 /// Values are equal where they are the same.
 pub fn values_are_equal_where_they_are_the_same()
-    ensures directions { (a b : CopyDirection) → Decides (⟦<CopyDirection as PartialEq>⟧.eq a b) (a ≡ b) }
-    ensures notices { (a b : NoticeKind) → Decides (⟦<NoticeKind as PartialEq>⟧.eq a b) (a ≡ b) }
-    ensures bodies { (a b : NoBodyText) → Decides (⟦<NoBodyText as PartialEq>⟧.eq a b) (a ≡ b) }
-    ensures statuses { (a b : ReadyForQueryText)
-        → Decides (⟦<ReadyForQueryText as PartialEq>⟧.eq a b) (a ≡ b) }
+    ensures directions { IsEqualByValue ⟦<CopyDirection as PartialEq>⟧.eq }
+    ensures notices { IsEqualByValue ⟦<NoticeKind as PartialEq>⟧.eq }
+    ensures bodies { IsEqualByValue ⟦<NoBodyText as PartialEq>⟧.eq }
+    ensures statuses { IsEqualByValue ⟦<ReadyForQueryText as PartialEq>⟧.eq }
 {}
 
 /// A clone is the value that was cloned.
 pub fn clones_are_equal()
-    ensures directions { (a b : CopyDirection) → ⟦<CopyDirection as Clone>⟧.is_clone a b → b ≡ a }
-    ensures notices { (a b : NoticeKind) → ⟦<NoticeKind as Clone>⟧.is_clone a b → b ≡ a }
-    ensures bodies { (a b : NoBodyText) → ⟦<NoBodyText as Clone>⟧.is_clone a b → b ≡ a }
-    ensures statuses { (a b : ReadyForQueryText) → ⟦<ReadyForQueryText as Clone>⟧.is_clone a b → b ≡ a }
+    ensures directions { IsClonedByValue ⟦<CopyDirection as Clone>⟧.is_clone }
+    ensures notices { IsClonedByValue ⟦<NoticeKind as Clone>⟧.is_clone }
+    ensures bodies { IsClonedByValue ⟦<NoBodyText as Clone>⟧.is_clone }
+    ensures statuses { IsClonedByValue ⟦<ReadyForQueryText as Clone>⟧.is_clone }
 {}

@@ -1,7 +1,6 @@
 //! The challenge of a server in a SASL exchange.
 
 ghost use Rattle.std.specs.Prelude.{◌≡◌, [], ◌∷◌, None, Some, OnOk, IfErr};
-ghost use Rattle.pg_base.specs.Decode.{Decodes};
 ghost use Rattle.pg_format.specs.Keyed.{plain, last};
 ghost use Rattle.pg_format.specs.Sasl.{keyed, item_fault, nonce_key, salt_key, first_message_fault};
 ghost use Rattle.pg_receive.specs.Authentication.SaslItems.{base64_value};
@@ -12,6 +11,7 @@ ghost use Rattle.pg_format.proofs.FormatLaws.Parts.{lawful_remaining};
 ghost use Rattle.pg_format.proofs.FormatLaws.Sequences.{lawful_viewed};
 ghost use Rattle.pg_format.proofs.FormatLaws.Tests.{lawful_checked};
 ghost use Rattle.pg_receive.specs.Authentication.Shown.{continue_shown, continue_borrowed};
+ghost use Rattle.pg_format.specs.Received.{DecodesBody};
 
 use crate::message::authentication::base64_bytes::Base64Bytes;
 use crate::message::authentication::sasl_items::{SaslItems, split_key};
@@ -69,7 +69,7 @@ pub(crate) fn decode_challenge(
     alloc: Global,
     body: &[u8],
 ) -> Result<AuthenticationSaslContinue, Error>
-    ensures { Decodes (Means challenges) (IsFaultOf challenges) ChallengeNeedsNoMemory continue_shown None body.now result }
+    ensures { DecodesBody challenges ChallengeNeedsNoMemory continue_shown body.now result }
 {
     match AuthenticationSaslContinueRef::read(body) {
         Ok(challenge) => Ok(AuthenticationSaslContinue {

@@ -1,7 +1,6 @@
 //! The server-final-message of a SASL exchange.
 
-ghost use Rattle.std.specs.Prelude.{ℕ, List, None};
-ghost use Rattle.pg_base.specs.Decode.{Decodes};
+ghost use Rattle.std.specs.Prelude.{ℕ, List};
 ghost use Rattle.pg_format.specs.Format.{Means, IsFaultOf, ReadsAs};
 ghost use Rattle.pg_format.proofs.FormatLaws.Whole.{one_meaning, meaning_or_fault};
 ghost use Rattle.pg_format.proofs.FormatLaws.Parts.{lawful_remaining};
@@ -10,6 +9,7 @@ ghost use Rattle.pg_format.proofs.FormatLaws.Tests.{lawful_checked};
 ghost use Rattle.pg_format.specs.Sasl.{final_message_fault};
 ghost use Rattle.pg_receive.specs.Authentication.SaslFinal.{verifier_in, verifiers, VerifierNeedsNoMemory};
 ghost use Rattle.pg_receive.specs.Authentication.Shown.{final_shown};
+ghost use Rattle.pg_format.specs.Received.{DecodesBody};
 
 use crate::message::authentication::base64_bytes::Base64Bytes;
 use crate::message::authentication::sasl_items::{SaslItems, split_key};
@@ -52,7 +52,7 @@ impl ProtocolDecode for AuthenticationSaslFinal {
 
 /// The verifier in the server-final-message that SASL data is.
 pub(crate) fn decode_verifier(alloc: Global, body: &[u8]) -> Result<Vec<u8>, Error>
-    ensures { Decodes (Means verifiers) (IsFaultOf verifiers) VerifierNeedsNoMemory (λ verifier. verifier.items) None body.now result }
+    ensures { DecodesBody verifiers VerifierNeedsNoMemory (λ verifier. verifier.items) body.now result }
 {
     let verifier = AuthenticationSaslFinalRef::read(body)?.verifier;
     Ok(verifier.to_vec(alloc)?)

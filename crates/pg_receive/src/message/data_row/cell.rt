@@ -1,8 +1,8 @@
 //! One cell of a row.
 
-ghost use Rattle.std.specs.Prelude.{◌≡◌, ◌≤◌, length, IfOk, IfErr, option_copied};
+ghost use Rattle.std.specs.Prelude.{◌≡◌, ◌≤◌, length, IfErr, option_copied};
 ghost use Rattle.pg_format.specs.Format.Nullable.{cell};
-ghost use Rattle.pg_format.specs.Format.Places.{IsReadAt, BreaksAt};
+ghost use Rattle.pg_format.specs.Format.Places.{BreaksAt, ReadsAt};
 
 use crate::message::data_row::CELL_LENGTH;
 use byteorder::{BigEndian, ByteOrder};
@@ -56,7 +56,7 @@ impl<'a> QuickItem<'a> for Cell<'a> {
 pub fn cell_at(body: &[u8], at: usize) -> Result<(Option<&[u8]>, usize), ProtocolFault>
     requires within { at ≤ length body.now }
     requires short { length body.now ≤ MAX_BODY }
-    ensures cell { IfOk result (λ found. IsReadAt cell body.now at (option_copied found.0) found.1) }
+    ensures cell { ReadsAt cell (λ value. option_copied value) body.now at result }
     ensures broken { IfErr result (BreaksAt cell body.now at) }
 {
     let length = i32_at(body, at)?;

@@ -1,13 +1,12 @@
 //! Where the cells of a row end, found in its body.
 
-ghost use Rattle.std.specs.Prelude.{◌≡◌, ℕ, ◌<◌, ◌≤◌, List, length, None, IsErrOf, OnOk, vec_capacity};
-ghost use Rattle.pg_base.specs.Decode.{Decodes};
+ghost use Rattle.std.specs.Prelude.{◌≡◌, ℕ, ◌<◌, ◌≤◌, List, length, IsErrOf, OnOk, vec_capacity};
 ghost use Rattle.pg_base.specs.declared.error.Error.TheVariants.{OutOfMemory};
 ghost use Rattle.pg_receive.specs.DataRow.CellEnd.{cells_from, first_cell, EndsRise};
-ghost use Rattle.pg_format.specs.Format.{Means, IsFaultOf};
 ghost use Rattle.pg_format.specs.Format.Parts.{be_u16};
 ghost use Rattle.pg_format.specs.Messages.{data_row};
 ghost use Rattle.pg_receive.specs.CountedItems.{ItemsNeedNoMemory};
+ghost use Rattle.pg_format.specs.Received.{DecodesBody};
 
 use crate::message::data_row::cell::Cell;
 use crate::message::data_row::cell_end::CellEnd;
@@ -49,7 +48,7 @@ impl RowIndex {
     /// are those of [`DataRow`](crate::message::DataRow).
     pub fn read<'a>(&'a mut self, body: &'a [u8]) -> Result<Row<'a>, Error>
         requires { length body.now ≤ MAX_BODY }
-        ensures answer { Decodes (Means data_row) (IsFaultOf data_row) (ItemsNeedNoMemory 4 0) (λ row. row) None body.now result }
+        ensures answer { DecodesBody data_row (ItemsNeedNoMemory 4 0) (λ row. row) body.now result }
         // Memory runs out only where the body counts more cells than there is room for.
         ensures memory { IsErrOf result OutOfMemory → (count : ℕ) (rest : List ℕ) → be_u16.Reads body.now count rest → self.old < count }
     {
@@ -61,7 +60,7 @@ impl RowIndex {
 // Where each cell of the body ends, in place of what the list had.
 pub(super) fn read_ends(body: &[u8], ends: &mut Vec<CellEnd>) -> Result<(), Error>
     requires { length body.now ≤ MAX_BODY }
-    ensures answer { Decodes (Means data_row) (IsFaultOf data_row) (ItemsNeedNoMemory 4 0) (λ _. cells_from body.now first_cell ends.new.items) None body.now result }
+    ensures answer { DecodesBody data_row (ItemsNeedNoMemory 4 0) (λ _. cells_from body.now first_cell ends.new.items) body.now result }
     ensures rise { OnOk result (EndsRise first_cell ends.new.items (length body.now)) }
     ensures memory { IsErrOf result OutOfMemory → (count : ℕ) (rest : List ℕ) → be_u16.Reads body.now count rest → vec_capacity ends.old < count }
 {

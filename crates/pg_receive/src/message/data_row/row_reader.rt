@@ -1,8 +1,8 @@
 //! The cells of a row, read one by one.
 
-ghost use Rattle.std.specs.Prelude.{◌≡◌, ◌==◌, ◌≤◌, length, drop, option_copied, IfOk, IfErr, MatchOption};
+ghost use Rattle.std.specs.Prelude.{◌≡◌, ◌==◌, ◌≤◌, length, drop, option_copied, IfOk, IfErr};
 ghost use Rattle.pg_format.specs.Format.Nullable.{cell};
-ghost use Rattle.pg_format.specs.Items.{IsCountFault, Begins, IsRead, NoneIsLeft, NextBreaks};
+ghost use Rattle.pg_format.specs.Items.{IsCountFault, Begins, NextBreaks, GivesNext};
 
 use crate::message::data_row::CELL_LENGTH;
 use crate::message::data_row::cell::Cell;
@@ -59,7 +59,7 @@ impl<'a> RowReader<'a> {
     /// The next cell, nothing for NULL; or nothing where none is left. After a fault the reader is as
     /// it was.
     pub fn next_cell(&mut self) -> Result<Option<Option<&'a [u8]>>, ProtocolFault>
-        ensures cell { IfOk result (λ found. MatchOption found (NoneIsLeft self.old self.new) (λ value. IsRead cell self.old self.new (option_copied value))) }
+        ensures cell { GivesNext cell (λ value. option_copied value) self.old self.new result }
         ensures fault { IfErr result (NextBreaks cell self.old self.new) }
     {
         match self.cells.next::<Cell<'a>>()? {

@@ -1,8 +1,8 @@
 //! The columns of a result, read one by one.
 
-ghost use Rattle.std.specs.Prelude.{◌≡◌, ◌==◌, ◌≤◌, length, drop, IfOk, IfErr, MatchOption};
+ghost use Rattle.std.specs.Prelude.{◌≡◌, ◌==◌, ◌≤◌, length, drop, IfOk, IfErr};
 ghost use Rattle.pg_format.specs.Messages.{column};
-ghost use Rattle.pg_format.specs.Items.{IsCountFault, Begins, IsRead, NoneIsLeft, NextBreaks};
+ghost use Rattle.pg_format.specs.Items.{IsCountFault, Begins, NextBreaks, GivesNext};
 ghost use Rattle.pg_receive.specs.RowDescription.Columns.{column_of_ref};
 ghost use Rattle.pg_receive.specs.RowDescription.Raw.{column_of_raw, raw_column};
 
@@ -61,7 +61,7 @@ impl<'a> ColumnReader<'a> {
 
     /// The next column; or nothing where none is left. After a fault the reader is as it was.
     pub fn next_column(&mut self) -> Result<Option<FieldRef<'a>>, ProtocolFault>
-        ensures column { IfOk result (λ found. MatchOption found (NoneIsLeft self.old self.new) (λ field. IsRead column self.old self.new (column_of_ref field))) }
+        ensures column { GivesNext column column_of_ref self.old self.new result }
         ensures fault { IfErr result (NextBreaks column self.old self.new) }
     {
         self.columns.next::<FieldRef<'a>>()
@@ -70,7 +70,7 @@ impl<'a> ColumnReader<'a> {
     /// The next column, as [`ColumnReader::next_column`], but with a name of any bytes: for a server whose
     /// encoding isn't UTF-8.
     pub fn next_raw_column(&mut self) -> Result<Option<RawFieldRef<'a>>, ProtocolFault>
-        ensures column { IfOk result (λ found. MatchOption found (NoneIsLeft self.old self.new) (λ field. IsRead raw_column self.old self.new (column_of_raw field))) }
+        ensures column { GivesNext raw_column column_of_raw self.old self.new result }
         ensures fault { IfErr result (NextBreaks raw_column self.old self.new) }
     {
         self.columns.next::<RawFieldRef<'a>>()

@@ -3,7 +3,7 @@
 ghost use Rattle.std.specs.Prelude.{◌≡◌, ◌==◌, ◌≤◌, ℕ, List, ◌++◌, length, slice_get, IsOk, IfOk, IfErr, option_map};
 ghost use Rattle.std.specs.Iterator.{YieldsFirstBy, item_count};
 ghost use Rattle.pg_format.specs.Format.{ReadsAs};
-ghost use Rattle.pg_format.specs.Format.Places.{IsReadAt, BreaksAt};
+ghost use Rattle.pg_format.specs.Format.Places.{BreaksAt, ReadsAt};
 ghost use Rattle.pg_format.specs.Messages.{numbers_of, numbers, column, row_description, table, attribute};
 ghost use Rattle.pg_receive.specs.RowDescription.Columns.{column_of_ref};
 ghost use Rattle.pg_receive.specs.RowDescription.{column_of};
@@ -151,7 +151,7 @@ impl<'a> Iterator for Columns<'a> {
 pub fn column_at(body: &[u8], at: usize) -> Result<(FieldRef<'_>, usize), ProtocolFault>
     requires within { at ≤ length body.now }
     requires short { length body.now ≤ MAX_BODY }
-    ensures column { IfOk result (λ found. IsReadAt column body.now at (column_of_ref found.0) found.1) }
+    ensures column { ReadsAt column column_of_ref body.now at result }
     ensures broken { IfErr result (BreaksAt column body.now at) }
 {
     let (name, after) = str_at(body, at)?;

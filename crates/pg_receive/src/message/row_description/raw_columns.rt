@@ -1,7 +1,7 @@
 //! The columns of a result whose names are in the encoding of the server.
 
 ghost use Rattle.std.specs.Prelude.{◌≡◌, ◌≤◌, ℕ, List, ◌++◌, length, IsOk, IfOk, IfErr};
-ghost use Rattle.pg_format.specs.Format.Places.{IsReadAt, BreaksAt};
+ghost use Rattle.pg_format.specs.Format.Places.{BreaksAt, ReadsAt};
 ghost use Rattle.pg_format.specs.Messages.{numbers_of, numbers};
 ghost use Rattle.pg_receive.specs.RowDescription.Raw.{column_of_raw, raw_column};
 
@@ -54,7 +54,7 @@ impl<'a> Item<'a> for RawFieldRef<'a> {
 pub fn raw_column_at(body: &[u8], at: usize) -> Result<(RawFieldRef<'_>, usize), ProtocolFault>
     requires within { at ≤ length body.now }
     requires short { length body.now ≤ MAX_BODY }
-    ensures column { IfOk result (λ found. IsReadAt raw_column body.now at (column_of_raw found.0) found.1) }
+    ensures column { ReadsAt raw_column column_of_raw body.now at result }
     ensures broken { IfErr result (BreaksAt raw_column body.now at) }
 {
     let (name, after) = text_at(body, at)?;

@@ -6,4 +6,4 @@ pub returns-clause-length : goal.returns-clause-length
 returns-clause-length c = λ cancel. omega arith
 
 pub returns-clause-read : goal.returns-clause-read
-returns-clause-read c = read_back
+returns-clause-read c = λ cancel in_range long read. read_back cancel read in_range long
