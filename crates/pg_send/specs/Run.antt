@@ -165,10 +165,6 @@ GivesRead IsFrameOf ms old new result = OnAnswers result (λ answers. AreReadByT
 
 -- ---- by a rule that may be strict
 
--- the same of a message that can make the round trip
-abbrev pub IsShortIfItCan : Law → Vec ℕ Global → Type 0
-IsShortIfItCan law buf = fault law ≡ None → law.CanRoundTrip → IsShort buf (hint law + 5)
-
 -- the message is added
 abbrev pub AddsOne : Bool → Message → Vec ℕ Global → Vec ℕ Global → Type 0
 AddsOne strict m old new = EncodesOne (IsAnswerOf strict) m (Ok tt) old new
