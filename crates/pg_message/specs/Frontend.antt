@@ -7,7 +7,8 @@ use Rattle.pg_server.specs.declared.frontend.frontend_message_ref.FrontendMessag
 use Rattle.pg_server.specs.declared.frontend.frontend_message_ref.FrontendMessageRef.TheVariants as messages
 use Rattle.pg_server.specs.Frontend.Page.{shown_bind, shown_execute, shown_call, shown_parse, shown_targeted}
 use Rattle.pg_server.specs.Frontend.FrontendMessageRef.{Answer, Gives, ReadsTagged}
-use Rattle.pg_send.specs.Run.{Answer, AreReadByTag}
+use Rattle.pg_send.specs.Run as run
+use Rattle.pg_send.specs.Run.{AreReadByTag}
 
 -- a message of this case, whose value is so
 pub record IsRead {A V : Type 0} (case : A → FrontendMessageRef) (shown : A → V) (Is : V → Type 0) (result : Answer) : Type 0 where
@@ -51,4 +52,4 @@ IsReadIfItCan m frame = CanRoundTrip m → IsReadByTag m frame
 
 -- whatever a run adds: where each of its frames is of its message by one relation, it is by the other
 abbrev pub AreReadIfMeant : (Message → ℕ × List ℕ → Type 0) → (Message → ℕ × List ℕ → Type 0) → Type 0
-AreReadIfMeant IsMeant IsRead = (ms : List Message) (answers : List Answer) (added : List ℕ) → AreReadByTag IsMeant ms answers added → AreReadByTag IsRead ms answers added
+AreReadIfMeant One Other = (ms : List Message) (answers : List run.Answer) (added : List ℕ) → AreReadByTag One ms answers added → AreReadByTag Other ms answers added
