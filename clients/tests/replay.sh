@@ -250,6 +250,7 @@ test_replay() {
     test_replay_notify
     test_replay_in_folder
     test_replay_threads
+    test_replay_memory
     test_replay_differences
     test_replay_rounds
     test_replay_damage

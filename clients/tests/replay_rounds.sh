@@ -68,3 +68,29 @@ test_replay_threads() {
     same 'replay: threads, SIGTERM' "$status" 143
     wait "$client" || true
 }
+
+# The most memory that a program holds in kB while it serves a recording.
+peak_while_served() {
+    start_replay "$1" --any-order
+    sed -n 's/^VmHWM:[^0-9]*\([0-9]*\) kB/\1/p' "/proc/$replaying/status"
+    stop_replay
+}
+
+# The memory of a recording of short messages, beside that of one with nothing in it.
+test_replay_memory() {
+    local little=$work/little.tape much=$work/much.tape empty peak size
+    if [ ! -x "$bin/pgbench" ]; then
+        echo 'left out: the memory of a recording that is served, since there is no pgbench'
+        return
+    fi
+    record_command "$little" bash -c 'pgbench_without_times -S -M prepared -c 8 -j 4 -t 1'
+    record_command "$much" bash -c 'pgbench_without_times -S -M prepared -c 8 -j 4 -t 5000'
+    size=$(($(stat -c %s "$much") / 1024))
+    empty=$(peak_while_served "$little")
+    peak=$(peak_while_served "$much")
+    if [ "${peak:-0}" -gt "$((${empty:-0} + 8192 + 2 * size))" ]; then
+        bad "replay: a recording of $size kB takes 8 MB and twice its size at most" "$peak kB, one with nothing in it $empty kB"
+    else
+        ok "replay: a recording of $size kB is served in $peak kB, one with nothing in it in $empty kB"
+    fi
+}

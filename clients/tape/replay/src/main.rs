@@ -47,7 +47,7 @@ fn settings(options: &Options) -> Result<Settings, Failure> {
 /// Serves until it is over, or a signal comes. Answers the status.
 async fn run(options: &Options, tell: Sayer) -> Result<Status, Failure> {
     let rules = Arc::new(options.rules()?);
-    let tape = tape::load(&options.file, &rules, &|words| tell.say(words))?;
+    let tape = tape::load(&options.file, &rules, options.speed, &|words| tell.say(words))?;
     let settings = settings(options)?;
     options.check_paths()?;
     let Bound { listeners, tls } = options.listening.bind(options.listen_port, |words| tell.say_plain(words)).await?;

@@ -119,14 +119,14 @@ fn say(chance: &mut SmallRng, tape: &Arc<Tape>, pool: &mut Pool) -> usize {
         match pool.step(seat, form).expect("an unchanged recording") {
             Step::Fits(fit) => {
                 former.settle(form);
-                assert!(fit.said < tape.said.len());
+                assert!(fit.said < tape.script.len());
             }
             Step::Prepares(said) => {
                 former.settle(form);
-                assert!(said < tape.said.len());
+                assert!(said < tape.script.len());
             }
             Step::Differs(said) => {
-                assert!(said.map_or(true, |it| it < tape.said.len()));
+                assert!(said.map_or(true, |it| it < tape.script.len()));
                 break;
             }
         }
@@ -146,7 +146,7 @@ fn anything_that_is_recorded_or_said_is_taken() {
         let bytes = recording(&mut chance);
         count += bytes.len() as u64 / 10;
         std::fs::write(&path, bytes).expect("a file");
-        if let Ok(tape) = load(&path, &Arc::new(Rules::default()), &|_| ()) {
+        if let Ok(tape) = load(&path, &Arc::new(Rules::default()), chance.gen(), &|_| ()) {
             let tape = Arc::new(tape);
             let mut pool = Pool::new(tape.clone(), true, true);
             for _ in 0..40 {

@@ -172,7 +172,7 @@ pub fn ended(shared: &Shared, ended: Result<(), Failure>) -> Status {
         is_different = true;
         let recorded = shared.tape.message(said).map_or_else(|why| Side::Words(why.to_string()), Side::read);
         let received = Side::Words("no client said it".to_owned());
-        let place = (Some(connection), shared.tape.said[said].number);
+        let place = (Some(connection), shared.tape.script.number(said));
         let allowed = Allowed { rules: &shared.rules, statement: None };
         shared.tell.say_plain(Report::new(place, &allowed, &recorded, &received, None).words());
     }

@@ -28,22 +28,21 @@ impl Pool {
 
     /// The messages of a turn that none may leave out.
     fn core(&self, turn: usize) -> impl Iterator<Item = usize> + '_ {
-        self.tape.turns[turn].said.clone().filter(|it| !self.tape.is_free(*it))
+        self.tape.turns[turn].said().filter(|it| !self.tape.is_free(*it))
     }
 
     /// How many of them are before a place in the turn.
     fn passed(&self, turn: usize, at: usize) -> usize {
-        let place = self.tape.turns[turn].said.start + at;
+        let place = self.tape.turns[turn].said().start + at;
         self.core(turn).take_while(|it| *it < place).count()
     }
 
     /// The turns that begin as one, where so many messages of it were said, and there are others to take.
     fn like(&self, turn: usize, count: usize) -> Vec<usize> {
-        let first = self.core(turn).next().map(|it| self.tape.said[it].what);
+        let first = self.core(turn).next().map(|it| self.tape.script.what(it));
         match first {
             Some(What::Form(first)) if count > 0 && !self.tape.is_single() => {
-                let like = self.by_first.get(&first);
-                like.into_iter().flatten().copied().filter(|it| *it != turn).collect()
+                self.alike(first).filter(|it| *it != turn).collect()
             }
             _ => Vec::new(),
         }
@@ -52,7 +51,7 @@ impl Pool {
     /// The place in a turn after so many messages that none may leave out.
     fn place_after(&self, turn: usize, count: usize) -> Option<usize> {
         let last = self.core(turn).nth(count.checked_sub(1)?)?;
-        Some(last + 1 - self.tape.turns[turn].said.start)
+        Some(last + 1 - self.tape.turns[turn].said().start)
     }
 
     /// Takes another turn where data aren't the recorded ones: one that went the same up to here, and has data of which so
@@ -62,10 +61,10 @@ impl Pool {
         let (Some(turn), at) = (seat.turn, seat.at) else {
             return Ok(None);
         };
-        let (own, count) = (self.tape.turns[turn].said.start + at, self.passed(turn, at));
+        let (own, count) = (self.tape.turns[turn].said().start + at, self.passed(turn, at));
         for other in self.like(turn, count) {
-            let place = self.place_after(other, count).map(|it| self.tape.turns[other].said.start + it);
-            let Some(said) = place.filter(|it| *it < self.tape.turns[other].said.end) else {
+            let place = self.place_after(other, count).map(|it| self.tape.turns[other].said().start + it);
+            let Some(said) = place.filter(|it| *it < self.tape.turns[other].said().end) else {
                 continue;
             };
             let fits = self.can_change(id, other, count)
@@ -73,7 +72,7 @@ impl Pool {
                 && self.is_alike(turn, other, count)?;
             if fits {
                 self.change(id, turn, other);
-                self.seat(id).at = said - self.tape.turns[other].said.start;
+                self.seat(id).at = said - self.tape.turns[other].said().start;
                 return Ok(Some(said));
             }
         }
@@ -83,7 +82,7 @@ impl Pool {
     /// Whether a turn is free, or has a client that may as well have the session's. That client isn't ahead of the session,
     /// which has said so many messages that none may leave out.
     fn can_change(&self, id: usize, other: usize, count: usize) -> bool {
-        match self.turns[other].holder {
+        match self.holders.get(&other).copied() {
             Some(holder) if holder == id => false,
             Some(holder) => {
                 let there = &self.seats[&holder];
@@ -96,7 +95,7 @@ impl Pool {
     /// Whether two turns are the same for so many messages and their answers.
     fn is_alike(&self, one: usize, other: usize, count: usize) -> Result<bool, Changed> {
         let pairs: Vec<_> = self.core(one).zip(self.core(other)).take(count).collect();
-        let what = |said: usize| self.tape.said[said].what;
+        let what = |said: usize| self.tape.script.what(said);
         if pairs.len() < count || !pairs.iter().all(|(one, other)| what(*one) == what(*other)) {
             return Ok(false);
         }
@@ -114,14 +113,15 @@ impl Pool {
 
     /// Exchanges two turns, of which another client may have the second. That one goes on at the same message.
     fn change(&mut self, id: usize, own: usize, other: usize) {
-        let holder = self.turns[other].holder.replace(id);
-        self.turns[own].holder = holder;
+        let holder = self.holders.insert(other, id);
         self.seat(id).turn = Some(other);
         let Some(holder) = holder else {
-            self.turns[own].uses -= 1;
-            self.turns[other].uses += 1;
+            self.holders.remove(&own);
+            self.uses[own] -= 1;
+            self.uses[other] += 1;
             return;
         };
+        self.holders.insert(own, holder);
         let count = self.passed(other, self.seats[&holder].at);
         let place = self.place_after(own, count).unwrap_or(0);
         let seat = self.seat(holder);

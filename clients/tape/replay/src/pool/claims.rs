@@ -20,7 +20,7 @@ impl Pool {
             self.begin_round();
             first = self.free().next();
         }
-        let fits = |it: &usize| self.tape.said[self.tape.connections[*it].startup].what == What::Form(form);
+        let fits = |it: &usize| self.tape.script.what(self.tape.connections[*it].startup) == What::Form(form);
         let found = self.free().filter(fits).min_by_key(|it| self.connections[*it].rounds);
         match found {
             None => Claim::Differs(first),
@@ -65,7 +65,7 @@ impl Pool {
                 turn: None,
                 at: 0,
                 is_busy: false,
-                number: self.tape.said[recorded.startup].number,
+                number: self.tape.script.number(recorded.startup),
                 cancels: 0,
                 begun: self.caused,
             },
@@ -81,8 +81,8 @@ impl Pool {
         let connection = &mut self.connections[seat.home];
         connection.is_held = false;
         connection.rounds += 1;
-        if let Some(turn) = seat.turn.filter(|it| self.turns[*it].holder == Some(id)) {
-            self.turns[turn].holder = None;
+        if let Some(turn) = seat.turn.filter(|it| self.holders.get(it) == Some(&id)) {
+            self.holders.remove(&turn);
         }
         self.done += 1;
         self.replayed += usize::from(is_replayed);

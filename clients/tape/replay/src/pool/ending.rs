@@ -15,11 +15,11 @@ impl Pool {
 
     /// The first recorded message that no client said, of those that may not be left out.
     pub fn first_unsaid(&self) -> Option<usize> {
-        let unused = self.turns.iter().position(|it| it.uses == 0);
-        let unused = unused.into_iter().flat_map(|first| first..self.turns.len());
+        let unused = self.uses.iter().position(|it| *it == 0);
+        let unused = unused.into_iter().flat_map(|first| first..self.uses.len());
         unused
-            .filter(|turn| self.turns[*turn].uses == 0 && !self.may_be_left_out(*turn))
-            .map(|turn| self.tape.turns[turn].said.start)
+            .filter(|turn| self.uses[*turn] == 0 && !self.may_be_left_out(*turn))
+            .map(|turn| self.tape.turns[turn].said().start)
             .next()
     }
 

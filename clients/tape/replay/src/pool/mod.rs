@@ -34,12 +34,6 @@ struct Seat {
 }
 
 #[derive(Clone, Debug, Default)]
-struct TurnState {
-    uses: u32,
-    holder: Option<usize>,
-}
-
-#[derive(Clone, Debug, Default)]
 struct ConnectionState {
     is_held: bool,
     /// How many clients had it and are gone.
@@ -49,12 +43,15 @@ struct ConnectionState {
 pub struct Pool {
     tape: Arc<Tape>,
     again: bool,
-    turns: Vec<TurnState>,
+    /// How often each turn was taken.
+    uses: Vec<u32>,
+    /// The sessions that are in a turn, by its number.
+    holders: HashMap<usize, usize>,
     connections: Vec<ConnectionState>,
     /// Those connections can be taken that so many clients had, or fewer.
     round: usize,
-    /// The turns by the form of their first message, but for those that prepare statements.
-    by_first: HashMap<u32, Vec<usize>>,
+    /// The turns in the order of the form of their first message, but for those that prepare statements.
+    by_first: Vec<(u32, u32)>,
     /// Messages that prepare statements, by their forms. Only the connections of a pool say them at other places.
     preparing: HashMap<u32, usize>,
     seats: HashMap<usize, Seat>,
@@ -106,15 +103,18 @@ pub struct Expected {
 impl Pool {
     /// With `again`, what was replayed is replayed again, and then `any_order` needs no round to be over.
     pub fn new(tape: Arc<Tape>, again: bool, any_order: bool) -> Pool {
-        let mut by_first: HashMap<u32, Vec<usize>> = HashMap::new();
-        for (number, turn) in tape.turns.iter().enumerate() {
-            let first = turn.said.clone().find(|it| !tape.is_free(*it)).map(|it| tape.said[it].what);
-            if let Some(What::Form(form)) = first {
-                by_first.entry(form).or_default().push(number);
+        let firsts = tape.turns.iter().enumerate().filter_map(|(number, turn)| {
+            let first = turn.said().find(|it| !tape.is_free(*it))?;
+            match tape.script.what(first) {
+                What::Form(form) => Some((form, number as u32)),
+                What::Bytes(_) => None,
             }
-        }
-        let preparing = (0..tape.said.len()).filter(|it| tape.is_free(*it) && !tape.said[*it].heard.is_empty());
-        let preparing = preparing.filter_map(|it| match tape.said[it].what {
+        });
+        let mut by_first = Vec::with_capacity(tape.turns.len());
+        by_first.extend(firsts);
+        by_first.sort_unstable();
+        let preparing = (0..tape.script.len()).filter(|it| tape.is_free(*it) && !tape.heard_of(*it).is_empty());
+        let preparing = preparing.filter_map(|it| match tape.script.what(it) {
             What::Form(form) => Some((form, it)),
             What::Bytes(_) => None,
         });
@@ -122,7 +122,8 @@ impl Pool {
         Pool {
             preparing,
             again,
-            turns: vec![TurnState::default(); tape.turns.len()],
+            uses: vec![0; tape.turns.len()],
+            holders: HashMap::new(),
             connections: vec![ConnectionState::default(); tape.connections.len()],
             round: if again && any_order { usize::MAX } else { 0 },
             by_first,
@@ -138,7 +139,7 @@ impl Pool {
 
     /// Whether a turn can be taken.
     fn is_free(&self, turn: usize) -> bool {
-        self.again || self.turns[turn].uses == 0
+        self.again || self.uses[turn] == 0
     }
 
     /// The next turn of the connection that a session follows.
@@ -152,8 +153,8 @@ impl Pool {
         let seat = &self.seats[&id];
         let connection = &self.tape.connections[seat.connection];
         let said = match seat.turn {
-            Some(turn) => Some(self.tape.turns[turn].said.start + seat.at).filter(|it| *it < self.tape.turns[turn].said.end),
-            None => self.own_next(seat).map(|turn| self.tape.turns[turn].said.start),
+            Some(turn) => Some(self.tape.turns[turn].said().start + seat.at).filter(|it| *it < self.tape.turns[turn].said().end),
+            None => self.own_next(seat).map(|turn| self.tape.turns[turn].said().start),
         };
         Expected {
             said,
@@ -161,7 +162,7 @@ impl Pool {
             ending: self.tape.connections[seat.home].ending,
             has_turns: !self.tape.connections[seat.home].turns.is_empty(),
             connection: connection.number,
-            number: said.map_or(seat.number + 1, |it| self.tape.said[it].number),
+            number: said.map_or(seat.number + 1, |it| self.tape.script.number(it)),
         }
     }
 
@@ -186,14 +187,13 @@ impl Pool {
     /// The place in a turn, from one on, of a message of a form: the next one, or the first one after those that may be
     /// left out.
     fn find(&self, turn: usize, from: usize, form: u32) -> Option<usize> {
-        let said = self.tape.turns[turn].said.clone();
+        let said = self.tape.turns[turn].said();
         let mut at = said.start + from;
         while at < said.end {
-            let there = &self.tape.said[at];
-            if there.what == What::Form(form) {
+            if self.tape.script.what(at) == What::Form(form) {
                 return Some(at - said.start);
             }
-            match there.ignored {
+            match self.tape.script.ignored(at) {
                 0 if self.tape.is_free(at) => at += 1,
                 0 => return None,
                 count => at += count as usize,
@@ -234,23 +234,29 @@ impl Pool {
 
     /// Whether all of a turn may be left out.
     fn may_be_left_out(&self, turn: usize) -> bool {
-        let said = self.tape.turns[turn].said.clone();
-        self.tape.said[said.start].ignored as usize == said.len() || said.into_iter().all(|it| self.tape.is_free(it))
+        let said = self.tape.turns[turn].said();
+        self.tape.script.ignored(said.start) as usize == said.len() || said.into_iter().all(|it| self.tape.is_free(it))
     }
 
     /// The turn that begins with a form, of those that were taken most seldom.
     fn first_of(&self, form: u32) -> Option<usize> {
-        let mut alike = self.by_first.get(&form)?.iter().copied();
+        let mut alike = self.alike(form);
         match self.again {
-            true => alike.min_by_key(|turn| self.turns[*turn].uses),
+            true => alike.min_by_key(|turn| self.uses[*turn]),
             false => alike.find(|turn| self.is_free(*turn)),
         }
     }
 
+    /// The turns that begin with a form, in their order.
+    fn alike(&self, form: u32) -> impl Iterator<Item = usize> + '_ {
+        let begin = self.by_first.partition_point(|(it, _)| *it < form);
+        let alike = self.by_first[begin..].iter().take_while(move |(it, _)| *it == form);
+        alike.map(|(_, turn)| *turn as usize)
+    }
+
     fn hold(&mut self, id: usize, turn: usize, at: usize) {
-        let state = &mut self.turns[turn];
-        state.uses += 1;
-        state.holder = Some(id);
+        self.uses[turn] += 1;
+        self.holders.insert(turn, id);
         let seat = self.seat(id);
         seat.turn = Some(turn);
         seat.at = at;
@@ -262,20 +268,20 @@ impl Pool {
         let seat = self.seat(id);
         let turn = seat.turn.unwrap_or_default();
         let recorded = &tape.turns[turn];
-        let said = recorded.said.start + seat.at;
+        let said = recorded.said().start + seat.at;
         seat.at += 1;
         seat.is_busy = false;
-        seat.connection = recorded.connection;
+        seat.connection = recorded.connection();
         seat.next = turn + 1;
-        seat.number = tape.said[said].number;
-        let connection = &tape.connections[recorded.connection];
-        let is_last = said + 1 == recorded.said.end;
+        seat.number = tape.script.number(said);
+        let connection = &tape.connections[recorded.connection()];
+        let is_last = said + 1 == recorded.said().end;
         let is_end = is_last && turn + 1 == connection.turns.end;
         if is_last && recorded.is_whole {
             seat.turn = None;
-            self.turns[turn].holder = None;
+            self.holders.remove(&turn);
         }
-        if tape.said[said].is_cause {
+        if tape.script.said[said].is_cause {
             self.caused += 1;
             self.causes.insert(said, self.caused);
         }
@@ -289,7 +295,7 @@ impl Pool {
 
     /// Begins with data or a long message, where the recorded client does so next.
     pub fn begin_bytes(&mut self, id: usize) -> Option<usize> {
-        let said = self.expected(id).said.filter(|it| matches!(self.tape.said[*it].what, What::Bytes(_)))?;
+        let said = self.expected(id).said.filter(|it| matches!(self.tape.script.what(*it), What::Bytes(_)))?;
         if self.seats[&id].turn.is_none() {
             let turn = self.own_next(&self.seats[&id])?;
             self.hold(id, turn, 0);

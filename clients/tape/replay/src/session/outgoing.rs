@@ -1,7 +1,7 @@
 //! What is to be sent to a client, and what it waits for.
 
 use crate::serve::Shared;
-use crate::tape::{Changed, Tape, Wait};
+use crate::tape::{Changed, Tape, Wait, Window};
 use net::Stream;
 use std::collections::VecDeque;
 use std::time::{Duration, Instant};
@@ -23,7 +23,7 @@ pub struct Outgoing {
     late: Vec<usize>,
     keeps_times: bool,
     together: Vec<u8>,
-    room: Vec<u8>,
+    window: Window,
 }
 
 /// What is left to wait for once all is sent that could be.
@@ -66,9 +66,8 @@ impl Outgoing {
 
     /// Adds what was heard of a recorded message that the client has said at a time.
     pub fn add(&mut self, tape: &Tape, said: usize, said_at: Instant) {
-        let recorded = &tape.said[said];
-        let recorded_at = recorded.time;
-        let items = recorded.heard.clone().map(|number| Item::Heard { number, said_at, recorded_at });
+        let recorded_at = if self.keeps_times { tape.script.time(said) } else { 0 };
+        let items = tape.heard_of(said).map(|number| Item::Heard { number, said_at, recorded_at });
         self.items.extend(items);
     }
 
@@ -116,7 +115,7 @@ impl Outgoing {
     fn take_late(&mut self, shared: &Shared, seat: usize) {
         let pool = shared.pool();
         let now = Instant::now();
-        let is_due = |number: &usize| match shared.tape.heard[*number].wait {
+        let is_due = |number: &usize| match shared.tape.wait(*number) {
             Wait::Said(said) => pool.is_said(seat, said),
             _ => true,
         };
@@ -131,9 +130,8 @@ impl Outgoing {
         let Item::Heard { number, said_at, recorded_at } = *item else {
             return Gate::Open;
         };
-        let heard = &shared.tape.heard[number];
         let mut due = None;
-        match heard.wait {
+        match shared.tape.wait(number) {
             Wait::No => {}
             Wait::Time(milliseconds) => due = Some(said_at + Duration::from_millis(milliseconds.into())),
             Wait::Cancel if !shared.pool().take_cancel(seat) => {
@@ -147,8 +145,8 @@ impl Outgoing {
                 return Gate::Open;
             }
         }
-        if self.keeps_times && heard.piece.time > recorded_at {
-            due = Some(said_at + Duration::from_micros(heard.piece.time - recorded_at));
+        if let Some(time) = shared.tape.heard_at(number).filter(|it| *it > recorded_at) {
+            due = Some(said_at + Duration::from_micros(time - recorded_at));
         }
         match due.filter(|it| *it > Instant::now()) {
             Some(due) => {
@@ -164,28 +162,25 @@ impl Outgoing {
     }
 
     async fn put(&mut self, tape: &Tape, item: Item, stream: &mut Stream) -> Result<(), Unsent> {
-        match item {
-            Item::Heard { number, .. } if self.late.last() == Some(&number) => return Ok(()),
-            Item::Heard { number, .. } => tape.heard(number, &mut self.room)?,
-            Item::Made(bytes) => self.room = bytes,
+        let bytes = match &item {
+            Item::Heard { number, .. } if self.late.last() == Some(number) => return Ok(()),
+            Item::Heard { number, .. } => tape.heard(*number, &mut self.window)?,
+            Item::Made(bytes) => bytes,
+        };
+        if self.together.len() + bytes.len() > TOGETHER {
+            flush(&mut self.together, stream).await?;
         }
-        if self.together.len() + self.room.len() > TOGETHER {
-            self.flush(stream).await?;
-        }
-        match self.room.len() <= TOGETHER {
-            true => self.together.extend_from_slice(&self.room),
-            false => stream.write_all(&self.room).await?,
+        match bytes.len() <= TOGETHER {
+            true => self.together.extend_from_slice(bytes),
+            false => stream.write_all(bytes).await?,
         }
         Ok(())
     }
 
+    /// Sends what is together. What comes next is read from the recording again.
     async fn flush(&mut self, stream: &mut Stream) -> Result<(), Unsent> {
-        if !self.together.is_empty() {
-            stream.write_all(&self.together).await?;
-            self.together.clear();
-            stream.flush().await?;
-        }
-        Ok(())
+        self.window.clear();
+        flush(&mut self.together, stream).await
     }
 
     /// Sends all that is left, whatever it waits for but other clients.
@@ -195,4 +190,13 @@ impl Outgoing {
         }
         self.flush(stream).await
     }
+}
+
+async fn flush(together: &mut Vec<u8>, stream: &mut Stream) -> Result<(), Unsent> {
+    if !together.is_empty() {
+        stream.write_all(together).await?;
+        together.clear();
+        stream.flush().await?;
+    }
+    Ok(())
 }

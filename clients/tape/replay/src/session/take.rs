@@ -4,7 +4,7 @@ use super::{Run, Session, State};
 use crate::form::Ignored;
 use crate::pool::{Fit, Step};
 use crate::report::{Parting, Side};
-use crate::tape::{is_state_of_standby, Changed, Cut, Cutter, Ending, Said, Tape, What, HEAD};
+use crate::tape::{is_state_of_standby, Changed, Cut, Cutter, Ending, Tape, What, HEAD};
 use pgmsg::backend::{Message, TransactionStatus};
 use pgmsg::List;
 
@@ -70,7 +70,7 @@ impl Session<'_> {
 
     /// Answers what fits.
     fn fit(&mut self, fit: Fit) {
-        let said = &self.shared.tape.said[fit.said];
+        let said = &self.shared.tape.script.said[fit.said];
         self.out.add(&self.shared.tape, fit.said, self.heard_at);
         self.is_owing = said.goes_on && !fit.is_turn_over;
         self.holds = said.goes_on && !self.ends_run;
@@ -135,7 +135,7 @@ impl Session<'_> {
                 self.differ(Side::bytes(bytes, length));
                 return Ok(());
             };
-            self.run = shared.tape.said[said].run(said).map(|run| Run { is_data: bytes[0] == b'd', ..run });
+            self.run = Run::of(&shared.tape, said).map(|run| Run { is_data: bytes[0] == b'd', ..run });
         }
         let Some(run) = self.run.as_mut() else {
             return Ok(());
@@ -146,7 +146,7 @@ impl Session<'_> {
         let passed = run.passed();
         if let Some(at) = compare(run, &shared.tape, bytes)? {
             let other = shared.pool().choose_bytes(self.seat, passed, bytes)?;
-            if let Some(mut other) = other.and_then(|said| shared.tape.said[said].run(said)) {
+            if let Some(mut other) = other.and_then(|said| Run::of(&shared.tape, said)) {
                 other.skip(&shared.tape, passed)?;
                 other.begins = other.reader.place();
                 self.run = Some(other);
@@ -154,7 +154,7 @@ impl Session<'_> {
             }
             return self.differ_in_bytes(bytes, from, at, length);
         }
-        if run.left == 0 && (!run.is_data || !shared.tape.said[run.said].heard.is_empty()) {
+        if run.left == 0 && (!run.is_data || !shared.tape.heard_of(run.said).is_empty()) {
             self.finish_run();
         }
         Ok(())
@@ -219,18 +219,16 @@ impl Session<'_> {
     }
 }
 
-impl Said {
-    /// The comparison of bytes that begins with it, where it is compared so.
-    fn run(&self, said: usize) -> Option<Run> {
-        let What::Bytes(len) = self.what else {
+impl Run {
+    /// The comparison of bytes that begins with a message, where it is compared so.
+    fn of(tape: &Tape, said: usize) -> Option<Run> {
+        let What::Bytes(len) = tape.script.what(said) else {
             return None;
         };
-        let reader = self.reader();
+        let reader = tape.reader(said);
         Some(Run { said, begins: reader.place(), reader, len, left: len, is_data: true })
     }
-}
 
-impl Run {
     /// How many of the bytes came.
     fn passed(&self) -> u64 {
         self.len - self.left

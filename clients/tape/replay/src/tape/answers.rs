@@ -1,9 +1,9 @@
 //! What the server of a recorded connection said: where it belongs, and what it waits for.
 
 use super::causes::{Target, Wait};
-use super::connection::{Building, Bytes, End};
+use super::connection::{Building, Bytes, End, Notified};
 use super::cutter::{Cut, Cutter};
-use super::{Heard, Piece, HEAD};
+use super::{Piece, HEAD};
 use pgmsg::backend::{BackendKeyData, FieldKind, Fields, NotificationResponse};
 use std::collections::HashMap;
 
@@ -18,7 +18,7 @@ impl Building {
         self.has_heard = true;
         let (mut rest, mut open) = (bytes.content, None);
         let piece = |from: usize, to: usize| {
-            Piece::of(&bytes.content[from..to], bytes.at + from as u64, bytes.time)
+            (Piece::of(&bytes.content[from..to], bytes.at + from as u64), bytes.time)
         };
         let mut server = std::mem::replace(&mut self.server, Cutter::of_server());
         loop {
@@ -64,14 +64,14 @@ impl Building {
     }
 
     /// Adds what is no message as it came, to what is heard of the last one.
-    fn hear_broken(&mut self, piece: Piece) {
+    fn hear_broken(&mut self, piece: (Piece, u64)) {
         self.pending.push(piece);
-        let last = self.drafts.len().saturating_sub(1);
+        let last = self.script.len().saturating_sub(1);
         self.hear(Some((Target::Said(last), Wait::No)));
     }
 
     /// Adds bytes that belong together.
-    fn close(&mut self, open: Option<Open>, piece: &impl Fn(usize, usize) -> Piece) {
+    fn close(&mut self, open: Option<Open>, piece: &impl Fn(usize, usize) -> (Piece, u64)) {
         if let Some((place, begin, end)) = open {
             let before = std::mem::take(&mut self.pending);
             self.pending.push(piece(begin, end));
@@ -87,17 +87,19 @@ impl Building {
             return;
         };
         let mut place = (target, wait);
-        for piece in pending {
+        for (piece, time) in pending {
             let wait = place.1;
             place = rest_of(place);
-            let heard = match target {
-                Target::Held => &mut self.held,
-                Target::Said(said) | Target::After(said) => match self.drafts.get_mut(said) {
-                    Some(draft) => &mut draft.heard,
-                    None => return,
-                },
-            };
-            heard.push(Heard { piece, wait });
+            match target {
+                Target::Held => self.held.push(piece),
+                Target::Said(said) | Target::After(said) if said < self.script.len() => self.hear_of(said, piece),
+                Target::Said(_) | Target::After(_) => return,
+            }
+            match wait {
+                Wait::No => {}
+                Wait::Said(process) => self.notified.push(Notified { at: piece.at(), process: process as u32, time }),
+                wait => drop(self.waits.insert(piece.at(), wait)),
+            }
         }
     }
 
@@ -120,20 +122,20 @@ impl Building {
 
     fn note_error(&mut self, target: Target) {
         if let Target::Said(said) = target {
-            self.drafts[said].is_preparing = false;
+            self.script.said[said].is_preparing = false;
         }
     }
 
     fn open_both(&mut self, target: Target) {
         if let Target::Said(said) = target {
-            self.drafts[said].opens_both = true;
+            self.script.said[said].opens_both = true;
         }
     }
 
     fn end_exchange(&mut self, target: Target, body: &[u8]) {
         let status = body.first().copied().unwrap_or(b'I');
         match target {
-            Target::Said(said) => self.ends.push(End { said, status }),
+            Target::Said(said) => self.ends.push(End { said: said as u32, status }),
             Target::Held => self.held_status = Some(status),
             Target::After(_) => {}
         }
@@ -141,7 +143,8 @@ impl Building {
 
     fn wait(&self, tag: u8, body: &[u8], target: Target, time: u64, cancelled: &HashMap<u32, u64>) -> Wait {
         let said = match target {
-            Target::Said(said) | Target::After(said) => self.drafts.get(said).map_or(0, |it| it.time),
+            Target::Said(said) | Target::After(said) if said < self.script.len() => self.script.time(said),
+            Target::Said(_) | Target::After(_) => 0,
             Target::Held => return Wait::No,
         };
         let is_by_itself = matches!(target, Target::After(_));

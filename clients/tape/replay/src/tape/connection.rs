@@ -1,40 +1,39 @@
 //! A connection that is read from a recording.
 
-use super::causes::{Causes, Sort};
+use super::causes::{Causes, Sort, Wait};
 use super::cutter::{Cut, Cutter};
-use super::{Ending, Heard, Piece, Place, HEAD};
-use crate::form::{Former, Forms};
+use super::said::{Place, Script, Spoken, What};
+use super::{Ending, Piece, HEAD};
+use crate::form::{Former, Forms, UNRECORDED};
 use crate::rules::Rules;
 use pgmsg::frontend::Message;
+use std::collections::{HashMap, VecDeque};
 use std::sync::Arc;
 
-/// A message of the client that isn't given its place among all.
-pub struct Draft {
-    pub what: Saying,
-    pub at: Place,
-    pub heard: Vec<Heard>,
-    pub number: u32,
-    pub time: u64,
-    pub goes_on: bool,
-    pub opens_both: bool,
-    pub is_ignored: Option<bool>,
-    pub is_preparing: bool,
+/// A message whose form isn't made: its place, its tag, which only the first has none of, and its body.
+struct Unformed {
+    said: u32,
+    tag: Option<u8>,
+    body: Vec<u8>,
 }
 
-/// What is said.
-pub enum Saying {
-    /// A message with its tag, which only the first has none of, and its body.
-    Message(Option<u8>, Vec<u8>),
-    /// One whose form has this number.
-    Form(u32),
-    /// Data, or a long message, of so many bytes.
-    Bytes(u64),
+/// A part of an answer to a message.
+pub struct Heard {
+    pub said: u32,
+    pub piece: Piece,
+}
+
+/// A notification that begins there, which a session of a process sent before a time.
+pub struct Notified {
+    pub at: u64,
+    pub process: u32,
+    pub time: u64,
 }
 
 /// An exchange ends with a message, and leaves the transaction in a state.
 #[derive(Clone, Copy)]
 pub struct End {
-    pub said: usize,
+    pub said: u32,
     pub status: u8,
 }
 
@@ -53,9 +52,16 @@ pub struct Building {
     pub(super) causes: Causes,
     former: Former,
     formed: usize,
-    pub drafts: Vec<Draft>,
-    pub spoken: Vec<Piece>,
+    unformed: VecDeque<Unformed>,
+    pub script: Script,
+    /// What was heard, as it came.
+    pub heard: Vec<Heard>,
+    /// What is waited for, by the offset of what waits.
+    pub waits: HashMap<u64, Wait>,
+    pub notified: Vec<Notified>,
     pub ends: Vec<End>,
+    /// The messages that the rules ignore, in their order.
+    pub ignored: Vec<u32>,
     pub count: u32,
     pub has_terminated: bool,
     pub asks_for_password: bool,
@@ -63,14 +69,16 @@ pub struct Building {
     pub is_broken: bool,
     pub cancels: Option<u32>,
     pub process: Option<u32>,
-    /// The server's message that isn't whole.
-    pub(super) pending: Vec<Piece>,
+    /// The server's message that isn't whole, and when its parts came.
+    pub(super) pending: Vec<(Piece, u64)>,
     pub(super) long_tag: Option<u8>,
     is_long: bool,
     begins: Place,
-    pub(super) held: Vec<Heard>,
+    pub(super) held: Vec<Piece>,
     pub(super) held_status: Option<u8>,
     pub(super) has_heard: bool,
+    /// Something was heard of the last message.
+    is_last_heard: bool,
 }
 
 impl Building {
@@ -82,9 +90,13 @@ impl Building {
             causes: Causes::default(),
             former: Former::new(rules),
             formed: 0,
-            drafts: Vec::new(),
-            spoken: Vec::new(),
+            unformed: VecDeque::new(),
+            script: Script::default(),
+            heard: Vec::new(),
+            waits: HashMap::new(),
+            notified: Vec::new(),
             ends: Vec::new(),
+            ignored: Vec::new(),
             count: 0,
             has_terminated: false,
             asks_for_password: false,
@@ -98,41 +110,38 @@ impl Building {
             held: Vec::new(),
             held_status: None,
             has_heard: false,
+            is_last_heard: false,
         }
     }
 
     /// Whether it begins with a Startup.
     pub fn is_session(&self) -> bool {
-        !self.drafts.is_empty() && self.cancels.is_none()
+        !self.script.is_empty() && self.cancels.is_none()
     }
 
     /// Takes what the client said.
     pub fn take_client(&mut self, bytes: Bytes<'_>) {
         let mut rest = bytes.content;
-        self.spoken.push(Piece::of(bytes.content, bytes.at, bytes.time));
+        self.script.spoken.push(Spoken { piece: Piece::of(bytes.content, bytes.at), time: bytes.time });
+        let mut client = std::mem::replace(&mut self.client, Cutter::of_connection());
         while !self.is_broken {
-            if !self.client.is_within() {
+            if !client.is_within() {
                 let at = bytes.content.len() - rest.len();
-                self.begins = Place { piece: self.spoken.len() - 1, at };
+                self.begins = Place { piece: self.script.spoken.len() as u32 - 1, at: at as u32 };
             }
-            match self.client.cut(&mut rest) {
+            match client.cut(&mut rest) {
                 Ok(None) => break,
                 Err(_) => self.is_broken = true,
-                Ok(Some(Cut::Whole(message))) => {
-                    let message = message.to_vec();
-                    self.say(&message, bytes.time);
-                }
-                Ok(Some(Cut::Part(part, left))) => {
-                    let (tag, len) = (part[0], part.len());
-                    self.say_long(tag, len, left, bytes.time);
-                }
+                Ok(Some(Cut::Whole(message))) => self.say(message),
+                Ok(Some(Cut::Part(part, left))) => self.say_long(part[0], part.len(), left),
             }
         }
+        self.client = client;
     }
 
-    fn say(&mut self, message: &[u8], time: u64) {
-        if self.drafts.is_empty() {
-            return self.say_first(message, time);
+    fn say(&mut self, message: &[u8]) {
+        if self.script.is_empty() {
+            return self.say_first(message);
         }
         let (tag, body) = (message[0], &message[HEAD..]);
         if tag == b'p' {
@@ -146,22 +155,22 @@ impl Building {
         if sort == Sort::Data {
             // The state of a standby comes when its clock says so.
             if !(self.causes.is_both() && is_state_of_standby(body)) {
-                self.say_bytes(message.len(), true, time);
+                self.say_bytes(message.len(), true);
             }
             return;
         }
-        self.add(Saying::Message(Some(tag), body.to_vec()), sort, time);
-        if let Some(draft) = self.drafts.last_mut() {
-            draft.is_preparing = is_preparing(sort, body);
+        self.add_message(Some(tag), body, sort);
+        if let Some(said) = self.script.said.last_mut() {
+            said.is_preparing = is_preparing(sort, body);
         }
     }
 
-    fn say_first(&mut self, message: &[u8], time: u64) {
+    fn say_first(&mut self, message: &[u8]) {
         let body = &message[4..];
         match Message::read_body(None, body) {
             Ok(Message::Startup(_)) => {
                 self.count = 1;
-                self.add(Saying::Message(None, body.to_vec()), Sort::Startup, time);
+                self.add_message(None, body, Sort::Startup);
             }
             Ok(Message::CancelRequest(cancel)) => {
                 self.cancels = Some(cancel.process_id);
@@ -172,69 +181,67 @@ impl Building {
     }
 
     /// Adds a part of a long message.
-    fn say_long(&mut self, tag: u8, len: usize, left: usize, time: u64) {
+    fn say_long(&mut self, tag: u8, len: usize, left: usize) {
         let is_first = !std::mem::replace(&mut self.is_long, left > 0);
-        if is_first {
-            self.count += 1;
-            let is_data = tag == b'd';
-            self.say_bytes(len, is_data, time);
-            if let (false, Some(sort)) = (is_data, sort_of(tag)) {
-                let number = self.drafts.len() - 1;
-                self.follow(number, sort);
-            }
-        } else if let Some(Draft { what: Saying::Bytes(sum), time: last, .. }) = self.drafts.last_mut() {
-            *sum += len as u64;
-            *last = time;
+        if !is_first {
+            return self.script.extend_last(len as u64);
+        }
+        self.count += 1;
+        let is_data = tag == b'd';
+        self.say_bytes(len, is_data);
+        if let (false, Some(sort)) = (is_data, sort_of(tag)) {
+            self.follow(sort);
         }
     }
 
     /// Adds bytes that are compared as they are: data to those before, any other message as one of its own.
-    fn say_bytes(&mut self, len: usize, is_data: bool, time: u64) {
-        match self.drafts.last_mut() {
-            Some(Draft { what: Saying::Bytes(sum), time: last, heard, .. }) if is_data && heard.is_empty() => {
-                *sum += len as u64;
-                *last = time;
-            }
-            _ if is_data => self.add(Saying::Bytes(len as u64), Sort::Data, time),
-            _ => self.draft(Saying::Bytes(len as u64), time),
+    fn say_bytes(&mut self, len: usize, is_data: bool) {
+        let what = What::Bytes(len as u64);
+        match self.script.len().checked_sub(1).map(|last| self.script.what(last)) {
+            Some(What::Bytes(_)) if is_data && !self.is_last_heard => self.script.extend_last(len as u64),
+            _ if is_data => self.add(what, Sort::Data),
+            _ => self.push(what),
         }
     }
 
-    fn add(&mut self, what: Saying, sort: Sort, time: u64) {
-        self.draft(what, time);
-        self.follow(self.drafts.len() - 1, sort);
+    /// Adds a message whose form is made when its exchange is over.
+    fn add_message(&mut self, tag: Option<u8>, body: &[u8], sort: Sort) {
+        self.unformed.push_back(Unformed { said: self.script.len() as u32, tag, body: body.to_vec() });
+        self.add(What::Form(UNRECORDED), sort);
     }
 
-    fn draft(&mut self, what: Saying, time: u64) {
-        if let Some(last) = self.drafts.last_mut() {
+    fn add(&mut self, what: What, sort: Sort) {
+        self.push(what);
+        self.follow(sort);
+    }
+
+    fn push(&mut self, what: What) {
+        if let Some(last) = self.script.said.last_mut() {
             last.goes_on = !self.has_heard;
         }
-        self.has_heard = false;
-        self.drafts.push(Draft {
-            what,
-            at: self.begins,
-            heard: Vec::new(),
-            number: self.count,
-            time,
-            goes_on: false,
-            opens_both: false,
-            is_ignored: None,
-            is_preparing: false,
-        });
+        (self.has_heard, self.is_last_heard) = (false, false);
+        self.script.push(what, self.begins, self.count);
     }
 
-    fn follow(&mut self, number: usize, sort: Sort) {
-        if let Some(said) = self.causes.said(number, sort) {
+    fn follow(&mut self, sort: Sort) {
+        if let Some(said) = self.causes.said(self.script.len() - 1, sort) {
             self.free(said);
         }
     }
 
+    /// Adds a part of the answer to a message.
+    pub(super) fn hear_of(&mut self, said: usize, piece: Piece) {
+        self.is_last_heard |= said + 1 == self.script.len();
+        self.heard.push(Heard { said: said as u32, piece });
+    }
+
     /// Gives what was held its place.
     fn free(&mut self, said: usize) {
-        let held = std::mem::take(&mut self.held);
-        self.drafts[said].heard.extend(held);
+        for piece in std::mem::take(&mut self.held) {
+            self.hear_of(said, piece);
+        }
         if let Some(status) = self.held_status.take() {
-            self.ends.push(End { said, status });
+            self.ends.push(End { said: said as u32, status });
         }
     }
 
@@ -249,29 +256,28 @@ impl Building {
             }
         }
         if is_over {
-            self.form_up_to(self.drafts.len(), forms);
+            self.form_up_to(u32::MAX, forms);
         }
     }
 
-    fn form_up_to(&mut self, end: usize, forms: &mut Forms) {
-        let begin = self.drafts[..end].iter().rposition(|it| it.is_ignored.is_some()).map_or(0, |it| it + 1);
-        for draft in &mut self.drafts[begin..end] {
-            draft.is_ignored = Some(false);
-            let Saying::Message(tag, body) = &draft.what else {
-                continue;
+    fn form_up_to(&mut self, end: u32, forms: &mut Forms) {
+        while self.unformed.front().map_or(false, |it| it.said < end) {
+            let Some(Unformed { said, tag, body }) = self.unformed.pop_front() else {
+                return;
             };
-            let form = forms.number(self.former.message(*tag, body));
-            draft.is_ignored = Some(self.former.ignored().is_some());
+            let form = forms.number(self.former.message(tag, &body));
+            if self.former.ignored().is_some() {
+                self.ignored.push(said);
+            }
             self.former.settle(form);
-            draft.what = Saying::Form(form);
+            self.script.set_form(said as usize, form);
         }
     }
 
     /// Ends what is held where the connection does.
     pub fn end(&mut self) {
         if !self.held.is_empty() || self.held_status.is_some() {
-            let said = self.drafts.len() - 1;
-            self.free(said);
+            self.free(self.script.len() - 1);
         }
     }
 
@@ -282,8 +288,8 @@ impl Building {
             Some(true) => Ending::ByClient,
             Some(false) => Ending::ByServer,
             None => {
-                let last = self.ends.last().map(|it| it.said + 1);
-                Ending::Unrecorded { is_idle: last == Some(self.drafts.len()) }
+                let last = self.ends.last().map(|it| it.said as usize + 1);
+                Ending::Unrecorded { is_idle: last == Some(self.script.len()) }
             }
         }
     }

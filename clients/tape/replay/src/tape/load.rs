@@ -1,7 +1,8 @@
 //! Reading a recording from its first byte to its last.
 
-use super::connection::{Building, Bytes, Draft, End, Saying};
-use super::{Connection, Heard, Place, Said, SpokenReader, Tape, Turn, Wait, What};
+use super::connection::{Building, Bytes, End, Heard, Notified};
+use super::said::{Said, Script};
+use super::{Connection, Tape, Turn, Wait};
 use crate::form::Forms;
 use crate::rules::Rules;
 use net::{Failure, Status};
@@ -13,6 +14,14 @@ use std::ops::Range;
 use std::path::Path;
 use std::sync::Arc;
 
+/// How many messages, parts of answers or records of one side are counted.
+const COUNT_MOST: usize = u32::MAX as usize / 2;
+
+/// How many bytes of a recording have a form of their own where messages are short, and how many forms there is room for at
+/// first. (A table that grows is copied, and what is freed then is taken by what grows beside it, piece by piece.)
+const BYTES_A_FORM: u64 = 256;
+const FORMS_AT_FIRST: u64 = 1 << 22;
+
 /// Connections that aren't over, and what is known of those that are.
 struct Loading {
     rules: Arc<Rules>,
@@ -22,29 +31,37 @@ struct Loading {
     encrypted: usize,
     /// When each process was asked to cancel last.
     cancelled: HashMap<u32, u64>,
+    /// Where the server's records are, and when they passed; nothing unless that is wanted.
+    times: Option<Vec<(u64, u64)>>,
 }
 
-/// Reads a recording. What is to be said of it is said by `tell`.
-pub fn load(path: &Path, rules: &Arc<Rules>, tell: &dyn Fn(String)) -> Result<Tape, Failure> {
+/// Reads a recording, with the times of what the server said where they are wanted. What is to be said of it is said by
+/// `tell`.
+pub fn load(path: &Path, rules: &Arc<Rules>, keeps_times: bool, tell: &dyn Fn(String)) -> Result<Tape, Failure> {
     let unread = |why: &dyn std::fmt::Display| Failure::new(Status::Local, format!("{} can't be read: {why}", path.display()));
     let file = File::open(path).map_err(|why| unread(&plain(&why)))?;
     let damaged = |damage: Damage| match damage {
         Damage::File(why) => unread(&plain(&why)),
         damage => Failure::new(Status::Damaged, damage.about(path)),
     };
+    let uncounted = || Failure::new(Status::Local, format!("{} has more messages than can be counted", path.display()));
+    let length = file.metadata().map_or(0, |it| it.len());
     let mut reader = Reader::new(BufReader::with_capacity(1 << 18, &file)).map_err(damaged)?;
     let mut loading = Loading {
         rules: rules.clone(),
-        forms: Forms::default(),
+        forms: Forms::with_capacity((length / BYTES_A_FORM).min(FORMS_AT_FIRST) as usize),
         open: HashMap::new(),
         over: Vec::new(),
         encrypted: 0,
         cancelled: HashMap::new(),
+        times: keeps_times.then(Vec::new),
     };
     let mut end = recording::HEAD as u64;
     while let Some(record) = reader.read().map_err(damaged)? {
         end = record.content_at + record.content.len() as u64 + 4;
-        loading.take(&record);
+        if !loading.take(&record) {
+            return Err(uncounted());
+        }
     }
     if reader.is_cut() {
         tell(format!(
@@ -55,7 +72,7 @@ pub fn load(path: &Path, rules: &Arc<Rules>, tell: &dyn Fn(String)) -> Result<Ta
     if loading.encrypted > 0 {
         tell(format!("{}: {} connections are encrypted, and left out", path.display(), loading.encrypted));
     }
-    let tape = loading.finish(path, file);
+    let tape = loading.finish(path, file).ok_or_else(uncounted)?;
     match tape.connections.is_empty() {
         true => Err(Failure::new(Status::Damaged, format!("{} has no session that can be replayed", path.display()))),
         false => Ok(tape),
@@ -69,7 +86,8 @@ pub fn plain(why: &std::io::Error) -> String {
 }
 
 impl Loading {
-    fn take(&mut self, record: &recording::Record<'_>) {
+    /// Takes a record. Answers false where its connection has more than can be counted.
+    fn take(&mut self, record: &recording::Record<'_>) -> bool {
         let number = record.connection;
         let bytes = Bytes { content: record.content, at: record.content_at, time: record.time };
         match record.kind {
@@ -86,6 +104,10 @@ impl Loading {
                     if let Some(process) = building.cancels {
                         self.cancelled.insert(process, record.time);
                     }
+                    if let (Side::Server, Some(times)) = (side, &mut self.times) {
+                        times.push((bytes.at, bytes.time));
+                    }
+                    return building.count() <= COUNT_MOST;
                 }
             }
             Kind::LeftOut(Side::Server) => {
@@ -103,6 +125,7 @@ impl Loading {
                 }
             }
         }
+        true
     }
 
     fn end(&mut self, mut building: Building, closed_by_client: Option<bool>) {
@@ -113,44 +136,62 @@ impl Loading {
         }
     }
 
-    fn finish(mut self, path: &Path, file: File) -> Tape {
+    /// The whole of it, unless it has more than can be counted.
+    fn finish(mut self, path: &Path, file: File) -> Option<Tape> {
         let open: Vec<_> = self.open.drain().map(|(_, building)| building).collect();
         for building in open {
             self.end(building, None);
         }
         self.over.sort_unstable_by_key(|(building, _)| building.number);
+        if self.over.iter().map(|(building, _)| building.count()).sum::<usize>() > COUNT_MOST {
+            return None;
+        }
         let mut tape = Tape {
             path: path.to_owned(),
             file,
             forms: self.forms,
             connections: Vec::new(),
             turns: Vec::new(),
-            said: Vec::new(),
+            script: Script::default(),
             heard: Vec::new(),
-            spoken: Vec::new(),
+            waits: HashMap::new(),
+            times: self.times.unwrap_or_default(),
             processes: HashMap::new(),
         };
+        let sum = |of: fn(&Building) -> usize| self.over.iter().map(|(building, _)| of(building)).sum::<usize>();
+        tape.heard.reserve_exact(sum(|it| it.heard.len()));
+        tape.script.reserve(sum(|it| it.script.len()), sum(|it| it.script.records()));
+        let mut notified = Vec::new();
         for (building, closed_by_client) in self.over {
-            tape.add(building, closed_by_client);
+            tape.add(building, closed_by_client, &mut notified);
         }
-        tape.find_causes();
-        tape
+        tape.turns.shrink_to_fit();
+        tape.find_causes(&notified);
+        Some(tape)
+    }
+}
+
+impl Building {
+    /// The most that is counted of messages, parts of answers and records.
+    fn count(&self) -> usize {
+        self.script.len().max(self.heard.len()).max(self.script.records())
     }
 }
 
 impl Tape {
-    fn add(&mut self, building: Building, closed_by_client: Option<bool>) {
-        let (base, pieces, connection) = (self.said.len(), self.spoken.len(), self.connections.len());
+    fn add(&mut self, mut building: Building, closed_by_client: Option<bool>, notified: &mut Vec<Notified>) {
+        let (base, connection) = (self.script.len(), self.connections.len());
         let ending = building.ending(closed_by_client);
         let begin = self.turns.len();
-        let turns = turns_of(&building.ends, building.drafts.len());
+        let turns = turns_of(&building.ends, building.script.len());
         self.turns.extend(turns.into_iter().map(|(said, is_whole)| Turn {
-            connection,
-            said: base + said.start..base + said.end,
+            connection: connection as u32,
+            begin: (base + said.start) as u32,
+            end: (base + said.end) as u32,
             is_whole,
         }));
-        let ignored = ignored_of(&building.ends, &building.drafts);
-        let preparing = preparing_of(&building.ends, &building.drafts);
+        mark_ignored(&building.ends, &building.ignored, &mut building.script);
+        mark_preparing(&building.ends, &mut building.script.said);
         if let Some(process) = building.process {
             self.processes.insert(process, connection);
         }
@@ -159,47 +200,35 @@ impl Tape {
             startup: base,
             turns: begin..self.turns.len(),
             ending,
-            is_left_at_password: building.asks_for_password
-                && building.ends.is_empty()
-                && building.drafts.iter().all(|it| it.heard.is_empty()),
+            is_left_at_password: building.asks_for_password && building.ends.is_empty() && building.heard.is_empty(),
         });
-        self.spoken.extend(building.spoken);
-        for (draft, (ignored, is_preparing)) in building.drafts.into_iter().zip(ignored.into_iter().zip(preparing)) {
-            self.add_said(draft, pieces, ignored, is_preparing);
+        self.add_heard(building.heard, &mut building.script.said);
+        self.script.append(building.script);
+        self.waits.extend(building.waits);
+        notified.append(&mut building.notified);
+    }
+
+    /// Adds what was heard of the messages of a connection, in the order of those.
+    fn add_heard(&mut self, mut heard: Vec<Heard>, said: &mut [Said]) {
+        if heard.windows(2).any(|pair| pair[0].said > pair[1].said) {
+            heard.sort_by_key(|it| it.said);
+        }
+        let mut next = heard.iter().peekable();
+        for (number, said) in said.iter_mut().enumerate() {
+            said.heard = self.heard.len() as u32;
+            while let Some(heard) = next.next_if(|it| it.said as usize == number) {
+                self.heard.push(heard.piece);
+            }
         }
     }
 
-    fn add_said(&mut self, draft: Draft, pieces: usize, ignored: u32, is_preparing: bool) {
-        let begin = self.heard.len();
-        self.heard.extend(draft.heard);
-        self.said.push(Said {
-            what: match draft.what {
-                Saying::Form(form) => What::Form(form),
-                Saying::Bytes(len) => What::Bytes(len),
-                Saying::Message(..) => What::Form(crate::form::UNRECORDED),
-            },
-            at: Place { piece: draft.at.piece + pieces, at: draft.at.at },
-            heard: begin..self.heard.len(),
-            number: draft.number,
-            time: draft.time,
-            goes_on: draft.goes_on,
-            opens_both: draft.opens_both,
-            is_cause: false,
-            ignored,
-            is_preparing,
-        });
-    }
-
     /// Finds for each notification the message after which it came, where its sender is recorded.
-    fn find_causes(&mut self) {
-        for number in 0..self.heard.len() {
-            let Heard { piece, wait: Wait::Said(process) } = self.heard[number] else {
-                continue;
-            };
-            let cause = self.processes.get(&(process as u32)).and_then(|it| self.last_said(*it, piece.time));
-            self.heard[number].wait = cause.map_or(Wait::No, Wait::Said);
-            if let Some(cause) = cause {
-                self.said[cause].is_cause = true;
+    fn find_causes(&mut self, notified: &[Notified]) {
+        for notified in notified {
+            let sender = self.processes.get(&notified.process);
+            if let Some(cause) = sender.and_then(|it| self.last_said(*it, notified.time)) {
+                self.waits.insert(notified.at, Wait::Said(cause));
+                self.script.said[cause].is_cause = true;
             }
         }
     }
@@ -207,19 +236,19 @@ impl Tape {
     /// The last message of a connection up to a time.
     fn last_said(&self, connection: usize, time: u64) -> Option<usize> {
         let turns = &self.turns[self.connections[connection].turns.clone()];
-        let said = turns.first()?.said.start..turns.last()?.said.end;
-        let count = self.said[said.clone()].partition_point(|it| it.time <= time);
-        (count > 0).then(|| said.start + count - 1)
+        let said = turns.first()?.said().start..turns.last()?.said().end;
+        let next = self.connections.get(connection + 1).map(|it| it.startup);
+        self.script.last_until(said, next, time)
     }
 }
 
 /// The turns of a connection after its Startup, and whether each is whole.
 fn turns_of(ends: &[End], count: usize) -> Vec<(Range<usize>, bool)> {
     let (mut turns, mut begin) = (Vec::new(), 1);
-    for end in ends.iter().filter(|it| it.status == b'I') {
-        if end.said >= begin {
-            turns.push((begin..end.said + 1, true));
-            begin = end.said + 1;
+    for end in ends.iter().filter(|it| it.status == b'I').map(|it| it.said as usize) {
+        if end >= begin {
+            turns.push((begin..end + 1, true));
+            begin = end + 1;
         }
     }
     if begin < count {
@@ -228,42 +257,32 @@ fn turns_of(ends: &[End], count: usize) -> Vec<(Range<usize>, bool)> {
     turns
 }
 
-/// For each message, how many may be left out from there on.
-fn ignored_of(ends: &[End], drafts: &[Draft]) -> Vec<u32> {
-    let mut ignored = vec![0; drafts.len()];
+/// Marks where how many messages may be left out, of which the rules ignore some.
+fn mark_ignored(ends: &[End], ignored: &[u32], script: &mut Script) {
     let mut begin = 1;
-    for end in ends {
-        if end.said < begin {
+    for end in ends.iter().map(|it| it.said) {
+        if end < begin {
             continue;
         }
-        let exchange = begin..end.said + 1;
-        begin = end.said + 1;
-        let count = drafts[exchange.clone()].iter().filter(|it| it.is_ignored == Some(true)).count();
+        let exchange = begin..end + 1;
+        begin = end + 1;
+        let before = |said: u32| ignored.partition_point(|it| *it < said);
+        let count = before(exchange.end) - before(exchange.start);
         // A Sync ends the messages of the extended protocol, and is of no statement.
         let others = exchange.len() - count;
         if count > 0 && others <= usize::from(count > 1) {
-            ignored[exchange.start] = exchange.len() as u32;
+            script.set_ignored(exchange.start as usize, exchange.len());
         }
     }
-    ignored
 }
 
-/// Which messages only prepare statements, and the Syncs of exchanges that do nothing else.
-fn preparing_of(ends: &[End], drafts: &[Draft]) -> Vec<bool> {
-    let mut preparing: Vec<_> = drafts.iter().map(|it| it.is_preparing).collect();
+/// Marks the Syncs of exchanges that only prepare statements as what does nothing else.
+fn mark_preparing(ends: &[End], said: &mut [Said]) {
     let mut begin = 1;
-    for end in ends {
-        if end.said > begin && preparing[begin..end.said].iter().all(|it| *it) {
-            preparing[end.said] = true;
+    for end in ends.iter().map(|it| it.said as usize) {
+        if end > begin && said[begin..end].iter().all(|it| it.is_preparing) {
+            said[end].is_preparing = true;
         }
-        begin = begin.max(end.said + 1);
-    }
-    preparing
-}
-
-impl Said {
-    /// Reads its bytes from the recording.
-    pub fn reader(&self) -> SpokenReader {
-        SpokenReader::of(self)
+        begin = begin.max(end + 1);
     }
 }

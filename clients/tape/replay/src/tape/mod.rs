@@ -6,12 +6,16 @@ mod connection;
 mod cutter;
 mod load;
 mod piece;
+mod said;
+mod spoken;
 
 pub use causes::Wait;
 pub use connection::is_state_of_standby;
 pub use cutter::{Cut, Cutter};
 pub use load::{load, plain};
-pub use piece::{Changed, Piece};
+pub use piece::{Changed, Piece, Window};
+pub use said::{Place, Script, What};
+pub use spoken::SpokenReader;
 
 use crate::form::Forms;
 use pgmsg::frontend::Message;
@@ -22,6 +26,9 @@ use std::path::PathBuf;
 
 /// Longer messages are compared piece by piece, and have to be the very bytes that were recorded.
 pub const MESSAGE_MOST: usize = 1 << 20;
+
+/// How many bytes of answers are read at once, unless one part is longer.
+const WINDOW_MOST: u64 = 64 << 10;
 
 /// The bytes of a tag and a length.
 pub const HEAD: usize = 5;
@@ -35,11 +42,13 @@ pub struct Tape {
     pub forms: Forms,
     pub connections: Vec<Connection>,
     pub turns: Vec<Turn>,
-    pub said: Vec<Said>,
-    /// What the server said, in the order of `said`.
-    pub heard: Vec<Heard>,
-    /// What the clients said, record by record.
-    spoken: Vec<Piece>,
+    pub script: Script,
+    /// What the server said, in the order of what it answers.
+    heard: Vec<Piece>,
+    /// What parts of answers wait for, by their offsets.
+    waits: HashMap<u64, Wait>,
+    /// The offsets of the server's records, and when they passed, where that is wanted.
+    times: Vec<(u64, u64)>,
     /// The connections by the process that a request to cancel names.
     pub processes: HashMap<u32, usize>,
 }
@@ -71,56 +80,21 @@ pub enum Ending {
 /// What a client says from one time on when it is outside of a transaction up to the next: an exchange, or those of a
 /// transaction.
 pub struct Turn {
-    pub connection: usize,
-    pub said: Range<usize>,
+    connection: u32,
+    begin: u32,
+    end: u32,
     /// Whether it was recorded to its end.
     pub is_whole: bool,
 }
 
-/// A message of a client, or a run of data.
-pub struct Said {
-    pub what: What,
-    /// Where its bytes begin.
-    at: Place,
-    /// What is heard of it.
-    pub heard: Range<usize>,
-    /// Its number in its connection, from 1 on.
-    pub number: u32,
-    /// When it was said, in microseconds.
-    pub time: u64,
-    /// The recorded client said more before it heard anything.
-    pub goes_on: bool,
-    /// Data both ways follow, of a replication.
-    pub opens_both: bool,
-    /// Whether a message heard elsewhere waits for it.
-    pub is_cause: bool,
-    /// How many messages may be left out from here on, of an exchange that the rules ignore.
-    pub ignored: u32,
-    /// It prepares a statement, describes or closes it: a connection of a pool does so when it needs one first.
-    pub is_preparing: bool,
-}
+impl Turn {
+    pub fn connection(&self) -> usize {
+        self.connection as usize
+    }
 
-/// What is compared.
-#[derive(Clone, Copy, Debug, PartialEq, Eq)]
-pub enum What {
-    /// A message, by the number of its form.
-    Form(u32),
-    /// Messages of a COPY's data, or a long message, by their bytes.
-    Bytes(u64),
-}
-
-/// A place in what clients said: so many bytes of a piece are before it.
-#[derive(Clone, Copy, Debug, Default)]
-pub struct Place {
-    piece: usize,
-    at: usize,
-}
-
-/// A part of what a server said.
-#[derive(Clone, Copy, Debug)]
-pub struct Heard {
-    pub piece: Piece,
-    pub wait: Wait,
+    pub fn said(&self) -> Range<usize> {
+        self.begin as usize..self.end as usize
+    }
 }
 
 impl Tape {
@@ -131,17 +105,43 @@ impl Tape {
 
     /// Whether a message may be said or left out wherever it is wanted: it prepares a statement, and there may be a pool.
     pub fn is_free(&self, said: usize) -> bool {
-        self.said[said].is_preparing && !self.is_single()
+        self.script.said[said].is_preparing && !self.is_single()
     }
 
-    /// The bytes of a part of an answer.
-    pub fn heard(&self, number: usize, room: &mut Vec<u8>) -> Result<(), Changed> {
-        self.heard[number].piece.read(&self.file, room)
+    /// The parts of the answer to a message.
+    pub fn heard_of(&self, said: usize) -> Range<usize> {
+        let begin = |said: usize| self.script.said.get(said).map_or(self.heard.len(), |it| it.heard as usize);
+        begin(said)..begin(said + 1)
+    }
+
+    /// What a part of an answer waits for.
+    pub fn wait(&self, heard: usize) -> Wait {
+        match self.waits.is_empty() {
+            true => Wait::No,
+            false => self.waits.get(&self.heard[heard].at()).copied().unwrap_or(Wait::No),
+        }
+    }
+
+    /// When a part of an answer passed, in microseconds, where times are kept.
+    pub fn heard_at(&self, heard: usize) -> Option<u64> {
+        let at = self.heard[heard].at();
+        let next = self.times.partition_point(|(record, _)| *record <= at);
+        Some(self.times[next.checked_sub(1)?].1)
+    }
+
+    /// The bytes of a part of an answer, which are read with those after them that the server sent with it.
+    pub fn heard<'w>(&self, heard: usize, window: &'w mut Window) -> Result<&'w [u8], Changed> {
+        let piece = &self.heard[heard];
+        let (mut end, mut rest) = (piece.end(), self.heard[heard + 1..].iter());
+        while let Some(next) = rest.next().filter(|it| it.at() == end && it.end() <= piece.at() + WINDOW_MOST) {
+            end = next.end();
+        }
+        window.piece(piece, end, &self.file)
     }
 
     /// The recorded bytes of a message: the whole of one of up to `MESSAGE_MOST` bytes, else its head.
     pub fn message(&self, said: usize) -> Result<Vec<u8>, Changed> {
-        self.message_at(self.said[said].at, if said == 0 || self.is_startup(said) { 4 } else { HEAD })
+        self.message_at(self.script.said[said].at, if said == 0 || self.is_startup(said) { 4 } else { HEAD })
     }
 
     fn is_startup(&self, said: usize) -> bool {
@@ -163,7 +163,7 @@ impl Tape {
 
     /// Whether data begin with so many bytes of others, and go on with these; or end there, where there are none.
     pub fn begins_with(&self, said: usize, other: usize, passed: u64, next: &[u8]) -> Result<bool, Changed> {
-        let What::Bytes(len) = self.said[said].what else {
+        let What::Bytes(len) = self.script.what(said) else {
             return Ok(false);
         };
         let fits = match next.is_empty() {
@@ -173,7 +173,7 @@ impl Tape {
         if !fits {
             return Ok(false);
         }
-        let (mut one, mut there) = (self.said[said].reader(), self.said[other].reader());
+        let (mut one, mut there) = (self.reader(said), self.reader(other));
         let mut left = usize::try_from(passed).unwrap_or(usize::MAX);
         while left > 0 {
             let (one_bytes, other_bytes) = (one.next(self)?, there.next(self)?);
@@ -198,7 +198,7 @@ impl Tape {
         };
         let begin = self.connections.iter().rev().find(|it| it.startup <= said)?.startup;
         let before = (begin + 1..said).rev().take(LOOKED_BACK);
-        before.filter(|it| matches!(self.said[*it].what, What::Form(_))).find_map(|it| {
+        before.filter(|it| matches!(self.script.what(*it), What::Form(_))).find_map(|it| {
             let message = self.message(it).ok()?;
             match Message::read_body(Some(message[0]), message.get(HEAD..)?) {
                 Ok(Message::Parse(parse)) if parse.statement == bind.statement => Some(parse.query.to_vec()),
@@ -207,10 +207,15 @@ impl Tape {
         })
     }
 
+    /// Reads what a client said from a message on.
+    pub fn reader(&self, said: usize) -> SpokenReader {
+        SpokenReader::new(self.script.said[said].at)
+    }
+
     /// Whether the same was heard of two messages.
     pub fn is_same_answer(&self, one: usize, other: usize) -> Result<bool, Changed> {
-        let (one, other) = (self.said[one].heard.clone(), self.said[other].heard.clone());
-        let len = |range: &Range<usize>| self.heard[range.clone()].iter().map(|it| it.piece.len()).sum::<usize>();
+        let (one, other) = (self.heard_of(one), self.heard_of(other));
+        let len = |range: &Range<usize>| self.heard[range.clone()].iter().map(Piece::len).sum::<usize>();
         if len(&one) != len(&other) {
             return Ok(false);
         }
@@ -218,68 +223,10 @@ impl Tape {
     }
 
     fn answer(&self, range: Range<usize>) -> Result<Vec<u8>, Changed> {
-        let (mut all, mut room) = (Vec::new(), Vec::new());
+        let (mut all, mut window) = (Vec::new(), Window::default());
         for number in range {
-            self.heard(number, &mut room)?;
-            all.extend_from_slice(&room);
+            all.extend_from_slice(self.heard(number, &mut window)?);
         }
         Ok(all)
-    }
-}
-
-/// Reads what a client said on from a place.
-pub struct SpokenReader {
-    place: Place,
-    held: Option<usize>,
-    room: Vec<u8>,
-}
-
-impl SpokenReader {
-    pub fn new(place: Place) -> SpokenReader {
-        SpokenReader { place, held: None, room: Vec::new() }
-    }
-
-    pub fn of(said: &Said) -> SpokenReader {
-        SpokenReader::new(said.at)
-    }
-
-    pub fn place(&self) -> Place {
-        self.place
-    }
-
-    /// The next bytes, as many as there are in a record. There are none at the end of the recording.
-    pub fn next<'a>(&'a mut self, tape: &Tape) -> Result<&'a [u8], Changed> {
-        loop {
-            let Some(piece) = tape.spoken.get(self.place.piece) else {
-                return Ok(&[]);
-            };
-            if self.place.at < piece.len() {
-                if self.held != Some(self.place.piece) {
-                    piece.read(&tape.file, &mut self.room)?;
-                    self.held = Some(self.place.piece);
-                }
-                return Ok(&self.room[self.place.at..]);
-            }
-            self.place = Place { piece: self.place.piece + 1, at: 0 };
-        }
-    }
-
-    /// Passes over some of these bytes.
-    pub fn pass(&mut self, count: usize) {
-        self.place.at += count;
-    }
-
-    fn fill(&mut self, tape: &Tape, mut bytes: &mut [u8]) -> Result<(), Changed> {
-        while !bytes.is_empty() {
-            let next = self.next(tape)?;
-            let count = next.len().min(bytes.len());
-            if count == 0 {
-                return Ok(());
-            }
-            bytes[..count].copy_from_slice(&next[..count]);
-            bytes = &mut bytes[count..];
-            self.pass(count);
-        }
-        Ok(())
     }
 }

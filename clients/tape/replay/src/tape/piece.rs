@@ -2,6 +2,7 @@
 
 use std::fs::File;
 use std::io;
+use std::ops::Range;
 use std::os::unix::fs::FileExt;
 
 /// The recording isn't what it was any more, or can't be read.
@@ -17,35 +18,79 @@ pub enum Changed {
 #[derive(Clone, Copy, Debug)]
 pub struct Piece {
     at: u64,
-    /// When they passed, in microseconds.
-    pub time: u64,
     len: u32,
     checksum: u32,
 }
 
 impl Piece {
-    pub fn of(bytes: &[u8], at: u64, time: u64) -> Piece {
-        Piece { at, time, len: bytes.len() as u32, checksum: crc32fast::hash(bytes) }
+    pub fn of(bytes: &[u8], at: u64) -> Piece {
+        Piece { at, len: bytes.len() as u32, checksum: crc32fast::hash(bytes) }
+    }
+
+    /// Where they begin in the file.
+    pub fn at(&self) -> u64 {
+        self.at
     }
 
     pub fn len(&self) -> usize {
         self.len as usize
     }
 
-    /// Reads the bytes to a place that is made as long as they are.
-    pub fn read(&self, file: &File, room: &mut Vec<u8>) -> Result<(), Changed> {
-        room.resize(self.len(), 0);
-        match file.read_exact_at(room, self.at) {
-            Ok(()) => {}
-            Err(why) if why.kind() == io::ErrorKind::UnexpectedEof => return Err(Changed::Changed),
-            Err(why) => return Err(why.into()),
-        }
-        match crc32fast::hash(room) == self.checksum {
-            true => Ok(()),
-            false => {
-                room.clear();
-                Err(Changed::Changed)
+    /// Where they end in the file.
+    pub fn end(&self) -> u64 {
+        self.at + u64::from(self.len)
+    }
+
+    /// Their place in bytes of the file that begin there, where they are among them.
+    fn place_in(&self, window: &Window) -> Option<Range<usize>> {
+        let begin = usize::try_from(self.at.checked_sub(window.at)?).ok()?;
+        let range = begin..begin + self.len();
+        (range.end <= window.bytes.len()).then_some(range)
+    }
+}
+
+/// Bytes of a file that were read at once.
+#[derive(Default)]
+pub struct Window {
+    at: u64,
+    bytes: Vec<u8>,
+}
+
+impl Window {
+    /// The bytes of a piece. Where they aren't here yet, they are read with those that follow up to an end.
+    pub fn piece(&mut self, piece: &Piece, end: u64, file: &File) -> Result<&[u8], Changed> {
+        let range = match piece.place_in(self) {
+            Some(range) => range,
+            None => {
+                self.read(piece.at, end.max(piece.end()) - piece.at, file)?;
+                0..piece.len()
             }
+        };
+        let bytes = &self.bytes[range];
+        match crc32fast::hash(bytes) == piece.checksum {
+            true => Ok(bytes),
+            false => Err(Changed::Changed),
         }
+    }
+
+    pub fn bytes(&self) -> &[u8] {
+        &self.bytes
+    }
+
+    /// Forgets the bytes, which others may change in the file.
+    pub fn clear(&mut self) {
+        self.bytes.clear();
+    }
+
+    fn read(&mut self, at: u64, len: u64, file: &File) -> Result<(), Changed> {
+        self.at = at;
+        self.bytes.resize(len as usize, 0);
+        file.read_exact_at(&mut self.bytes, at).map_err(|why| {
+            self.bytes.clear();
+            match why.kind() {
+                io::ErrorKind::UnexpectedEof => Changed::Changed,
+                _ => Changed::File(why),
+            }
+        })
     }
 }
