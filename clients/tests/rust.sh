@@ -126,11 +126,14 @@ END
 
 # The crates of the programs.
 test_tape() {
-    local cargo_folder count
+    local cargo_folder count inputs
     read -r cargo_folder _ < <(rust_folders 1.65)
-    try by_strict_cargo tape test --workspace
+    try by_strict_cargo tape test --workspace -- --show-output
     count=$(grep -o '[0-9]* passed' <<< "$output" | awk '{ count += $1 } END { print count }')
     expect "the crates of pg_record, without a warning: $count tests" 0
+    inputs=$(sed -n 's/^\([0-9]*\) .* by the seed .*/\1/p' <<< "$output" | awk '{ count += $1 } END { print count + 0 }')
+    same "the crates of pg_record: $inputs random and mutated inputs, without a panic or growth, at least a million" \
+        "$((inputs >= 1000000))" 1
 }
 
 # Logs in by SCRAM and reads a table, by the example of the crate.

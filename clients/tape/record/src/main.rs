@@ -13,6 +13,9 @@ mod serve;
 mod session;
 mod tape;
 
+#[cfg(test)]
+mod mutants;
+
 use arguments::Arguments;
 use net::{Failure, Sayer, Status};
 use std::process;
