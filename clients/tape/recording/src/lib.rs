@@ -49,9 +49,11 @@
 #![forbid(unsafe_code)]
 
 mod read;
+mod turns;
 mod write;
 
 pub use read::{Damage, Reader, Record};
+pub use turns::Turns;
 pub use write::{Copy, Lost, Tape};
 
 /// The bytes before the first record.

@@ -1,7 +1,6 @@
 //! A recording that is read.
 
-use crate::{Kind, Side, HEAD, MAGIC, MOST, RECORD_HEAD, RECORD_TAIL, VERSION};
-use std::collections::HashSet;
+use crate::{Kind, Side, Turns, HEAD, MAGIC, MOST, RECORD_HEAD, RECORD_TAIL, VERSION};
 use std::io::{self, Read};
 use std::path::Path;
 
@@ -49,8 +48,7 @@ pub struct Reader<R> {
     at: u64,
     begun: u64,
     is_cut: bool,
-    opened: u32,
-    open: HashSet<u32>,
+    turns: Turns,
     content: Vec<u8>,
 }
 
@@ -116,8 +114,7 @@ impl<R: Read> Reader<R> {
             at: HEAD as u64,
             begun: eight(&head[12..20]),
             is_cut: false,
-            opened: 0,
-            open: HashSet::new(),
+            turns: Turns::default(),
             content: Vec::new(),
         })
     }
@@ -174,24 +171,7 @@ impl<R: Read> Reader<R> {
         if four(checksum) != crc32fast::hash(content) {
             return Err("the checksum of its content is wrong");
         }
-        let is_open = self.open.contains(&head.connection);
-        match head.kind {
-            Kind::Closed if !matches!(content, b"F" | b"B") => Err("it names no side"),
-            Kind::Opened if head.connection != self.opened.wrapping_add(1) => {
-                Err("a connection is opened out of turn")
-            }
-            Kind::Opened => {
-                self.opened = head.connection;
-                self.open.insert(head.connection);
-                Ok(())
-            }
-            _ if !is_open => Err("its connection isn't open"),
-            Kind::Closed => {
-                self.open.remove(&head.connection);
-                Ok(())
-            }
-            _ => Ok(()),
-        }
+        self.turns.take(head.kind, head.connection, content)
     }
 }
 

@@ -196,8 +196,10 @@ impl<W: Write> Copy<W> {
         self.out.write_all(&self.bytes)
     }
 
-    pub fn end(mut self) -> io::Result<()> {
-        self.out.flush()
+    /// Gives what it was written to, to which all is written then.
+    pub fn end(mut self) -> io::Result<W> {
+        self.out.flush()?;
+        Ok(self.out)
     }
 }
 
