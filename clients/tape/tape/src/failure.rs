@@ -1,0 +1,55 @@
+//! How the program ends.
+
+use recording::Damage;
+use std::io;
+use std::path::Path;
+
+/// The exit statuses. Those above 2 are pg_record's and pg_replay's.
+#[derive(Clone, Copy, Debug, PartialEq, Eq)]
+#[repr(u8)]
+pub enum Status {
+    Ok = 0,
+    /// Two recordings differ.
+    Different = 1,
+    /// The arguments fit no form, or a file of rules has a fault.
+    Usage = 2,
+    /// A file can't be read or written.
+    Local = 7,
+    /// A file is no recording, or no export of one, or has a fault.
+    Damaged = 10,
+}
+
+/// Why the program ends, with its status.
+#[derive(Debug, thiserror::Error)]
+#[error("{words}")]
+pub struct Failure {
+    pub status: Status,
+    words: String,
+}
+
+pub type Result<T> = std::result::Result<T, Failure>;
+
+impl Failure {
+    pub fn new(status: Status, words: impl Into<String>) -> Failure {
+        Failure { status, words: words.into() }
+    }
+
+    /// A recording that can't be read on.
+    pub fn damaged(damage: &Damage, path: &Path) -> Failure {
+        let status = match damage {
+            Damage::File(_) => Status::Local,
+            _ => Status::Damaged,
+        };
+        Failure::new(status, damage.about(path))
+    }
+
+    /// A file that can't be read.
+    pub fn unread(path: &Path, why: &io::Error) -> Failure {
+        Failure::new(Status::Local, format!("{} can't be read: {why}", path.display()))
+    }
+
+    /// A file that can't be written.
+    pub fn unwritten(path: &Path, why: &io::Error) -> Failure {
+        Failure::new(Status::Local, format!("{} can't be written: {why}", path.display()))
+    }
+}

@@ -1,0 +1,76 @@
+//! Exports, imports, edits, compares, redacts and shows recordings.
+#![forbid(unsafe_code)]
+
+mod bar;
+mod choice;
+mod client;
+mod cutter;
+mod diff;
+mod direction;
+#[cfg(test)]
+mod edits;
+mod exchanges;
+mod export;
+mod failure;
+mod fields;
+mod import;
+mod input;
+mod item;
+mod joiner;
+mod kinds;
+mod line;
+mod merge;
+#[cfg(test)]
+mod mutants;
+mod numbers;
+mod options;
+mod output;
+mod parse;
+mod queue;
+mod redact;
+mod remove;
+#[cfg(test)]
+mod roundtrip;
+mod row_lines;
+mod rows;
+#[cfg(test)]
+mod samples;
+mod server;
+mod shapes;
+mod split;
+mod text;
+mod view;
+
+use clap::Parser;
+use failure::{Result, Status};
+use options::{Command, Options};
+use std::fmt::Display;
+use std::io::{self, Write};
+use std::process::ExitCode;
+
+/// Says a line on standard error, where that can be written.
+fn say(words: impl Display) {
+    let _ = writeln!(io::stderr(), "pg_tape: {words}");
+}
+
+fn run(command: &Command) -> Result<Status> {
+    match command {
+        Command::Export { tape, output } => export::export(tape, output.as_deref())?,
+        Command::Import { file, output } => import::import(file, output)?,
+        Command::Merge { tapes, output } => merge::merge(tapes, output)?,
+        Command::Drop { tape, connections, keep, output } => remove::remove(tape, connections, *keep, output)?,
+        Command::Split { tape, folder } => split::split(tape, folder)?,
+        Command::Redact { tape, rules, output } => redact::redact(tape, rules.as_deref(), output)?,
+        Command::View { tape, output } => view::view(tape, output)?,
+        Command::Diff { one, other } => return diff::diff(one, other),
+    }
+    Ok(Status::Ok)
+}
+
+fn main() -> ExitCode {
+    let status = run(&Options::parse().command).unwrap_or_else(|failure| {
+        say(&failure);
+        failure.status
+    });
+    ExitCode::from(status as u8)
+}

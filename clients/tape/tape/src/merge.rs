@@ -1,0 +1,62 @@
+//! Recordings joined to one, by the time of their records.
+
+use crate::bar::Bar;
+use crate::failure::{Failure, Result};
+use crate::input::Tape;
+use crate::numbers::Numbers;
+use crate::output::Output;
+use recording::{Copy, Kind};
+use std::path::{Path, PathBuf};
+
+/// A recording, with its next record.
+struct Source {
+    tape: Tape,
+    next: Option<(Kind, u32, u64)>,
+    content: Vec<u8>,
+}
+
+impl Source {
+    fn open(path: &Path, bar: &Bar) -> Result<Source> {
+        let mut source = Source { tape: Tape::open(path, bar)?, next: None, content: Vec::new() };
+        source.step()?;
+        Ok(source)
+    }
+
+    /// Goes on to the next record, whose time is that since 1970.
+    fn step(&mut self) -> Result<()> {
+        let begun = self.tape.begun();
+        self.next = match self.tape.read()? {
+            None => None,
+            Some(record) => {
+                self.content.clear();
+                self.content.extend_from_slice(record.content);
+                Some((record.kind, record.connection, begun.saturating_add(record.time)))
+            }
+        };
+        Ok(())
+    }
+}
+
+/// Merges recordings. Of records of one time those of the recording come first that is named first.
+pub fn merge(paths: &[PathBuf], to: &Path) -> Result<()> {
+    let all: Vec<&Path> = paths.iter().map(PathBuf::as_path).collect();
+    let bar = Bar::new("merge", &all);
+    let sources: Result<Vec<Source>> = all.iter().map(|path| Source::open(path, &bar)).collect();
+    let mut sources = sources?;
+    let begun = sources.iter().map(|it| it.tape.begun()).min().unwrap_or_default();
+    let unwritten = |why| Failure::unwritten(to, &why);
+    let mut out = Output::create(to)?;
+    let mut copy = Copy::new(&mut out, begun).map_err(unwritten)?;
+    let mut numbers = Numbers::default();
+    let time_of = |(_, source): &(usize, &mut Source)| source.next.map_or(u64::MAX, |(_, _, time)| time);
+    while let Some((at, source)) = sources.iter_mut().enumerate().filter(|(_, it)| it.next.is_some()).min_by_key(time_of) {
+        if let Some((kind, connection, time)) = source.next {
+            let number = numbers.of(at, connection);
+            copy.add(kind, number, time - begun, &source.content).map_err(unwritten)?;
+        }
+        source.step()?;
+    }
+    copy.end().map_err(unwritten)?;
+    sources.iter().for_each(|it| it.tape.say_cut());
+    out.end()
+}

@@ -1,0 +1,244 @@
+//! Which columns a row has, and which statement a Bind is of: sessions are followed so far.
+
+use pgmsg::backend::{self, Column};
+use pgmsg::frontend::{self, Target};
+use pgmsg::Format;
+use std::cell::RefCell;
+use std::collections::{HashMap, VecDeque};
+use std::rc::Rc;
+
+/// The name and the type of a column.
+#[derive(Clone, Debug, PartialEq, Eq)]
+pub struct Named {
+    pub name: Vec<u8>,
+    pub type_id: u32,
+    pub format: Format,
+}
+
+impl Named {
+    fn of(column: &Column<'_>) -> Named {
+        Named { name: column.name.to_vec(), type_id: column.type_id, format: column.format }
+    }
+}
+
+type Columns = Rc<RefCell<Vec<Named>>>;
+
+/// A prepared statement. What isn't known of it comes with the server's answers.
+#[derive(Clone, Debug, Default)]
+pub struct Statement {
+    pub sql: Rc<Vec<u8>>,
+    types: Rc<RefCell<Vec<u32>>>,
+    columns: Columns,
+}
+
+impl Statement {
+    /// The type of a parameter, by its position from 0 on; 0 where it isn't known.
+    pub fn type_of(&self, position: usize) -> u32 {
+        self.types.borrow().get(position).copied().unwrap_or_default()
+    }
+}
+
+/// A portal, with the formats of its results.
+#[derive(Clone, Debug, Default)]
+struct Portal {
+    columns: Columns,
+    formats: Vec<Format>,
+}
+
+/// What a client asked for, to which the server has answers to come.
+enum Asked {
+    Describe(Statement),
+    DescribePortal(Columns),
+    Execute(Portal),
+    Query,
+    /// What ends with a ReadyForQuery alone.
+    Sync,
+}
+
+/// What is known of a session.
+#[derive(Default)]
+pub struct Session {
+    statements: HashMap<Vec<u8>, Statement>,
+    portals: HashMap<Vec<u8>, Portal>,
+    asked: VecDeque<Asked>,
+    /// The columns of the rows of a Query.
+    columns: Vec<Named>,
+}
+
+/// The format of a value by its position: none is text, one is that of all.
+pub fn format_of(formats: &[Format], position: usize) -> Format {
+    match formats {
+        [one] => *one,
+        many => many.get(position).copied().unwrap_or(Format::TEXT),
+    }
+}
+
+impl Session {
+    /// The statement of a name.
+    pub fn statement(&self, name: &[u8]) -> Statement {
+        self.statements.get(name).cloned().unwrap_or_default()
+    }
+
+    /// The columns of a row that comes now.
+    pub fn columns(&self) -> Vec<Named> {
+        match self.asked.front() {
+            Some(Asked::Execute(portal)) => {
+                let mut columns = portal.columns.borrow().clone();
+                let formats = columns.iter_mut().enumerate();
+                formats.for_each(|(at, it)| it.format = format_of(&portal.formats, at));
+                columns
+            }
+            _ => self.columns.clone(),
+        }
+    }
+
+    /// Notes what a client says.
+    pub fn client(&mut self, message: &frontend::Message<'_>) {
+        use frontend::Message as M;
+        let asked = match message {
+            M::Parse(parse) => {
+                let statement = Statement {
+                    sql: Rc::new(parse.query.to_vec()),
+                    types: Rc::new(RefCell::new(parse.types.to_vec())),
+                    columns: Columns::default(),
+                };
+                self.statements.insert(parse.statement.to_vec(), statement);
+                return;
+            }
+            M::Bind(bind) => {
+                let columns = self.statement(&bind.statement).columns;
+                let portal = Portal { columns, formats: bind.result_formats.to_vec() };
+                self.portals.insert(bind.portal.to_vec(), portal);
+                return;
+            }
+            M::Describe(Target::Statement(name)) => Asked::Describe(self.statement(name)),
+            M::Describe(Target::Portal(name)) => Asked::DescribePortal(self.portal(name).columns),
+            M::Execute(execute) => Asked::Execute(self.portal(&execute.portal)),
+            M::Query(_) => Asked::Query,
+            M::Sync | M::FunctionCall(_) => Asked::Sync,
+            _ => return,
+        };
+        self.asked.push_back(asked);
+    }
+
+    fn portal(&self, name: &[u8]) -> Portal {
+        self.portals.get(name).cloned().unwrap_or_default()
+    }
+
+    /// Notes what a server answers.
+    pub fn server(&mut self, message: &backend::Message<'_>) {
+        use backend::Message as M;
+        match (message, self.asked.front()) {
+            (M::ParameterDescription(types), Some(Asked::Describe(statement))) => {
+                *statement.types.borrow_mut() = types.to_vec();
+            }
+            (M::RowDescription(columns), front) => {
+                let columns: Vec<Named> = columns.iter().map(Named::of).collect();
+                match front {
+                    Some(Asked::Describe(Statement { columns: known, .. }) | Asked::DescribePortal(known)) => {
+                        *known.borrow_mut() = columns;
+                        self.asked.pop_front();
+                    }
+                    _ => self.columns = columns,
+                }
+            }
+            (M::NoData, Some(Asked::Describe(_) | Asked::DescribePortal(_))) => drop(self.asked.pop_front()),
+            (M::CommandComplete(_) | M::EmptyQueryResponse | M::PortalSuspended, Some(Asked::Execute(_))) => {
+                self.asked.pop_front();
+            }
+            (M::ErrorResponse(_), _) => self.pass_over(),
+            (M::ReadyForQuery(_), _) => {
+                self.pass_over();
+                self.asked.pop_front();
+            }
+            _ => {}
+        }
+    }
+
+    /// What is asked for up to the next Sync isn't answered.
+    fn pass_over(&mut self) {
+        while !matches!(self.asked.front(), None | Some(Asked::Query | Asked::Sync)) {
+            self.asked.pop_front();
+        }
+    }
+}
+
+/// The sessions that are open.
+#[derive(Default)]
+pub struct Sessions(HashMap<u32, Session>);
+
+impl Sessions {
+    pub fn of(&mut self, connection: u32) -> &mut Session {
+        self.0.entry(connection).or_default()
+    }
+
+    pub fn close(&mut self, connection: u32) {
+        self.0.remove(&connection);
+    }
+}
+
+#[cfg(test)]
+mod tests {
+    use super::*;
+    use pgmsg::backend::TransactionStatus;
+    use pgmsg::frontend::{Bind, Execute, Parse};
+
+    fn parse(name: &'static str) -> frontend::Message<'static> {
+        frontend::Message::Parse(Parse { statement: name.into(), query: name.into(), ..Parse::default() })
+    }
+
+    fn described(name: &'static str) -> backend::Message<'static> {
+        backend::Message::RowDescription([Column::new(name, 25)].into())
+    }
+
+    /// The names and the formats of the columns that a row has now.
+    fn found(session: &Session) -> Vec<(String, i16)> {
+        let columns = session.columns().into_iter();
+        columns.map(|it| (String::from_utf8(it.name).unwrap(), it.format.0)).collect()
+    }
+
+    #[test]
+    fn rows_of_a_pipeline_have_the_columns_of_their_statements() {
+        use backend::Message as B;
+        use frontend::Message as F;
+        let ready = || B::ReadyForQuery(TransactionStatus::Idle);
+        let bind = |portal: &'static str, statement: &'static str, formats: &'static [Format]| {
+            let (portal, statement, result_formats) = (portal.into(), statement.into(), formats.into());
+            F::Bind(Bind { portal, statement, result_formats, ..Bind::default() })
+        };
+        let execute = |portal: &'static str| F::Execute(Execute { portal: portal.into(), max_rows: 0 });
+        let describe = |name: &'static str| F::Describe(Target::Statement(name.into()));
+        let mut session = Session::default();
+        for said in [parse("a"), describe("a"), parse("b"), describe("b"), F::Sync] {
+            session.client(&said);
+        }
+        for said in [bind("p", "b", &[Format::BINARY]), execute("p"), bind("", "a", &[]), execute(""), F::Sync] {
+            session.client(&said);
+        }
+        for answer in [B::ParseComplete, B::ParameterDescription([7].into()), described("a"), B::ParseComplete] {
+            session.server(&answer);
+        }
+        for answer in [B::ParameterDescription([].into()), described("b"), ready(), B::BindComplete] {
+            session.server(&answer);
+        }
+        assert_eq!((session.statement(b"a").type_of(0), session.statement(b"b").type_of(0)), (7, 0));
+        assert_eq!(found(&session), [("b".to_owned(), 1)]);
+        session.server(&B::CommandComplete("SELECT 1".into()));
+        assert_eq!(found(&session), [("a".to_owned(), 0)]);
+    }
+
+    #[test]
+    fn an_error_passes_over_what_is_asked_up_to_the_sync() {
+        use backend::Message as B;
+        use frontend::Message as F;
+        let mut session = Session::default();
+        let execute = F::Execute(Execute::default());
+        for said in [parse(""), F::Describe(Target::Portal("".into())), execute, F::Sync, F::Query("SELECT".into())] {
+            session.client(&said);
+        }
+        session.server(&B::ErrorResponse([].into()));
+        session.server(&B::ReadyForQuery(TransactionStatus::Idle));
+        session.server(&described("c"));
+        assert_eq!(found(&session), [("c".to_owned(), 0)]);
+    }
+}

@@ -1,0 +1,66 @@
+//! A recording for each session.
+
+use crate::bar::Bar;
+use crate::failure::{Failure, Result, Status};
+use crate::input::Tape;
+use crate::output::Output;
+use recording::{Copy, Kind, Record};
+use std::collections::HashMap;
+use std::fs;
+use std::path::{Path, PathBuf};
+
+/// How much of a session is written at once, of which many may be open.
+const ROOM: usize = 1 << 12;
+
+/// The number of the only connection of a recording.
+const ONLY: u32 = 1;
+
+/// The recording of a session.
+struct Part {
+    path: PathBuf,
+    copy: Copy<Output>,
+}
+
+impl Part {
+    fn create(folder: &Path, connection: u32, begun: u64) -> Result<Part> {
+        let path = folder.join(format!("{connection:06}.tape"));
+        if path.exists() {
+            return Err(Failure::new(Status::Local, format!("{} is there already", path.display())));
+        }
+        let out = Output::with_room(&path, ROOM)?;
+        let copy = Copy::new(out, begun).map_err(|why| Failure::unwritten(&path, &why))?;
+        Ok(Part { path, copy })
+    }
+
+    fn add(&mut self, record: &Record<'_>) -> Result<()> {
+        let added = self.copy.add(record.kind, ONLY, record.time, record.content);
+        added.map_err(|why| Failure::unwritten(&self.path, &why))
+    }
+
+    fn end(self) -> Result<()> {
+        let path = &self.path;
+        self.copy.end().map_err(|why| Failure::unwritten(path, &why))?.end()
+    }
+}
+
+/// Writes each session of a recording to a file of a folder, which is named after the connection's number.
+pub fn split(path: &Path, folder: &Path) -> Result<()> {
+    let mut tape = Tape::open(path, &Bar::new("split", &[path]))?;
+    fs::create_dir_all(folder).map_err(|why| Failure::unwritten(folder, &why))?;
+    let begun = tape.begun();
+    let mut parts = HashMap::new();
+    while let Some(record) = tape.read()? {
+        let connection = record.connection;
+        if record.kind == Kind::Opened {
+            parts.insert(connection, Part::create(folder, connection, begun)?);
+        }
+        if let Some(part) = parts.get_mut(&connection) {
+            part.add(&record)?;
+        }
+        if record.kind == Kind::Closed {
+            parts.remove(&connection).map_or(Ok(()), Part::end)?;
+        }
+    }
+    tape.say_cut();
+    parts.into_values().try_for_each(Part::end)
+}

@@ -1,0 +1,115 @@
+//! Bytes in JSON: a string where they are a text, else an object with their Base64.
+
+use serde::de::{self, Deserialize, Deserializer, MapAccess, Visitor};
+use serde::ser::{Serialize, SerializeMap, Serializer};
+use std::borrow::Cow;
+use std::fmt;
+use std::str;
+
+/// Bytes of a message, borrowed where they can be.
+#[derive(Clone, Debug, Default, PartialEq, Eq)]
+pub struct Text<'a>(pub Cow<'a, [u8]>);
+
+impl<'a> From<&'a [u8]> for Text<'a> {
+    fn from(bytes: &'a [u8]) -> Text<'a> {
+        Text(Cow::Borrowed(bytes))
+    }
+}
+
+/// Whether a byte is a control character that no text has: one of ASCII other than tab, line feed and carriage return.
+fn is_no_text(byte: u8) -> bool {
+    byte < b' ' && !matches!(byte, b'\t' | b'\n' | b'\r')
+}
+
+/// Whether bytes are a text of ASCII that JSON has as it is. All of them are looked at, which a compiler does many at a time.
+pub fn is_plain(bytes: &[u8]) -> bool {
+    let is_other = |byte: u8| !(b' '..0x7f).contains(&byte) || byte == b'"' || byte == b'\\';
+    !bytes.iter().fold(false, |found, byte| found | is_other(*byte))
+}
+
+impl Text<'_> {
+    /// The text, where the bytes are one: UTF-8 without control characters other than those of lines and columns.
+    fn as_str(&self) -> Option<&str> {
+        match self.0.iter().fold(false, |found, byte| found | is_no_text(*byte)) {
+            true => None,
+            false => str::from_utf8(&self.0).ok(),
+        }
+    }
+}
+
+impl Serialize for Text<'_> {
+    fn serialize<S: Serializer>(&self, to: S) -> Result<S::Ok, S::Error> {
+        if let Some(text) = self.as_str() {
+            return to.serialize_str(text);
+        }
+        let mut map = to.serialize_map(Some(1))?;
+        map.serialize_entry("base64", &base64::encode(&self.0))?;
+        map.end()
+    }
+}
+
+impl<'de: 'a, 'a> Deserialize<'de> for Text<'a> {
+    fn deserialize<D: Deserializer<'de>>(from: D) -> Result<Text<'a>, D::Error> {
+        from.deserialize_any(TextVisitor)
+    }
+}
+
+struct TextVisitor;
+
+impl<'de> Visitor<'de> for TextVisitor {
+    type Value = Text<'de>;
+
+    fn expecting(&self, f: &mut fmt::Formatter<'_>) -> fmt::Result {
+        f.write_str("a string or {\"base64\": \"..\"}")
+    }
+
+    fn visit_borrowed_str<E>(self, text: &'de str) -> Result<Text<'de>, E> {
+        Ok(Text(Cow::Borrowed(text.as_bytes())))
+    }
+
+    fn visit_str<E>(self, text: &str) -> Result<Text<'de>, E> {
+        Ok(Text(Cow::Owned(text.as_bytes().to_vec())))
+    }
+
+    fn visit_map<M: MapAccess<'de>>(self, mut map: M) -> Result<Text<'de>, M::Error> {
+        match map.next_key::<Cow<'de, str>>()? {
+            Some(key) if key == "base64" => {}
+            _ => return Err(de::Error::custom("bytes are a string, or an object with `base64` alone")),
+        }
+        let digits: Cow<'de, str> = map.next_value()?;
+        let bytes = base64::decode(digits.as_bytes()).map_err(|why| de::Error::custom(format_args!("no Base64: {why}")))?;
+        match map.next_key::<de::IgnoredAny>()? {
+            None => Ok(Text(Cow::Owned(bytes))),
+            Some(_) => Err(de::Error::custom("bytes in Base64 have no other field")),
+        }
+    }
+}
+
+#[cfg(test)]
+mod tests {
+    use super::*;
+
+    #[test]
+    fn bytes_are_a_string_where_they_are_a_text_and_come_back() {
+        let table: [(&[u8], &str); 6] = [
+            (b"", r#""""#),
+            (b"a\t\"b\"\r\n", r#""a\t\"b\"\r\n""#),
+            ("é".as_bytes(), r#""é""#),
+            (b"caf\xe9", r#"{"base64":"Y2Fm6Q=="}"#),
+            (b"\0\0\0\x05", r#"{"base64":"AAAABQ=="}"#),
+            (b"\x1b[2J", r#"{"base64":"G1sySg=="}"#),
+        ];
+        for (bytes, json) in table {
+            assert_eq!(serde_json::to_string(&Text::from(bytes)).unwrap(), json);
+            assert_eq!(serde_json::from_str::<Text<'_>>(json).unwrap(), Text::from(bytes));
+        }
+        assert_eq!(serde_json::from_str::<Text<'_>>(r#""\u0000\u00e9""#).unwrap().0, &b"\0\xc3\xa9"[..]);
+    }
+
+    #[test]
+    fn other_shapes_are_refused() {
+        for wrong in ["5", "null", "[]", "{}", r#"{"hex":"00"}"#, r#"{"base64":"?"}"#, r#"{"base64":"","a":1}"#] {
+            assert!(serde_json::from_str::<Text<'_>>(wrong).is_err(), "{wrong}");
+        }
+    }
+}

@@ -1,0 +1,99 @@
+//! A page in HTML that shows a recording: it holds all that it needs, and asks no network for anything.
+
+use crate::bar::Bar;
+use crate::exchanges::Exchanges;
+use crate::failure::Result;
+use crate::input::Tape;
+use crate::item::Item;
+use crate::line::Writer;
+use crate::output::Output;
+use std::path::Path;
+
+const PAGE: &str = include_str!("page.html");
+const STYLE: &str = include_str!("page.css");
+const SCRIPT: [&str; 4] =
+    [include_str!("data.js"), include_str!("list.js"), include_str!("lanes.js"), include_str!("page.js")];
+
+/// The longest line that is in the page; of others it has the length.
+const LONGEST: usize = 16 << 10;
+/// How many bytes are held to be written at once.
+const ROOM: usize = 1 << 16;
+
+/// Writes the page of a recording.
+pub fn view(path: &Path, to: &Path) -> Result<()> {
+    let mut tape = Tape::open(path, &Bar::new("view", &[path]))?;
+    let mut out = Output::create(to)?;
+    let name = path.file_name().unwrap_or_default().to_string_lossy();
+    let page = PAGE.replace("{{title}}", &text(&name)).replace("{{style}}", STYLE).replace("{{script}}", &SCRIPT.concat());
+    let (before, after) = page.split_once("{{data}}").unwrap_or((&page, ""));
+    out.put(before.as_bytes())?;
+    let mut rows = Rows::default();
+    tape.items(|item| {
+        rows.add(&item);
+        if rows.out.len() > ROOM {
+            out.put(&rows.out)?;
+            rows.out.clear();
+        }
+        Ok(())
+    })?;
+    tape.say_cut();
+    out.put(&rows.out)?;
+    out.put(if rows.count == 0 { b"[]\n" } else { b"]\n" })?;
+    out.put(after.as_bytes())?;
+    out.end()
+}
+
+/// A text in HTML.
+fn text(text: &str) -> String {
+    text.replace('&', "&amp;").replace('<', "&lt;").replace('"', "&quot;")
+}
+
+/// The lines of an export as an array, each with the number of its exchange.
+#[derive(Default)]
+struct Rows {
+    out: Vec<u8>,
+    count: u64,
+    writer: Writer,
+    exchanges: Exchanges,
+    line: Vec<u8>,
+}
+
+impl Rows {
+    fn add(&mut self, item: &Item<'_>) {
+        self.line.clear();
+        self.writer.item(&mut self.line, item);
+        let exchange = self.exchanges.number(item.connection, &item.what);
+        let fields = match self.line.strip_prefix(b"{") {
+            Some(fields) => fields,
+            None => return,
+        };
+        self.out.extend_from_slice(if self.count == 0 { b"[{" } else { b",{" });
+        self.count += 1;
+        if let Some(exchange) = exchange {
+            self.out.extend_from_slice(format!("\"exchange\":{exchange},").as_bytes());
+        }
+        match fields.len() > LONGEST {
+            true => put_long(&mut self.out, fields),
+            false => put_script(&mut self.out, fields),
+        }
+    }
+}
+
+/// Adds the place and the kind of a line, and its length.
+fn put_long(out: &mut Vec<u8>, fields: &[u8]) {
+    let kind = b"\"kind\":\"";
+    let start = fields.windows(kind.len()).position(|it| it == kind).map_or(0, |at| at + kind.len());
+    let end = start + fields[start..].iter().position(|it| *it == b'"').unwrap_or(0);
+    out.extend_from_slice(&fields[..end]);
+    out.extend_from_slice(format!("\",\"long\":{}}}\n", fields.len()).as_bytes());
+}
+
+/// Adds JSON so that nothing in it ends a script.
+fn put_script(out: &mut Vec<u8>, json: &[u8]) {
+    let mut parts = json.split(|it| *it == b'<');
+    out.extend_from_slice(parts.next().unwrap_or_default());
+    for part in parts {
+        out.extend_from_slice(b"\\u003c");
+        out.extend_from_slice(part);
+    }
+}
