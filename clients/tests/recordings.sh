@@ -1,0 +1,226 @@
+# Recordings that pg_tape exports, imports, edits, redacts and shows. Sourced by `test`.
+
+# Tests that the export of a recording, imported again, has the same bytes. How many did is counted.
+recordings_exported=0
+exported_back() {
+    local lines=$work/exported.jsonl
+    if ! "$programs/pg_tape" export "$2" -o "$lines" 2> "$work/errors.exported" \
+        || ! "$programs/pg_tape" import "$lines" -o "$work/imported.tape" 2>> "$work/errors.exported"; then
+        bad "exported and imported: $1" "$(cat "$work/errors.exported")"
+    elif ! cmp "$2" "$work/imported.tape" > "$work/difference"; then
+        bad "exported and imported: $1" "$(cat "$work/difference")"
+    else
+        recordings_exported=$((recordings_exported + 1))
+    fi
+}
+
+# A script that says secrets in each way, and has an error, a notice, COPY each way and a notification.
+write_secret_script() {
+    cat > "$work/secret.sql" << 'SQL'
+DROP TABLE IF EXISTS people;
+CREATE TABLE people (id int, email text, born date, phone text);
+INSERT INTO people VALUES (1, 'ann.lee@example.org', '1971-03-21', '+49 30 123456');
+\copy people FROM stdin
+2	bob.fox@example.org	1980-05-06	+49 30 654321
+\.
+SELECT id, email, born FROM people ORDER BY id;
+DROP ROLE IF EXISTS taped_role;
+CREATE ROLE taped_role LOGIN PASSWORD 'Secret-In-Clear';
+SELECT rolpassword FROM pg_authid WHERE rolname = 'taped_role';
+ALTER ROLE taped_role PASSWORD $$Another-Secret$$;
+DROP ROLE taped_role;
+DO $$ BEGIN EXECUTE 'ALTER ROLE no_such_role PASSWORD ''Third-One'''; END $$;
+SELECT 1/0;
+DO $$ BEGIN RAISE NOTICE 'card 4111111111111111'; END $$;
+LISTEN a; NOTIFY a, 'card 4111111111111111';
+SQL
+    cat > "$work/redact.toml" << 'TOML'
+[[redact.column]]
+name = "email"
+[[redact.column]]
+name = "born"
+[[redact.statement]]
+pattern = "(?i)^insert into people"
+[[redact.text]]
+pattern = '\+49 \d+ \d+|\w+\.\w+@example\.org|1980-05-06'
+[[redact.text]]
+pattern = 'card (\d+)'
+[[redact.column]]
+name = "no_such_column"
+TOML
+}
+
+secrets='ann\.lee|bob\.fox|1971-03-21|1980-05-06|123456|654321|Secret-In|Another-S|Third-One|4111111|SCRAM-SHA-256\$[0-9]*:[+/]*[A-WYZa-wyz]'
+
+# Secrets that rules name, and those that are found without one.
+test_tape_redact() {
+    local tape=$work/secret.tape redacted=$work/redacted.tape kinds all each missing=
+    write_secret_script
+    record_command "$tape" "$bin/psql" -X -f "$work/secret.sql"
+    "$programs/pg_tape" export "$tape" -o "$work/secret.jsonl"
+    IFS='|' read -ra all <<< "$secrets"
+    for each in "${all[@]}"; do
+        grep -qE "$each" "$work/secret.jsonl" || missing+=" $each"
+    done
+    verdict 'redact: the recording has each secret' "$missing"
+    try "$programs/pg_tape" redact "$tape" -r "$work/redact.toml" -o "$redacted"
+    expect 'redact: a rule that matches nothing is said' 0 'the rule [[redact.column]] name = "no_such_column" matched nothing'
+    same 'redact: no other one is' "$(wc -l < "$work/errors")" 1
+    "$programs/pg_tape" export "$redacted" -o "$work/redacted.jsonl"
+    same 'redact: no secret is left' "$(grep -oE "$secrets" "$redacted" "$work/redacted.jsonl" | head -n 3)" ''
+    same 'redact: keys are zeros' "$(grep '"BackendKeyData"' "$work/redacted.jsonl" | grep -vc '"secret_key":{"base64":"A*=*"}')" 0
+    same 'redact: lengths stay' "$(wc -c < "$redacted")" "$(wc -c < "$tape")"
+    kinds='s/^.*"kind":"\([A-Za-z]*\)".*/\1/'
+    sed "$kinds" "$work/secret.jsonl" > "$work/kinds"
+    same 'redact: so do the kinds of messages' "$(sed "$kinds" "$work/redacted.jsonl" | cmp - "$work/kinds")" ''
+    exported_back 'redacted' "$redacted"
+    try "$programs/pg_tape" diff "$tape" "$redacted"
+    expect 'redact: what differs is shown' 1
+    same 'redact: as lines of both' "$(grep -c '^[-+] server DataRow' "$work/output" | sed 's/^[1-9][0-9]*$/some/')" some
+    same_words_replay "$redacted"
+}
+
+# A redacted recording is replayed to a client that says what is in it.
+same_words_replay() {
+    start_replay "$1"
+    sed -e "s/^INSERT .*/INSERT INTO people VALUES (1, 'xxx.xxx@xxxxxxx.xxx', '2000-01-01', '+00 00 000000');/" \
+        -e 's/^2\t.*/2\txxx.xxx@xxxxxxx.xxx\t2000-01-01\t+00 00 000000/' \
+        -e "s/Secret-In-Clear/Xxxxxx-Xx-Xxxxx/; s/Another-Secret/Xxxxxxx-Xxxxxx/; s/Third-One/Xxxxx-Xxx/" \
+        -e "s/card 4111111111111111/card 1000000000000000/" "$work/secret.sql" > "$work/redacted.sql"
+    at_port "$replay_port" "$bin/psql" -X -f "$work/redacted.sql" > "$work/output" 2>&1
+    end_replay
+    expect 'redact: what is redacted is replayed' 0 'sessions are replayed'
+    same 'redact: and answers so' "$(grep -c 'xxx.xxx@xxxxxxx.xxx | 2000-01-01' "$work/output")" 2
+}
+
+# A parameter, and a column of a statement whose rows come without a description.
+test_tape_redact_prepared() {
+    local client=("$(command -v python3)" -S -E -B tests/replay_client.py) tape=$work/words.tape
+    local words=(startup:user=postgres,database=postgres read)
+    words+=('parse:p:SELECT email FROM people WHERE phone = $1' describe:S:p sync read)
+    record_words "${words[@]}" 'bind::p:+49 30 654321' execute::0 sync read terminate end
+    printf '%s\n' '[[redact.parameter]]' 'statement = "WHERE phone"' 'positions = [1]' '[[redact.column]]' 'name = "email"' \
+        > "$work/prepared.toml"
+    try "$programs/pg_tape" redact "$tape" -r "$work/prepared.toml" -o "$tape"
+    same 'redact: a parameter, and a column that is described before' \
+        "$status $errors $(grep -cE "$secrets" "$tape")" '0  0'
+    fits 'a parameter that is redacted' '' "${words[@]}" 'bind::p:+00 00 000000' execute::0 sync read terminate end
+    same 'redact: the row is answered' "$(grep -c 'xxx.xxx@xxxxxxx.xxx' <<< "$replayed")" 1
+}
+
+# Logins whose passwords are recorded.
+test_tape_redact_logins() {
+    local user tape=$work/logins.tape
+    [ -n "$(sql "SELECT 1 FROM pg_roles WHERE rolname = 'by_scram'")" ] || make_users
+    start_taping "$tape" -h 127.0.0.1 --passwords
+    for user in by_clear by_md5 by_scram; do
+        PGPASSWORD="pass word '1" PGUSER=$user try query_through 'SELECT 7'
+    done
+    stop_taping "$tape"
+    try "$programs/pg_tape" redact "$tape" -o "$work/logged_in.tape"
+    expect 'redact: logins' 0
+    "$programs/pg_tape" export "$work/logged_in.tape" > "$work/logins.jsonl"
+    same 'redact: a password in clear, one by MD5, and what SASL proves' \
+        "$(grep -cE "\"password\":\"[x0 ']*\"" "$work/logins.jsonl") $(grep -cE 'SASL(Continue|Final)","data":"x=[xX0+/=,]*"' \
+            "$work/logins.jsonl") $(grep -c 'pass word' "$work/logins.jsonl")" '2 2 0'
+}
+
+# Merged, split, cut down and compared: a case a line.
+test_tape_edits() {
+    local tape=$work/edits.tape number kind
+    start_tape "$tape"
+    for number in 1 2 3; do
+        at_port "$tape_port" "$bin/psql" -X -q -c "SELECT $number" > /dev/null
+    done
+    stop_tape
+    try "$programs/pg_tape" split "$tape" -o "$work/parts"
+    expect 'split: a recording a session' 0
+    same 'split: their names' "$(ls "$work/parts" | tr '\n' ' ')" '000001.tape 000002.tape 000003.tape '
+    try "$programs/pg_tape" merge "$work"/parts/*.tape -o "$work/merged.tape"
+    same 'merge: of the parts it is the whole' "$status $(cmp "$tape" "$work/merged.tape")" '0 '
+    try "$programs/pg_tape" drop "$tape" 2 -o "$work/two.tape"
+    expect 'drop: a session' 0
+    read_recording "$work/two.tape" > "$work/records"
+    same 'drop: two are left' "$(count_records O) $(count_records C)" '2 2'
+    while IFS='|' read -r name wanted words one other; do
+        try "$programs/pg_tape" diff "$work/$one" "$work/$other"
+        same "diff: $name" "$status $(grep -cF -- "$words" "$work/output")" "$wanted"
+    done << 'CASES'
+the same|0 0|x|edits.tape|merged.tape
+a session less|1 1|connection 3 is in|edits.tape|two.tape
+another number|1 1|+ server DataRow {"values":["3"]}|edits.tape|two.tape
+another question|1 1|- client Query {"query":"SELECT 1"}|parts/000001.tape|parts/000002.tape
+CASES
+    try "$programs/pg_tape" drop "$tape" 9 -o "$work/none.tape"
+    expect 'drop: a session that is not there' 2 'has no connection 9'
+    same 'drop: nothing is written then' "$(ls "$work/none.tape"* 2> /dev/null)" ''
+}
+
+# Exports of recordings, their schema, and lines that were changed.
+test_tape_exports() {
+    local tape
+    for tape in "$work"/{secret,words,edits,merged,two,redacted}.tape; do
+        exported_back "${tape##*/}" "$tape"
+    done
+    record_command "$work/script.tape" "$bin/psql" -X -f "$work/secret.sql"
+    truncate -s -7 "$work/script.tape"
+    exported_back 'a recording that is cut' "$work/script.tape"
+    try "$programs/pg_tape" import tape/tape/kinds.jsonl -o "$work/kinds.tape"
+    expect 'import: messages of all kinds' 0
+    same 'export: the same lines' "$("$programs/pg_tape" export "$work/kinds.tape" | cmp - tape/tape/kinds.jsonl)" ''
+    cat "$work"/*.jsonl tape/tape/kinds.jsonl > "$work/lines"
+    try python3 -B tests/recording_lines.py tape/tape/recording.schema.json "$work/lines"
+    if [ "$status" = 3 ]; then
+        echo 'left out: lines by their schema, since python3-jsonschema is not there'
+    else
+        expect "export: lines are those of the schema: $output" 0
+    fi
+    try python3 -B tests/recording_faults.py "$programs/pg_tape" "$work/secret.jsonl" "$work/fault.tape"
+    expect "import: faults are named: $output" 0
+    try "$programs/pg_tape" export "$work/secret.jsonl"
+    expect 'export: what is no recording' 10 'is no recording'
+    try "$programs/pg_tape" export "$work/no.tape"
+    expect 'export: what is not there' 7 "can't be read"
+}
+
+# Lines of a recording of a hundred thousand messages.
+many_lines() {
+    echo '{"kind":"Recording","version":1,"begun":0}'
+    echo '{"connection":1,"time":0,"kind":"Opened","address":"[local]"}'
+    echo '{"connection":1,"time":0,"side":"client","kind":"StartupMessage","minor":0,"settings":[]}'
+    awk 'BEGIN {
+        query = "{\"connection\":1,\"time\":%d,\"side\":\"client\",\"kind\":\"Query\",\"query\":\"SELECT %d\"}\n"
+        answer = "{\"connection\":1,\"time\":%d,\"side\":\"server\","
+        row = answer "\"kind\":\"DataRow\",\"values\":[\"%d\"]}\n"
+        ready = answer "\"kind\":\"ReadyForQuery\",\"status\":\"I\"}\n"
+        for (at = 1; at <= 33333; at++) {
+            printf query, at * 90, at
+            printf row, at * 90 + at % 70, at
+            printf ready, at * 90 + at % 70
+        }
+    }'
+}
+
+# The page of a recording: in a browser where there is one, else by its data.
+test_tape_view() {
+    local name
+    many_lines > "$work/many.jsonl"
+    try "$programs/pg_tape" import "$work/many.jsonl" -o "$work/many.tape"
+    expect 'view: many messages' 0
+    for name in secret many; do
+        try "$programs/pg_tape" view "$work/$name.tape" -o "$work/page.html"
+        expect "view: a page is written, of $name" 0
+        try python3 -B tests/recording_page.py "$work/page.html" "$work/$name.jsonl"
+        expect "view: $output" 0
+    done
+}
+
+test_recordings() {
+    test_tape_redact
+    test_tape_redact_prepared
+    test_tape_redact_logins
+    test_tape_edits
+    test_tape_exports
+    test_tape_view
+    ok "$recordings_exported recordings are exported and imported with the same bytes"
+}
