@@ -10,6 +10,7 @@
     bodies.py damaged SEED COUNT     COUNT damaged copies of good bodies
 """
 
+import argparse
 import itertools
 import random
 import sys
@@ -194,9 +195,11 @@ def cases(words):
 
 
 def main():
-    found = cases(sys.argv[1:])
+    parser = argparse.ArgumentParser(description=__doc__, formatter_class=argparse.RawDescriptionHelpFormatter)
+    parser.add_argument("words", nargs="+")
+    found = cases(parser.parse_args().words)
     if found is None:
-        sys.exit(__doc__)
+        parser.error("no bodies have this name")
     sys.stdout.writelines(line(tag, body) + "\n" for tag, body in found)
 
 

@@ -9,6 +9,7 @@ of each tag, and that one with each byte changed; and of many damaged ones, the 
 with a form of a part of an answer that few before them show.
 """
 
+import argparse
 import pathlib
 import random
 import re
@@ -107,9 +108,10 @@ def sample(programs):
 
 
 def main():
-    if len(sys.argv) != 3:
-        sys.exit(__doc__)
-    programs = sys.argv[1:]
+    parser = argparse.ArgumentParser(description=__doc__, formatter_class=argparse.RawDescriptionHelpFormatter)
+    for name in ("ORIGINAL", "OURS"):
+        parser.add_argument(name)
+    programs = [*vars(parser.parse_args()).values()]
     bodies = sample(programs)
     answers = lines_of([programs[0], "decode"], bodies)
     (FOLDER / "stdin").write_text("".join(line(*case) + "\n" for case in bodies))

@@ -28,4 +28,6 @@ def timed(out):
 
 
 if __name__ == "__main__":
-    print(crates.program(laid_out("pg_answers", Path(sys.argv[1]).resolve())))
+    parser = crates.arguments(__doc__)
+    parser.add_argument("OUT", type=Path)
+    print(crates.program(laid_out("pg_answers", parser.parse_args().OUT.resolve())))

@@ -54,7 +54,7 @@ test_psql_of() {
 test_pgbench_of() {
     local mode
     if [ ! -x "$bin/pgbench" ]; then
-        echo "left out: pgbench on $1, which is not there"
+        echo "left out: pgbench on $1, without pgbench (apt-get install postgresql)"
         return
     fi
     printf '\\set n random(1, 9)\nSELECT 1 + :n;\nSELECT 1;\n' > "$work/script"
@@ -75,7 +75,7 @@ test_canned() {
 
 test_canned_servers() {
     if ! find_psql; then
-        echo 'left out: psql and pgbench on the example server, which are not there'
+        echo 'left out: psql and pgbench on the example server, without psql (apt-get install postgresql)'
     elif build_rust_examples; then
         test_canned 'canned answers' "$rust_examples/canned_server"
     else

@@ -21,7 +21,7 @@ has_crates() {
     local crate
     lacking=
     for crate in "$@"; do
-        compgen -G "$registry/$crate[-.][0-9]*" > /dev/null || lacking+=" librust-$crate-dev"
+        compgen -G "$registry/$crate[-.][0-9]*" > /dev/null || lacking+=" librust-${crate//_/-}-dev"
     done
     [ -z "$lacking" ]
 }

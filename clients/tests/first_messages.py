@@ -17,6 +17,8 @@ import socket
 import subprocess
 import sys
 
+import asked
+
 TOP = pathlib.Path(__file__).resolve().parents[2]
 
 USER = b"user\0postgres\0"
@@ -104,7 +106,7 @@ def compare(port, greatest):
 
 def main():
     lengths = {file: int(re.search(form, (TOP / file).read_text())[1]) for file, form in GREATEST.items()}
-    wrong = [*compare(int(sys.argv[1]), next(iter(lengths.values())))]
+    wrong = [*compare(int(asked.words(__doc__, "PORT")[0]), next(iter(lengths.values())))]
     if len(set(lengths.values())) != 1:
         wrong.append(f"the greatest lengths differ: {lengths}")
     print(*wrong, sep="\n", file=sys.stderr)

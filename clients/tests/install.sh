@@ -45,7 +45,7 @@ test_install() {
 
 test_pkg_config() {
     if ! command -v pkg-config > /dev/null; then
-        echo 'left out: a program by pkg-config, which is not there'
+        echo 'left out: a program by pkg-config (apt-get install pkg-config)'
         return
     fi
     # The words of pkg-config are apart by spaces.
@@ -58,7 +58,7 @@ test_pkg_config() {
 
 test_cmake() {
     if ! command -v cmake > /dev/null; then
-        echo 'left out: a program by CMake, which is not there'
+        echo 'left out: a program by CMake (apt-get install cmake)'
         return
     fi
     mkdir -p "$work/cmake"

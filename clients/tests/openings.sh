@@ -51,7 +51,7 @@ serves_later() {
 
 test_no_descriptors() {
     if ! command -v prlimit > /dev/null; then
-        echo 'left out: programs without descriptors, since there is no prlimit'
+        echo 'left out: programs without descriptors, without prlimit (apt-get install util-linux)'
         return
     fi
     start_tape "$work/descriptors.tape"

@@ -11,6 +11,8 @@ import pathlib
 import subprocess
 import sys
 
+import asked
+
 # The codes of an SSLRequest and a GSSENCRequest, each answered by a byte that is no message.
 REQUESTS = {(80877103).to_bytes(4, "big"), (80877104).to_bytes(4, "big")}
 
@@ -67,7 +69,7 @@ def judge(command, stream, messages):
 
 
 def main():
-    folder, *program = sys.argv[1:]
+    folder, program = asked.words(__doc__, "FOLDER", "PROGRAM..")
     wrong, all_messages, all_bytes = [], 0, 0
     for seed, (side, stream, messages) in enumerate(streams(pathlib.Path(folder))):
         for tags in ([], [TAGS]):

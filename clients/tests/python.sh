@@ -69,7 +69,7 @@ make_refusing() {
 
 test_python() {
     if ! find_builder; then
-        echo 'left out: the tests of the Python package, which needs Python 3.11, cffi, setuptools, wheel and pkg-config'
+        echo 'left out: the tests of the Python package, which needs Python 3.11 (apt-get install python3 python3-cffi python3-setuptools python3-wheel pkg-config)'
         return
     fi
     prepare_package
@@ -91,7 +91,7 @@ test_pip() {
     local each
     for each in python3 /usr/bin/python3; do
         if ! "$each" -c 'import cffi, venv' 2> /dev/null || ! "$each" -m venv --system-site-packages "$work/venv" > /dev/null 2>&1; then
-            echo "left out: the wheel by pip of $each, without cffi or venv"
+            echo "left out: the wheel by pip of $each, without cffi or venv (apt-get install python3-cffi python3-venv)"
             continue
         fi
         try "$work/venv/bin/python" -m pip install --no-index --quiet --disable-pip-version-check "$1"
@@ -105,7 +105,7 @@ test_pip() {
 # The types of the package, and those that its user sees, by mypy.
 test_types() {
     if ! command -v mypy > /dev/null; then
-        echo 'left out: the types of the Python package, without mypy'
+        echo 'left out: the types of the Python package, without mypy (apt-get install mypy)'
         return
     fi
     try mypy --strict --cache-dir "$work/mypy" python/pgmsg

@@ -22,6 +22,8 @@ import threading
 import time
 from concurrent.futures import ThreadPoolExecutor
 
+import asked
+
 sys.path.insert(0, str(pathlib.Path(__file__).resolve().parents[1] / "python/examples"))
 import read_recording  # noqa: E402
 
@@ -205,7 +207,7 @@ def try_recorder(program, path, times, seed):
 
 
 def main():
-    match sys.argv[1:]:
+    match asked.words(__doc__, clients="PORT COUNT SEED", both="PG_RECORD RECORDING COUNT SEED"):
         case "clients", port, times, seed:
             print(ask_all(int(seed), int(port), int(times)), "bytes")
         case "both", program, path, times, seed:

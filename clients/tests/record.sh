@@ -28,7 +28,7 @@ query_through() {
 
 run_pgbench() {
     if [ ! -x "$bin/pgbench" ]; then
-        echo 'left out: recordings of pgbench, which is not there'
+        echo 'left out: recordings of pgbench (apt-get install postgresql)'
         return
     fi
     try through "$bin/pgbench" -i -q -s 1

@@ -12,6 +12,8 @@ import re
 import subprocess
 import sys
 
+import asked
+
 sys.path.insert(0, str(pathlib.Path(__file__).resolve().parents[1] / "python/examples"))
 import read_recording  # noqa: E402
 
@@ -48,7 +50,7 @@ def first_reader(program, path):
 
 
 def main():
-    program, path, scratch = sys.argv[1:]
+    program, path, scratch = asked.words(__doc__, "PG_RECORD", "RECORDING", "SCRATCH")
     whole = pathlib.Path(path).read_bytes()
     places = places_of(whole)
     for at in range(len(whole)):

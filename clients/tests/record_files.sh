@@ -153,7 +153,7 @@ test_taped_encryption() {
     read_back "a server's no" "$tape"
     same 'the no of the server is passed on' "$status $output $(count_records O)$(count_records E)" '0 7 10'
     if ! encrypt_server; then
-        echo 'left out: encryption that is passed through, since there is no openssl, or a server without TLS'
+        echo 'left out: encryption that is passed through, since there is no openssl (apt-get install openssl), or a server without TLS'
         return
     fi
     start_taping "$tape" -h 127.0.0.1 --encryption

@@ -11,6 +11,8 @@ import ssl
 import struct
 import sys
 
+import asked
+
 REQUEST = struct.pack(">II", 8, 80877103)
 SETTINGS = b"user\0postgres\0database\0postgres\0\0"
 STARTUP = struct.pack(">II", 8 + len(SETTINGS), 196608) + SETTINGS
@@ -72,9 +74,9 @@ def without_protocol(port, root):
 
 
 def main():
-    port, root = int(sys.argv[1]), sys.argv[2]
+    port, root = asked.words(__doc__, "PORT", "ROOT")
     ways = [after_request, at_once, asked_within, bytes_between, without_protocol]
-    wrong = [way.__name__ for way in ways if not way(port, root)]
+    wrong = [way.__name__ for way in ways if not way(int(port), root)]
     if wrong:
         sys.exit(f"wrong: {', '.join(wrong)}")
     print(len(ways))

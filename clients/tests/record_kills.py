@@ -18,6 +18,8 @@ import threading
 import time
 import socket
 
+import asked
+
 sys.path.insert(0, str(pathlib.Path(__file__).resolve().parents[1] / "python/examples"))
 import read_recording  # noqa: E402
 
@@ -88,11 +90,11 @@ def read_by_both(program, path):
 
 
 def main():
-    program, path, turns = sys.argv[1], pathlib.Path(sys.argv[2]), int(sys.argv[3])
+    program, path, turns = asked.words(__doc__, "PG_RECORD", "RECORDING", "TURNS")
     count, cut = 0, 0
-    for _ in range(turns):
-        got = killed(program, path)
-        records, is_cut = read_by_both(program, path)
+    for _ in range(int(turns)):
+        got = killed(program, pathlib.Path(path))
+        records, is_cut = read_by_both(program, pathlib.Path(path))
         sent = sent_of(records)
         if any(count > most for count, most in itertools.zip_longest(got, sent, fillvalue=0)):
             sys.exit(f"clients got {got} bytes, of which {sent} are recorded")

@@ -14,6 +14,8 @@ import subprocess
 import sys
 import threading
 
+import asked
+
 sys.path.insert(0, str(pathlib.Path(__file__).resolve().parents[1] / "python/examples"))
 import read_recording  # noqa: E402
 
@@ -97,7 +99,7 @@ def check(path, sessions):
 
 
 def main():
-    program, path, count = sys.argv[1], sys.argv[2], int(sys.argv[3])
+    program, path, count = asked.words(__doc__, "PG_RECORD", "RECORDING", "COUNT")
     seed = random.randrange(1 << 32)
     random.seed(seed)
     listener = socket.create_server(("127.0.0.1", 0))
@@ -105,7 +107,7 @@ def main():
     recorder = subprocess.Popen([program, *address, "-o", path, "0"], stderr=subprocess.PIPE, text=True)
     try:
         port = int(recorder.stderr.readline().split()[-1])
-        sessions = [run_session(listener, port) for _ in range(count)]
+        sessions = [run_session(listener, port) for _ in range(int(count))]
     except SystemExit as fault:
         sys.exit(f"seed {seed}: {fault}")
     finally:

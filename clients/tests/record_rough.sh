@@ -172,7 +172,7 @@ stop_at_work() {
 test_record_threads() {
     local tape=$work/threads.tape number
     if [ ! -x "$bin/pgbench" ]; then
-        echo 'left out: recordings by several threads, since there is no pgbench'
+        echo 'left out: recordings by several threads, without pgbench (apt-get install postgresql)'
         return
     fi
     for number in 1 8; do

@@ -149,7 +149,7 @@ test_counted_cancel() {
 test_record_tls() {
     local trusted=$work/authority/servers certificate
     if ! command -v openssl > /dev/null; then
-        echo 'left out: TLS of pg_record, since there is no openssl'
+        echo 'left out: TLS of pg_record, without openssl (apt-get install openssl)'
         return
     fi
     make_authority servers localhost && make_authority own localhost elsewhere && make_authority other

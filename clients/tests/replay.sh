@@ -173,7 +173,7 @@ pgbench_without_times() {
 test_replay_pgbench() {
     local mode
     if [ ! -x "$bin/pgbench" ]; then
-        echo 'left out: replays of pgbench, which is not there'
+        echo 'left out: replays of pgbench (apt-get install postgresql)'
         return
     fi
     "$bin/pgbench" -i -q -s 1 2> /dev/null
@@ -200,7 +200,7 @@ test_replay_python() {
 
 test_replay_tokio_postgres() {
     if [ -z "$on_original" ]; then
-        echo 'left out: replays of tokio-postgres, which need what its tests need'
+        echo "left out: replays of tokio-postgres, which need the packages$driver_lacks"
         return
     fi
     both_ways tokio-postgres '' "$on_original/spoken"
@@ -237,7 +237,7 @@ is_listening() {
 test_replay() {
     local begun=$SECONDS passed_before=$passed as_postgres client slow_taping slow_replaying slow_clients=()
     if ! has_python; then
-        echo 'left out: replays, whose tests need Python 3.11'
+        echo 'left out: replays, whose tests need Python 3.11 (apt-get install python3)'
         return
     fi
     as_postgres='startup:user=postgres,database=postgres'

@@ -17,6 +17,8 @@ import struct
 import sys
 import time
 
+import asked
+
 
 def frame(tag, *parts):
     body = b"".join(part if isinstance(part, bytes) else part.encode() + b"\0" for part in parts)
@@ -143,6 +145,6 @@ def say(words):
 
 
 try:
-    say(sys.argv[1:])
+    say(*asked.words(__doc__, "WORD.."))
 except ConnectionError as error:
     print("broken", type(error).__name__)

@@ -48,7 +48,7 @@ again_in_another_order() {
 test_real_node() {
     local number
     if ! node -e 'require("pg")' 2> /dev/null; then
-        echo 'left out: replays of node-pg, since there is no node with the module pg'
+        echo 'left out: replays of node-pg, without node or its module pg (apt-get install node-pg)'
         return
     fi
     record_command "$work/node-pg.tape" node tests/real/node_pool.js
@@ -68,7 +68,7 @@ test_real_go() {
     local name number
     for name in pgx pq; do
         if ! command -v go > /dev/null || ! build_go "$name"; then
-            echo "left out: replays of Go's $name, since there is no go with golang-github-jackc-pgx-v4-dev and golang-github-lib-pq-dev"
+            echo "left out: replays of Go's $name, without go or its packages (apt-get install golang-go golang-github-jackc-pgx-v4-dev golang-github-lib-pq-dev)"
             continue
         fi
         record_command "$work/go-$name.tape" "$work/go_$name"
@@ -83,7 +83,7 @@ test_real_java() {
     local classes=/usr/share/java/postgresql.jar:$work/java
     if ! command -v java javac > /dev/null || [ ! -e /usr/share/java/postgresql.jar ] \
         || ! javac -cp "$classes" -d "$work/java" tests/real/java/Says.java > "$work/output" 2>&1; then
-        echo 'left out: replays of PgJDBC, since there is no javac with libpostgresql-jdbc-java'
+        echo 'left out: replays of PgJDBC, without javac or the driver (apt-get install default-jdk-headless libpostgresql-jdbc-java)'
         return
     fi
     both_ways pgjdbc '' java -cp "$classes" Says
@@ -133,7 +133,7 @@ through_bouncer() {
 
 test_real_bouncer() {
     if ! command -v pgbouncer > /dev/null || [ ! -x "$bin/pgbench" ]; then
-        echo 'left out: replays with pgbouncer between, since there is no pgbouncer or no pgbench'
+        echo 'left out: replays with pgbouncer between, without pgbouncer or pgbench (apt-get install pgbouncer postgresql)'
         return
     fi
     "$bin/pgbench" -i -q -s 1 2> /dev/null

@@ -55,7 +55,7 @@ test_replay_basebackup() {
 
 test_replay_replication() {
     if [ ! -x "$bin/pg_recvlogical" ] || [ ! -x "$bin/pg_basebackup" ]; then
-        echo 'left out: replays of replication, since there is no pg_recvlogical or no pg_basebackup'
+        echo 'left out: replays of replication, without pg_recvlogical or pg_basebackup (apt-get install postgresql-client)'
         return
     fi
     begin_replication

@@ -45,7 +45,7 @@ test_replay_threads() {
     local tape=$work/pgbench-of-8.tape number client
     local of_8='pgbench_without_times -M prepared -c 8 -j 4 -t 20'
     if [ ! -e "$tape" ]; then
-        echo 'left out: replays by several threads, since there is no pgbench'
+        echo 'left out: replays by several threads, without pgbench (apt-get install postgresql)'
         return
     fi
     for number in 1 8; do

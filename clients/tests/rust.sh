@@ -103,7 +103,7 @@ test_rust_versions() {
 test_rust_program() {
     local program=$work/program name='a Rust program by cargo add'
     if ! command -v pkg-config > /dev/null; then
-        echo 'left out: a Rust program by pkg-config, which is not there'
+        echo 'left out: a Rust program by pkg-config (apt-get install pkg-config)'
         return
     fi
     mkdir -p "$program/src"

@@ -19,6 +19,8 @@ import subprocess
 import sys
 import threading
 
+import asked
+
 sys.path.insert(0, str(pathlib.Path(__file__).resolve().parents[2] / "tests"))
 import rows_of_pg_server_tool as rows  # noqa: E402
 
@@ -87,7 +89,7 @@ def read(folder, program):
 
 
 def main():
-    match sys.argv[1:]:
+    match asked.words(__doc__, keep="FOLDER PORT", **{"pass": "PORT SAID ANSWERED"}, read="FOLDER PROGRAM"):
         case "keep", folder, port:
             keep(pathlib.Path(folder), int(port))
         case "pass", port, said, answered:

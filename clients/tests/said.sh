@@ -62,7 +62,7 @@ say_by_python() {
 say_by_tokio_postgres() {
     local case
     if [ -z "$on_original" ]; then
-        echo 'left out: what tokio-postgres says, which needs what its tests need'
+        echo "left out: what tokio-postgres says, which needs the packages$driver_lacks"
         return
     fi
     for case in select-1 select-1000 insert insert-pipelined copy-in copy-out listen; do
@@ -125,7 +125,7 @@ test_passed_on() {
         as_tags "$work/recorded" > "$work/connections/recorded.lines"
     fi
     if ! find_builder; then
-        echo 'left out: recordings passed on, which need Python 3.11, cffi, setuptools, wheel and pkg-config'
+        echo 'left out: recordings passed on, which need Python 3.11 (apt-get install python3 python3-cffi python3-setuptools python3-wheel pkg-config)'
         return
     fi
     prepare_package

@@ -13,6 +13,8 @@ import subprocess
 import sys
 import tempfile
 
+import asked
+
 sys.path.insert(0, str(pathlib.Path(__file__).resolve().parents[2] / "tests"))
 import rows_of_pg_server_tool as rows  # noqa: E402
 
@@ -78,7 +80,7 @@ def as_it_comes(program):
 
 
 def main():
-    program, cases = sys.argv[1], [*streams()]
+    [program], cases = asked.words(__doc__, "PROGRAM"), [*streams()]
     hostile = [other for stream, _ in cases if len(stream) <= SHORT for other in changed(stream)]
     wrong = [*judge(program, cases, hostile), *as_it_comes(program)]
     print(f"{len(cases) + len(hostile) + 1} streams")

@@ -19,6 +19,8 @@ import struct
 import sys
 import time
 
+import asked
+
 SETTINGS = b"user\0postgres\0database\0postgres\0\0"
 STARTUP = struct.pack(">II", 8 + len(SETTINGS), 196608) + SETTINGS
 QUERY = b"Q\0\0\0\x0dSELECT 7\0"
@@ -112,7 +114,7 @@ def idle(port, process):
 
 
 def main():
-    match sys.argv[1:]:
+    match asked.words(__doc__, rough="PORT", opening="PORT", idle="PORT PID", server=""):
         case "rough", port:
             rough(int(port))
         case "opening", port:

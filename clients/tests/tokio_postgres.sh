@@ -10,11 +10,18 @@ driver_port=5433
 # The folder of the programs on the driver as it is, where they are built.
 on_original=
 
+# The packages that are missing for them, each after a space.
+driver_lacks=
+
 # Builds the programs on the driver as it is, where there is what they need, and with them its tests, which ask for more
 # of the same crates.
 build_on_original() {
     local cargo_folder
-    if read -r cargo_folder _ < <(rust_folders 1.63) && has_crates "${drop_in_crates[@]}" "${driver_crates[@]}"; then
+    if ! read -r cargo_folder _ < <(rust_folders 1.63); then
+        driver_lacks=' cargo rustc'
+    elif ! has_crates "${drop_in_crates[@]}" "${driver_crates[@]}"; then
+        driver_lacks=$lacking
+    else
         rust/tokio-postgres/prepare out/original
         try by_cargo out/original build --workspace --all-features --bins --tests
         expect 'programs on tokio-postgres' 0
@@ -27,8 +34,8 @@ build_on_original() {
 
 test_drop_in() {
     local cargo_folder patches=(--config "patch.crates-io.pgmsg.path='$PWD/rust/pgmsg'" --config "patch.crates-io.pgmsg-sys.path='$PWD/rust/pgmsg-sys'")
-    if ! read -r cargo_folder _ < <(rust_folders 1.63) || ! has_crates "${drop_in_crates[@]}"; then
-        echo 'left out: the crate postgres-protocol-pgmsg, which needs cargo and librust-postgres-protocol-dev'
+    if ! has_crates "${drop_in_crates[@]}" || ! read -r cargo_folder _ < <(rust_folders 1.63); then
+        echo "left out: the crate postgres-protocol-pgmsg, which needs the packages cargo rustc$lacking"
         return
     fi
     try by_strict_cargo rust/postgres-protocol-pgmsg test -- --nocapture
@@ -51,8 +58,7 @@ run_driver() {
 test_tokio_postgres() {
     local cargo_folder ours
     if [ -z "$on_original" ]; then
-        echo 'left out: the tests of tokio-postgres, which need cargo, librust-tokio-postgres-dev and' \
-            'librust-futures-executor-dev, with the packages that they recommend'
+        echo "left out: the tests of tokio-postgres, which need the packages$driver_lacks"
         return
     fi
     read -r cargo_folder _ < <(rust_folders 1.63)

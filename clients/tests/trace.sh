@@ -41,12 +41,12 @@ build_sessions() {
         return
     fi
     if ! has_python; then
-        echo "left out: libpq's own trace, since there is no Python from 3.11 on"
+        echo "left out: libpq's own trace, which needs Python 3.11 (apt-get install python3)"
         return 1
     fi
     if ! command -v pg_config > /dev/null || ! "${CC:-cc}" -E -I"$(pg_config --includedir)" -x c - \
         <<< '#include <libpq-fe.h>' > /dev/null 2>&1; then
-        echo "left out: libpq's own trace, since there are no headers of libpq (libpq-dev)"
+        echo "left out: libpq's own trace, without the headers of libpq (apt-get install libpq-dev)"
         return 1
     fi
     flags=(-std=c11 -Wall -Wextra -Wpedantic -I"$(pg_config --includedir)" -L"$(pg_config --libdir)")

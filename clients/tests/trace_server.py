@@ -7,6 +7,8 @@ It listens on a free port of 127.0.0.1, which its first line says.
 import socket
 import struct
 
+from asked import words
+
 
 def message(tag, *parts):
     """A message of these parts: a number of two bytes with a sign, a text with its NUL, or bytes."""
@@ -75,6 +77,7 @@ def serve(client):
 
 
 def main():
+    words(__doc__)
     with socket.create_server(("127.0.0.1", 0)) as listening:
         print(listening.getsockname()[1], flush=True)
         client, _ = listening.accept()
