@@ -1,5 +1,8 @@
 # What clients/library installs, and programs that are built with it. Sourced by `test`.
 
+# The version of all parts.
+released=$(sed -n 's/^VERSION = "\(.*\)"/\1/p' header)
+
 # The symbols that a library defines for others, but for those of the header.
 foreign_symbols() {
     nm "$@" --defined-only | awk 'NF == 3 && $3 !~ /^pgmsg_/ { print $3 }'
@@ -28,7 +31,7 @@ test_install() {
     try cc -std=c11 "-I$prefix/include" -o "$program" c/tests/installed.c "$prefix/lib/libpg_message.a"
     expect 'install: a program with the static library is built' 0
     try "$program"
-    same 'install: a program with the static library' "$status $output" '0 0.2.0'
+    same 'install: a program with the static library' "$status $output" "0 $released"
     test_pkg_config
     test_cmake
     if ! command -v rt > /dev/null; then
@@ -53,7 +56,7 @@ test_pkg_config() {
     try cc -std=c11 -o "$program" c/tests/installed.c $(PKG_CONFIG_PATH=$prefix/lib/pkgconfig pkg-config --cflags --libs pg_message)
     expect 'install: a program by pkg-config is built' 0
     try env LD_LIBRARY_PATH="$prefix/lib" "$program"
-    same 'install: a program by pkg-config' "$status $output" '0 0.2.0'
+    same 'install: a program by pkg-config' "$status $output" "0 $released"
 }
 
 test_cmake() {
@@ -74,5 +77,5 @@ END
     try cmake --build "$work/cmake/out"
     expect 'install: a program by CMake is built' 0
     try "$work/cmake/out/installed"
-    same 'install: a program by CMake' "$status $output" '0 0.2.0'
+    same 'install: a program by CMake' "$status $output" "0 $released"
 }

@@ -96,7 +96,7 @@ test_rust_versions() {
     try make_other_version "$other"
     expect "$name is made" 0
     LIBRARY=$other/libpg_message.a try by_cargo_alone --package pgmsg --test version -- --nocapture
-    expect "$name" 0 'linked is of version 99.0, and pgmsg of 0.2.0'
+    expect "$name" 0 "linked is of version 99.0, and pgmsg of $released"
 }
 
 # A program that takes the crate by `cargo add`, and the library by pkg-config.
