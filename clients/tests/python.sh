@@ -24,11 +24,23 @@ run_python() {
     PYTHONPATH=$package "$builder" -B -W error "$@"
 }
 
-# Makes a wheel of the source distribution with the library that is installed in a folder, and unpacks it in another.
+# Makes a source distribution of the package in a folder, of a copy, since setuptools writes beside its sources.
+make_sdist() {
+    cp -r python "$work/python"
+    (cd "$work/python" && PKG_CONFIG_PATH=$work/installed/lib/pkgconfig "$builder" -W ignore -c \
+        'import sys; from setuptools import build_meta; build_meta.build_sdist(sys.argv[1])' "$1" > /dev/null 2>&1)
+}
+
+# Makes a wheel of a source distribution, with the library that is installed in a folder, by more options of pip.
+make_wheel() {
+    PKG_CONFIG_PATH=$1/lib/pkgconfig "$builder" -m pip wheel --quiet --no-build-isolation --no-deps \
+        --disable-pip-version-check -w "$2" "${@:4}" "$3"/pgmsg-*.tar.gz
+}
+
+# Makes a wheel with the library that is installed in a folder, and unpacks the wheel in another.
 unpack_wheel() {
     local prefix=$1 made=$2
-    PKG_CONFIG_PATH=$prefix/lib/pkgconfig try "$builder" -m pip wheel --quiet --no-build-isolation --no-deps \
-        --disable-pip-version-check -w "$made.wheels" "$work"/sdist/pgmsg-*.tar.gz
+    try make_wheel "$prefix" "$made.wheels" "$work/sdist"
     expect "python: a wheel, $(basename "$made")" 0
     try "$builder" -m zipfile -e "$made".wheels/pgmsg-*.whl "$made"
     expect "python: the wheel is unpacked, $(basename "$made")" 0
@@ -46,9 +58,7 @@ install_library() {
 prepare_package() {
     if [ ! -d "$work/package" ]; then
         install_library
-        cp -r python "$work/python"
-        (cd "$work/python" && PKG_CONFIG_PATH=$work/installed/lib/pkgconfig "$builder" -W ignore -c \
-            'import sys; from setuptools import build_meta; build_meta.build_sdist(sys.argv[1])' "$work/sdist" > /dev/null 2>&1)
+        make_sdist "$work/sdist"
         unpack_wheel "$work/installed" "$work/package"
     fi
 }
@@ -64,7 +74,6 @@ make_refusing() {
     cp -r "$work/installed" "$work/refusing"
     try cc -fPIC -c -o "$work/refusing.o" c/tests/refusing.c
     ar r "$work/refusing/lib/libpg_message.a" "$work/refusing.o" 2> /dev/null
-    sed -i "s|^prefix=.*|prefix=$work/refusing|" "$work/refusing/lib/pkgconfig/pg_message.pc"
 }
 
 test_python() {
@@ -97,7 +106,7 @@ test_pip() {
         try "$work/venv/bin/python" -m pip install --no-index --quiet --disable-pip-version-check "$1"
         expect "python: pip installs the wheel, $each" 0
         try "$work/venv/bin/python" -B -c 'import pgmsg; print(pgmsg.__version__, pgmsg.Sync().write())'
-        same "python: the package that pip installed, $each" "$status $output" '0 0.2.0 b'\''S\x00\x00\x00\x04'\'''
+        same "python: the package that pip installed, $each" "$status $output" "0 $released b'S\\x00\\x00\\x00\\x04'"
         rm -r "$work/venv"
     done
 }
