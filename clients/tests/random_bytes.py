@@ -1,13 +1,13 @@
 #!/usr/bin/env python3
-"""Random and mutated bytes, so many connections of them:
+"""Sends random and mutated bytes by COUNT connections.
 
-    random_bytes.py clients PORT COUNT SEED
-    random_bytes.py both PG_RECORD RECORDING COUNT SEED
+    random_bytes.py clients PORT COUNT SEED                says them to the server at a port of this machine
+    random_bytes.py both PG_RECORD RECORDING COUNT SEED    records them, said by clients and by a server
 
-Clients begin with first messages and frames of which bytes are changed, doubled, cut out or random, in pieces, and leave
-at any place. With `both` a server behind a recorder answers so: the recorder must take it all without an end of its own,
-without growth, and must still pass an honest session on; its recording must be read by a second reader, and be printed in
-each form. Prints how many bytes there were, and then also the most memory in kB.
+Clients begin with first messages and frames whose bytes are changed, doubled, cut out or random. They send them in pieces,
+and leave at any place. With `both`, a server behind a recorder answers in the same way. The recorder must neither end nor
+grow, and must still pass an honest session on; a second reader must read its recording, and the recorder print it in each
+form. Prints the number of bytes, and with `both` the most memory in kB.
 """
 
 import contextlib

@@ -1,9 +1,11 @@
 #!/usr/bin/env python3
-"""Changes each byte of a recording, and cuts it at each length: record_bytes.py PG_RECORD RECORDING SCRATCH
+"""Changes each byte of a recording, and cuts the recording at each length.
 
-Both readers must refuse a changed byte at the offset of its record, and read as many records of a cut file as are
-whole. pg_record reads a tenth of these files, since the tests of its reader try each bit and length. Prints how many of
-each there were.
+    record_bytes.py PG_RECORD RECORDING SCRATCH    writes the files to SCRATCH, one after the other
+
+Both readers must refuse a changed byte at the offset of its record, and read the whole records of a cut file. pg_record reads
+a tenth of these files, since the tests of its reader try each bit and length. Prints how many files of each kind there
+were.
 """
 
 import io

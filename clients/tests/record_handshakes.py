@@ -1,8 +1,10 @@
 #!/usr/bin/env python3
-"""Handshakes with a recorder: record_handshakes.py PORT ROOT
+"""Shakes hands with a recorder by TLS, in good ways and in bad ones.
 
-TLS after a request and at once, a request within it, bytes between a request and the handshake, and TLS at once that
-names no protocol or another. Prints how many were tried.
+    record_handshakes.py PORT ROOT    the recorder's port, and the file of the root certificate
+
+The ways are TLS after a request and at once, a request within TLS, bytes between a request and the handshake, and TLS at
+once that names no protocol or another one. Prints how many were tried.
 """
 
 import contextlib

@@ -1,9 +1,11 @@
 #!/usr/bin/env python3
-"""Kills a recorder while rows pass: record_kills.py PG_RECORD RECORDING TURNS
+"""Kills a recorder while rows pass through it.
 
-Three clients ask PGPORT's server for rows through it each time. Both readers must read each file to its last whole
-record, and what a client got must be in it. Prints how many files were read, their records, and how many files end
-within one.
+    record_kills.py PG_RECORD RECORDING TURNS
+
+In each turn three clients ask the server at PGPORT for rows. Both readers must read each file to its last whole record, and
+the file must have all that a client got. Prints the number of files, of their records, and of the files that end within a
+record.
 """
 
 import collections

@@ -1,8 +1,10 @@
 #!/usr/bin/env python3
-"""Sessions of random messages, cut anywhere, through pg_record: record_pieces.py PG_RECORD RECORDING COUNT
+"""Passes sessions of random messages, cut anywhere, through pg_record.
 
-What each side gets must be what the other sent, and what is recorded the same, but for the bodies of passwords and of
-SASL. Some sides end within a message, or send bytes that are none. Prints how many messages passed, and how many
+    record_pieces.py PG_RECORD RECORDING COUNT
+
+Each side must get the bytes that the other sent, and the recording must have them, but for the bodies of passwords and of
+SASL. Some sides end within a message, or send bytes that are no message. Prints how many messages passed, and how many
 were left out.
 """
 

@@ -1,5 +1,7 @@
 #!/usr/bin/env python3
-"""Says messages to the server at PGPORT of this machine, and prints what it answers: replay_client.py WORD..
+"""Says messages to the server at PGPORT of this machine, and prints its answers.
+
+    replay_client.py WORD..
 
 startup:user=ann,database=x    query:TEXT    parse:STATEMENT:TEXT    bind:PORTAL:STATEMENT:VALUE,VALUE
 describe:S:NAME    close:P:NAME    execute:PORTAL:ROWS    copydata:TEXT    copydone    flush    sync    terminate
