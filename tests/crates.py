@@ -134,6 +134,8 @@ def listed(file, folder):
 @functools.lru_cache(maxsize=None)
 def kit():
     """The folder of the toolchain."""
+    if not shutil.which("rt"):
+        raise SystemExit("no rt is on the PATH: README.md names the toolchain that it is of")
     said = subprocess.run(["rt", "doc"], capture_output=True, text=True, check=True).stdout
     return pathlib.Path(said.strip()).parent
 
