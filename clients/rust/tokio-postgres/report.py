@@ -7,6 +7,7 @@ A line of MEASURED is a case and either `time`, the processor time and the time 
 and those on the original, or `instructions` and the two numbers of them.
 """
 
+import argparse
 import pathlib
 import statistics
 import sys
@@ -90,7 +91,10 @@ def picture(found):
 
 
 def main():
-    measured, drawing = map(pathlib.Path, sys.argv[1:])
+    parser = argparse.ArgumentParser(description=__doc__, formatter_class=argparse.RawDescriptionHelpFormatter)
+    for name in ("MEASURED", "PICTURE"):
+        parser.add_argument(name, type=pathlib.Path)
+    measured, drawing = vars(parser.parse_args()).values()
     found = quotients(line.split() for line in measured.read_text().splitlines())
     print("\n".join(table(found)))
     drawing.write_text(picture(found))
