@@ -1,6 +1,5 @@
 //! The arguments of the program.
 
-use clap::error::ErrorKind;
 use clap::Parser;
 use lines::trace::Style;
 use net::{Listening, ServerOptions, Status};
@@ -24,7 +23,7 @@ passes. Requests to cancel are passed on, and counted at the end.";
 
 /// What the arguments ask for.
 #[derive(Parser, Debug)]
-#[command(name = "pg_record", about = ABOUT, after_help = AFTER, override_usage = USAGE)]
+#[command(name = "pg_record", version, about = ABOUT, after_help = AFTER, override_usage = USAGE)]
 #[command(disable_help_flag = true)]
 pub struct Arguments {
     #[arg(value_name = "LISTEN_PORT", required_unless_present_any = ["print", "listen"])]
@@ -94,7 +93,7 @@ impl Arguments {
     /// Reads them, or ends the program by words about them.
     pub fn read() -> Arguments {
         Arguments::try_parse().unwrap_or_else(|error| {
-            if error.kind() == ErrorKind::DisplayHelp {
+            if !error.use_stderr() {
                 let _ = error.print();
                 process::exit(Status::Ok as i32);
             }

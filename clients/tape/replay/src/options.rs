@@ -24,7 +24,7 @@ pub const USAGE: &str = "usage: pg_replay [OPTION..] FILE [LISTEN_PORT]";
 ///
 /// Messages up to a mebibyte are compared so; longer ones have to be as recorded.
 #[derive(Parser, Debug)]
-#[command(name = "pg_replay", override_usage = FORM, disable_version_flag = true)]
+#[command(name = "pg_replay", version, override_usage = FORM)]
 pub struct Options {
     /// The recording
     pub file: PathBuf,
