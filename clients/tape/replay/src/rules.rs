@@ -16,6 +16,9 @@ struct File {
     parameter: Vec<Parameter>,
     ignore: Vec<Ignore>,
     settings: Settings,
+    /// What pg_tape takes out of recordings, by the same file.
+    #[serde(rename = "redact")]
+    _redact: Option<toml::Value>,
 }
 
 #[derive(Deserialize)]
