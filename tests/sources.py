@@ -40,7 +40,8 @@ def functions(crate, path, text):
             if body is not None:
                 last = number if lines[body].rstrip().endswith("}") else end_of(lines, body, function[1])
                 inner = [name for name, _ in blocks if name]
-                found.append(Function("::".join([*at, *inner, function[2]]), number, body, last))
+                home = home_of(crate, inner[0], text) if inner else None
+                found.append(Function("::".join([*(home or at), *inner, function[2]]), number, body, last))
                 number = last
         number += 1
     return found
@@ -52,6 +53,12 @@ def module(crate, path):
     if parts[-1] in ("mod", "lib", "main"):
         parts.pop()
     return [crate, *parts]
+
+
+def home_of(crate, name, text):
+    """The module of a type whose functions a source has, and that it takes from elsewhere in its crate."""
+    found = re.search(rf"^use crate::([\w:]+)::{name};", text, re.MULTILINE)
+    return found and [crate, *found[1].split("::")]
 
 
 def head_of(lines, number):
@@ -107,7 +114,7 @@ def block_name(kind, head):
     trait, of, item = head.partition(" for ")
     if kind != "impl" or not of:
         return re.match(r"\w+", head)[0]
-    return joined(item, parameters) + joined(trait, parameters)
+    return (joined(item, parameters) or "Any") + joined(trait, parameters)
 
 
 def parameters_of(head):
@@ -123,5 +130,7 @@ def parameters_of(head):
 def joined(words, parameters):
     """A type or a trait as one word, as reports have it."""
     signs = {"&": "Ref", "[": "Slice", "()": "Unit"}
-    parts = re.findall(r"&|\[|\(\)|\w+(?!::)\b", LIFETIME.sub("", words))
+    # A tuple begins with how many it has.
+    words = re.sub(r"\(([^()]+)\)", lambda tuple: f"Tuple{tuple[1].count(',') + 1} {tuple[1]}", LIFETIME.sub("", words))
+    parts = re.findall(r"&|\[|\(\)|\w+(?!::)\b", words)
     return "".join(signs.get(it) or it[0].upper() + it[1:] for it in parts if it not in parameters)
