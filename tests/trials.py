@@ -85,7 +85,9 @@ class Trial:
 
     def show(self, it, verdict, why):
         """Counts a verdict, and prints it; returns what is tried in place of a mutant that shows nothing."""
-        if isinstance(it, Mutant) and verdict not in (REFUSED, ACCEPTED):
+        # A function that reports name otherwise would never be judged.
+        is_known = "has no function" not in why
+        if isinstance(it, Mutant) and verdict not in (REFUSED, ACCEPTED) and is_known:
             print(f"shows nothing{'' if it.instead else ', and no other is left'}: {it}: {verdict}: {why}", flush=True)
             return [it.instead] if it.instead else []
         if verdict == it.due:
