@@ -117,7 +117,12 @@ test_types() {
         echo 'left out: the types of the Python package, without mypy (apt-get install mypy)'
         return
     fi
-    try mypy --strict --cache-dir "$work/mypy" python/pgmsg
+    if mypy --cache-dir "$work/mypy" -c 'import pytest' > /dev/null 2>&1; then
+        try mypy --strict --cache-dir "$work/mypy" python/pgmsg
+    else
+        echo 'left out: the types of the plugin for pytest, without pytest (apt-get install python3-pytest)'
+        try mypy --strict --cache-dir "$work/mypy" --exclude pytest_plugin python/pgmsg
+    fi
     expect 'python: types' 0
     MYPYPATH=python try mypy --strict --cache-dir "$work/mypy" python/tests/typed.py
     expect 'python: types as a user sees them' 0
@@ -160,6 +165,19 @@ test_python_copy() {
         same "python, $example: the words of an error" "$status ${errors##*$'\n'}" \
             "1 ${said_of[$example]}relation \"missing\" does not exist"
     done
+}
+
+# pgmsg.testing, which records with the server.
+test_python_tapes() {
+    if ! find_builder; then
+        return
+    fi
+    prepare_package
+    if ! "$builder" -c 'import pytest' 2> /dev/null; then
+        echo "left out: the fixture for pytest, which $builder lacks (apt-get install python3-pytest)"
+    fi
+    PATH=$bin:$PATH PG_RECORD=$PWD/$programs/pg_record PG_REPLAY=$PWD/$programs/pg_replay \
+        test_python_units 'tests on recordings' "$work/package" -p on_tapes.py
 }
 
 # What an example says before the words of an error.

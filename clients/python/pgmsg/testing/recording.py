@@ -1,0 +1,106 @@
+"""Recordings that tests run on, each by a program of its own."""
+
+from __future__ import annotations
+
+import os
+import time
+from collections.abc import Iterator, Sequence
+from contextlib import AbstractContextManager, contextmanager
+from dataclasses import dataclass, field
+from pathlib import Path
+from unittest import mock
+
+from .program import PATIENCE, Program, TapeError
+
+# How many seconds pg_replay may take to end after the last session of the recording.
+LAST_END = 2.0
+
+
+class ReplayDiffers(AssertionError):
+    """The tests said something else than the recording has, or less. The words are pg_replay's report, with its diff."""
+
+
+@dataclass(frozen=True)
+class Tape:
+    """A recording that is being made or replayed, and where its program listens."""
+
+    path: Path
+    host: str
+    port: int
+    is_recorded: bool
+    _program: Program = field(repr=False)
+
+    def environment(self) -> dict[str, str]:
+        """The variables of libpq that lead a client to the program."""
+        return {"PGHOST": self.host, "PGPORT": str(self.port)}
+
+    @contextmanager
+    def in_environment(self) -> Iterator[None]:
+        """Sets these variables in `os.environ` until the block ends, without PGHOSTADDR, which would lead elsewhere."""
+        with mock.patch.dict(os.environ, self.environment()):
+            os.environ.pop("PGHOSTADDR", None)
+            yield
+
+    def differences(self) -> str:
+        """What pg_replay has reported so far: nothing where no client differed, or where the recording is being made."""
+        lines = [] if self.is_recorded else self._program.said_since()
+        return "\n".join(line for line in lines if not line.endswith(" sessions are replayed"))
+
+
+def tape(
+        path: str | os.PathLike[str], *, record: bool = False, server: tuple[str, int] | None = None,
+        options: Sequence[str] = (), whole: bool = False) -> AbstractContextManager[Tape]:
+    """Replays a recording until the block ends, or makes it anew by a server.
+
+    A client that differs fails the block by `ReplayDiffers`, or by a note to the block's own exception. Clients may take
+    the sessions in any order and repeat them, and need not take all; with `whole` each session has to be taken once.
+    `options` are more options of pg_replay. `server` is the host and the port for pg_record, where those of PGHOST and
+    PGPORT aren't meant. A new recording takes the place of an old one when the block ends without an exception and the
+    server was reached.
+    """
+    return _record(Path(path), server) if record else _replay(Path(path), options, whole)
+
+
+@contextmanager
+def _record(path: Path, server: tuple[str, int] | None) -> Iterator[Tape]:
+    new = path.with_name(path.name + ".new")
+    path.parent.mkdir(parents=True, exist_ok=True)
+    new.unlink(missing_ok=True)
+    address = [] if server is None else ["-h", server[0], "-p", str(server[1])]
+    try:
+        with Program("pg_record", *address, "-o", str(new)) as program:
+            yield Tape(path, "127.0.0.1", program.port, True, program)
+            _await_quiet(new)
+            # It has words only for what it couldn't pass on or record.
+            if program.has_ended() or program.said_since():
+                raise program.failed("failed:")
+        new.replace(path)
+    finally:
+        new.unlink(missing_ok=True)
+
+
+def _await_quiet(path: Path) -> None:
+    """Waits until a recording has grown no more for a moment, since clients that are gone may have said more."""
+    end, size = time.monotonic() + PATIENCE, -1
+    while time.monotonic() < end and path.exists() and size != (size := path.stat().st_size):
+        time.sleep(0.2)
+
+
+@contextmanager
+def _replay(path: Path, options: Sequence[str], whole: bool) -> Iterator[Tape]:
+    if not path.exists():
+        raise TapeError(f"no recording {path}")
+    order = [] if whole else ["--any-order", "--again"]
+    with Program("pg_replay", *order, "--go-on", *options, str(path)) as program:
+        it = Tape(path, "127.0.0.1", program.port, False, program)
+        try:
+            yield it
+        except Exception as error:
+            if words := it.differences():
+                error.add_note(words)
+            raise
+        is_over = program.has_ended(LAST_END if whole else 0.0)
+        status = program.end()
+        went_well = is_over and status == 0 if whole else not is_over
+        if it.differences() or not went_well:
+            raise ReplayDiffers("\n".join(program.said()))
