@@ -25,6 +25,10 @@ pub record Digits (bytes : List ℕ) (n : ℕ) : Type 0 where
   pub is : n ≡ decimal_value digits
   pub parts : bytes ≡ digits ++ rest
 
+-- a number, where it is within the greatest
+abbrev pub IsUpTo : ℕ → ℕ → Option ℕ → Type 0
+IsUpTo top number result = MatchOption result (top < number) (λ n. (n ≡ number) × (n ≤ top))
+
 -- the value of the digits at the front, where they are there and it is within the greatest
 abbrev pub IsDigitsUpTo : ℕ → List ℕ → Option ℕ → Type 0
 IsDigitsUpTo top bytes result =

@@ -1,5 +1,5 @@
 -- The names of prepared statements and portals, and the order in which they are handed out.
-use Rattle.std.specs.Prelude.{ℕ, ◌+◌, ◌==◌, List, [], ◌++◌, codes, decimal, if◌then◌else◌}
+use Rattle.std.specs.Prelude.{◌≡◌, ◌≢◌, ℕ, ◌+◌, ◌≤◌, ◌==◌, List, [], ◌++◌, codes, decimal, if◌then◌else◌}
 use Rattle.pg_base.specs.Text.{ended}
 
 -- the greatest id; 0 is the one without a name
@@ -15,6 +15,14 @@ portal_prefix = codes "sqlx_p_"
 -- the name of an id: nothing for 0, else the prefix and the number in decimal
 abbrev pub name : List ℕ → ℕ → List ℕ
 name prefix id = if id == 0 then [] else prefix ++ decimal id
+
+-- no two numbers up to the greatest have one text
+abbrev pub AreDistinctUpTo : ℕ → (ℕ → List ℕ) → Type 0
+AreDistinctUpTo top text = (a b : ℕ) → a ≤ top → b ≤ top → text a ≡ text b → a ≡ b
+
+-- an id has a name, and this text is the name
+abbrev pub IsNameOf : List ℕ → ℕ → List ℕ → Type 0
+IsNameOf prefix id text = (id ≢ 0) × (text ≡ name prefix id)
 
 -- the name as a text of a message
 abbrev pub named : List ℕ → ℕ → List ℕ

@@ -1,5 +1,5 @@
 -- Whole numbers in messages, highest byte first. Documentation: "Message Data Types", Intn.
-use Rattle.std.specs.Prelude.{ℕ, ◌+◌, ◌*◌, ◌^◌, List, [], ◌∷◌, length, map, ℤ, pos, ◌-ℤ◌, nat_lt, if◌then◌else◌}
+use Rattle.std.specs.Prelude.{ℕ, ◌+◌, ◌*◌, ◌/◌, ◌%◌, ◌^◌, List, [], ◌∷◌, length, map, ℤ, pos, ◌-ℤ◌, nat_lt, if◌then◌else◌}
 use Rattle.std.specs.Int.{w16, w32, to_be_bytes}
 use Rattle.pg_base.specs.declared.io.Oid.{Oid}
 
@@ -9,6 +9,10 @@ be16 n = to_be_bytes w16 n
 
 abbrev pub be32 : ℕ → List ℕ
 be32 n = to_be_bytes w32 n
+
+-- the decimal digits of a number below 100, two also of one below 10
+abbrev pub two_digits : ℕ → List ℕ
+two_digits n = (48 + n / 10) ∷ (48 + n % 10) ∷ []
 
 -- the number that bytes spell
 abbrev pub num : List ℕ → ℕ

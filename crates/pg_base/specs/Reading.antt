@@ -1,9 +1,13 @@
 -- How a reader takes bytes apart: of these bytes, this value, and that rest. Documentation: "Message
 -- Data Types".
-use Rattle.std.specs.Prelude.{◌≡◌, ◌≢◌, ◌≤◌, ◌⊎◌, ℕ, zero, suc, ℤ, pos, negsuc, List, [], ◌∷◌, ◌++◌, length, codes}
+use Rattle.std.specs.Prelude.{◌≡◌, ◌≢◌, ◌≤◌, ◌+◌, ◌⊎◌, ℕ, zero, suc, ℤ, pos, negsuc, List, [], ◌∷◌, ◌++◌, length, take, drop, codes}
 use Rattle.pg_base.specs.Atoi.{AreDigits, decimal_value}
 use Rattle.pg_base.specs.Id.{max_id}
 use Rattle.pg_base.specs.Numbers.{num, int}
+
+-- so many bytes of a body, from an offset on
+abbrev pub IsPartAt : List ℕ → ℕ → ℕ → List ℕ → Type 0
+IsPartAt body at count part = (at + count ≤ length body) × (part ≡ take count (drop at body))
 
 -- a number of so many bytes
 pub record Number (width : ℕ) (bytes : List ℕ) (n : ℕ) (rest : List ℕ) : Type 0 where

@@ -3,7 +3,7 @@
 //! A function without a body states a law, and is there to be proved and not to be called. One with
 //! a body pins a number that code has by a cast.
 
-ghost use Rattle.std.specs.Prelude.{◌≡◌, ◌==◌, ◌≤◌, ℕ, List};
+ghost use Rattle.std.specs.Prelude.{◌≡◌, ◌==◌, ℕ, List};
 ghost use Rattle.pg_base.specs.declared.error.Error.{Error};
 ghost use Rattle.pg_base.specs.declared.error.ErrorKind.{ErrorKind};
 ghost use Rattle.pg_base.specs.declared.error.ProtocolFault.{ProtocolFault};
@@ -12,7 +12,7 @@ ghost use Rattle.pg_base.specs.declared.format.FrontendMessageFormat.{FrontendMe
 ghost use Rattle.pg_base.specs.declared.io.Oid.{Oid};
 ghost use Rattle.pg_base.specs.declared.io.PgValueFormat.{PgValueFormat};
 ghost use Rattle.pg_base.specs.Format.{frontend_tag, backend_number, format_code};
-ghost use Rattle.pg_base.specs.Id.{name, max_id};
+ghost use Rattle.pg_base.specs.Id.{AreDistinctUpTo, name, max_id};
 ghost use Rattle.pg_base.specs.Derived.{IsEqualByValue, IsClonedByValue, IsOrderedBy};
 
 use crate::error::{Error, ErrorKind, ProtocolFault};
@@ -97,8 +97,9 @@ pub fn ids_are_equal_by_number()
 {}
 
 /// Two ids with one name are one id.
+#[tactic(auto, using(crate::proofs::IdLemmas::one_name))]
 pub fn names_are_distinct()
-    ensures { (prefix : List ℕ) (a b : ℕ) → a ≤ max_id → b ≤ max_id → name prefix a ≡ name prefix b → a ≡ b }
+    ensures { (prefix : List ℕ) → AreDistinctUpTo max_id (name prefix) }
 {}
 
 /// A clone is the value that was cloned.

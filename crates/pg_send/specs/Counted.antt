@@ -1,5 +1,5 @@
 -- Lists in a body, each after its count.
-use Rattle.std.specs.Prelude.{ℕ, ◌^◌, ◌<◌, ◌==◌, List, ◌++◌, length, All, Option, Some, None, nat_le, if◌then◌else◌}
+use Rattle.std.specs.Prelude.{ℕ, ◌^◌, ◌<◌, ◌==◌, List, ◌++◌, length, map, All, Option, Some, None, nat_le, if◌then◌else◌}
 use Rattle.std.specs.List.{flat_map}
 use Rattle.pg_base.specs.declared.error.ProtocolFault.{ProtocolFault}
 use Rattle.pg_base.specs.declared.error.ProtocolFault.TheVariants.{TooManyParamTypes}
@@ -13,6 +13,10 @@ too_many fault count = if nat_le count max_count then None else Some (fault coun
 -- numbers of two bytes each, and of four, after their count
 abbrev pub counted16 : List ℕ → List ℕ
 counted16 ns = be16 (length ns) ++ flat_map be16 ns
+
+-- the same of items that have a number each
+abbrev pub codes_of : {C : Type 0} → (C → ℕ) → List C → List ℕ
+codes_of code items = counted16 (map code items)
 
 abbrev pub counted32 : List ℕ → List ℕ
 counted32 ns = be16 (length ns) ++ flat_map be32 ns

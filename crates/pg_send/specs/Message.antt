@@ -1,5 +1,5 @@
 -- Any tagged message to the server as a plain value, and what its law says of it.
-use Rattle.std.specs.Prelude.{◌≡◌, ℕ, List, Option, None}
+use Rattle.std.specs.Prelude.{◌≡◌, ◌≤◌, ◌+◌, ℕ, List, length, Option, None}
 use Rattle.pg_base.specs.declared.error.ProtocolFault.{ProtocolFault}
 use Rattle.pg_format.specs.Messages as page
 use Rattle.pg_send.specs.declared.message.password.Password.{Password}
@@ -121,6 +121,10 @@ RoundTripsIfItCan m = CanRoundTrip m → RoundTrips m
 -- what holds of a message within the limits whose numbers are in range and that can make the round trip
 abbrev pub IfReadable : Message → Type 0 → Type 0
 IfReadable m Holds = fault m ≡ None → IsInRange m → CanRoundTrip m → Holds
+
+-- the frame of a message fits into the capacity, after what is written
+abbrev pub FitsInto : ℕ → List ℕ → Message → Type 0
+FitsInto capacity written m = length written + (length (body m) + 5) ≤ capacity
 
 -- two messages have one frame
 abbrev pub HaveOneText : Message → Message → Type 0

@@ -1,7 +1,7 @@
 -- What is sent, by the page of all messages: the line of a message, and what it means by it.
-use Rattle.std.specs.Prelude.{◌≡◌, ℕ, List, []}
+use Rattle.std.specs.Prelude.{◌≡◌, ◌↔◌, ℕ, List, []}
 use Rattle.pg_base.specs.Id.{name, statement_prefix, portal_prefix}
-use Rattle.pg_format.specs.Format.{Format, Means}
+use Rattle.pg_format.specs.Format.{AreBytes, Format, Means}
 use Rattle.pg_format.specs.Format.Lists.{times}
 use Rattle.pg_format.specs.Format.Nullable as nullable
 use Rattle.pg_format.specs.Messages as page
@@ -9,7 +9,7 @@ use Rattle.pg_format.specs.Messages.{Meaning, means, from_client}
 use Rattle.pg_send.specs.Bind.{BindFields}
 use Rattle.pg_send.specs.Execute.{execute_value}
 use Rattle.pg_send.specs.Message as message
-use Rattle.pg_send.specs.Message.{Message, law_of, body}
+use Rattle.pg_send.specs.Message.{Message, law_of, body, kind_of, IsInRange, Reads, HaveOneText}
 use Rattle.pg_send.specs.Parse.{parse_value}
 use Rattle.pg_send.specs.Password.{md5_value}
 use Rattle.pg_send.specs.SaslInitialResponse.{sasl_initial_value}
@@ -70,3 +70,11 @@ IsWrittenOfPage m = (v : (line m).Value) × Meant m v × IsWritten (line m).form
 -- the bytes mean what the page means by a message
 abbrev pub IsMeantBy : Message → List ℕ → Type 0
 IsMeantBy m bytes = (v : (line m).Value) × Meant m v × Means (line m).format bytes v
+
+-- a reader takes bytes apart into a message exactly where they mean what the page means by the message
+abbrev pub IsReadWhereMeant : Message → Type 0
+IsReadWhereMeant m = (bytes : List ℕ) → IsInRange m → AreBytes bytes → Reads (kind_of m) bytes m ↔ IsMeantBy m bytes
+
+-- a Bind has the text of each raw Bind that the page means by the Bind
+abbrev pub HasTextOfRaw : BindFields → Type 0
+HasTextOfRaw b = (v : page.Bind) → MeantByBind b v → HaveOneText (message.Bind b) (message.RawBind v)

@@ -154,8 +154,8 @@ added_since old new = drop (length old.items) new.items
 abbrev pub OnAnswers : Result (Vec Answer Global) Error → (List Answer → Type 0) → Type 0
 OnAnswers result Holds = IfOk result (λ answers. Holds answers.items)
 
-abbrev pub IsReadByTag : (Message → ℕ × List ℕ → Type 0) → Message → Answer → Vec ℕ Global → Vec ℕ Global → Type 0
-IsReadByTag IsFrameOf m answer old new = AreReadByTag IsFrameOf (m ∷ []) (answer ∷ []) (added_since old new)
+abbrev pub OneIsRead : (Message → ℕ × List ℕ → Type 0) → Message → Answer → Vec ℕ Global → Vec ℕ Global → Type 0
+OneIsRead IsFrameOf m answer old new = AreReadByTag IsFrameOf (m ∷ []) (answer ∷ []) (added_since old new)
 
 abbrev pub GivesRun : (Message → Answer → Type 0) → List Message → Vec ℕ Global → Vec ℕ Global → Result (Vec Answer Global) Error → Type 0
 GivesRun IsAnswerTo ms old new result = OnAnswers result (λ answers. EncodesRun IsAnswerTo ms answers old new)

@@ -32,7 +32,7 @@ pub record EncodesInRange (law : Law) (old new : Vec ℕ Global) (result : Resul
   pub range : OnOk result law.IsInRange
 
 -- a message within the limits, and room for its frame
-pub record HasRoom {S : Type 0} (written : S → List ℕ) (capacity : S → ℕ) (law : Law) (sink : S) : Type 0 where
+pub record FrameFits {S : Type 0} (written : S → List ℕ) (capacity : S → ℕ) (law : Law) (sink : S) : Type 0 where
   pub limits : fault law ≡ None
   pub room : length (written sink) + (length law.body + 5) ≤ capacity sink
 

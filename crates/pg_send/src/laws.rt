@@ -2,15 +2,14 @@
 //!
 //! A function without a body states a law, and is there to be proved and not to be called.
 
-ghost use Rattle.std.specs.Prelude.{◌≡◌, ◌↔◌, ◌≤◌, ◌<◌, ◌+◌, ◌^◌, ℕ, List, length};
+ghost use Rattle.std.specs.Prelude.{◌≡◌, ◌≤◌, ◌<◌, ◌+◌, ◌^◌, ℕ, length};
 ghost use Rattle.pg_format.specs.Format.{AreBytes};
 ghost use Rattle.pg_format.specs.Messages.{Cancel};
-ghost use Rattle.pg_format.specs.Messages as page;
 ghost use Rattle.pg_send.specs.Bind.{BindFields};
-ghost use Rattle.pg_send.specs.CancelRequest.{cancel_request_body, IfSent, IsReadBack};
+ghost use Rattle.pg_send.specs.CancelRequest.{cancel_request_body, length_field, IfSent, CancelIsReadBack};
 ghost use Rattle.pg_send.specs.Execute.{ExecuteFields, execute_value};
-ghost use Rattle.pg_send.specs.Message.{Message, kind_of, body, IsInRange, Reads, IfReadable, HaveOneText, AreOneIfAlike, Bind, Close, Describe, Execute, Parse, RawBind, RawClose, RawDescribe, RawExecute, RawParse};
-ghost use Rattle.pg_send.specs.Page.{line, Meant, MeantByBind, IsWrittenOfPage, IsMeantBy};
+ghost use Rattle.pg_send.specs.Message.{Message, body, IfReadable, HaveOneText, AreOneIfAlike, Close, Describe, Execute, Parse, RawClose, RawDescribe, RawExecute, RawParse};
+ghost use Rattle.pg_send.specs.Page.{line, Meant, IsWrittenOfPage, IsReadWhereMeant, HasTextOfRaw};
 ghost use Rattle.pg_send.specs.Parse.{ParseFields, parse_value};
 ghost use Rattle.pg_send.specs.Password.{power_over};
 ghost use Rattle.pg_send.specs.Target.{Target, target_value};
@@ -26,14 +25,13 @@ pub fn frames_are_distinct()
 pub fn messages_are_of_the_page()
     ensures one { (m : Message) (v w : (line m).Value) → Meant m v → Meant m w → v ≡ w }
     ensures written { (m : Message) → IfReadable m (AreBytes (body m) → IsWrittenOfPage m) }
-    ensures read { (m : Message) (bytes : List ℕ) → IsInRange m → AreBytes bytes
-        → Reads (kind_of m) bytes m ↔ IsMeantBy m bytes }
+    ensures read { (m : Message) → IsReadWhereMeant m }
 {}
 
 /// A message that names statements and portals by number has the bytes of the one with their names.
 pub fn numbers_are_names()
     ensures parse { (p : ParseFields) → HaveOneText (Parse p) (RawParse (parse_value p)) }
-    ensures bind { (b : BindFields) (v : page.Bind) → MeantByBind b v → HaveOneText (Bind b) (RawBind v) }
+    ensures bind { (b : BindFields) → HasTextOfRaw b }
     ensures describe { (t : Target) → HaveOneText (Describe t) (RawDescribe (target_value t)) }
     ensures execute { (e : ExecuteFields) → HaveOneText (Execute e) (RawExecute (execute_value e)) }
     ensures close { (t : Target) → HaveOneText (Close t) (RawClose (target_value t)) }
@@ -42,8 +40,8 @@ pub fn numbers_are_names()
 /// The length of a cancel request is that of its body and its own four bytes; and a server reads one with a
 /// key of a length that keys have as itself, and as no other.
 pub fn cancel_requests_are_read_back()
-    ensures length { (cancel : Cancel) → length cancel.secret_key + 12 ≡ length (cancel_request_body cancel) + 4 }
-    ensures read { (cancel : Cancel) → IfSent cancel (IsReadBack cancel) }
+    ensures length { (c : Cancel) → length_field c ≡ length (cancel_request_body c) + 4 }
+    ensures read { (cancel : Cancel) → IfSent cancel (CancelIsReadBack cancel) }
 {}
 
 /// The room that is reserved for a password in clear is the least power of two that holds it, so

@@ -1,7 +1,7 @@
 //! Numbers in decimal at the front of some bytes.
 
-ghost use Rattle.std.specs.Prelude.{◌≡◌, ◌<◌, ◌≤◌, ℕ, List, ◌++◌, MatchOption};
-ghost use Rattle.pg_base.specs.Atoi.{AreDigits, BeginsWithDigit, decimal_value, IsDigitsUpTo, Atoi};
+ghost use Rattle.std.specs.Prelude.{◌≡◌, ◌<◌, ◌≤◌, ℕ, List, ◌++◌};
+ghost use Rattle.pg_base.specs.Atoi.{AreDigits, BeginsWithDigit, decimal_value, IsUpTo, IsDigitsUpTo, Atoi};
 
 /// The number that begins the bytes: an optional sign and the digits after it, as many as there
 /// are. What stands after them is ignored. Nothing where there is no digit, where the number
@@ -64,7 +64,7 @@ fn front_digits(bytes: &[u8]) -> &[u8]
 // The value of digits, where it is at most `top`.
 fn value_up_to(digits: &[u8], top: u64) -> Option<u64>
     requires { AreDigits digits.now }
-    ensures { MatchOption result (top < decimal_value digits.now) (λ n. (n ≡ decimal_value digits.now) × (n ≤ top)) }
+    ensures { IsUpTo top (decimal_value digits.now) result }
 {
     let mut value = 0u64;
     for digit in digits {

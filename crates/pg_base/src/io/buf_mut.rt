@@ -1,13 +1,10 @@
 //! Parts of a message, written at the end of a buffer.
 
-ghost use Rattle.std.specs.Prelude.{◌≡◌, ℕ, ◌+◌, ◌-◌, ◌<◌, ◌≤◌, ◌⊎◌, List, [], ◌∷◌, ◌++◌, length, take, drop, None, OnOk, OnErr, IfErr, IsOkUnless, vec_len, vec_capacity};
+ghost use Rattle.std.specs.Prelude.{◌≡◌, ℕ, ◌+◌, ◌-◌, ◌≤◌, List, ◌++◌, take, OnOk, OnErr, IfErr, IsOkUnless, vec_len, vec_capacity};
 ghost use Rattle.std.specs.Fn.{FnOnceTakesAtMut, FnOnceReturnsAtMut};
-ghost use Rattle.pg_base.specs.declared.error.Error.TheVariants.{OutOfMemory, Protocol};
-ghost use Rattle.pg_base.specs.declared.error.ProtocolFault.TheVariants.{MessageTooLong};
-ghost use Rattle.pg_base.specs.Numbers.{be32};
-ghost use Rattle.pg_base.specs.Cutting.{max_length};
+ghost use Rattle.pg_base.specs.declared.error.Error.TheVariants.{OutOfMemory};
 ghost use Rattle.pg_base.specs.Id.{max_id, statement_text, portal_text};
-ghost use Rattle.pg_base.specs.BufMut.{IsCallableOn, OnlyAppends, KeepsRoom, Fits, WhyRefused, four_zeros, prefixed};
+ghost use Rattle.pg_base.specs.BufMut.{IsCallableOn, OnlyAppends, AddsPrefixed, IsRefusedFor, KeepsRoom, LacksRoom, SetsLength, IsWhyTakenBack, four_zeros};
 ghost use Rattle.pg_base.specs.Encode.{IsShort};
 
 use crate::error::{Error, ProtocolFault};
@@ -35,12 +32,12 @@ pub trait PgBufMutExt {
     fn put_length_prefixed<F>(&mut self, write_contents: F) -> Result<(), Error>
     where
         F: FnOnce(&mut Vec<u8>) -> Result<(), Error> + Drop,
-        requires callable { IsCallableOn F.FnOnce write_contents (bytes self.old ++ four_zeros) }
-        requires appends { OnlyAppends F.FnOnce write_contents (bytes self.old ++ four_zeros) }
-        ensures ok { OnOk result ((added : List ℕ) × Fits F.FnOnce write_contents (bytes self.old ++ four_zeros) added × (bytes self.new ≡ bytes self.old ++ prefixed added)) }
+        requires callable { IsCallableOn F.FnOnce write_contents (bytes self.old) }
+        requires appends { OnlyAppends F.FnOnce write_contents (bytes self.old) }
+        ensures ok { OnOk result (AddsPrefixed F.FnOnce write_contents bytes self.old self.new) }
         ensures err { OnErr result (bytes self.new ≡ bytes self.old) }
-        ensures why { IfErr result (WhyRefused F.FnOnce write_contents (bytes self.old ++ four_zeros) ((capacity self.old < length (bytes self.old) + 4) × (capacity self.new ≡ capacity self.old))) }
-        ensures capacity { KeepsRoom F.FnOnce write_contents (bytes self.old ++ four_zeros) → capacity self.old ≤ capacity self.new };
+        ensures why { IsRefusedFor F.FnOnce write_contents bytes capacity self.old self.new result }
+        ensures capacity { KeepsRoom F.FnOnce write_contents bytes capacity self.old self.new };
 
     /// Adds the name of a statement and a NUL. Refused with `OutOfMemory`, only where the room was
     /// short.
@@ -48,7 +45,7 @@ pub trait PgBufMutExt {
         ensures ok { OnOk result (bytes self.new ≡ bytes self.old ++ statement_text id) }
         ensures err { OnErr result (bytes self.new ≡ bytes self.old) }
         ensures memory { IsOkUnless result OutOfMemory }
-        ensures room { OnErr result (capacity self.old < length (bytes self.old) + length (statement_text id)) }
+        ensures room { OnErr result (LacksRoom bytes capacity self.old (statement_text id)) }
         ensures capacity { capacity self.old ≤ capacity self.new }
         ensures range { id ≤ max_id };
 
@@ -58,7 +55,7 @@ pub trait PgBufMutExt {
         ensures ok { OnOk result (bytes self.new ≡ bytes self.old ++ portal_text id) }
         ensures err { OnErr result (bytes self.new ≡ bytes self.old) }
         ensures memory { IsOkUnless result OutOfMemory }
-        ensures room { OnErr result (capacity self.old < length (bytes self.old) + length (portal_text id)) }
+        ensures room { OnErr result (LacksRoom bytes capacity self.old (portal_text id)) }
         ensures capacity { capacity self.old ≤ capacity self.new }
         ensures range { id ≤ max_id };
 }
@@ -113,10 +110,10 @@ where
 // Sets the length before what was written, or takes both back.
 fn finish(buf: &mut Vec<u8>, offset: usize, written: Result<(), Error>) -> Result<(), Error>
     requires { offset + 4 ≤ vec_len buf.old }
-    ensures ok { OnOk result ((written ≡ Ok tt) × (vec_len buf.old - offset ≤ max_length) × (buf.new.items ≡ take offset buf.old.items ++ be32 (vec_len buf.old - offset) ++ drop (offset + 4) buf.old.items)) }
+    ensures ok { OnOk result ((written ≡ Ok tt) × SetsLength offset buf.old buf.new) }
     ensures err { OnErr result (buf.new.items ≡ take offset buf.old.items) }
     ensures capacity { vec_capacity buf.old ≤ vec_capacity buf.new }
-    ensures why { IfErr result (λ error. (written ≡ Err error) ⊎ ((written ≡ Ok tt) × (max_length < vec_len buf.old - offset) × (error ≡ Protocol None (MessageTooLong (vec_len buf.old - offset))))) }
+    ensures why { IfErr result (IsWhyTakenBack written (vec_len buf.old - offset)) }
 {
     let size = buf.len() - offset;
     let refused = match written {

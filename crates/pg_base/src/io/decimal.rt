@@ -1,6 +1,7 @@
 //! The decimal digits of a number, written at the end of a sink.
 
-ghost use Rattle.std.specs.Prelude.{◌≡◌, ◌+◌, ◌/◌, ◌%◌, ◌<◌, ◌≤◌, [], ◌∷◌, ◌++◌, length, decimal};
+ghost use Rattle.std.specs.Prelude.{◌≡◌, ◌+◌, ◌<◌, ◌≤◌, ◌++◌, length, decimal};
+ghost use Rattle.pg_base.specs.Numbers.{two_digits};
 ghost use Rattle.pg_base.specs.Sink.{HasRoom};
 
 use crate::io::Sink;
@@ -45,7 +46,7 @@ fn put_short<S: Sink>(number: u32, sink: &mut S)
 fn put_pair<S: Sink>(number: u32, sink: &mut S)
     requires number { number < 100 }
     requires room { length (S.written sink.old) + 2 ≤ S.capacity sink.old }
-    ensures written { S.written sink.new ≡ S.written sink.old ++ (48 + number / 10) ∷ (48 + number % 10) ∷ [] }
+    ensures written { S.written sink.new ≡ S.written sink.old ++ two_digits number }
     ensures capacity { S.capacity sink.old ≤ S.capacity sink.new }
     ensures loan { S.loan sink.new ≡ S.loan sink.old }
 {

@@ -1,8 +1,8 @@
 //! The names of prepared statements and portals, each kept as a number.
 
-ghost use Rattle.std.specs.Prelude.{Some, ◌≡◌, ◌≢◌, ◌==◌, ℕ, ◌+◌, ◌<◌, ◌≤◌, ◌^◌, List, [], ◌∷◌, ◌++◌, length, decimal, OnOk, OnErr, IsOkUnless, IfSome, IfNone, vec_capacity};
+ghost use Rattle.std.specs.Prelude.{Some, ◌≡◌, ◌==◌, ℕ, ◌+◌, ◌<◌, ◌≤◌, ◌^◌, List, [], ◌∷◌, ◌++◌, length, decimal, OnOk, OnErr, IsOkUnless, IfSome, IfNone, vec_capacity};
 ghost use Rattle.pg_base.specs.declared.error.Error.TheVariants.{OutOfMemory};
-ghost use Rattle.pg_base.specs.Id.{name, next_id, named, statement_prefix, portal_prefix, max_id, statement_text, portal_text};
+ghost use Rattle.pg_base.specs.Id.{IsNameOf, name, next_id, named, statement_prefix, portal_prefix, max_id, statement_text, portal_text};
 ghost use Rattle.pg_base.specs.Sink.{HasRoom};
 ghost use Rattle.pg_base.specs.Encode.{IsShort};
 
@@ -92,7 +92,7 @@ impl StatementId {
 
     /// The name of a named statement, to be printed.
     pub fn display(&self) -> Option<DisplayId>
-        ensures named { IfSome result (λ text. (self.now ≢ 0) × (text ≡ name statement_prefix self.now)) }
+        ensures named { IfSome result (IsNameOf statement_prefix self.now) }
         ensures unnamed { IfNone result (self.now ≡ 0) }
     {
         if self.0 == 0 {

@@ -1,8 +1,8 @@
 //! Whole numbers in a body, highest byte first.
 
-ghost use Rattle.std.specs.Prelude.{◌≡◌, ◌+◌, ◌≤◌, length, take, drop, IfOk, IfErr};
+ghost use Rattle.std.specs.Prelude.{◌≡◌, ◌+◌, ◌≤◌, length, drop, IfOk, IfErr};
 ghost use Rattle.pg_base.specs.Error.{IsShort};
-ghost use Rattle.pg_base.specs.Reading.{Number, Signed};
+ghost use Rattle.pg_base.specs.Reading.{IsPartAt, Number, Signed};
 
 use crate::error::ProtocolFault;
 use byteorder::{BigEndian, ByteOrder};
@@ -10,7 +10,7 @@ use byteorder::{BigEndian, ByteOrder};
 /// So many bytes of a body, from an offset within it. Refused with `Short` where fewer are there.
 pub fn bytes_at(body: &[u8], at: usize, needed: usize) -> Result<&[u8], ProtocolFault>
     requires { at ≤ length body.now }
-    ensures found { IfOk result (λ bytes. (at + needed ≤ length body.now) × (bytes.now ≡ take needed (drop at body.now))) }
+    ensures found { IfOk result (λ bytes. IsPartAt body.now at needed bytes.now) }
     ensures short { IfErr result (IsShort body.now at needed) }
 {
     let rest = &body[at..];

@@ -62,8 +62,7 @@ pub trait Sink {
         self.put_u8(lowest);
     }
 
-    /// Adds a tag, and the length field of a body of `len` bytes. The length is one number, so that it is
-    /// written at once.
+    /// Adds a tag, and the length field of a body of `len` bytes. Both are written at once.
     #[inline(always)]
     final fn put_head(&mut self, tag: u8, len: usize)
         requires small { len + 4 ≤ max_length }
@@ -72,8 +71,8 @@ pub trait Sink {
         ensures capacity { capacity self.old ≤ capacity self.new }
         ensures loan { loan self.new ≡ loan self.old }
     {
-        self.put_u8(tag);
-        self.put_slice(&(len as u32 + 4).to_be_bytes());
+        let [highest, higher, lower, lowest] = (len as u32 + 4).to_be_bytes();
+        self.put_slice(&[tag, highest, higher, lower, lowest]);
     }
 
     /// Adds a text and a NUL.
@@ -152,7 +151,8 @@ impl Sink for Cursor<'_> {
     }
 }
 
-// Copies bytes over as many others. A number of four or eight is moved without a call.
+// Copies bytes over as many others. A number of four or eight and a tag with its length are moved
+// without a call.
 #[inline(always)]
 fn copy(to: &mut [u8], from: &[u8])
     requires { length to.old ≡ length from.now }
@@ -162,6 +162,8 @@ fn copy(to: &mut [u8], from: &[u8])
         copy_all(to, from);
     } else if let Ok(number) = <[u8; 8]>::try_from(from) {
         to.copy_from_slice(&number);
+    } else if let Ok(head) = <[u8; 5]>::try_from(from) {
+        to.copy_from_slice(&head);
     } else if let Ok(number) = <[u8; 4]>::try_from(from) {
         to.copy_from_slice(&number);
     } else if !from.is_empty() {

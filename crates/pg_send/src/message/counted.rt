@@ -3,7 +3,7 @@
 ghost use Rattle.std.specs.Prelude.{◌≡◌, ℕ, ◌^◌, ◌+◌, ◌<◌, ◌≤◌, ◌++◌, All, Some, None, length, map, nat_le, if◌then◌else◌};
 ghost use Rattle.pg_base.specs.declared.error.ProtocolFault.{ProtocolFault};
 ghost use Rattle.pg_base.specs.Numbers.{max_count};
-ghost use Rattle.pg_send.specs.Counted.{counted16};
+ghost use Rattle.pg_send.specs.Counted.{codes_of};
 ghost use Rattle.pg_base.specs.Sink.{HasRoom};
 
 use pg_base::ProtocolFault;
@@ -148,8 +148,8 @@ impl<L: Limit, C: Code> Part for Codes<'_, L, C> {
 #[inline(always)]
 fn put_codes<C: Code, S: Sink>(codes: &[C], sink: &mut S)
     requires count { length codes.now ≤ max_count }
-    requires room { HasRoom (S.capacity sink.old) (S.written sink.old) (counted16 (map C.code codes.now)) }
-    ensures written { S.written sink.new ≡ S.written sink.old ++ counted16 (map C.code codes.now) }
+    requires room { HasRoom (S.capacity sink.old) (S.written sink.old) (codes_of C.code codes.now) }
+    ensures written { S.written sink.new ≡ S.written sink.old ++ codes_of C.code codes.now }
     ensures capacity { S.capacity sink.old ≤ S.capacity sink.new }
     ensures loan { S.loan sink.new ≡ S.loan sink.old }
     ensures range { All (λ n. n < C.limit) (map C.code codes.now) }

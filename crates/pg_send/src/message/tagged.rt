@@ -1,10 +1,10 @@
 //! Any message that has a tag.
 
-ghost use Rattle.std.specs.Prelude.{◌≡◌, ◌+◌, ◌<◌, ◌≤◌, ◌++◌, length, None, Ok, OnOk, IfErr};
+ghost use Rattle.std.specs.Prelude.{◌≡◌, ◌+◌, ◌<◌, ◌≤◌, ◌++◌, None, Ok, OnOk, IfErr};
 ghost use Rattle.std.specs.Bool.{OnTrue, OnFalse};
 ghost use Rattle.pg_send.specs.FrontendMessage.{CannotRoundTrip, EncodesMessage, IsShortFor, IsShortIfItCan, Adds, room_asked};
-ghost use Rattle.pg_send.specs.Message.{law_of, body, fault, text, IsInRange, CanRoundTrip, RoundTripsIfItCan};
-ghost use Rattle.pg_send.specs.Run.{IsMeantIfItCan, IsReadByTag};
+ghost use Rattle.pg_send.specs.Message.{FitsInto, law_of, fault, text, IsInRange, CanRoundTrip, RoundTripsIfItCan};
+ghost use Rattle.pg_send.specs.Run.{IsMeantIfItCan, OneIsRead};
 ghost use Rattle.pg_send.specs.TaggedMessage.{message_of};
 
 use crate::message::tagged_visitor::{
@@ -55,7 +55,7 @@ impl TaggedMessage<'_> {
         // A reader that is given the kind gets the message back from its body, and no other.
         ensures round_trip { OnOk result (RoundTripsIfItCan (message_of self.now)) }
         // By the tag and the body of its frame alone, the page means it.
-        ensures by_tag { IsReadByTag IsMeantIfItCan (message_of self.now) result buf.old buf.new }
+        ensures by_tag { OneIsRead IsMeantIfItCan (message_of self.now) result buf.old buf.new }
     {
         self.put_or_encode(buf)
     }
@@ -132,7 +132,7 @@ impl TaggedMessage<'_> {
     #[inline]
     pub fn put_frame<S: Sink>(&self, sink: &mut S)
         requires limits { fault (message_of self.now) ≡ None }
-        requires room { length (S.written sink.old) + (length (body (message_of self.now)) + 5) ≤ S.capacity sink.old }
+        requires room { FitsInto (S.capacity sink.old) (S.written sink.old) (message_of self.now) }
         ensures written { S.written sink.new ≡ S.written sink.old ++ text (message_of self.now) }
         ensures capacity { S.capacity sink.old ≤ S.capacity sink.new }
         ensures loan { S.loan sink.new ≡ S.loan sink.old }

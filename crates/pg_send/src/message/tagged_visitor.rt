@@ -2,7 +2,7 @@
 
 ghost use Rattle.std.specs.Prelude.{◌≡◌};
 ghost use Rattle.pg_send.specs.FrontendMessage.{Law, fault, hint, room_or_fault};
-ghost use Rattle.pg_send.specs.TaggedVisitor.{PutsIfFits, PutsIfReadBack, IsRoundTripCheck, EncodesInRange, HasRoom, PutsFrame};
+ghost use Rattle.pg_send.specs.TaggedVisitor.{PutsIfFits, PutsIfReadBack, IsRoundTripCheck, EncodesInRange, FrameFits, PutsFrame};
 
 use crate::message::{Framed, FrontendMessage, encode_frame, put_if_fits};
 use pg_base::io::{Sink, Text};
@@ -113,7 +113,7 @@ pub struct PutFrame;
 impl<S: Sink> TaggedVisitor<S> for PutFrame {
     type Output = ();
 
-    ghost asks = { HasRoom S.written S.capacity };
+    ghost asks = { FrameFits S.written S.capacity };
 
     ghost gives = { λ law old new result. PutsFrame S.written S.capacity S.loan law old new };
 

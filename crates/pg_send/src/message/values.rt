@@ -3,7 +3,7 @@
 ghost use Rattle.std.specs.Prelude.{◌≡◌, ℕ, ◌+◌, ◌≤◌, ◌++◌, List, Option, length, map, option_copied};
 ghost use Rattle.pg_base.specs.Cutting.{max_length};
 ghost use Rattle.pg_base.specs.Part.{saturated};
-ghost use Rattle.pg_send.specs.Values.{values_text};
+ghost use Rattle.pg_send.specs.Values.{texts};
 ghost use Rattle.pg_base.specs.Sink.{HasRoom};
 
 use crate::message::counted::too_many;
@@ -57,7 +57,7 @@ impl<V: AsValue> Part for Each<'_, V> {
 
 // The length of the values and of the four bytes before each, in bytes; it saturates.
 fn values_len<V: AsValue>(values: &[V]) -> usize
-    ensures { result ≡ saturated (length (values_text (map V.value values.now))) }
+    ensures { result ≡ saturated (length (texts V.value values.now)) }
 {
     let mut len: usize = 0;
     for value in values {
@@ -69,10 +69,9 @@ fn values_len<V: AsValue>(values: &[V]) -> usize
 // Adds the values, each after its length, in room that is there.
 #[inline(always)]
 fn put_values<V: AsValue, S: Sink>(values: &[V], sink: &mut S)
-    requires small { length (values_text (map V.value values.now)) ≤ max_length }
-    requires room { HasRoom (S.capacity sink.old) (S.written sink.old)
-        (values_text (map V.value values.now)) }
-    ensures written { S.written sink.new ≡ S.written sink.old ++ values_text (map V.value values.now) }
+    requires small { length (texts V.value values.now) ≤ max_length }
+    requires room { HasRoom (S.capacity sink.old) (S.written sink.old) (texts V.value values.now) }
+    ensures written { S.written sink.new ≡ S.written sink.old ++ texts V.value values.now }
     ensures capacity { S.capacity sink.old ≤ S.capacity sink.new }
     ensures loan { S.loan sink.new ≡ S.loan sink.old }
 {

@@ -37,9 +37,9 @@ returns-clause-ok g c =
           met = rw k.0 at c.call-written.ensures;
           adds = a.1;
         };
-        fits = omega (arith, len_is _ _ _ _ _ h, k.1);
+        fits = omega (arith, len_is _ _ _ _ _ h, k.1.0);
       },
-      k.2 ∙ is_prefixed _ _ _ _ _ h,
+      k.1.1 ∙ is_prefixed _ _ _ _ _ h,
     )) c.finish.ensures.ok
 
 pub returns-clause-err : goal.returns-clause-err
