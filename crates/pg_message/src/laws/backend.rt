@@ -6,6 +6,7 @@ ghost use Rattle.pg_message.specs.Backend.{IsDecodedBack, IsReadRaw};
 
 /// A message without a fault, of a kind that has a type, is decoded as that type by its tag and body to
 /// what it says, or memory runs out.
+#[tactic(auto, using(crate::proofs::BackendLemmas::decoded_back))]
 pub fn own_messages_are_decoded()
     ensures { (m : Message) → fault m ≡ None → IsInRange m → IsReadable m → IsDecodedBack m }
 {}
@@ -13,6 +14,7 @@ pub fn own_messages_are_decoded()
 /// Of a message without a fault the readers of texts in any encoding read what it says: fields of a notice
 /// that a decoder would refuse, settings and columns whose names aren't UTF-8, the tag of a command, and a
 /// key of any length.
+#[tactic(auto, using(crate::proofs::RawLemmas::read_raw))]
 pub fn own_messages_are_read_in_any_encoding()
     ensures { (m : Message) → fault m ≡ None → IsInRange m → IsReadRaw m }
 {}

@@ -7,6 +7,7 @@ ghost use Rattle.pg_message.specs.Frontend.{IsReadByTag, IsReadIfItCan, AreReadI
 
 /// A message within the limits that can make the round trip is read, from its tag and body alone, as
 /// itself: numbered names as their texts, and passwords and SASL's messages as their bytes.
+#[tactic(auto, using(crate::proofs::FrontendLemmas::read_back))]
 pub fn own_messages_are_read()
     ensures { (m : Message) → IfReadable m (AreBytes (body m) → IsReadByTag m (tag m, body m)) }
 {}

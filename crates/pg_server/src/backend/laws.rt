@@ -12,6 +12,7 @@ use crate::backend::{CopyDirection, NoBodyText, NoticeKind, ReadyForQueryText};
 
 /// What a message without a fault says is what the page of all messages means by its body, and nothing
 /// else: where a reader asks for UTF-8, or tests what it reads, if it passes.
+#[tactic(auto, using(crate::proofs::BackendMessageLemmas::own_message))]
 pub fn own_messages_are_read()
     ensures { (m : Message) → fault m ≡ None → IsInRange m → IsRead m }
 {}
