@@ -8,7 +8,7 @@ use Rattle.pg_format.specs.Format.Ends.{loosely}
 use Rattle.pg_format.specs.Format.Lists.{AreRead, OneBreaks, times, counted_least}
 use Rattle.pg_format.specs.Format.Places.{IsReadAt, BreaksAt}
 use Rattle.pg_format.proofs.FormatLaws.Places.{none_at, one_more_at, items_then_fault}
-use Rattle.pg_format.specs.Items.{Keeps, KeepsOne, AreKept, KeepsAll, Reading, AreLeft, IsFaultLeft, Begins, Steps, ReadsBody, items_in, HoldsItems}
+use Rattle.pg_format.specs.Items.{Keeps, KeepsOne, AreKept, AllKept, Reading, AreLeft, IsFaultLeft, Begins, Steps, ReadsBody, items_in, HoldsItems}
 
 -- an item that can't be read after fewer than are left is the fault of what is left
 pub fault_left : {A : Type 0} (g : Format A) (reading : Reading) (k at : ℕ) (items : List A) (fault : ProtocolFault) → IsReadAt (times k g) reading.body reading.at items at → k < reading.left → BreaksAt g reading.body at fault
@@ -59,7 +59,7 @@ module _ {I K V : Type 0} (g : Format V) (shown : I → V) (keeps : Keeps K I) (
 
   -- some are kept, and then all that were left, or the fault of what was left
   pub then_the_rest : (old : Reading) (n at more : ℕ) (first mid last : K) (result : Result ℕ ProtocolFault) → old.body ≡ body → old.left ≡ n + more → AreKept g shown keeps body old.at n at first mid
-      → KeepsAll g shown keeps (record { body = body; at = at; left = more }) mid last result → KeepsAll g shown keeps old first last result
+      → AllKept g shown keeps (record { body = body; at = at; left = more }) mid last result → AllKept g shown keeps old first last result
   then_the_rest old n at more first mid last (Ok end) e sum p q = rw e (more_kept old.at n at more end old.left first mid last sum p q)
   then_the_rest old n at more first mid last (Err fault) e sum p q =
       let count : old.left ≡ length (map shown p.items) + more = omega (arith, p.read.reads.0, sum) in

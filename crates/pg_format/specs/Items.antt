@@ -98,10 +98,14 @@ pub record AreKept {I K V : Type 0} (g : Format V) (shown : I → V) (keeps : Ke
   pub read : IsReadAt (times n g) body at (map shown items) end
   pub kept : (first : ℕ) (earlier : List I) → keeps old body first earlier at → keeps new body first (earlier ++ items) end
 
--- all are kept; or this fault is left
-abbrev pub KeepsAll : {I K V : Type 0} → Format V → (I → V) → Keeps K I → Reading → K → K → Result ℕ ProtocolFault → Type 0
-KeepsAll g shown keeps reading old new (Ok end) = AreKept g shown keeps reading.body reading.at reading.left end old new
-KeepsAll g shown keeps reading old new (Err fault) = IsFaultLeft g reading fault
+-- so many items are kept that are at the front of those left, up to an offset
+abbrev pub FrontKept : {I K V : Type 0} → Format V → (I → V) → Keeps K I → Reading → K → K → ℕ × ℕ → Type 0
+FrontKept g shown keeps reading old new front = AreKept g shown keeps reading.body reading.at front.0 front.1 old new
+
+-- all that are left are kept; or this fault is left
+abbrev pub AllKept : {I K V : Type 0} → Format V → (I → V) → Keeps K I → Reading → K → K → Result ℕ ProtocolFault → Type 0
+AllKept g shown keeps reading old new (Ok end) = AreKept g shown keeps reading.body reading.at reading.left end old new
+AllKept g shown keeps reading old new (Err fault) = IsFaultLeft g reading fault
 
 -- after the beginning of a body the items end there; or this is the body's fault
 abbrev pub EndsBody : {V : Type 0} → Format V → Reading → Result ℕ ProtocolFault → Type 0

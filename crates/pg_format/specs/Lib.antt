@@ -1,4 +1,5 @@
 pub mod EndedTexts
+pub mod Examples
 pub mod Format
 pub mod Items
 pub mod Keyed

@@ -4,7 +4,7 @@ mod item;
 mod keeper;
 
 ghost use Rattle.std.specs.Prelude.{◌≡◌, ◌==◌, ℕ, ◌+◌, ◌*◌, ◌≤◌, length, drop, IfOk, IfErr};
-ghost use Rattle.pg_format.specs.Items.{AreKept, IsCountFault, Begins, NextBreaks, KeepsAll, EndsBody, GivesNext};
+ghost use Rattle.pg_format.specs.Items.{IsCountFault, Begins, NextBreaks, FrontKept, AllKept, EndsBody, GivesNext};
 
 pub use item::{Item, QuickItem};
 pub use keeper::{Keeper, Nothing};
@@ -117,7 +117,7 @@ impl<'a> Items<'a> {
         keeper: &mut K,
     ) -> Result<usize, ProtocolFault>
         requires room { K.has_room keeper.old self.now.left }
-        ensures all { KeepsAll I.format I.shown K.keeps self.now keeper.old keeper.new result }
+        ensures all { AllKept I.format I.shown K.keeps self.now keeper.old keeper.new result }
         ensures body { EndsBody I.format self.now result }
     {
         let mut at = self.at;
@@ -140,7 +140,7 @@ impl<'a> Items<'a> {
         requires room { K.has_room keeper.old self.now.left }
         requires least { least ≡ I.least }
         requires fits { self.now.at + least * self.now.left ≤ length self.now.body }
-        ensures { KeepsAll I.Item.format I.Item.shown K.keeps self.now keeper.old keeper.new result }
+        ensures { AllKept I.Item.format I.Item.shown K.keeps self.now keeper.old keeper.new result }
     {
         let (index, at) = self.read_front::<I, K>(least, keeper);
         if index < self.left {
@@ -159,14 +159,14 @@ impl<'a> Items<'a> {
     fn read_front<I: QuickItem<'a>, K: Keeper<'a, I>>(
         &self,
         least: usize,
-        keeper: &mut K,
+        to: &mut K,
     ) -> (usize, usize)
-        requires room { K.has_room keeper.old self.now.left }
+        requires room { K.has_room to.old self.now.left }
         requires least { least ≡ I.least }
         requires fits { self.now.at + least * self.now.left ≤ length self.now.body }
         ensures few { result.0 ≤ self.now.left }
-        ensures front { AreKept I.Item.format I.Item.shown K.keeps self.now.body self.now.at result.0 result.1 keeper.old keeper.new }
-        ensures room { (more : ℕ) → more + result.0 ≡ self.now.left → K.has_room keeper.new more }
+        ensures front { FrontKept I.Item.format I.Item.shown K.keeps self.now to.old to.new result }
+        ensures room { (more : ℕ) → more + result.0 ≡ self.now.left → K.has_room to.new more }
     {
         // Where an item ends at most, since each that follows takes bytes.
         let mut last = self.body.len() - least * self.left;
@@ -176,7 +176,7 @@ impl<'a> Items<'a> {
             let Some((item, end)) = I::item_until(self.body, at, last) else {
                 return (index, at);
             };
-            keeper.keep(at, item, end);
+            to.keep(at, item, end);
             at = end;
         }
         (self.left, at)
@@ -190,7 +190,7 @@ impl<'a> Items<'a> {
         keeper: &mut K,
     ) -> Result<usize, ProtocolFault>
         requires room { K.has_room keeper.old self.now.left }
-        ensures { KeepsAll I.format I.shown K.keeps self.now keeper.old keeper.new result }
+        ensures { AllKept I.format I.shown K.keeps self.now keeper.old keeper.new result }
     {
         self.read_all::<I, K>(keeper)
     }

@@ -1,9 +1,10 @@
 //! Texts within a body, each ended by a NUL.
 
-ghost use Rattle.std.specs.Prelude.{◌≡◌, ◌+◌, ◌≤◌, length, drop, IfSome, IfNone, IfOk, IfErr, true, false};
+ghost use Rattle.std.specs.Prelude.{◌≡◌, ◌≤◌, length, drop, IfSome, IfNone, IfErr, true, false};
 ghost use Rattle.std.specs.Str.{is_utf8};
 ghost use Rattle.pg_base.specs.Reading.{HoldsNo, Text};
 ghost use Rattle.pg_format.specs.Format.Parts.{until_nul};
+ghost use Rattle.pg_format.specs.Format.Places.{EndsAfterNul, ReadsFrom};
 ghost use Rattle.pg_format.specs.Format.Tests.{utf8};
 
 use memchr::memchr;
@@ -34,8 +35,8 @@ pub fn utf8_text(bytes: &[u8]) -> Option<&str>
 /// where there is no NUL.
 pub fn text_at(body: &[u8], at: usize) -> Result<(&[u8], usize), ProtocolFault>
     requires { at ≤ length body.now }
-    ensures found { IfOk result (λ found. until_nul.Reads (drop at body.now) found.0.now (drop found.1 body.now)) }
-    ensures after { IfOk result (λ found. (found.1 ≡ at + length found.0.now + 1) × (found.1 ≤ length body.now)) }
+    ensures found { ReadsFrom until_nul (λ text. text.now) body.now at result }
+    ensures after { EndsAfterNul (λ text. text.now) body.now at result }
     ensures missing { IfErr result (until_nul.Breaks (length body.now) (drop at body.now)) }
 {
     let Some((text, _)) = split_text(&body[at..]) else {
@@ -49,8 +50,8 @@ pub fn text_at(body: &[u8], at: usize) -> Result<(&[u8], usize), ProtocolFault>
 #[tactic(auto, using(crate::proofs::TextLemmas::not_utf8))]
 pub fn str_at(body: &[u8], at: usize) -> Result<(&str, usize), ProtocolFault>
     requires { at ≤ length body.now }
-    ensures found { IfOk result (λ found. utf8.Reads (drop at body.now) found.0.now (drop found.1 body.now)) }
-    ensures after { IfOk result (λ found. (found.1 ≡ at + length found.0.now + 1) × (found.1 ≤ length body.now)) }
+    ensures found { ReadsFrom utf8 (λ text. text.now) body.now at result }
+    ensures after { EndsAfterNul (λ text. text.now) body.now at result }
     ensures broken { IfErr result (utf8.Breaks (length body.now) (drop at body.now)) }
 {
     let (text, after) = text_at(body, at)?;

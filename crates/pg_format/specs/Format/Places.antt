@@ -1,5 +1,5 @@
 -- Values that stand between two offsets of a body.
-use Rattle.std.specs.Prelude.{ℕ, ◌≤◌, List, length, drop, Result, IfOk}
+use Rattle.std.specs.Prelude.{◌≡◌, ℕ, ◌+◌, ◌≤◌, List, length, drop, Option, Result, IfOk, IfSome}
 use Rattle.pg_base.specs.declared.error.ProtocolFault.{ProtocolFault}
 use Rattle.pg_format.specs.Format.{Format}
 
@@ -20,3 +20,16 @@ BreaksAt g body at fault = g.Breaks (length body) (drop at body) fault
 -- what stands at an offset, and the offset after it
 abbrev pub ReadsAt : {I A : Type 0} → Format A → (I → A) → List ℕ → ℕ → Result (I × ℕ) ProtocolFault → Type 0
 ReadsAt g shown body at result = IfOk result (λ found. IsReadAt g body at (shown found.0) found.1)
+
+-- the same of what may not be there
+abbrev pub FindsAt : {I A : Type 0} → Format A → (I → A) → List ℕ → ℕ → Option (I × ℕ) → Type 0
+FindsAt g shown body at found = IfSome found (λ it. IsReadAt g body at (shown it.0) it.1)
+
+-- what a body has from an offset on, and the offset from which the rest follows
+abbrev pub ReadsFrom : {I A : Type 0} → Format A → (I → A) → List ℕ → ℕ → Result (I × ℕ) ProtocolFault → Type 0
+ReadsFrom g shown body at result = IfOk result (λ found. g.Reads (drop at body) (shown found.0) (drop found.1 body))
+
+-- after a text, the offset is that of what follows its NUL
+abbrev pub EndsAfterNul : {I : Type 0} → (I → List ℕ) → List ℕ → ℕ → Result (I × ℕ) ProtocolFault → Type 0
+EndsAfterNul shown body at result =
+    IfOk result (λ found. (found.1 ≡ at + length (shown found.0) + 1) × (found.1 ≤ length body))

@@ -11,5 +11,5 @@ returns-then-index-self g c =
     let front = c.read_front-index in
     let more = c.self.inside.left - front.result.0 in
     let rest = rw body at c.read_rest.ensures in
-    then_the_rest g.I.Item.format g.I.Item.shown g.K.Keeper.keeps r.body r front.result.0 front.result.1 more c.args.keeper.now front.new.keeper c.read_rest.new.keeper c.read_rest.result
+    then_the_rest g.I.Item.format g.I.Item.shown g.K.Keeper.keeps r.body r front.result.0 front.result.1 more c.args.keeper.now front.new.to c.read_rest.new.keeper c.read_rest.result
     refl (omega (arith, left, c.if-index-self.true)) front.ensures.front rest

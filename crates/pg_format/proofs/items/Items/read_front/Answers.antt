@@ -15,7 +15,7 @@ loop-index-init g c =
       within = omega (arith, at, all, body, c.requires.fits);
       last = omega (arith, at, all, body, c.requires.fits);
       room = λ more e. let some : more ≡ r.left = omega (arith, e) in rw some c.requires.room;
-      read = rw at (none_kept g.I.Item.format g.I.Item.shown g.K.Keeper.keeps r.body r.at c.args.keeper.now within);
+      read = rw at (none_kept g.I.Item.format g.I.Item.shown g.K.Keeper.keeps r.body r.at c.args.to.now within);
     }
 
 pub keep-requires : goal.keep-requires
@@ -40,5 +40,5 @@ loop-index-preserved g c =
       within = c.in-Some.ensures.within;
       last = omega (arith, loop.invariant.last, one_more_times n loop.index);
       room = λ more e. c.keep.ensures.room more (loop.invariant.room (suc more) (omega (arith, e)));
-      read = one_more_kept g.I.Item.format g.I.Item.shown g.K.Keeper.keeps r.body r.at loop.index loop.at c.in-Some.end c.args.keeper.now loop.keeper c.keep.new.self c.in-Some.item loop.invariant.read found c.keep.ensures.kept;
+      read = one_more_kept g.I.Item.format g.I.Item.shown g.K.Keeper.keeps r.body r.at loop.index loop.at c.in-Some.end c.args.to.now loop.to c.keep.new.self c.in-Some.item loop.invariant.read found c.keep.ensures.kept;
     }

@@ -6,6 +6,6 @@ abbrev pub invariant-loop-index : goal.invariant-loop-index
 invariant-loop-index g l = record {
   within : l.at ≤ l.last;
   last : l.last + l.least * l.fn.self.left ≡ length l.fn.self.body + l.least * l.index;
-  room : (more : ℕ) → more + l.index ≡ l.fn.self.left → g.K.Keeper.has_room l.keeper more;
-  read : AreKept g.I.Item.format g.I.Item.shown g.K.Keeper.keeps l.fn.self.body l.fn.self.at l.index l.at l.fn.keeper l.keeper;
+  room : (more : ℕ) → more + l.index ≡ l.fn.self.left → g.K.Keeper.has_room l.to more;
+  read : AreKept g.I.Item.format g.I.Item.shown g.K.Keeper.keeps l.fn.self.body l.fn.self.at l.index l.at l.fn.to l.to;
 }

@@ -33,5 +33,20 @@ returns-clause-continued c = by_method 11 (codes "r=ab,i=4096") (sasl_continue (
 pub returns-clause-finished : goal.returns-clause-finished
 returns-clause-finished c = by_method 12 (codes "e=other") (sasl_final (codes "e=other")) (omega arith) (codes "e=other", ((refl, refl), refl), refl)
 
-pub returns-clause-written : goal.returns-clause-written
-returns-clause-written c = (refl, (refl, (refl, (refl, (refl, refl)))))
+pub returns-clause-ok_is_0 : goal.returns-clause-ok_is_0
+returns-clause-ok_is_0 c = refl
+
+pub returns-clause-cleartext_is_3 : goal.returns-clause-cleartext_is_3
+returns-clause-cleartext_is_3 c = refl
+
+pub returns-clause-md5_is_5 : goal.returns-clause-md5_is_5
+returns-clause-md5_is_5 c = refl
+
+pub returns-clause-sasl_is_10 : goal.returns-clause-sasl_is_10
+returns-clause-sasl_is_10 c = refl
+
+pub returns-clause-continued_is_11 : goal.returns-clause-continued_is_11
+returns-clause-continued_is_11 c = refl
+
+pub returns-clause-finished_is_12 : goal.returns-clause-finished_is_12
+returns-clause-finished_is_12 c = refl

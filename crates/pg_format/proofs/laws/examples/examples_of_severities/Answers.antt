@@ -18,8 +18,8 @@ no_severity =
       is = second_fault (text_fault (codes "INF")) UnknownSeverity (field_clean (codes "INF") (codes "INF", (refl, refl)));
     })
 
-pub returns-clause-error_of_no_severity : goal.returns-clause-error_of_no_severity
-returns-clause-error_of_no_severity c = no_severity
+pub returns-clause-of_error : goal.returns-clause-of_error
+returns-clause-of_error c = no_severity
 
-pub returns-clause-notice_of_no_severity : goal.returns-clause-notice_of_no_severity
-returns-clause-notice_of_no_severity c = no_severity
+pub returns-clause-of_notice : goal.returns-clause-of_notice
+returns-clause-of_notice c = no_severity

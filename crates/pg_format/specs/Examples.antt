@@ -1,0 +1,323 @@
+-- Examples of messages, worked by hand after the documentation's "Message Formats": the bytes of a body beside the
+-- value that they mean, or beside the fault that they have.
+use Rattle.std.specs.Prelude.{◌≡◌, ℕ, pos, negsuc, List, [], ◌∷◌, ◌++◌, codes, replicate, Option, Some, None}
+use Rattle.pg_base.specs.declared.error.ProtocolFault.{ProtocolFault}
+use Rattle.pg_base.specs.declared.error.ProtocolFault.TheVariants.{BadKeyLength, BodyTooLong, MissingNul, UnknownSeverity, ValueLength}
+use Rattle.pg_base.specs.declared.format.BackendMessageFormat.{BackendMessageFormat}
+use Rattle.pg_base.specs.declared.format.FrontendMessageFormat.{FrontendMessageFormat}
+use Rattle.pg_format.specs.Format.{Format, Means, IsFaultOf}
+use Rattle.pg_format.specs.Notices.{Field}
+use Rattle.pg_format.specs.Messages.{from_server, from_client, BackendKey, Bind, Cancel, Column, CopyResponse, Execute, First, FunctionCall, Negotiation, Notification, Parse, SaslInitial, Setting, Targeted, opening, cancelling}
+use Rattle.pg_format.specs.Tables.{Authentication, ok, cleartext_password, md5_password, sasl, sasl_continue, sasl_final, statement, portal}
+
+-- the bytes of a body, and the value that they mean
+pub record Example (A : Type 0) : Type 0 where
+  pub bytes : List ℕ
+  pub value : A
+
+-- the bytes of a body that means nothing, and the fault that they have
+pub record FaultExample : Type 0 where
+  pub bytes : List ℕ
+  pub fault : ProtocolFault
+
+-- by this format the bytes mean the value
+abbrev pub IsExample : {A : Type 0} → Format A → Example A → Type 0
+IsExample g example = Means g example.bytes example.value
+
+-- by this format the bytes have the fault
+abbrev pub IsFaultExample : {A : Type 0} → Format A → FaultExample → Type 0
+IsFaultExample g example = IsFaultOf g example.bytes example.fault
+
+-- from a server, the bytes of a message of this kind mean the value
+abbrev pub IsServerExample : (kind : BackendMessageFormat) → Example (from_server kind).Value → Type 0
+IsServerExample kind example = Means (from_server kind).format example.bytes example.value
+
+-- from a client, the bytes of a message of this kind mean the value
+abbrev pub IsClientExample : (kind : FrontendMessageFormat) → Example (from_client kind).Value → Type 0
+IsClientExample kind example = Means (from_client kind).format example.bytes example.value
+
+-- as a message of this kind a server writes the value by the bytes
+abbrev pub IsWrittenExample : (kind : BackendMessageFormat) → Example (from_server kind).Value → Type 0
+IsWrittenExample kind example = (from_server kind).format.Writes example.value ≡ example.bytes
+
+-- a byte where no body is due is ignored; and such a byte is a fault, at the first byte
+abbrev pub IgnoresABody : Format (Unit {0}) → Type 0
+IgnoresABody g = Means g (7 ∷ []) tt
+
+abbrev pub RefusesABody : Format (Unit {0}) → Type 0
+RefusesABody g = IsFaultOf g (7 ∷ []) (BodyTooLong 0)
+
+-- ---- requests for authentication: the number of the method, then what it needs
+
+abbrev pub request_for_nothing : Example Authentication
+request_for_nothing = record { bytes = 0 ∷ 0 ∷ 0 ∷ 0 ∷ []; value = ok }
+
+abbrev pub request_for_a_password : Example Authentication
+request_for_a_password = record { bytes = 0 ∷ 0 ∷ 0 ∷ 3 ∷ []; value = cleartext_password }
+
+abbrev pub request_for_md5 : Example Authentication
+request_for_md5 = record {
+  bytes = 0 ∷ 0 ∷ 0 ∷ 5 ∷ 9 ∷ 0 ∷ 8 ∷ 7 ∷ [];
+  value = md5_password (9 ∷ 0 ∷ 8 ∷ 7 ∷ []);
+}
+
+abbrev pub request_for_sasl : Example Authentication
+request_for_sasl = record {
+  bytes = 0 ∷ 0 ∷ 0 ∷ 10 ∷ codes "SCRAM-SHA-256" ++ 0 ∷ 0 ∷ [];
+  value = sasl (codes "SCRAM-SHA-256" ∷ []);
+}
+
+abbrev pub challenge_of_sasl : Example Authentication
+challenge_of_sasl = record {
+  bytes = 0 ∷ 0 ∷ 0 ∷ 11 ∷ codes "r=ab,i=4096";
+  value = sasl_continue (codes "r=ab,i=4096");
+}
+
+abbrev pub end_of_sasl : Example Authentication
+end_of_sasl = record {
+  bytes = 0 ∷ 0 ∷ 0 ∷ 12 ∷ codes "e=other";
+  value = sasl_final (codes "e=other");
+}
+
+-- ---- columns and rows
+
+-- the second column of the table 16385, which is an integer, in binary
+abbrev pub column_of_a_table : Example (List Column)
+column_of_a_table = record {
+  bytes =
+      0 ∷ 1 ∷ codes "id" ++ 0 ∷ 0 ∷ 0 ∷ 64 ∷ 1 ∷ 0 ∷ 2 ∷ 0 ∷ 0 ∷ 0 ∷ 23 ∷ 0 ∷ 4 ∷ 255 ∷ 255 ∷ 255 ∷ 255
+      ∷ 0 ∷ 1 ∷ [];
+  value = record {
+    name = codes "id";
+    relation_id = Some 16385;
+    relation_attribute_no = Some (pos 2);
+    data_type_id = 23;
+    data_type_size = pos 4;
+    type_modifier = negsuc 0;
+    format = pos 1;
+  } ∷ [];
+}
+
+-- a column of no table, which is a text of any length with a modifier, as text
+abbrev pub column_of_no_table : Example (List Column)
+column_of_no_table = record {
+  bytes =
+      0 ∷ 1 ∷ codes "now" ++ 0 ∷ 0 ∷ 0 ∷ 0 ∷ 0 ∷ 0 ∷ 0 ∷ 0 ∷ 0 ∷ 0 ∷ 25 ∷ 255 ∷ 255 ∷ 0 ∷ 0 ∷ 0 ∷ 9 ∷ 0
+      ∷ 0 ∷ [];
+  value = record {
+    name = codes "now";
+    relation_id = None;
+    relation_attribute_no = None;
+    data_type_id = 25;
+    data_type_size = negsuc 0;
+    type_modifier = pos 9;
+    format = pos 0;
+  } ∷ [];
+}
+
+abbrev pub copy_of_two_columns : Example CopyResponse
+copy_of_two_columns = record {
+  bytes = 1 ∷ 0 ∷ 2 ∷ 0 ∷ 1 ∷ 0 ∷ 0 ∷ [];
+  value = record { format = pos 1; num_columns = pos 2; format_codes = pos 1 ∷ pos 0 ∷ [] };
+}
+
+-- a count below 0
+abbrev pub copy_of_no_columns : Example CopyResponse
+copy_of_no_columns = record {
+  bytes = 0 ∷ 255 ∷ 255 ∷ [];
+  value = record { format = pos 0; num_columns = negsuc 0; format_codes = [] };
+}
+
+-- a value, NULL, and an empty value
+abbrev pub row_of_three_values : Example (List (Option (List ℕ)))
+row_of_three_values = record {
+  bytes = 0 ∷ 3 ∷ 0 ∷ 0 ∷ 0 ∷ 2 ∷ 52 ∷ 50 ∷ 255 ∷ 255 ∷ 255 ∷ 255 ∷ 0 ∷ 0 ∷ 0 ∷ 0 ∷ [];
+  value = Some (codes "42") ∷ None ∷ Some [] ∷ [];
+}
+
+-- ---- other messages from a server
+
+abbrev pub key_of_four_bytes : Example BackendKey
+key_of_four_bytes = record {
+  bytes = 0 ∷ 0 ∷ 4 ∷ 210 ∷ 0 ∷ 1 ∷ 0 ∷ 2 ∷ [];
+  value = record { process_id = 1234; secret_key = 65538 };
+}
+
+abbrev pub key_of_five_bytes : Example Cancel
+key_of_five_bytes = record {
+  bytes = 0 ∷ 0 ∷ 4 ∷ 210 ∷ 7 ∷ 0 ∷ 8 ∷ 9 ∷ 255 ∷ [];
+  value = record { process_id = 1234; secret_key = 7 ∷ 0 ∷ 8 ∷ 9 ∷ 255 ∷ [] };
+}
+
+abbrev pub tag_of_an_insert : Example (List ℕ)
+tag_of_an_insert = record {
+  bytes = codes "INSERT 0 5" ++ 0 ∷ [];
+  value = codes "INSERT 0 5" ++ 0 ∷ [];
+}
+
+-- bytes that are kept as they are
+abbrev pub three_bytes : Example (List ℕ)
+three_bytes = record { bytes = 7 ∷ 0 ∷ 8 ∷ []; value = 7 ∷ 0 ∷ 8 ∷ [] }
+
+abbrev pub error_of_three_fields : Example (List Field)
+error_of_three_fields = record {
+  bytes = 86 ∷ codes "ERROR" ++ 0 ∷ 67 ∷ codes "42P01" ++ 0 ∷ 77 ∷ codes "no table" ++ 0 ∷ 0 ∷ [];
+  value = (86, codes "ERROR") ∷ (67, codes "42P01") ∷ (77, codes "no table") ∷ [];
+}
+
+abbrev pub notice_of_three_fields : Example (List Field)
+notice_of_three_fields = record {
+  bytes = 86 ∷ codes "INFO" ++ 0 ∷ 67 ∷ codes "00000" ++ 0 ∷ 77 ∷ codes "done" ++ 0 ∷ 0 ∷ [];
+  value = (86, codes "INFO") ∷ (67, codes "00000") ∷ (77, codes "done") ∷ [];
+}
+
+-- the severity INF, which there is not
+abbrev pub severity_inf : FaultExample
+severity_inf = record { bytes = 86 ∷ codes "INF" ++ 0 ∷ 0 ∷ []; fault = UnknownSeverity }
+
+-- on the channel `jobs`, of another session
+abbrev pub news_of_jobs : Example Notification
+news_of_jobs = record {
+  bytes = 0 ∷ 0 ∷ 4 ∷ 210 ∷ codes "jobs" ++ 0 ∷ codes "a" ++ 0 ∷ [];
+  value = record { process_id = 1234; channel = codes "jobs"; payload = codes "a" };
+}
+
+abbrev pub two_types : Example (List ℕ)
+two_types = record {
+  bytes = 0 ∷ 2 ∷ 0 ∷ 0 ∷ 0 ∷ 23 ∷ 0 ∷ 0 ∷ 1 ∷ 0 ∷ [];
+  value = 23 ∷ 256 ∷ [];
+}
+
+abbrev pub setting_of_the_time_zone : Example Setting
+setting_of_the_time_zone = record {
+  bytes = codes "TimeZone" ++ 0 ∷ codes "UTC" ++ 0 ∷ [];
+  value = record { name = codes "TimeZone"; value = codes "UTC" };
+}
+
+abbrev pub two_unknown_options : Example Negotiation
+two_unknown_options = record {
+  bytes = 0 ∷ 3 ∷ 0 ∷ 2 ∷ 0 ∷ 0 ∷ 0 ∷ 2 ∷ codes "_pq_.a" ++ 0 ∷ codes "_pq_.b" ++ 0 ∷ [];
+  value = record { major = 3; minor = 2; options = codes "_pq_.a" ∷ codes "_pq_.b" ∷ [] };
+}
+
+-- ---- messages from a client
+
+-- a value in binary, NULL, and an empty value; the result has a column of text and one in binary
+abbrev pub bind_of_three_values : Example Bind
+bind_of_three_values = record {
+  bytes =
+      codes "p" ++ 0 ∷ codes "s" ++ 0 ∷ 0 ∷ 1 ∷ 0 ∷ 1 ∷ 0 ∷ 3 ∷ 0 ∷ 0 ∷ 0 ∷ 1 ∷ 9 ∷ 255 ∷ 255 ∷ 255 ∷ 255
+      ∷ 0 ∷ 0 ∷ 0 ∷ 0 ∷ 0 ∷ 2 ∷ 0 ∷ 0 ∷ 0 ∷ 1 ∷ [];
+  value = record {
+    portal = codes "p";
+    statement = codes "s";
+    formats = 1 ∷ [];
+    values = Some (9 ∷ []) ∷ None ∷ Some [] ∷ [];
+    result_formats = 0 ∷ 1 ∷ [];
+  };
+}
+
+-- 83 is S, for a statement, and 80 is P, for a portal
+abbrev pub statement_s : Example Targeted
+statement_s = record {
+  bytes = 83 ∷ codes "s" ++ 0 ∷ [];
+  value = record { target = statement; name = codes "s" };
+}
+
+abbrev pub portal_p : Example Targeted
+portal_p = record {
+  bytes = 80 ∷ codes "p" ++ 0 ∷ [];
+  value = record { target = portal; name = codes "p" };
+}
+
+abbrev pub portal_without_a_name : Example Targeted
+portal_without_a_name = record { bytes = 80 ∷ 0 ∷ []; value = record { target = portal; name = [] } }
+
+abbrev pub portal_with_a_limit : Example Execute
+portal_with_a_limit = record {
+  bytes = codes "p" ++ 0 ∷ 0 ∷ 0 ∷ 1 ∷ 0 ∷ [];
+  value = record { portal = codes "p"; limit = 256 };
+}
+
+abbrev pub call_with_an_argument : Example FunctionCall
+call_with_an_argument = record {
+  bytes = 0 ∷ 0 ∷ 6 ∷ 62 ∷ 0 ∷ 1 ∷ 0 ∷ 1 ∷ 0 ∷ 1 ∷ 0 ∷ 0 ∷ 0 ∷ 1 ∷ 9 ∷ 0 ∷ 1 ∷ [];
+  value = record {
+    object_id = 1598;
+    formats = 1 ∷ [];
+    arguments = Some (9 ∷ []) ∷ [];
+    result_format = 1;
+  };
+}
+
+abbrev pub statement_with_a_type : Example Parse
+statement_with_a_type = record {
+  bytes = codes "s" ++ 0 ∷ codes "SELECT $1" ++ 0 ∷ 0 ∷ 1 ∷ 0 ∷ 0 ∷ 0 ∷ 23 ∷ [];
+  value = record { statement = codes "s"; query = codes "SELECT $1"; types = 23 ∷ [] };
+}
+
+abbrev pub text_of_a_query : Example (List ℕ)
+text_of_a_query = record { bytes = codes "SELECT 1" ++ 0 ∷ []; value = codes "SELECT 1" }
+
+abbrev pub text_of_a_failure : Example (List ℕ)
+text_of_a_failure = record { bytes = codes "no room" ++ 0 ∷ []; value = codes "no room" }
+
+abbrev pub mechanism_with_data : Example SaslInitial
+mechanism_with_data = record {
+  bytes = codes "PLAIN" ++ 0 ∷ 0 ∷ 0 ∷ 0 ∷ 3 ∷ codes "n,,";
+  value = record { mechanism = codes "PLAIN"; response = Some (codes "n,,") };
+}
+
+abbrev pub mechanism_without_data : Example SaslInitial
+mechanism_without_data = record {
+  bytes = codes "PLAIN" ++ 0 ∷ 255 ∷ 255 ∷ 255 ∷ 255 ∷ [];
+  value = record { mechanism = codes "PLAIN"; response = None };
+}
+
+-- a length of -2
+abbrev pub mechanism_with_a_bad_length : FaultExample
+mechanism_with_a_bad_length = record {
+  bytes = codes "PLAIN" ++ 0 ∷ 255 ∷ 255 ∷ 255 ∷ 254 ∷ [];
+  fault = ValueLength 6 (negsuc 1);
+}
+
+-- ---- messages without a tag: a code, then what it needs
+
+abbrev pub startup_of_ann : Example First
+startup_of_ann = record {
+  bytes = 0 ∷ 3 ∷ 0 ∷ 0 ∷ codes "user" ++ 0 ∷ codes "ann" ++ 0 ∷ 0 ∷ [];
+  value = opening 0 ((codes "user", codes "ann") ∷ []);
+}
+
+abbrev pub startup_and_a_byte : FaultExample
+startup_and_a_byte = record { bytes = 0 ∷ 3 ∷ 0 ∷ 0 ∷ 0 ∷ 7 ∷ []; fault = BodyTooLong 5 }
+
+abbrev pub startup_without_a_value : FaultExample
+startup_without_a_value = record {
+  bytes = 0 ∷ 3 ∷ 0 ∷ 0 ∷ codes "a" ++ 0 ∷ codes "b";
+  fault = MissingNul 6;
+}
+
+abbrev pub cancel_by_four_bytes : Example First
+cancel_by_four_bytes = record {
+  bytes = 4 ∷ 210 ∷ 22 ∷ 46 ∷ 0 ∷ 0 ∷ 1 ∷ 0 ∷ 7 ∷ 0 ∷ 8 ∷ 9 ∷ [];
+  value = cancelling (record { process_id = 256; secret_key = 7 ∷ 0 ∷ 8 ∷ 9 ∷ [] });
+}
+
+abbrev pub cancel_by_256_bytes : Example First
+cancel_by_256_bytes = record {
+  bytes = 4 ∷ 210 ∷ 22 ∷ 46 ∷ 0 ∷ 0 ∷ 1 ∷ 0 ∷ replicate 256 7;
+  value = cancelling (record { process_id = 256; secret_key = replicate 256 7 });
+}
+
+abbrev pub cancel_by_three_bytes : FaultExample
+cancel_by_three_bytes = record {
+  bytes = 4 ∷ 210 ∷ 22 ∷ 46 ∷ 0 ∷ 0 ∷ 1 ∷ 0 ∷ 7 ∷ 0 ∷ 8 ∷ [];
+  fault = BadKeyLength 3;
+}
+
+abbrev pub cancel_by_257_bytes : FaultExample
+cancel_by_257_bytes = record {
+  bytes = 4 ∷ 210 ∷ 22 ∷ 46 ∷ 0 ∷ 0 ∷ 1 ∷ 0 ∷ replicate 257 7;
+  fault = BadKeyLength 257;
+}
