@@ -1,4 +1,5 @@
 use Rattle.std.specs.Prelude.{[], ◌∷◌, ◌++◌, codes, pos, negsuc, Some, None}
+use Rattle.pg_format.specs.Examples.{copy_of_two_columns, copy_of_no_columns, row_of_three_values}
 use Rattle.pg_format.specs.Format.{Lawful, Means}
 use Rattle.pg_format.specs.Format.Sequences.{◌⨾◌}
 use Rattle.pg_format.specs.Format.Tests.{utf8, with_room}
@@ -30,10 +31,10 @@ unfolding lib.Utf8.encode
 returns-clause-of_no_table c = one_column (record { name = codes "now"; relation_id = None; relation_attribute_no = None; data_type_id = 25; data_type_size = negsuc 0; type_modifier = pos 9; format = pos 0 }) (((clean (codes "now") refl), (codes "now", (refl, refl))), (((omega arith), refl), (((omega arith), refl), ((omega arith), ((omega arith), ((omega arith), (omega arith)))))))
 
 pub returns-clause-copied_in : goal.returns-clause-copied_in
-returns-clause-copied_in c = lawful_copy_response.written (record { format = pos 1; num_columns = pos 2; format_codes = pos 1 ∷ pos 0 ∷ [] }) [] ((omega arith, (omega arith, (refl, (omega arith, (omega arith, tt))))), refl)
+returns-clause-copied_in c = lawful_copy_response.written copy_of_two_columns.value [] ((omega arith, (omega arith, (refl, (omega arith, (omega arith, tt))))), refl)
 
 pub returns-clause-copied_out : goal.returns-clause-copied_out
-returns-clause-copied_out c = lawful_copy_response.written (record { format = pos 0; num_columns = negsuc 0; format_codes = [] }) [] ((omega arith, (omega arith, (refl, tt))), refl)
+returns-clause-copied_out c = lawful_copy_response.written copy_of_no_columns.value [] ((omega arith, (omega arith, (refl, tt))), refl)
 
 pub returns-clause-row : goal.returns-clause-row
-returns-clause-row c = lawful_data_row.written (Some (codes "42") ∷ None ∷ Some [] ∷ []) [] (((omega arith, (refl, (((omega arith, (refl, refl)), refl), (((omega arith, refl), refl), (((omega arith, (refl, refl)), refl), tt))))), refl), refl)
+returns-clause-row c = lawful_data_row.written row_of_three_values.value [] (((omega arith, (refl, (((omega arith, (refl, refl)), refl), (((omega arith, refl), refl), (((omega arith, (refl, refl)), refl), tt))))), refl), refl)

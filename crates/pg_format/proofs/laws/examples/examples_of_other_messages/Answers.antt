@@ -1,5 +1,6 @@
 use Rattle.std.specs.Prelude.{[], ◌∷◌, codes, Some, None}
 use Rattle.std.proofs.Common.{refl, arith}
+use Rattle.pg_format.specs.Examples.{two_unknown_options, key_of_five_bytes}
 use Rattle.pg_format.proofs.ExamplesLemmas.{clean}
 use Rattle.pg_format.proofs.FormatLaws.FromServer.{lawful_backend_key, lawful_function_call_response, lawful_negotiation}
 use Rattle.pg_format.proofs.laws.examples.examples_of_other_messages.Goals as goal
@@ -11,7 +12,7 @@ pub returns-clause-called_null : goal.returns-clause-called_null
 returns-clause-called_null c = lawful_function_call_response.written None [] (((omega arith, refl), refl), refl)
 
 pub returns-clause-negotiated : goal.returns-clause-negotiated
-returns-clause-negotiated c = lawful_negotiation.written (record { major = 3; minor = 2; options = codes "_pq_.a" ∷ codes "_pq_.b" ∷ [] }) [] (((omega arith, omega arith), ((omega arith, (refl, (clean (codes "_pq_.a") refl, (clean (codes "_pq_.b") refl, tt)))), refl)), refl)
+returns-clause-negotiated c = lawful_negotiation.written two_unknown_options.value [] (((omega arith, omega arith), ((omega arith, (refl, (clean (codes "_pq_.a") refl, (clean (codes "_pq_.b") refl, tt)))), refl)), refl)
 
 pub returns-clause-key_of_five_bytes : goal.returns-clause-key_of_five_bytes
-returns-clause-key_of_five_bytes c = lawful_backend_key.written (record { process_id = 1234; secret_key = 7 ∷ 0 ∷ 8 ∷ 9 ∷ 255 ∷ [] }) [] (omega arith, (refl, refl))
+returns-clause-key_of_five_bytes c = lawful_backend_key.written key_of_five_bytes.value [] (omega arith, (refl, refl))

@@ -2,9 +2,10 @@ use Rattle.std.specs.Prelude.{◌≡◌, ℕ, ◌<◌, ◌^◌, List, [], ◌∷
 use Rattle.std.proofs.Common.{refl, arith, inl, inr}
 use Rattle.pg_base.specs.declared.error.ProtocolFault.{ProtocolFault}
 use Rattle.pg_base.specs.declared.error.ProtocolFault.TheVariants.{BadKeyLength}
+use Rattle.pg_format.specs.Examples.{startup_of_ann, cancel_by_four_bytes, cancel_by_256_bytes}
 use Rattle.pg_format.specs.Format.{IsFaultOf}
 use Rattle.pg_format.specs.Format.Parts.{be_u32}
-use Rattle.pg_format.specs.Messages.{key_fault, opening, cancelling, tls, gssapi, by_code, first_message}
+use Rattle.pg_format.specs.Messages.{key_fault, opening, tls, gssapi, by_code, first_message}
 use Rattle.pg_format.proofs.ExamplesLemmas.{clean}
 use Rattle.pg_format.proofs.FormatLaws.FromClient.{lawful_first_message}
 use Rattle.pg_format.proofs.FormatLaws.Parts.{lawful_unsigned}
@@ -24,7 +25,7 @@ of_key key fault is =
     }))
 
 pub returns-clause-startup : goal.returns-clause-startup
-returns-clause-startup c = lawful_first_message.written (opening 0 ((codes "user", codes "ann") ∷ [])) [] ((omega arith, (((((clean (codes "user") refl, clean (codes "ann") refl), (λ e. absurd (cc e))), tt), refl), refl)), refl)
+returns-clause-startup c = lawful_first_message.written startup_of_ann.value [] ((omega arith, (((((clean (codes "user") refl, clean (codes "ann") refl), (λ e. absurd (cc e))), tt), refl), refl)), refl)
 
 pub returns-clause-minor_version : goal.returns-clause-minor_version
 returns-clause-minor_version c = lawful_first_message.written (opening 2 []) [] ((omega arith, ((tt, refl), refl)), refl)
@@ -49,10 +50,10 @@ returns-clause-name_without_a_value c =
     }))
 
 pub returns-clause-cancel_request : goal.returns-clause-cancel_request
-returns-clause-cancel_request c = lawful_first_message.written (cancelling (record { process_id = 256; secret_key = 7 ∷ 0 ∷ 8 ∷ 9 ∷ [] })) [] ((omega arith, ((omega arith, (refl, refl)), refl)), refl)
+returns-clause-cancel_request c = lawful_first_message.written cancel_by_four_bytes.value [] ((omega arith, ((omega arith, (refl, refl)), refl)), refl)
 
 pub returns-clause-longest_key : goal.returns-clause-longest_key
-returns-clause-longest_key c = lawful_first_message.written (cancelling (record { process_id = 256; secret_key = replicate 256 7 })) [] ((omega arith, ((omega arith, (refl, refl)), refl)), refl)
+returns-clause-longest_key c = lawful_first_message.written cancel_by_256_bytes.value [] ((omega arith, ((omega arith, (refl, refl)), refl)), refl)
 
 pub returns-clause-short_key : goal.returns-clause-short_key
 returns-clause-short_key c = of_key (7 ∷ 0 ∷ 8 ∷ []) (BadKeyLength 3) refl
