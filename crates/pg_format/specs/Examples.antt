@@ -36,14 +36,15 @@ IsServerExample kind example = Means (from_server kind).format example.bytes exa
 abbrev pub IsClientExample : (kind : FrontendMessageFormat) → Example (from_client kind).Value → Type 0
 IsClientExample kind example = Means (from_client kind).format example.bytes example.value
 
--- as a message of this kind a server writes the value by the bytes
+-- from a server, the value is written as the bytes of a message of this kind
 abbrev pub IsWrittenExample : (kind : BackendMessageFormat) → Example (from_server kind).Value → Type 0
 IsWrittenExample kind example = (from_server kind).format.Writes example.value ≡ example.bytes
 
--- a byte where no body is due is ignored; and such a byte is a fault, at the first byte
+-- a byte where no body is due is ignored
 abbrev pub IgnoresABody : Format (Unit {0}) → Type 0
 IgnoresABody g = Means g (7 ∷ []) tt
 
+-- a byte where no body is due is a fault, at that byte
 abbrev pub RefusesABody : Format (Unit {0}) → Type 0
 RefusesABody g = IsFaultOf g (7 ∷ []) (BodyTooLong 0)
 

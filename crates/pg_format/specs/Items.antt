@@ -98,7 +98,7 @@ pub record AreKept {I K V : Type 0} (g : Format V) (shown : I → V) (keeps : Ke
   pub read : IsReadAt (times n g) body at (map shown items) end
   pub kept : (first : ℕ) (earlier : List I) → keeps old body first earlier at → keeps new body first (earlier ++ items) end
 
--- so many items are kept that are at the front of those left, up to an offset
+-- of the items that are left so many are kept, up to an offset
 abbrev pub FrontKept : {I K V : Type 0} → Format V → (I → V) → Keeps K I → Reading → K → K → ℕ × ℕ → Type 0
 FrontKept g shown keeps reading old new front = AreKept g shown keeps reading.body reading.at front.0 front.1 old new
 

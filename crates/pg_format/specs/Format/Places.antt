@@ -21,15 +21,15 @@ BreaksAt g body at fault = g.Breaks (length body) (drop at body) fault
 abbrev pub ReadsAt : {I A : Type 0} → Format A → (I → A) → List ℕ → ℕ → Result (I × ℕ) ProtocolFault → Type 0
 ReadsAt g shown body at result = IfOk result (λ found. IsReadAt g body at (shown found.0) found.1)
 
--- the same of what may not be there
+-- where a value is found, it is read from this offset to the one that is found with it
 abbrev pub FindsAt : {I A : Type 0} → Format A → (I → A) → List ℕ → ℕ → Option (I × ℕ) → Type 0
 FindsAt g shown body at found = IfSome found (λ it. IsReadAt g body at (shown it.0) it.1)
 
--- what a body has from an offset on, and the offset from which the rest follows
+-- a value is read from this offset on, and the rest follows at the one that is given with it
 abbrev pub ReadsFrom : {I A : Type 0} → Format A → (I → A) → List ℕ → ℕ → Result (I × ℕ) ProtocolFault → Type 0
 ReadsFrom g shown body at result = IfOk result (λ found. g.Reads (drop at body) (shown found.0) (drop found.1 body))
 
--- after a text, the offset is that of what follows its NUL
+-- the offset that is given with a text is the one after its NUL, and lies within the body
 abbrev pub EndsAfterNul : {I : Type 0} → (I → List ℕ) → List ℕ → ℕ → Result (I × ℕ) ProtocolFault → Type 0
 EndsAfterNul shown body at result =
     IfOk result (λ found. (found.1 ≡ at + length (shown found.0) + 1) × (found.1 ≤ length body))
