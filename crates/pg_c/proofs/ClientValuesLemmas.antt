@@ -13,10 +13,10 @@ use Rattle.pg_server.proofs.FrontendValuesLemmas.{null_stands, some_stands}
 use Rattle.pg_server.specs.Frontend.Message.{HasFault}
 use Rattle.pg_server.specs.declared.frontend.error.FrontendFault.{FrontendFault}
 use Rattle.pg_c.specs.Client.Parts.{Finds}
-use Rattle.pg_c.specs.Client.Values.{GivesValues, GivesCounted}
+use Rattle.pg_c.specs.Client.Values.{FindsValue, GivesValues, GivesCounted}
 use Rattle.pg_c.specs.Place.{part}
 use Rattle.pg_c.specs.Read.{GivesItems}
-use Rattle.pg_c.specs.Read.Row.{cell_in, value_in}
+use Rattle.pg_c.specs.Read.Row.{cell_in}
 use Rattle.pg_c.specs.declared.place.PgmsgList.{PgmsgList}
 use Rattle.pg_c.specs.declared.place.PgmsgSpan.{PgmsgSpan}
 use Rattle.pg_c.specs.declared.read.row.PgmsgCell.{PgmsgCell}
@@ -39,9 +39,6 @@ as_cell body at end v p = record {
 }
 
 -- ---- a value by its length
-
-abbrev pub FindsValue : List ℕ → ℕ → ℤ → ℕ → Type 0
-FindsValue body at len end = Finds value (λ z content. value_in body (at + 4) z ≡ Some content) body at len end
 
 -- so many bytes that are there
 bytes_stand : (body : List ℕ) (start n : ℕ) → start + n ≤ length body → IsReadAt (bytes_of n) body start (take n (drop start body)) (start + n)

@@ -21,10 +21,10 @@ use Rattle.pg_c.specs.Refusal.{Refuses, RefusesClient}
 use Rattle.pg_c.specs.declared.refusal.PgmsgFault.{PgmsgFault}
 
 -- a result below 0 refuses the body: it is longer than any, or has such a fault
-abbrev pub RefusesClientBodyFor : (FrontendFault → Type 0) → List ℕ → PgmsgFault → PgmsgFault → ℤ → Type 0
+abbrev pub RefusesClientBodyFor : (List ℕ → FrontendFault → Type 0) → List ℕ → PgmsgFault → PgmsgFault → ℤ → Type 0
 RefusesClientBodyFor IsFault body old new result =
-    result <ℤ pos 0 → Refuses (IsTooLong body) old new result ⊎ ((length body ≤ max_body) × RefusesClient IsFault old new result)
+    result <ℤ pos 0 → Refuses (IsTooLong body) old new result ⊎ ((length body ≤ max_body) × RefusesClient (IsFault body) old new result)
 
 -- a fault by its format
 abbrev pub RefusesClientBody : {V : Type 0} → Format V → List ℕ → PgmsgFault → PgmsgFault → ℤ → Type 0
-RefusesClientBody g body = RefusesClientBodyFor (HasFault g body 0) body
+RefusesClientBody g body = RefusesClientBodyFor (λ bytes. HasFault g bytes 0) body

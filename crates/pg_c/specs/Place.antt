@@ -1,5 +1,5 @@
 -- What a place in some bytes says: nothing where it isn't in them.
-use Rattle.std.specs.Prelude.{ℕ, ◌+◌, List, Option, Some, None, length, nat_le, slice_range, if◌then◌else◌}
+use Rattle.std.specs.Prelude.{◌≡◌, ℕ, ◌+◌, List, Option, Some, None, length, nat_le, slice_range, if◌then◌else◌}
 use Rattle.pg_format.specs.Format.{Format}
 use Rattle.pg_format.specs.Format.Lists.{times}
 use Rattle.pg_format.specs.Format.Places.{IsReadAt}
@@ -16,3 +16,7 @@ part bytes span = bytes_in bytes span.at span.len
 pub record StandAt {X : Type 0} (g : Format X) (bytes : List ℕ) (list : PgmsgList) (items : List X) : Type 0 where
   pub end : ℕ
   pub read : IsReadAt (times list.count g) bytes list.at items end
+
+-- this text stands at the place
+abbrev pub StandsIn : List ℕ → PgmsgSpan → List ℕ → Type 0
+StandsIn bytes span text = part bytes span ≡ Some text

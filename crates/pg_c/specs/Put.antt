@@ -1,9 +1,10 @@
 -- What a call that writes a message into the caller's room answers, as a number of C's `ptrdiff_t`.
+pub mod Copy
 pub mod NoBody
 pub mod Session
 pub mod Startup
 pub mod Values
-use Rattle.std.specs.Prelude.{◌≡◌, ◌⊎◌, ℕ, ℤ, pos, List, [], ◌∷◌, ◌++◌, length, Option, Some, None, MatchOption, Result, Ok, Err}
+use Rattle.std.specs.Prelude.{◌≡◌, ◌⊎◌, ℕ, ℤ, pos, List, length, Option, Some, None, MatchOption, Result, Ok, Err}
 use Rattle.pg_base.specs.Sink.{IsGiven}
 use Rattle.pg_base.specs.declared.error.Error.{Error}
 use Rattle.pg_base.specs.declared.error.Error.TheVariants.{Protocol, OutOfMemory}
@@ -39,9 +40,13 @@ pub record PutsLaw (law : Law) (old new : List ℕ) (result : ℤ) : Type 0 wher
 abbrev pub PutsMessage : Message → List ℕ → List ℕ → ℤ → Type 0
 PutsMessage m old new result = PutsLaw (law_of m) old new result
 
+-- refused by that number, and what was to be written is as it was
+abbrev pub IsRefusedBy : ℤ → List ℕ → List ℕ → ℤ → Type 0
+IsRefusedBy number old new result = (result ≡ number) × (new ≡ old)
+
 -- refused for that fault
 abbrev pub IsRefused : ProtocolFault → List ℕ → List ℕ → ℤ → Type 0
-IsRefused fault old new result = (result ≡ fault_number fault) × (new ≡ old)
+IsRefused fault old new result = IsRefusedBy (fault_number fault) old new result
 
 -- the text of a message without a tag is put, or refused for its fault
 abbrev pub PutsText : List ℕ → Option ProtocolFault → List ℕ → List ℕ → ℤ → Type 0

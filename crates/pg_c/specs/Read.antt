@@ -1,4 +1,4 @@
--- What a call that reads items into an array of places answers.
+-- What a call that reads answers, and how the places that it gives are those of items.
 pub mod Authentication
 pub mod Columns
 pub mod Copy
@@ -9,15 +9,23 @@ pub mod FunctionResult
 pub mod Negotiation
 pub mod Row
 pub mod Status
-use Rattle.std.specs.Prelude.{◌≡◌, ◌<◌, ◌≤◌, ◌<ℤ◌, ◌⊎◌, ℕ, ℤ, pos, List, Option, Some, map, take, drop, length, Result, Ok, Err}
+use Rattle.std.specs.Prelude.{◌≡◌, ◌<◌, ◌≤◌, ◌≤ℤ◌, ◌⊎◌, ℕ, ℤ, pos, List, Option, Some, map, take, drop, length, Result, Ok, Err, IfOk}
 use Rattle.pg_base.specs.declared.error.ProtocolFault.{ProtocolFault}
 use Rattle.pg_base.specs.declared.error.ProtocolFault.TheVariants.{BodyTooLong}
 use Rattle.pg_format.specs.Received.{max_body}
 use Rattle.pg_format.specs.Format.{Format, Means, IsFaultOf}
 use Rattle.pg_format.specs.Format.Lists.{times}
 use Rattle.pg_format.specs.Format.Places.{IsReadAt}
-use Rattle.pg_c.specs.Refusal.{Refuses}
+use Rattle.pg_c.specs.Refusal.{RefusesFor}
 use Rattle.pg_c.specs.declared.refusal.PgmsgFault.{PgmsgFault}
+
+-- a result from 0 on is what was read: this holds of the result
+abbrev pub IfRead : ℤ → (ℤ → Type 0) → Type 0
+IfRead result Holds = pos 0 ≤ℤ result → Holds result
+
+-- the same of a count that was read, as the number that the call returns
+abbrev pub IfCount : {E : Type 0} → Result ℕ E → (ℤ → Type 0) → Type 0
+IfCount result Holds = IfOk result (λ count. Holds (pos count))
 
 -- a body that is longer than any
 abbrev pub IsTooLong : List ℕ → ProtocolFault → Type 0
@@ -29,8 +37,7 @@ IsBodyFault IsFault body fault = IsTooLong body fault ⊎ ((length body ≤ max_
 
 -- a result below 0 refuses the body, for its fault
 abbrev pub RefusesBody : {V : Type 0} → Format V → List ℕ → PgmsgFault → PgmsgFault → ℤ → Type 0
-RefusesBody g body old new result =
-    result <ℤ pos 0 → Refuses (IsBodyFault (IsFaultOf g) body) old new result
+RefusesBody g body old new result = RefusesFor (IsBodyFault (IsFaultOf g) body) old new result
 
 -- what is read of a body: a value that it means, or its fault
 abbrev pub ReadsBody : {A V : Type 0} → Format V → (A → V) → List ℕ → Result A ProtocolFault → Type 0
@@ -42,6 +49,10 @@ pub record AreGiven {X P : Type 0} (item_at : P → Option X) (items : List X) (
   pub room : length new ≡ length old
   pub given : map item_at (take (length items) new) ≡ map Some (take (length new) items)
   pub rest : drop (length items) new ≡ drop (length items) old
+
+-- the place says which item it is, in whatever body the item stands there
+abbrev pub SaysItem : {X P : Type 0} → Format X → (List ℕ → P → Option X) → ℕ → X → ℕ → P → Type 0
+SaysItem g item_in at item end place = (body : List ℕ) → IsReadAt g body at item end → item_in body place ≡ Some item
 
 -- so many items are read, up to an offset, and given
 pub record GivesItems {X P : Type 0} (g : Format X) (item_at : P → Option X) (body : List ℕ) (first at index : ℕ) (old new : List P) : Type 0 where

@@ -1,5 +1,6 @@
 -- The numbers by which a call refuses, and what is reported of a fault.
-use Rattle.std.specs.Prelude.{◌≡◌, ◌⊎◌, ℕ, ℤ, negsuc, List, None, take, drop}
+use Rattle.std.specs.Prelude.{◌≡◌, ◌<ℤ◌, ◌⊎◌, ℕ, ℤ, pos, negsuc, List, None, take, drop, Result, IfOk, String, string_bytes}
+use Rattle.std.specs.declared.alloc.Global.{Global}
 use Rattle.pg_base.specs.Error.{error_words}
 use Rattle.pg_base.specs.declared.error.ProtocolFault.{ProtocolFault}
 use Rattle.pg_base.specs.declared.error.ProtocolFault.TheVariants as faults
@@ -87,6 +88,10 @@ pub record IsReportOf (is : ℤ) (place : ℕ) (said : List ℕ) (old fault : Pg
   pub words : (fault.words_len ≡ 0) ⊎ (take fault.words_len fault.words ≡ said)
   pub rest : drop fault.words_len fault.words ≡ drop fault.words_len old.words
 
+-- a number is reported with an offset and with these words, where there are some
+abbrev pub IsReportWith : {E : Type 0} → ℤ → ℕ → Result (String Global) E → PgmsgFault → PgmsgFault → ℤ → Type 0
+IsReportWith number at words old fault result = (said : List ℕ) → IfOk words (λ text. string_bytes text ≡ said) → IsReportOf number at said old fault result
+
 -- that of an error, and of what is wrong with a message from a client
 abbrev pub IsReport : Error → PgmsgFault → PgmsgFault → ℤ → Type 0
 IsReport error = IsReportOf (refusal_number error) (fault_place error) (error_words error)
@@ -110,3 +115,11 @@ pub record RefusesClient (IsFault : FrontendFault → Type 0) (old fault : Pgmsg
   pub why : FrontendFault
   pub is : IsFault why
   pub report : IsClientReport why old fault result
+
+-- a result below 0 refuses for such a fault of the bytes
+abbrev pub RefusesFor : (ProtocolFault → Type 0) → PgmsgFault → PgmsgFault → ℤ → Type 0
+RefusesFor IsFault old fault result = result <ℤ pos 0 → Refuses IsFault old fault result
+
+-- a result below 0 refuses for such a fault of a client's message
+abbrev pub RefusesClientFor : (FrontendFault → Type 0) → PgmsgFault → PgmsgFault → ℤ → Type 0
+RefusesClientFor IsFault old fault result = result <ℤ pos 0 → RefusesClient IsFault old fault result

@@ -6,6 +6,7 @@ pub mod Lists
 pub mod Messages
 use Rattle.std.specs.Prelude.{◌≡◌, ◌≢◌, ◌≤◌, ℕ, ℤ, pos, List, length, Result, Ok, Err, IfOk}
 use Rattle.pg_base.specs.declared.error.ProtocolFault.{ProtocolFault}
+use Rattle.pg_base.specs.declared.error.ProtocolFault.TheVariants.{UnknownMessageType}
 use Rattle.pg_server.specs.Backend.BackendText.{IsWritten}
 use Rattle.pg_server.specs.Backend.Message.{Message, law_of, IsRead}
 use Rattle.pg_c.specs.Put.{IsRefused}
@@ -27,3 +28,7 @@ pub record PutsServerMessage (m : Message) (old new : List ℕ) (result : ℤ) :
 pub record PutsByLetter {K : Type 0} (letter_of : K → ℕ) (message : K → Message) (fault : ProtocolFault) (letter : ℕ) (old new : List ℕ) (result : ℤ) : Type 0 where
   pub known : (kind : K) → letter_of kind ≡ letter → PutsServerMessage (message kind) old new result
   pub unknown : ((kind : K) → letter_of kind ≢ letter) → IsRefused fault old new result
+
+-- the same where the letter is the tag of the message
+abbrev pub PutsByTag : {K : Type 0} → (K → ℕ) → (K → Message) → ℕ → List ℕ → List ℕ → ℤ → Type 0
+PutsByTag letter_of message tag old new result = PutsByLetter letter_of message (UnknownMessageType tag) tag old new result

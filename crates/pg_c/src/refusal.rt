@@ -1,7 +1,7 @@
 //! Why a call refuses, as a number and in words.
 
-ghost use Rattle.std.specs.Prelude.{◌≡◌, ◌<ℤ◌, ℕ, List, pos, IfOk, string_bytes};
-ghost use Rattle.pg_c.specs.Refusal.{fault_number, refusal_number, fault_place, IsReport, IsReportOf};
+ghost use Rattle.std.specs.Prelude.{◌≡◌, ◌<ℤ◌, pos};
+ghost use Rattle.pg_c.specs.Refusal.{fault_number, refusal_number, fault_place, IsReport, IsReportWith};
 ghost use Rattle.pg_c.specs.Refusal.{client_number, client_place, IsClientReport};
 
 use pg_base::{Error, ProtocolFault};
@@ -220,8 +220,7 @@ pub(crate) fn fill(
     words: &Result<String, AllocError>,
     fault: &mut PgmsgFault,
 ) -> i32
-    ensures { (said : List ℕ) → IfOk words.now (λ text. string_bytes text ≡ said)
-        → IsReportOf number at said fault.old fault.new result }
+    ensures { IsReportWith number at words.now fault.old fault.new result }
 {
     fault.number = number;
     fault.at = at;

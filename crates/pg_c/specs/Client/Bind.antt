@@ -5,6 +5,7 @@ use Rattle.pg_format.specs.Format.Nullable.{value}
 use Rattle.pg_format.specs.Format.Parts.{until_nul, be_u16}
 use Rattle.pg_format.specs.Format.Sequences.{◌⨾◌}
 use Rattle.pg_format.specs.Messages.{Bind, bind, format_codes}
+use Rattle.pg_c.specs.Client.Values.{GivesFrontAfter}
 use Rattle.pg_c.specs.Place.{StandAt, part}
 use Rattle.pg_c.specs.Read.{AreGiven}
 use Rattle.pg_c.specs.Read.Row.{cell_in}
@@ -26,3 +27,11 @@ pub record ReadsBind (body : List ℕ) (read : PgmsgBind) (old new : List PgmsgC
   pub result_formats : StandAt be_u16 body read.result_formats message.result_formats
   pub count : result ≡ pos (length message.values)
   pub given : AreGiven (cell_in body) message.values old new
+
+-- the same by the count of the values that were found
+abbrev pub CountsBind : List ℕ → List PgmsgCell → List PgmsgCell → PgmsgBind → Type 0
+CountsBind body old new read = ReadsBind body read old new (pos read.values.count)
+
+-- the front of the values is given, where the body is refused
+abbrev pub GivesFrontValues : List ℕ → List PgmsgCell → List PgmsgCell → Type 0
+GivesFrontValues body old new = GivesFrontAfter bind_front body old new

@@ -1,6 +1,7 @@
 -- A first message as a C program reads it.
-use Rattle.std.specs.Prelude.{◌≡◌, ℕ, List, Some, Ok, drop}
+use Rattle.std.specs.Prelude.{◌≡◌, ℕ, List, Some, Ok, Err, drop}
 use Rattle.pg_server.specs.Frontend.FirstMessageRef as frontend
+use Rattle.pg_server.specs.declared.frontend.error.FrontendFault.{FrontendFault}
 use Rattle.pg_server.specs.declared.frontend.first_message_ref.FirstMessageRef.{FirstMessageRef}
 use Rattle.pg_server.specs.declared.frontend.first_message_ref.FirstMessageRef.TheVariants as messages
 use Rattle.pg_c.specs.Place.{part}
@@ -25,3 +26,7 @@ pub record ReadsFirst (body : List ℕ) (first : PgmsgFirst) : Type 0 where
   pub message : FirstMessageRef
   pub reads : frontend.ReadsFirst body (Ok message)
   pub given : IsGivenAs body message first
+
+-- the body means no first message, for this fault
+abbrev pub BreaksFirst : List ℕ → FrontendFault → Type 0
+BreaksFirst body why = frontend.ReadsFirst body (Err why)

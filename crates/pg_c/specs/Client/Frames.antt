@@ -4,10 +4,15 @@ use Rattle.pg_base.specs.Cutting.{Begins}
 use Rattle.pg_base.specs.Format.{frontend_tag}
 use Rattle.pg_base.specs.declared.format.FrontendMessageFormat.{FrontendMessageFormat}
 use Rattle.pg_frames.specs.Stream.{Announces}
-use Rattle.pg_frames.specs.Frontend.Frame.{AnnouncesFirst, StandsFirst}
+use Rattle.pg_frames.specs.Frontend.Frame.{AnnouncesFirst, BeginsFirst, BeginsTagged, StandsFirst}
+use Rattle.pg_frames.specs.declared.frontend.frame.FrontendFrame.{FrontendFrame}
 use Rattle.pg_c.specs.Place.{part}
 use Rattle.pg_c.specs.Read.Frame.{NeedsHeader}
 use Rattle.pg_c.specs.declared.read.frame.PgmsgFrame.{PgmsgFrame}
+
+-- the stream has this frame at its front, of a message with a tag
+abbrev pub HasTaggedFrame : List ℕ → FrontendFrame → Type 0
+HasTaggedFrame stream frame = BeginsTagged stream frame.kind frame.body.now frame.rest.now frame.next
 
 -- the message is whole: its tag, which a client sends, the place of its body, and its length with both
 pub record IsWhole (stream : List ℕ) (frame : PgmsgFrame) : Type 0 where
@@ -38,6 +43,10 @@ pub record IsWholeFirst (limit : ℕ) (stream : List ℕ) (frame : PgmsgFrame) :
   pub tag : frame.tag ≡ 0
   pub place : part stream frame.body ≡ Some body
   pub all : frame.length ≡ 4 + length body
+
+-- the place of a frame, in whatever stream has it at its front as a first message
+abbrev pub IsFirstPlace : FrontendFrame → PgmsgFrame → Type 0
+IsFirstPlace frame place = (limit : ℕ) (stream : List ℕ) → BeginsFirst limit stream frame.kind frame.body.now frame.rest.now frame.next → IsWholeFirst limit stream place
 
 -- its length needs four bytes
 pub record NeedsLength (bytes : List ℕ) (needed : ℕ) : Type 0 where

@@ -5,6 +5,7 @@ use Rattle.pg_format.specs.Format.Nullable.{value}
 use Rattle.pg_format.specs.Format.Parts.{be_u16, be_u32}
 use Rattle.pg_format.specs.Format.Sequences.{◌⨾◌}
 use Rattle.pg_format.specs.Messages.{FunctionCall, function_call, format_codes}
+use Rattle.pg_c.specs.Client.Values.{GivesFrontAfter}
 use Rattle.pg_c.specs.Place.{StandAt}
 use Rattle.pg_c.specs.Read.{AreGiven}
 use Rattle.pg_c.specs.Read.Row.{cell_in}
@@ -25,3 +26,11 @@ pub record ReadsCall (body : List ℕ) (read : PgmsgFunctionCall) (old new : Lis
   pub result_format : read.result_format ≡ message.result_format
   pub count : result ≡ pos (length message.arguments)
   pub given : AreGiven (cell_in body) message.arguments old new
+
+-- the same by the count of the arguments that were found
+abbrev pub CountsCall : List ℕ → List PgmsgCell → List PgmsgCell → PgmsgFunctionCall → Type 0
+CountsCall body old new read = ReadsCall body read old new (pos read.arguments.count)
+
+-- the front of the arguments is given, where the body is refused
+abbrev pub GivesFrontArguments : List ℕ → List PgmsgCell → List PgmsgCell → Type 0
+GivesFrontArguments body old new = GivesFrontAfter call_front body old new

@@ -1,10 +1,11 @@
 -- Values as a C program passes them, and the messages that have them.
 use Rattle.std.specs.Prelude.{ℕ, List, Option, Some, None, map, if◌then◌else◌, ◌≡◌, ◌≢◌, ℤ}
+use Rattle.std.specs.Borrow.{Bor}
 use Rattle.pg_format.specs.Messages as page
 use Rattle.pg_c.specs.declared.put.prepared.PgmsgValue.{PgmsgValue}
 use Rattle.pg_send.specs.Message as message
 use Rattle.pg_send.specs.Message.{Message}
-use Rattle.pg_c.specs.Put.{PutsMessage}
+use Rattle.pg_c.specs.Put.{PutsMessage, IsRefusedBy}
 use Rattle.pg_c.specs.Refusal.{unknown_target_number}
 
 -- NULL, or a value
@@ -29,8 +30,18 @@ parse_of statement query types = message.RawParse (record { statement = statemen
 abbrev pub execute_of : List ℕ → ℕ → Message
 execute_of portal limit = message.RawExecute (record { portal = portal; limit = limit })
 
+-- a Bind of what the caller passes is put
+abbrev pub PutsBind : Bor (List ℕ) → Bor (List ℕ) → Bor (List ℕ) → Bor (List PgmsgValue) → Bor (List ℕ) → List ℕ → List ℕ → ℤ → Type 0
+PutsBind portal statement formats values result_formats old new result =
+    PutsMessage (message.RawBind (bind_of portal.now statement.now formats.now values.now result_formats.now)) old new result
+
+-- a FunctionCall of what the caller passes is put
+abbrev pub PutsCall : ℕ → List ℕ → List PgmsgValue → ℕ → List ℕ → List ℕ → ℤ → Type 0
+PutsCall object_id formats arguments result_format old new result =
+    PutsMessage (message.FunctionCall (function_call_of object_id formats arguments result_format)) old new result
+
 -- the message of a statement or of a portal is put, as the letter says; another letter is refused
 pub record PutsTargeted (message_of : page.Targeted → Message) (letter : ℕ) (name old new : List ℕ) (result : ℤ) : Type 0 where
   pub statement : letter ≡ page.target_letter page.statement → PutsMessage (message_of (record { target = page.statement; name = name })) old new result
   pub portal : letter ≡ page.target_letter page.portal → PutsMessage (message_of (record { target = page.portal; name = name })) old new result
-  pub neither : letter ≢ page.target_letter page.statement → letter ≢ page.target_letter page.portal → (result ≡ unknown_target_number) × (new ≡ old)
+  pub neither : letter ≢ page.target_letter page.statement → letter ≢ page.target_letter page.portal → IsRefusedBy unknown_target_number old new result

@@ -4,8 +4,13 @@ use Rattle.pg_base.specs.Cutting.{Begins}
 use Rattle.pg_base.specs.declared.error.ProtocolFault.{ProtocolFault}
 use Rattle.pg_frames.specs.Stream.{Announces}
 use Rattle.pg_frames.specs.Stream.Raw.{WantsMore, HasBadLength}
+use Rattle.pg_frames.specs.declared.raw_frame.RawFrame.{RawFrame}
 use Rattle.pg_c.specs.Place.{part}
 use Rattle.pg_c.specs.declared.read.frame.PgmsgFrame.{PgmsgFrame}
+
+-- the stream has this frame at its front
+abbrev pub HasFrame : List ℕ → RawFrame → Type 0
+HasFrame stream frame = Begins stream frame.tag frame.body.now frame.rest.now
 
 -- the message is whole: its tag, the place of its body, and its length with both
 pub record IsWhole (stream : List ℕ) (frame : PgmsgFrame) : Type 0 where

@@ -1,7 +1,9 @@
 -- Kinds of messages by the letters that a C program passes.
-use Rattle.std.specs.Prelude.{ℕ, ◌==◌, List, [], ◌∷◌, Option, Some, None, if◌then◌else◌}
+use Rattle.std.specs.Prelude.{ℕ, ℤ, ◌==◌, List, [], ◌∷◌, Option, Some, None, if◌then◌else◌}
+use Rattle.pg_base.specs.declared.error.ProtocolFault.TheVariants.{UnknownStatus}
 use Rattle.pg_format.specs.Tables.{status_letter}
 use Rattle.pg_server.specs.Backend.Copy.{direction_tag}
+use Rattle.pg_server.specs.Backend.Message as messages
 use Rattle.pg_server.specs.Backend.Notice.{notice_tag}
 use Rattle.pg_server.specs.Backend.ReadyForQuery.{status_of}
 use Rattle.pg_server.specs.declared.backend.copy.CopyDirection.{CopyDirection}
@@ -10,6 +12,7 @@ use Rattle.pg_server.specs.declared.backend.notice.NoticeKind.{NoticeKind}
 use Rattle.pg_server.specs.declared.backend.notice.NoticeKind.TheVariants as notices
 use Rattle.pg_server.specs.declared.backend.ready_for_query.ReadyForQueryText.{ReadyForQueryText}
 use Rattle.pg_server.specs.declared.backend.ready_for_query.ReadyForQueryText.TheVariants as statuses
+use Rattle.pg_c.specs.Server.{PutsByLetter}
 
 -- the first of some kinds that has the letter
 abbrev pub kind_of : {K : Type 0} → (K → ℕ) → List K → ℕ → Option K
@@ -36,3 +39,7 @@ readiness = statuses.Idle ∷ statuses.Transaction ∷ statuses.Error ∷ []
 
 abbrev pub ready_of : ℕ → Option ReadyForQueryText
 ready_of = kind_of ready_letter readiness
+
+-- that the server is ready is put with the status of a letter; a letter of no status is refused
+abbrev pub PutsReady : ℕ → List ℕ → List ℕ → ℤ → Type 0
+PutsReady letter old new result = PutsByLetter ready_letter messages.ReadyForQuery (UnknownStatus letter) letter old new result

@@ -1,19 +1,54 @@
 -- Messages to a client, from what a C program passes.
-use Rattle.std.specs.Prelude.{ℕ, List, Bool, Some, None, map, if◌then◌else◌}
+use Rattle.std.specs.Prelude.{ℕ, ℤ, List, Bool, Some, None, map, if◌then◌else◌}
+use Rattle.pg_format.specs.Messages as page
 use Rattle.pg_server.specs.Backend.Message as messages
 use Rattle.pg_server.specs.Backend.Message.{Message}
+use Rattle.pg_server.specs.declared.backend.copy.CopyDirection.{CopyDirection}
+use Rattle.pg_server.specs.declared.backend.notice.NoticeKind.{NoticeKind}
+use Rattle.pg_c.specs.Put.Values.{value_of}
+use Rattle.pg_c.specs.Server.{PutsServerMessage}
+use Rattle.pg_c.specs.Server.Lists.{bytes_of, field_of, column_of}
+use Rattle.pg_c.specs.declared.put.prepared.PgmsgValue.{PgmsgValue}
+use Rattle.pg_c.specs.declared.server.authentication.PgmsgBytes.{PgmsgBytes}
+use Rattle.pg_c.specs.declared.server.notices.PgmsgFieldText.{PgmsgFieldText}
+use Rattle.pg_c.specs.declared.server.rows.PgmsgColumnText.{PgmsgColumnText}
 
-abbrev pub negotiation_of : ℕ → List (List ℕ) → Message
-negotiation_of minor options = messages.NegotiateProtocolVersion (record { major = 3; minor = minor; options = options })
+-- a request for SASL by one of these mechanisms
+abbrev pub sasl_offer_of : List PgmsgBytes → Message
+sasl_offer_of mechanisms = messages.Authentication (page.sasl (map bytes_of mechanisms))
+
+abbrev pub negotiation_of : ℕ → List PgmsgBytes → Message
+negotiation_of minor options = messages.NegotiateProtocolVersion (record { major = 3; minor = minor; options = map bytes_of options })
 
 abbrev pub key_of : ℕ → List ℕ → Message
 key_of process_id key = messages.BackendKeyData (record { process_id = process_id; secret_key = key })
 
-abbrev pub setting_of : List ℕ → List ℕ → Message
-setting_of name value = messages.ParameterStatus (record { name = name; value = value })
+-- a setting and its value
+abbrev pub parameter_status_of : List ℕ → List ℕ → Message
+parameter_status_of name value = messages.ParameterStatus (record { name = name; value = value })
 
 abbrev pub notification_of : ℕ → List ℕ → List ℕ → Message
 notification_of process_id channel payload = messages.Notification (record { process_id = process_id; channel = channel; payload = payload })
+
+-- a notification is put, or refused for its fault
+abbrev pub PutsNotification : ℕ → List ℕ → List ℕ → List ℕ → List ℕ → ℤ → Type 0
+PutsNotification process_id channel payload old new result = PutsServerMessage (notification_of process_id channel payload) old new result
+
+-- an error or a notice of these fields
+abbrev pub notice_of_kind : List PgmsgFieldText → NoticeKind → Message
+notice_of_kind fields kind = messages.Notice kind (map field_of fields)
+
+-- the columns of a result
+abbrev pub row_description_of : List PgmsgColumnText → Message
+row_description_of columns = messages.RowDescription (map column_of columns)
+
+-- the values of a row
+abbrev pub data_row_of : List PgmsgValue → Message
+data_row_of values = messages.DataRow (map value_of values)
+
+-- where the data of a COPY goes, and how it is spelled
+abbrev pub copy_answer_of : ℤ → List ℤ → CopyDirection → Message
+copy_answer_of format codes direction = messages.CopyResponse direction format codes
 
 abbrev pub result_of : Bool → List ℕ → Message
 result_of is_null value = messages.FunctionCallResponse (if is_null then None else Some value)

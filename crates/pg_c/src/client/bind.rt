@@ -5,8 +5,8 @@ ghost use Rattle.pg_format.specs.Messages as page;
 ghost use Rattle.pg_server.specs.Frontend.Message.{HasFault};
 ghost use Rattle.pg_format.specs.Received.{max_body};
 ghost use Rattle.pg_c.specs.Client.{RefusesClientBody};
-ghost use Rattle.pg_c.specs.Client.Bind.{ReadsBind, bind_front};
-ghost use Rattle.pg_c.specs.Client.Values.{GivesFrontAfter};
+ghost use Rattle.pg_c.specs.Client.Bind.{ReadsBind, CountsBind, GivesFrontValues};
+ghost use Rattle.pg_c.specs.Read.{IfRead};
 
 use crate::client::lists::codes_at;
 use crate::client::values::{name_at, values_at};
@@ -42,12 +42,10 @@ pub extern "C" fn pgmsg_read_bind(
     bind: &mut PgmsgBind,
     fault: &mut PgmsgFault,
 ) -> isize
-    ensures value { pos 0 ≤ℤ result
-        → ReadsBind body.now bind.new values.old values.new result }
+    ensures value { IfRead result (ReadsBind body.now bind.new values.old values.new) }
     ensures fault { RefusesClientBody page.bind body.now fault.old fault.new result }
     ensures within { pos 0 ≤ℤ result → length body.now ≤ max_body }
-    ensures front { result <ℤ pos 0
-        → GivesFrontAfter bind_front body.now values.old values.new }
+    ensures front { result <ℤ pos 0 → GivesFrontValues body.now values.old values.new }
     ensures untouched { pos 0 ≤ℤ result → fault.new ≡ fault.old }
     ensures kept { result <ℤ pos 0 → bind.new ≡ bind.old }
 {
@@ -66,12 +64,10 @@ pub extern "C" fn pgmsg_read_bind(
 #[inline(always)]
 fn bind_of(body: &[u8], values: &mut [PgmsgCell]) -> Result<PgmsgBind, FrontendFault>
     requires { length body.now ≤ MAX_BODY }
-    ensures bind { IfOk result
-        (λ read. ReadsBind body.now read values.old values.new (pos read.values.count)) }
+    ensures bind { IfOk result (CountsBind body.now values.old values.new) }
     ensures small { IfOk result (λ read. read.values.count ≤ 65535) }
     ensures fault { IfErr result (HasFault page.bind body.now 0) }
-    ensures front { IfErr result
-        (λ _. GivesFrontAfter bind_front body.now values.old values.new) }
+    ensures front { IfErr result (λ _. GivesFrontValues body.now values.old values.new) }
 {
     let (portal, end) = name_at(body, 0)?;
     let (statement, end) = name_at(body, end)?;

@@ -1,9 +1,9 @@
 //! The message at the front of a client's stream.
 
-ghost use Rattle.std.specs.Prelude.{◌≡◌, ◌<ℤ◌, ◌≤ℤ◌, ℕ, List, pos, get_or};
-ghost use Rattle.pg_frames.specs.Frontend.Frame.{BeginsFirst, BeginsTagged, IsFirstFault, IsTaggedFault, WantsMoreFirst, WantsMoreTagged};
-ghost use Rattle.pg_c.specs.Client.Frames.{IsWhole, IsWholeFirst, Needs, NeedsFirst};
-ghost use Rattle.pg_c.specs.Refusal.{RefusesClient};
+ghost use Rattle.std.specs.Prelude.{◌≡◌, ◌<ℤ◌, ◌≤ℤ◌, ℕ, pos, get_or};
+ghost use Rattle.pg_frames.specs.Frontend.Frame.{IsFirstFault, IsTaggedFault, WantsMoreFirst};
+ghost use Rattle.pg_c.specs.Client.Frames.{HasTaggedFrame, IsWhole, IsWholeFirst, IsFirstPlace, Needs, NeedsFirst};
+ghost use Rattle.pg_c.specs.Refusal.{RefusesClientFor};
 
 use crate::place::PgmsgSpan;
 use crate::read::frame::{HEADER, PgmsgFrame, needed};
@@ -33,10 +33,9 @@ pub extern "C" fn pgmsg_next_first_frame(
     ensures result { result ≤ℤ pos 1 }
     ensures whole { result ≡ pos 1 → IsWholeFirst limit stream.now frame.new }
     ensures part { result ≡ pos 0 → NeedsFirst limit stream.now frame.new.length }
-    ensures part_alone { result ≡ pos 0
-        → (frame.new.tag ≡ frame.old.tag) × (frame.new.body ≡ frame.old.body) }
-    ensures fault { result <ℤ pos 0
-        → RefusesClient (IsFirstFault limit stream.now) fault.old fault.new result }
+    ensures part_tag { result ≡ pos 0 → frame.new.tag ≡ frame.old.tag }
+    ensures part_alone { result ≡ pos 0 → frame.new.body ≡ frame.old.body }
+    ensures fault { RefusesClientFor (IsFirstFault limit stream.now) fault.old fault.new result }
     ensures untouched { pos 0 ≤ℤ result → fault.new ≡ fault.old }
     ensures kept { result <ℤ pos 0 → frame.new ≡ frame.old }
 {
@@ -55,9 +54,7 @@ pub extern "C" fn pgmsg_next_first_frame(
 
 // Where the first message at the front is.
 fn first_place_of(frame: &FrontendFrame<'_>) -> PgmsgFrame
-    ensures { (limit : ℕ) (stream : List ℕ)
-        → BeginsFirst limit stream frame.now.kind frame.now.body.now frame.now.rest.now frame.now.next
-        → IsWholeFirst limit stream result }
+    ensures { IsFirstPlace frame.now result }
 {
     PgmsgFrame {
         tag: 0,
@@ -94,8 +91,7 @@ pub extern "C" fn pgmsg_next_frontend_frame(
     ensures part { result ≡ pos 0 → Needs stream.now frame.new.length }
     ensures part_tag { result ≡ pos 0 → frame.new.tag ≡ get_or stream.now 0 frame.old.tag }
     ensures part_alone { result ≡ pos 0 → frame.new.body ≡ frame.old.body }
-    ensures fault { result <ℤ pos 0
-        → RefusesClient (IsTaggedFault stream.now) fault.old fault.new result }
+    ensures fault { RefusesClientFor (IsTaggedFault stream.now) fault.old fault.new result }
     ensures untouched { pos 0 ≤ℤ result → fault.new ≡ fault.old }
     ensures kept { result <ℤ pos 0 → frame.new ≡ frame.old }
 {
@@ -117,8 +113,7 @@ pub extern "C" fn pgmsg_next_frontend_frame(
 
 // Where the message at the front is.
 fn place_of(stream: &[u8], frame: &FrontendFrame<'_>) -> PgmsgFrame
-    requires { BeginsTagged stream.now frame.now.kind
-        frame.now.body.now frame.now.rest.now frame.now.next }
+    requires { HasTaggedFrame stream.now frame.now }
     ensures { IsWhole stream.now result }
 {
     PgmsgFrame {

@@ -5,8 +5,8 @@ ghost use Rattle.pg_format.specs.Messages as page;
 ghost use Rattle.pg_server.specs.Frontend.Message.{HasFault};
 ghost use Rattle.pg_format.specs.Received.{max_body};
 ghost use Rattle.pg_c.specs.Client.{RefusesClientBody};
-ghost use Rattle.pg_c.specs.Client.FunctionCall.{ReadsCall, call_front};
-ghost use Rattle.pg_c.specs.Client.Values.{GivesFrontAfter};
+ghost use Rattle.pg_c.specs.Client.FunctionCall.{ReadsCall, CountsCall, GivesFrontArguments};
+ghost use Rattle.pg_c.specs.Read.{IfRead};
 
 use crate::client::lists::codes_at;
 use crate::client::values::values_at;
@@ -41,12 +41,10 @@ pub extern "C" fn pgmsg_read_function_call(
     call: &mut PgmsgFunctionCall,
     fault: &mut PgmsgFault,
 ) -> isize
-    ensures value { pos 0 ≤ℤ result
-        → ReadsCall body.now call.new arguments.old arguments.new result }
+    ensures value { IfRead result (ReadsCall body.now call.new arguments.old arguments.new) }
     ensures fault { RefusesClientBody page.function_call body.now fault.old fault.new result }
     ensures within { pos 0 ≤ℤ result → length body.now ≤ max_body }
-    ensures front { result <ℤ pos 0
-        → GivesFrontAfter call_front body.now arguments.old arguments.new }
+    ensures front { result <ℤ pos 0 → GivesFrontArguments body.now arguments.old arguments.new }
     ensures untouched { pos 0 ≤ℤ result → fault.new ≡ fault.old }
     ensures kept { result <ℤ pos 0 → call.new ≡ call.old }
 {
@@ -64,12 +62,10 @@ pub extern "C" fn pgmsg_read_function_call(
 
 fn call_of(body: &[u8], arguments: &mut [PgmsgCell]) -> Result<PgmsgFunctionCall, FrontendFault>
     requires { length body.now ≤ MAX_BODY }
-    ensures call { IfOk result
-        (λ read. ReadsCall body.now read arguments.old arguments.new (pos read.arguments.count)) }
+    ensures call { IfOk result (CountsCall body.now arguments.old arguments.new) }
     ensures small { IfOk result (λ read. read.arguments.count ≤ 65535) }
     ensures fault { IfErr result (HasFault page.function_call body.now 0) }
-    ensures front { IfErr result
-        (λ _. GivesFrontAfter call_front body.now arguments.old arguments.new) }
+    ensures front { IfErr result (λ _. GivesFrontArguments body.now arguments.old arguments.new) }
 {
     let (function, end) = u32_at(body, 0)?;
     let (formats, end) = codes_at(body, end)?;

@@ -1,12 +1,11 @@
 //! The numbers of the lists in a client's message.
 
-ghost use Rattle.std.specs.Prelude.{◌≡◌, ◌+◌, ◌*◌, ◌<◌, ◌≤◌, Some, length, IfSome, IfNone, IfOk, IfErr};
+ghost use Rattle.std.specs.Prelude.{◌≡◌, ◌≤◌, length, IfSome, IfNone, IfErr};
 ghost use Rattle.pg_format.specs.Format.Parts.{be_u16, be_u32};
 ghost use Rattle.pg_format.specs.Messages.{format_codes};
 ghost use Rattle.pg_server.specs.Frontend.Message.{HasFault};
-ghost use Rattle.pg_c.specs.Client.Parts.{Finds};
+ghost use Rattle.pg_c.specs.Client.Parts.{Locates, HasList, LacksList, GivesList};
 ghost use Rattle.pg_c.specs.Place.{StandAt};
-ghost use Rattle.pg_c.specs.Read.{GivesItems};
 
 use crate::place::PgmsgList;
 use byteorder::{BigEndian, ByteOrder};
@@ -22,12 +21,10 @@ const TYPE_LENGTH: usize = 4;
 /// 0 for text and 1 for binary; others are no fault.
 #[unsafe(no_mangle)]
 pub extern "C" fn pgmsg_read_codes(body: &[u8], list: PgmsgList, codes: &mut [u16]) -> usize
-    ensures count { list.at + 2 * list.count ≤ length body.now → result ≡ list.count }
-    ensures given { list.at + 2 * list.count ≤ length body.now
-        → GivesItems be_u16 (λ code. Some code) body.now list.at (list.at + 2 * list.count)
-        list.count codes.old codes.new }
-    ensures outside { length body.now < list.at + 2 * list.count → result ≡ 0 }
-    ensures kept { length body.now < list.at + 2 * list.count → codes.new ≡ codes.old }
+    ensures count { HasList 2 body.now list → result ≡ list.count }
+    ensures given { HasList 2 body.now list → GivesList be_u16 2 body.now list codes.old codes.new }
+    ensures outside { LacksList 2 body.now list → result ≡ 0 }
+    ensures kept { LacksList 2 body.now list → codes.new ≡ codes.old }
 {
     let Some(_end) = end_of(body, list, CODE_LENGTH) else {
         return 0;
@@ -47,12 +44,10 @@ pub extern "C" fn pgmsg_read_codes(body: &[u8], list: PgmsgList, codes: &mut [u1
 /// server is to find it.
 #[unsafe(no_mangle)]
 pub extern "C" fn pgmsg_read_types(body: &[u8], list: PgmsgList, types: &mut [u32]) -> usize
-    ensures count { list.at + 4 * list.count ≤ length body.now → result ≡ list.count }
-    ensures given { list.at + 4 * list.count ≤ length body.now
-        → GivesItems be_u32 (λ number. Some number) body.now list.at (list.at + 4 * list.count)
-        list.count types.old types.new }
-    ensures outside { length body.now < list.at + 4 * list.count → result ≡ 0 }
-    ensures kept { length body.now < list.at + 4 * list.count → types.new ≡ types.old }
+    ensures count { HasList 4 body.now list → result ≡ list.count }
+    ensures given { HasList 4 body.now list → GivesList be_u32 4 body.now list types.old types.new }
+    ensures outside { LacksList 4 body.now list → result ≡ 0 }
+    ensures kept { LacksList 4 body.now list → types.new ≡ types.old }
 {
     let Some(_end) = end_of(body, list, TYPE_LENGTH) else {
         return 0;
@@ -69,8 +64,8 @@ pub extern "C" fn pgmsg_read_types(body: &[u8], list: PgmsgList, types: &mut [u3
 
 // Where a list of items of a width ends, if that is within the body.
 fn end_of(body: &[u8], list: PgmsgList, width: usize) -> Option<usize>
-    ensures inside { IfSome result (λ end. list.at + width * list.count ≤ length body.now) }
-    ensures outside { IfNone result (length body.now < list.at + width * list.count) }
+    ensures inside { IfSome result (λ _. HasList width body.now list) }
+    ensures outside { IfNone result (LacksList width body.now list) }
 {
     let end = list.at.checked_add(width.checked_mul(list.count)?)?;
     if end > body.len() {
@@ -83,8 +78,7 @@ fn end_of(body: &[u8], list: PgmsgList, width: usize) -> Option<usize>
 #[inline(always)]
 pub(crate) fn codes_at(body: &[u8], at: usize) -> Result<(PgmsgList, usize), FrontendFault>
     requires { at ≤ length body.now }
-    ensures found { IfOk result
-        (λ found. Finds format_codes (StandAt be_u16 body.now) body.now at found.0 found.1) }
+    ensures found { Locates format_codes (StandAt be_u16 body.now) body.now at result }
     ensures fault { IfErr result (HasFault format_codes body.now at) }
 {
     let (count, first) = u16_at(body, at)?;

@@ -8,7 +8,7 @@ ghost use Rattle.pg_server.specs.Frontend.Message.{HasFault};
 ghost use Rattle.pg_format.specs.Received.{max_body};
 ghost use Rattle.pg_c.specs.Client.{RefusesClientBody};
 ghost use Rattle.pg_c.specs.Client.Parse.{ReadsParse};
-ghost use Rattle.pg_c.specs.Client.Parts.{Finds};
+ghost use Rattle.pg_c.specs.Client.Parts.{Locates};
 ghost use Rattle.pg_c.specs.Place.{StandAt};
 
 use crate::client::values::{name_at, place_of_text_at};
@@ -81,9 +81,7 @@ fn parse_of(body: &[u8]) -> Result<PgmsgParse, FrontendFault>
 #[inline(always)]
 fn types_at(body: &[u8], at: usize) -> Result<(PgmsgList, usize), FrontendFault>
     requires { at ≤ length body.now }
-    ensures found { IfOk result
-        (λ found. Finds (counted_least 4 be_u32) (StandAt be_u32 body.now) body.now at
-        found.0 found.1) }
+    ensures found { Locates (counted_least 4 be_u32) (StandAt be_u32 body.now) body.now at result }
     ensures fault { IfErr result (HasFault (counted_least 4 be_u32) body.now at) }
 {
     let (count, first) = u16_at(body, at)?;

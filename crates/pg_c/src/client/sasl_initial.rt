@@ -1,7 +1,7 @@
 //! The first answer of a client to a request for SASL.
 
 ghost use Rattle.std.specs.Prelude.{◌≡◌, ◌≤◌, ◌<ℤ◌, ◌≤ℤ◌, pos, length};
-ghost use Rattle.pg_format.specs.Messages as page;
+ghost use Rattle.pg_format.specs.Messages.{sasl_initial_response};
 ghost use Rattle.pg_format.specs.Received.{max_body};
 ghost use Rattle.pg_c.specs.Client.{RefusesClientBody};
 ghost use Rattle.pg_c.specs.Client.SaslInitial.{ReadsSaslInitial};
@@ -31,7 +31,7 @@ pub extern "C" fn pgmsg_read_sasl_initial(
 ) -> i32
     ensures result { result ≤ℤ pos 0 }
     ensures value { result ≡ pos 0 → ReadsSaslInitial body.now initial.new }
-    ensures fault { RefusesClientBody page.sasl_initial_response body.now fault.old fault.new result }
+    ensures fault { RefusesClientBody sasl_initial_response body.now fault.old fault.new result }
     ensures within { pos 0 ≤ℤ result → length body.now ≤ max_body }
     ensures untouched { pos 0 ≤ℤ result → fault.new ≡ fault.old }
     ensures kept { result <ℤ pos 0 → initial.new ≡ initial.old }

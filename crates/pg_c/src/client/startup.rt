@@ -1,9 +1,8 @@
 //! The settings of a Startup.
 
-ghost use Rattle.std.specs.Prelude.{◌≡◌, [], length, drop, IfSome, IfNone};
-ghost use Rattle.pg_format.specs.Messages.{setting};
+ghost use Rattle.std.specs.Prelude.{◌≡◌, [], length, IfSome, IfNone};
 ghost use Rattle.pg_server.specs.Frontend.Lists.{settings_in};
-ghost use Rattle.pg_c.specs.Client.Startup.{setting_in};
+ghost use Rattle.pg_c.specs.Client.Startup.{setting_in, asked_for, SplitsSetting};
 ghost use Rattle.pg_c.specs.Read.{AreGiven};
 
 use crate::place::PgmsgSpan;
@@ -17,9 +16,8 @@ const CODE_LENGTH: usize = 4;
 /// are. As many as there is room for are written.
 #[unsafe(no_mangle)]
 pub extern "C" fn pgmsg_read_settings(body: &[u8], settings: &mut [PgmsgParameterStatus]) -> usize
-    ensures count { result ≡ length (settings_in (drop 4 body.now)) }
-    ensures given { AreGiven (setting_in body.now) (settings_in (drop 4 body.now))
-        settings.old settings.new }
+    ensures count { result ≡ length (asked_for body.now) }
+    ensures given { AreGiven (setting_in body.now) (asked_for body.now) settings.old settings.new }
 {
     if body.len() < CODE_LENGTH {
         return 0;
@@ -50,8 +48,7 @@ pub extern "C" fn pgmsg_read_settings(body: &[u8], settings: &mut [PgmsgParamete
 // The setting at the front of some bytes, its name and its value, and what follows. Nothing where the
 // name is empty, or where a NUL is missing.
 fn split_setting(bytes: &[u8]) -> Option<(&[u8], &[u8], &[u8])>
-    ensures found { IfSome result
-        (λ found. setting.Reads bytes.now (found.0.now, found.1.now) found.2.now) }
+    ensures found { IfSome result (SplitsSetting bytes.now) }
     ensures none { IfNone result (settings_in bytes.now ≡ []) }
 {
     let (name, after) = split_text(bytes)?;

@@ -1,15 +1,14 @@
 //! The values of a Bind or a FunctionCall, and the names before them.
 
-ghost use Rattle.std.specs.Prelude.{◌≡◌, ◌+◌, ◌≤◌, ℕ, List, Some, length, IfSome, IfOk, IfErr};
+ghost use Rattle.std.specs.Prelude.{◌+◌, ◌≤◌, length, IfSome, IfOk, IfErr};
 ghost use Rattle.pg_format.specs.Format.Lists.{counted, times};
 ghost use Rattle.pg_format.specs.Format.Nullable.{value};
 ghost use Rattle.pg_format.specs.Format.Parts.{until_nul};
 ghost use Rattle.pg_server.specs.Frontend.Message.{HasFault};
-ghost use Rattle.pg_c.specs.Client.Parts.{Finds};
-ghost use Rattle.pg_c.specs.Client.Values.{GivesValues, GivesSome, GivesCounted};
-ghost use Rattle.pg_c.specs.Place.{part};
-ghost use Rattle.pg_c.specs.Read.{GivesItems};
-ghost use Rattle.pg_c.specs.Read.Row.{cell_in, value_in};
+ghost use Rattle.pg_c.specs.Client.Parts.{Locates};
+ghost use Rattle.pg_c.specs.Client.Values.{FindsValue, FindsValues, GivesFrom, GivesSome, GivesCounted};
+ghost use Rattle.pg_c.specs.Client.Values.{AllAfter, SomeAfter, FaultAfter};
+ghost use Rattle.pg_c.specs.Place.{StandsIn};
 
 use crate::place::{PgmsgList, PgmsgSpan};
 use crate::read::row::{PgmsgCell, place_of, placed};
@@ -33,9 +32,7 @@ const NULL: i32 = -1;
 pub(crate) fn name_at(body: &[u8], at: usize) -> Result<(PgmsgSpan, usize), FrontendFault>
     requires within { at ≤ length body.now }
     requires short { length body.now ≤ MAX_BODY }
-    ensures found { IfOk result
-        (λ found. Finds until_nul (λ span name. part body.now span ≡ Some name) body.now at
-        found.0 found.1) }
+    ensures found { Locates until_nul (StandsIn body.now) body.now at result }
     ensures fault { IfErr result (HasFault until_nul body.now at) }
 {
     if at < body.len() && body[at] == 0 {
@@ -53,9 +50,7 @@ pub(crate) fn name_at(body: &[u8], at: usize) -> Result<(PgmsgSpan, usize), Fron
 #[inline(always)]
 pub(crate) fn place_of_text_at(body: &[u8], at: usize) -> Result<(PgmsgSpan, usize), FrontendFault>
     requires { at ≤ length body.now }
-    ensures found { IfOk result
-        (λ found. Finds until_nul (λ span text. part body.now span ≡ Some text) body.now at
-        found.0 found.1) }
+    ensures found { Locates until_nul (StandsIn body.now) body.now at result }
     ensures fault { IfErr result (HasFault until_nul body.now at) }
 {
     let (text, end) = text_at(body, at)?;
@@ -78,8 +73,7 @@ pub(crate) fn values_at(
 ) -> Result<(PgmsgList, usize), FrontendFault>
     requires within { at ≤ length body.now }
     requires short { length body.now ≤ MAX_BODY }
-    ensures found { IfOk result
-        (λ found. GivesValues body.now at found.0 found.1 values.old values.new) }
+    ensures found { FindsValues body.now at values.old values.new result }
     ensures small { IfOk result (λ found. found.0.count ≤ 65535) }
     ensures fault { IfErr result (HasFault (counted value) body.now at) }
     ensures front { IfErr result (λ _. GivesCounted body.now at values.old values.new) }
@@ -101,8 +95,7 @@ fn give_values(
     requires within { first ≤ length body.now }
     requires short { length body.now ≤ MAX_BODY }
     requires small { count ≤ 65535 }
-    ensures given { IfOk result (λ end. GivesItems value (cell_in body.now) body.now first end count
-        values.old values.new) }
+    ensures given { IfOk result (λ end. GivesFrom body.now first end count values.old values.new) }
     ensures fault { IfErr result (HasFault (times count value) body.now first) }
     ensures front { IfErr result (λ _. GivesSome body.now first count values.old values.new) }
 {
@@ -121,8 +114,7 @@ fn give_front(body: &[u8], first: usize, count: usize, values: &mut [PgmsgCell])
     requires short { length body.now ≤ MAX_BODY }
     requires small { count ≤ 65535 }
     ensures few { result.0 ≤ count }
-    ensures front { GivesItems value (cell_in body.now) body.now first result.1 result.0
-        values.old values.new }
+    ensures front { GivesFrom body.now first result.1 result.0 values.old values.new }
 {
     let lengths = LENGTH * count;
     if body.len() - first < lengths {
@@ -151,9 +143,7 @@ fn value_until(body: &[u8], at: usize, last: usize) -> Option<(i32, usize)>
     requires within { last ≤ length body.now }
     requires short { length body.now ≤ MAX_BODY }
     ensures within { IfSome result (λ found. found.1 ≤ last) }
-    ensures value { IfSome result (λ found. Finds value
-        (λ len content. value_in body.now (at + 4) len ≡ Some content) body.now at
-        found.0 found.1) }
+    ensures value { IfSome result (λ found. FindsValue body.now at found.0 found.1) }
 {
     let start = at + LENGTH;
     let length = BigEndian::read_i32(&body[at..start]);
@@ -182,15 +172,9 @@ fn give_rest(
     requires start { start ≤ length body.now }
     requires short { length body.now ≤ MAX_BODY }
     requires few { index ≤ count }
-    ensures given { IfOk result (λ end. (first : ℕ) (before : List PgmsgCell)
-        → GivesItems value (cell_in body.now) body.now first start index before values.old
-        → GivesItems value (cell_in body.now) body.now first end count before values.new) }
-    ensures fault { IfErr result (λ fault. (first : ℕ) (before : List PgmsgCell)
-        → GivesItems value (cell_in body.now) body.now first start index before values.old
-        → HasFault (times count value) body.now first fault) }
-    ensures front { IfErr result (λ _. (first : ℕ) (before : List PgmsgCell)
-        → GivesItems value (cell_in body.now) body.now first start index before values.old
-        → GivesSome body.now first count before values.new) }
+    ensures given { IfOk result (AllAfter body.now start index count values.old values.new) }
+    ensures fault { IfErr result (FaultAfter body.now start index count values.old) }
+    ensures front { IfErr result (λ _. SomeAfter body.now start index count values.old values.new) }
 {
     let mut at = start;
     for next in index..count {

@@ -1,10 +1,10 @@
 //! The data of a COPY, of either side.
 
-ghost use Rattle.std.specs.Prelude.{◌≡◌, ◌≢◌, ◌+◌, ◌<◌, ◌≤◌, ◌≤ℤ◌, ◌++◌, ℕ, List, pos, length};
+ghost use Rattle.std.specs.Prelude.{◌≡◌, ◌≢◌, ◌+◌, ◌<◌, ◌≤◌, ◌≤ℤ◌, pos};
 ghost use Rattle.pg_base.specs.Cutting.{max_length};
 ghost use Rattle.pg_send.specs.Message as message;
-ghost use Rattle.pg_send.specs.Message.{text};
-ghost use Rattle.pg_c.specs.Put.{PutsMessage};
+ghost use Rattle.pg_c.specs.Put.{IsRefusedBy, PutsMessage};
+ghost use Rattle.pg_c.specs.Put.Copy.{IsCopyHead};
 ghost use Rattle.pg_c.specs.Refusal.{too_long_number};
 
 use crate::put::put;
@@ -25,11 +25,10 @@ pub extern "C" fn pgmsg_put_copy_data(data: &[u8], out: &mut [u8]) -> isize
 #[unsafe(no_mangle)]
 pub extern "C" fn pgmsg_put_copy_head(len: usize, head: &mut [u8; 5]) -> i32
     ensures result { result ≤ℤ pos 0 }
-    ensures head { (bytes : List ℕ) → length bytes ≡ len → result ≡ pos 0
-        → head.new ++ bytes ≡ text (message.CopyData bytes) }
+    ensures head { result ≡ pos 0 → IsCopyHead len head.new }
     ensures within { result ≡ pos 0 → len + 4 ≤ max_length }
-    ensures refused { result ≢ pos 0
-        → (max_length < len + 4) × (result ≡ too_long_number) × (head.new ≡ head.old) }
+    ensures too_long { result ≢ pos 0 → max_length < len + 4 }
+    ensures refused { result ≢ pos 0 → IsRefusedBy too_long_number head.old head.new result }
 {
     if len > MAX_BODY {
         return MESSAGE_TOO_LONG;

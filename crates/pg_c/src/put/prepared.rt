@@ -1,10 +1,9 @@
 //! Prepared statements, portals and their values, and calls of functions. A name is any bytes but NUL,
 //! and empty for the statement or the portal without one.
 
-ghost use Rattle.pg_format.specs.Messages as page;
 ghost use Rattle.pg_send.specs.Message as message;
 ghost use Rattle.pg_c.specs.Put.{PutsMessage};
-ghost use Rattle.pg_c.specs.Put.Values.{bind_of, function_call_of, value_of, parse_of, execute_of, PutsTargeted};
+ghost use Rattle.pg_c.specs.Put.Values.{value_of, parse_of, execute_of, PutsBind, PutsCall, PutsTargeted};
 
 use crate::put::put;
 use crate::refusal::UNKNOWN_TARGET;
@@ -60,7 +59,7 @@ pub extern "C" fn pgmsg_put_bind(
     result_formats: &[u16],
     out: &mut [u8],
 ) -> isize
-    ensures { PutsMessage (message.RawBind (bind_of portal.now statement.now formats.now values.now result_formats.now)) out.old out.new result }
+    ensures { PutsBind portal statement formats values result_formats out.old out.new result }
 {
     let bind = RawBind {
         portal,
@@ -118,7 +117,7 @@ pub extern "C" fn pgmsg_put_function_call(
     result_format: u16,
     out: &mut [u8],
 ) -> isize
-    ensures { PutsMessage (message.FunctionCall (function_call_of object_id formats.now arguments.now result_format)) out.old out.new result }
+    ensures { PutsCall object_id formats.now arguments.now result_format out.old out.new result }
 {
     let call = FunctionCall {
         object_id: Oid(object_id),

@@ -1,18 +1,17 @@
 //! What the server asks of a client that opens a session.
 
-ghost use Rattle.std.specs.Prelude.{◌≡◌, ◌≤◌, ◌<◌, ◌<ℤ◌, ◌≤ℤ◌, pos, drop, length, OnOk, IfOk, IfErr};
+ghost use Rattle.std.specs.Prelude.{◌≡◌, ◌≤◌, ◌<ℤ◌, ◌≤ℤ◌, pos, length, OnOk, IfOk, IfErr};
 ghost use Rattle.pg_base.specs.declared.error.ProtocolFault.TheVariants.{UnknownAuthentication};
 ghost use Rattle.pg_base.specs.Sink.{IsGiven};
-ghost use Rattle.pg_receive.specs.Authentication.Mechanisms.{raw_mechanisms_in};
 ghost use Rattle.pg_receive.specs.Authentication.Raw.{raw_request, request_of};
-ghost use Rattle.pg_format.specs.Format.{Means};
-ghost use Rattle.pg_receive.specs.Authentication.{requests, sasl_continue, sasl_final, method_of};
+ghost use Rattle.pg_receive.specs.Authentication.{method_of};
 ghost use Rattle.pg_receive.specs.Authentication.Shown.{authentication_borrowed, continue_borrowed};
 ghost use Rattle.pg_format.specs.Received.{max_body};
-ghost use Rattle.pg_c.specs.Read.Authentication.{ReadsRequest, ReadsChallenge, ReadsVerifier, IsAskedFault};
+ghost use Rattle.pg_c.specs.Read.Authentication.{offered, ReadsRequest, Challenges, ReadsVerifier, MeansChallenge, MeansVerifier};
+ghost use Rattle.pg_c.specs.Read.Authentication.{IsAskedFault};
 ghost use Rattle.pg_c.specs.Place.{part};
-ghost use Rattle.pg_c.specs.Read.{AreGiven, ReadsBody, RefusesBody};
-ghost use Rattle.pg_c.specs.Refusal.{Refuses};
+ghost use Rattle.pg_c.specs.Read.{AreGiven, IfRead, ReadsBody, RefusesBody};
+ghost use Rattle.pg_c.specs.Refusal.{RefusesFor};
 
 use crate::place::PgmsgSpan;
 use crate::read::check_body;
@@ -79,9 +78,7 @@ pub extern "C" fn pgmsg_read_authentication(
 }
 
 fn request_of(body: &[u8]) -> Result<RawAuthentication<'_>, ProtocolFault>
-    ensures { ReadsBody raw_request
-        request_of
-        body.now result }
+    ensures { ReadsBody raw_request request_of body.now result }
 {
     check_body(body)?;
     RawAuthentication::read(body)
@@ -91,9 +88,8 @@ fn request_of(body: &[u8]) -> Result<RawAuthentication<'_>, ProtocolFault>
 /// are. As many as there is room for are written.
 #[unsafe(no_mangle)]
 pub extern "C" fn pgmsg_read_mechanisms(body: &[u8], mechanisms: &mut [PgmsgSpan]) -> usize
-    ensures count { result ≡ length (raw_mechanisms_in (drop 4 body.now)) }
-    ensures given { AreGiven (part body.now) (raw_mechanisms_in (drop 4 body.now))
-        mechanisms.old mechanisms.new }
+    ensures count { result ≡ length (offered body.now) }
+    ensures given { AreGiven (part body.now) (offered body.now) mechanisms.old mechanisms.new }
 {
     if body.len() < METHOD_LENGTH {
         return 0;
@@ -127,14 +123,13 @@ pub extern "C" fn pgmsg_read_challenge(
     fault: &mut PgmsgFault,
 ) -> i32
     ensures result { result ≤ℤ pos 0 }
-    ensures value { result ≡ pos 0
-        → ReadsChallenge body.now challenge.new salt.old salt.new nonce.old nonce.new }
-    ensures fault { result <ℤ pos 0
-        → Refuses (IsAskedFault 11 body.now) fault.old fault.new result }
+    ensures value { Challenges body.now challenge.new salt.old salt.new nonce.old nonce.new result }
+    ensures fault { RefusesFor (IsAskedFault 11 body.now) fault.old fault.new result }
     ensures within { pos 0 ≤ℤ result → length body.now ≤ max_body }
     ensures untouched { pos 0 ≤ℤ result → fault.new ≡ fault.old }
-    ensures kept { result <ℤ pos 0
-        → (challenge.new ≡ challenge.old) × (salt.new ≡ salt.old) × (nonce.new ≡ nonce.old) }
+    ensures kept { result <ℤ pos 0 → challenge.new ≡ challenge.old }
+    ensures salt_kept { result <ℤ pos 0 → salt.new ≡ salt.old }
+    ensures nonce_kept { result <ℤ pos 0 → nonce.new ≡ nonce.old }
 {
     match challenge_of(body) {
         Ok(read) => {
@@ -180,8 +175,7 @@ fn give_text(text: &[u8], out: &mut [u8])
 }
 
 fn challenge_of(body: &[u8]) -> Result<AuthenticationSaslContinueRef<'_>, ProtocolFault>
-    ensures value { IfOk result
-        (λ challenge. Means requests body.now (sasl_continue (continue_borrowed challenge))) }
+    ensures value { IfOk result (λ read. MeansChallenge body.now (continue_borrowed read)) }
     ensures within { OnOk result (length body.now ≤ max_body) }
     ensures fault { IfErr result (IsAskedFault 11 body.now) }
 {
@@ -202,9 +196,8 @@ pub extern "C" fn pgmsg_read_verifier(
     verifier: &mut [u8],
     fault: &mut PgmsgFault,
 ) -> isize
-    ensures value { pos 0 ≤ℤ result → ReadsVerifier body.now verifier.old verifier.new result }
-    ensures fault { result <ℤ pos 0
-        → Refuses (IsAskedFault 12 body.now) fault.old fault.new result }
+    ensures value { IfRead result (ReadsVerifier body.now verifier.old verifier.new) }
+    ensures fault { RefusesFor (IsAskedFault 12 body.now) fault.old fault.new result }
     ensures within { pos 0 ≤ℤ result → length body.now ≤ max_body }
     ensures untouched { pos 0 ≤ℤ result → fault.new ≡ fault.old }
     ensures kept { result <ℤ pos 0 → verifier.new ≡ verifier.old }
@@ -216,7 +209,7 @@ pub extern "C" fn pgmsg_read_verifier(
 }
 
 fn verifier_of(body: &[u8]) -> Result<AuthenticationSaslFinalRef<'_>, ProtocolFault>
-    ensures value { IfOk result (λ end. Means requests body.now (sasl_final end.verifier)) }
+    ensures value { IfOk result (λ end. MeansVerifier body.now end.verifier) }
     ensures within { OnOk result (length body.now ≤ max_body) }
     ensures fault { IfErr result (IsAskedFault 12 body.now) }
 {

@@ -1,14 +1,13 @@
 //! The columns of a result, and the types of a statement's parameters.
 
-ghost use Rattle.std.specs.Prelude.{◌≡◌, ◌≤◌, ◌<ℤ◌, ◌≤ℤ◌, ℕ, List, pos, length, Some, OnOk, IfOk, IfErr};
+ghost use Rattle.std.specs.Prelude.{◌≡◌, ◌≤◌, ◌<ℤ◌, ◌≤ℤ◌, ℕ, pos, length, OnOk, IfOk, IfErr};
 ghost use Rattle.std.specs.Option.{option_map_or};
 ghost use Rattle.pg_format.specs.Format.{IsFaultOf};
-ghost use Rattle.pg_format.specs.Format.Places.{IsReadAt};
 ghost use Rattle.pg_format.specs.Messages.{parameter_description};
 ghost use Rattle.pg_receive.specs.RowDescription.Raw.{column_of_raw, raw_column, raw_row_description};
 ghost use Rattle.pg_format.specs.Received.{max_body};
 ghost use Rattle.pg_c.specs.Read.Columns.{column_in, ReadsColumns, GivesColumns, ReadsTypes, GivesTypes};
-ghost use Rattle.pg_c.specs.Read.{IsBodyFault, RefusesBody};
+ghost use Rattle.pg_c.specs.Read.{IfRead, IfCount, IsBodyFault, RefusesBody, SaysItem};
 
 use crate::place::PgmsgSpan;
 use crate::read::check_body;
@@ -49,12 +48,10 @@ pub extern "C" fn pgmsg_read_columns(
     columns: &mut [PgmsgColumn],
     fault: &mut PgmsgFault,
 ) -> isize
-    ensures columns { pos 0 ≤ℤ result
-        → ReadsColumns body.now columns.old columns.new result }
+    ensures columns { IfRead result (ReadsColumns body.now columns.old columns.new) }
     ensures fault { RefusesBody raw_row_description body.now fault.old fault.new result }
     ensures within { pos 0 ≤ℤ result → length body.now ≤ max_body }
-    ensures front { result <ℤ pos 0
-        → GivesColumns body.now columns.old columns.new }
+    ensures front { result <ℤ pos 0 → GivesColumns body.now columns.old columns.new }
     ensures untouched { pos 0 ≤ℤ result → fault.new ≡ fault.old }
 {
     match columns_of(body, columns) {
@@ -65,12 +62,10 @@ pub extern "C" fn pgmsg_read_columns(
 
 fn columns_of(body: &[u8], columns: &mut [PgmsgColumn]) -> Result<usize, ProtocolFault>
     ensures small { IfOk result (λ count. count ≤ 65535) }
-    ensures columns { IfOk result
-        (λ count. ReadsColumns body.now columns.old columns.new (pos count)) }
+    ensures columns { IfCount result (ReadsColumns body.now columns.old columns.new) }
     ensures within { OnOk result (length body.now ≤ max_body) }
     ensures fault { IfErr result (IsBodyFault (IsFaultOf raw_row_description) body.now) }
-    ensures front { IfErr result
-        (λ _. GivesColumns body.now columns.old columns.new) }
+    ensures front { IfErr result (λ _. GivesColumns body.now columns.old columns.new) }
 {
     check_body(body)?;
     let count = usize::from(u16_at(body, 0)?);
@@ -88,8 +83,7 @@ fn columns_of(body: &[u8], columns: &mut [PgmsgColumn]) -> Result<usize, Protoco
 
 // The place of the column that begins at an offset.
 fn place_of(at: usize, field: &RawFieldRef<'_>) -> PgmsgColumn
-    ensures { (body : List ℕ) (end : ℕ) → IsReadAt raw_column body at (column_of_raw field.now) end
-        → column_in body result ≡ Some (column_of_raw field.now) }
+    ensures { (end : ℕ) → SaysItem raw_column column_in at (column_of_raw field.now) end result }
 {
     PgmsgColumn {
         name: PgmsgSpan {
@@ -124,12 +118,10 @@ pub extern "C" fn pgmsg_read_parameter_types(
     types: &mut [u32],
     fault: &mut PgmsgFault,
 ) -> isize
-    ensures types { pos 0 ≤ℤ result
-        → ReadsTypes body.now types.old types.new result }
+    ensures types { IfRead result (ReadsTypes body.now types.old types.new) }
     ensures fault { RefusesBody parameter_description body.now fault.old fault.new result }
     ensures within { pos 0 ≤ℤ result → length body.now ≤ max_body }
-    ensures front { result <ℤ pos 0
-        → GivesTypes body.now types.old types.new }
+    ensures front { result <ℤ pos 0 → GivesTypes body.now types.old types.new }
     ensures untouched { pos 0 ≤ℤ result → fault.new ≡ fault.old }
 {
     match types_of(body, types) {
@@ -140,12 +132,10 @@ pub extern "C" fn pgmsg_read_parameter_types(
 
 fn types_of(body: &[u8], types: &mut [u32]) -> Result<usize, ProtocolFault>
     ensures small { IfOk result (λ count. count ≤ 65535) }
-    ensures types { IfOk result
-        (λ count. ReadsTypes body.now types.old types.new (pos count)) }
+    ensures types { IfCount result (ReadsTypes body.now types.old types.new) }
     ensures within { OnOk result (length body.now ≤ max_body) }
     ensures fault { IfErr result (IsBodyFault (IsFaultOf parameter_description) body.now) }
-    ensures front { IfErr result
-        (λ _. GivesTypes body.now types.old types.new) }
+    ensures front { IfErr result (λ _. GivesTypes body.now types.old types.new) }
 {
     check_body(body)?;
     let count = usize::from(u16_at(body, 0)?);

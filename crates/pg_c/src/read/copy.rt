@@ -5,7 +5,7 @@ ghost use Rattle.pg_format.specs.Format.{IsFaultOf};
 ghost use Rattle.pg_format.specs.Messages.{columns_of, copy_response};
 ghost use Rattle.pg_format.specs.Received.{max_body};
 ghost use Rattle.pg_c.specs.Read.Copy.{ReadsFormats, GivesCodes};
-ghost use Rattle.pg_c.specs.Read.{IsBodyFault, RefusesBody};
+ghost use Rattle.pg_c.specs.Read.{IfRead, IfCount, IsBodyFault, RefusesBody};
 
 use crate::read::check_body;
 use crate::refusal::{PgmsgFault, report};
@@ -39,12 +39,10 @@ pub extern "C" fn pgmsg_read_copy_response(
     codes: &mut [i16],
     fault: &mut PgmsgFault,
 ) -> isize
-    ensures formats { pos 0 ≤ℤ result
-        → ReadsFormats body.now response.new codes.old codes.new result }
+    ensures formats { IfRead result (ReadsFormats body.now response.new codes.old codes.new) }
     ensures fault { RefusesBody copy_response body.now fault.old fault.new result }
     ensures within { pos 0 ≤ℤ result → length body.now ≤ max_body }
-    ensures front { result <ℤ pos 0
-        → GivesCodes body.now codes.old codes.new }
+    ensures front { result <ℤ pos 0 → GivesCodes body.now codes.old codes.new }
     ensures untouched { pos 0 ≤ℤ result → fault.new ≡ fault.old }
     ensures kept { result <ℤ pos 0 → response.new ≡ response.old }
 {
@@ -60,12 +58,10 @@ fn codes_of(
     codes: &mut [i16],
 ) -> Result<usize, ProtocolFault>
     ensures small { IfOk result (λ count. count ≤ 65535) }
-    ensures formats { IfOk result
-        (λ count. ReadsFormats body.now response.new codes.old codes.new (pos count)) }
+    ensures formats { IfCount result (ReadsFormats body.now response.new codes.old codes.new) }
     ensures within { OnOk result (length body.now ≤ max_body) }
     ensures fault { IfErr result (IsBodyFault (IsFaultOf copy_response) body.now) }
-    ensures front { IfErr result
-        (λ _. GivesCodes body.now codes.old codes.new) }
+    ensures front { IfErr result (λ _. GivesCodes body.now codes.old codes.new) }
     ensures kept { IfErr result (λ _. response.new ≡ response.old) }
 {
     check_body(body)?;

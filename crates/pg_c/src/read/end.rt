@@ -1,14 +1,13 @@
 //! Where the parts of a body end.
 
-ghost use Rattle.std.specs.Prelude.{◌≡◌, ◌≤◌, ◌<ℤ◌, ◌≤ℤ◌, pos, length, OnOk, IfOk, IfErr};
-ghost use Rattle.pg_base.specs.declared.error.Error.TheVariants.{Protocol};
+ghost use Rattle.std.specs.Prelude.{◌≡◌, ◌≤◌, ◌≤ℤ◌, pos, length, OnOk, IfOk, IfErr};
 ghost use Rattle.pg_format.specs.Format.{IsFaultOf};
 ghost use Rattle.pg_format.specs.Format.Places.{EndsAt};
 ghost use Rattle.pg_receive.specs.Layout.{layout};
 ghost use Rattle.pg_format.specs.Received.{max_body};
 ghost use Rattle.pg_c.specs.Read.End.{GivesEnd, IsEndFault};
-ghost use Rattle.pg_c.specs.Read.{IsBodyFault};
-ghost use Rattle.pg_c.specs.Refusal.{Refuses};
+ghost use Rattle.pg_c.specs.Read.{IfRead, IsBodyFault};
+ghost use Rattle.pg_c.specs.Refusal.{RefusesFor};
 
 use crate::read::check_body;
 use crate::refusal::{PgmsgFault, report};
@@ -26,9 +25,8 @@ pub extern "C" fn pgmsg_read_end(
     body: &[u8],
     fault: &mut PgmsgFault,
 ) -> isize
-    ensures end { pos 0 ≤ℤ result → GivesEnd tag body.now result }
-    ensures fault { result <ℤ pos 0
-        → Refuses (IsEndFault tag body.now) fault.old fault.new result }
+    ensures end { IfRead result (GivesEnd tag body.now) }
+    ensures fault { RefusesFor (IsEndFault tag body.now) fault.old fault.new result }
     ensures within { pos 0 ≤ℤ result → length body.now ≤ max_body }
     ensures untouched { pos 0 ≤ℤ result → fault.new ≡ fault.old }
 {

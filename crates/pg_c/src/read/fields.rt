@@ -7,7 +7,7 @@ ghost use Rattle.pg_format.specs.Format.{IsFaultOf};
 ghost use Rattle.pg_receive.specs.Response.{notices};
 ghost use Rattle.pg_format.specs.Received.{max_body};
 ghost use Rattle.pg_c.specs.Read.Fields.{field_in, IsSeverityOf};
-ghost use Rattle.pg_c.specs.Read.{AreGiven, IsBodyFault, RefusesBody};
+ghost use Rattle.pg_c.specs.Read.{AreGiven, IfRead, IsBodyFault, RefusesBody};
 
 use crate::place::PgmsgSpan;
 use crate::refusal::{PgmsgFault, report};
@@ -52,7 +52,7 @@ pub extern "C" fn pgmsg_read_fields(body: &[u8], fields: &mut [PgmsgField]) -> u
 /// 7 LOG.
 #[unsafe(no_mangle)]
 pub extern "C" fn pgmsg_read_severity(alloc: Global, body: &[u8], fault: &mut PgmsgFault) -> i32
-    ensures severity { pos 0 ≤ℤ result → IsSeverityOf body.now result }
+    ensures severity { IfRead result (IsSeverityOf body.now) }
     ensures fault { RefusesBody notices body.now fault.old fault.new result }
     ensures within { pos 0 ≤ℤ result → length body.now ≤ max_body }
     ensures untouched { pos 0 ≤ℤ result → fault.new ≡ fault.old }
@@ -64,8 +64,7 @@ pub extern "C" fn pgmsg_read_severity(alloc: Global, body: &[u8], fault: &mut Pg
 }
 
 fn severity_of(body: &[u8]) -> Result<PgSeverity, ProtocolFault>
-    ensures severity { IfOk result
-        (λ severity. IsSeverityOf body.now (pos (severity_number severity))) }
+    ensures severity { IfOk result (λ found. IsSeverityOf body.now (pos (severity_number found))) }
     ensures within { OnOk result (length body.now ≤ max_body) }
     ensures fault { IfErr result (IsBodyFault (IsFaultOf notices) body.now) }
 {

@@ -1,10 +1,10 @@
 //! The messages at the front of a stream.
 
 ghost use Rattle.std.specs.Prelude.{◌≡◌, ◌+◌, ◌<◌, ◌≤◌, ◌<ℤ◌, ◌≤ℤ◌, ℕ, List, pos, drop, length, get_or, IfOk, IfErr};
-ghost use Rattle.pg_base.specs.Cutting.{Begins};
 ghost use Rattle.pg_frames.specs.Stream.Raw.{WantsMore, HasBadLength};
-ghost use Rattle.pg_c.specs.Read.Frame.{IsWhole, Needs, ReadsFrames, StandsAt};
-ghost use Rattle.pg_c.specs.Refusal.{Refuses};
+ghost use Rattle.pg_c.specs.Read.{IfRead, IfCount};
+ghost use Rattle.pg_c.specs.Read.Frame.{HasFrame, IsWhole, Needs, ReadsFrames, StandsAt};
+ghost use Rattle.pg_c.specs.Refusal.{RefusesFor};
 
 use crate::place::PgmsgSpan;
 use crate::refusal::{PgmsgFault, report};
@@ -40,8 +40,7 @@ pub extern "C" fn pgmsg_next_frame(
     ensures part { result ≡ pos 0 → Needs stream.now frame.new.length }
     ensures part_tag { result ≡ pos 0 → frame.new.tag ≡ get_or stream.now 0 frame.old.tag }
     ensures part_alone { result ≡ pos 0 → frame.new.body ≡ frame.old.body }
-    ensures fault { result <ℤ pos 0
-        → Refuses (HasBadLength stream.now) fault.old fault.new result }
+    ensures fault { RefusesFor (HasBadLength stream.now) fault.old fault.new result }
     ensures untouched { pos 0 ≤ℤ result → fault.new ≡ fault.old }
     ensures kept { result <ℤ pos 0 → frame.new ≡ frame.old }
 {
@@ -72,9 +71,8 @@ pub extern "C" fn pgmsg_next_frames(
     frames: &mut [PgmsgFrame],
     fault: &mut PgmsgFault,
 ) -> isize
-    ensures frames { pos 0 ≤ℤ result → ReadsFrames stream.now frames.old frames.new result }
-    ensures fault { result <ℤ pos 0
-        → Refuses (HasBadLength stream.now) fault.old fault.new result }
+    ensures frames { IfRead result (ReadsFrames stream.now frames.old frames.new) }
+    ensures fault { RefusesFor (HasBadLength stream.now) fault.old fault.new result }
     ensures room { result <ℤ pos 0 → 0 < length frames.old }
     ensures untouched { pos 0 ≤ℤ result → fault.new ≡ fault.old }
     ensures kept { result <ℤ pos 0 → frames.new ≡ frames.old }
@@ -87,7 +85,7 @@ pub extern "C" fn pgmsg_next_frames(
 
 fn frames_of(stream: &[u8], frames: &mut [PgmsgFrame]) -> Result<usize, ProtocolFault>
     ensures small { IfOk result (λ count. count < 9223372036854775808) }
-    ensures frames { IfOk result (λ count. ReadsFrames stream.now frames.old frames.new (pos count)) }
+    ensures frames { IfCount result (ReadsFrames stream.now frames.old frames.new) }
     ensures fault { IfErr result (HasBadLength stream.now) }
     ensures room { IfErr result (λ _. 0 < length frames.old) }
     ensures kept { IfErr result (λ _. frames.new ≡ frames.old) }
@@ -110,7 +108,7 @@ fn frames_of(stream: &[u8], frames: &mut [PgmsgFrame]) -> Result<usize, Protocol
 // Where the message that begins at an offset is.
 fn placed(stream: &[u8], at: usize, frame: &RawFrame<'_>) -> PgmsgFrame
     requires within { at ≤ length stream.now }
-    requires begins { Begins (drop at stream.now) frame.now.tag frame.now.body.now frame.now.rest.now }
+    requires begins { HasFrame (drop at stream.now) frame.now }
     ensures stands { StandsAt stream.now at result }
     ensures inside { at + result.length ≤ length stream.now }
     ensures least { 5 ≤ result.length }
@@ -127,8 +125,7 @@ fn placed(stream: &[u8], at: usize, frame: &RawFrame<'_>) -> PgmsgFrame
 
 // Where the message at the front is.
 fn place_of(frame: &RawFrame<'_>) -> PgmsgFrame
-    ensures { (stream : List ℕ) → Begins stream frame.now.tag frame.now.body.now frame.now.rest.now
-        → IsWhole stream result }
+    ensures { (stream : List ℕ) → HasFrame stream frame.now → IsWhole stream result }
 {
     PgmsgFrame {
         tag: frame.tag,

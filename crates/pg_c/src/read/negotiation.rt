@@ -4,7 +4,7 @@ ghost use Rattle.std.specs.Prelude.{◌≡◌, ◌≤◌, ◌<ℤ◌, ◌≤ℤ�
 ghost use Rattle.pg_format.specs.Format.{IsFaultOf};
 ghost use Rattle.pg_format.specs.Messages.{negotiate_protocol_version};
 ghost use Rattle.pg_format.specs.Received.{max_body};
-ghost use Rattle.pg_c.specs.Read.{IsBodyFault, RefusesBody};
+ghost use Rattle.pg_c.specs.Read.{IfRead, IfCount, IsBodyFault, RefusesBody};
 ghost use Rattle.pg_c.specs.Read.Negotiation.{ReadsNegotiation, GivesOptions};
 
 use crate::place::PgmsgSpan;
@@ -39,12 +39,10 @@ pub extern "C" fn pgmsg_read_negotiate_version(
     options: &mut [PgmsgSpan],
     fault: &mut PgmsgFault,
 ) -> isize
-    ensures value { pos 0 ≤ℤ result
-        → ReadsNegotiation body.now version.new options.old options.new result }
+    ensures value { IfRead result (ReadsNegotiation body.now version.new options.old options.new) }
     ensures fault { RefusesBody negotiate_protocol_version body.now fault.old fault.new result }
     ensures within { pos 0 ≤ℤ result → length body.now ≤ max_body }
-    ensures front { result <ℤ pos 0
-        → GivesOptions body.now options.old options.new }
+    ensures front { result <ℤ pos 0 → GivesOptions body.now options.old options.new }
     ensures untouched { pos 0 ≤ℤ result → fault.new ≡ fault.old }
     ensures kept { result <ℤ pos 0 → version.new ≡ version.old }
 {
@@ -60,12 +58,10 @@ fn options_of(
     options: &mut [PgmsgSpan],
 ) -> Result<usize, ProtocolFault>
     ensures small { IfOk result (λ count. count ≤ 4294967295) }
-    ensures value { IfOk result
-        (λ count. ReadsNegotiation body.now version.new options.old options.new (pos count)) }
+    ensures value { IfCount result (ReadsNegotiation body.now version.new options.old options.new) }
     ensures within { OnOk result (length body.now ≤ max_body) }
     ensures fault { IfErr result (IsBodyFault (IsFaultOf negotiate_protocol_version) body.now) }
-    ensures front { IfErr result
-        (λ _. GivesOptions body.now options.old options.new) }
+    ensures front { IfErr result (λ _. GivesOptions body.now options.old options.new) }
     ensures kept { IfErr result (λ _. version.new ≡ version.old) }
 {
     check_body(body)?;

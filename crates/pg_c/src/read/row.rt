@@ -1,14 +1,14 @@
 //! The cells of a row.
 
-ghost use Rattle.std.specs.Prelude.{◌≡◌, ◌+◌, ◌*◌, ◌≤◌, ◌<ℤ◌, ◌≤ℤ◌, ℕ, List, pos, length, drop, option_copied, Some, IfSome, OnOk, OnErr, IfOk, IfErr};
+ghost use Rattle.std.specs.Prelude.{◌≡◌, ◌+◌, ◌*◌, ◌≤◌, ◌<ℤ◌, ◌≤ℤ◌, pos, length, drop, option_copied, IfSome, OnOk, OnErr, IfOk, IfErr};
 ghost use Rattle.pg_format.specs.Format.{IsFaultOf};
 ghost use Rattle.pg_format.specs.Format.Nullable.{cell};
 ghost use Rattle.pg_format.specs.Format.Parts.{be_u16};
-ghost use Rattle.pg_format.specs.Format.Places.{IsReadAt};
 ghost use Rattle.pg_format.specs.Messages.{data_row};
 ghost use Rattle.pg_format.specs.Received.{max_body};
-ghost use Rattle.pg_c.specs.Read.{IsBodyFault, RefusesBody};
-ghost use Rattle.pg_c.specs.Read.Row.{cell_in, FindsCell, ReadsRow, GivesCells, GivesFrontCells, After};
+ghost use Rattle.pg_c.specs.Read.{IfRead, IsBodyFault, RefusesBody, SaysItem};
+ghost use Rattle.pg_c.specs.Read.Row.{cell_in, FindsCell, ReadsRow, GivesCells, GivesFrontCells};
+ghost use Rattle.pg_c.specs.Read.Row.{ReadsRowAfter, GivesRowFrontAfter, IsRowFaultAfter, RefusesRowAfter};
 
 use crate::read::check_body;
 use crate::refusal::{PgmsgFault, report};
@@ -41,12 +41,10 @@ pub extern "C" fn pgmsg_read_row(
     cells: &mut [PgmsgCell],
     fault: &mut PgmsgFault,
 ) -> isize
-    ensures row { pos 0 ≤ℤ result
-        → ReadsRow body.now cells.old cells.new result }
+    ensures row { IfRead result (ReadsRow body.now cells.old cells.new) }
     ensures fault { RefusesBody data_row body.now fault.old fault.new result }
     ensures within { pos 0 ≤ℤ result → length body.now ≤ max_body }
-    ensures front { result <ℤ pos 0
-        → GivesFrontCells body.now cells.old cells.new }
+    ensures front { result <ℤ pos 0 → GivesFrontCells body.now cells.old cells.new }
     ensures untouched { pos 0 ≤ℤ result → fault.new ≡ fault.old }
 {
     let count = match count_of(body) {
@@ -151,12 +149,9 @@ fn read_rest(
     requires fits { 2 + 4 * count ≤ length body.now }
     requires small { count ≤ 65535 }
     requires few { first ≤ count }
-    ensures row { pos 0 ≤ℤ result
-        → After body.now start first cells.old (λ before. ReadsRow body.now before cells.new result) }
-    ensures fault { After body.now start first cells.old
-        (λ _. RefusesBody data_row body.now fault.old fault.new result) }
-    ensures front { result <ℤ pos 0
-        → After body.now start first cells.old (λ before. GivesFrontCells body.now before cells.new) }
+    ensures row { IfRead result (ReadsRowAfter body.now start first cells.old cells.new) }
+    ensures fault { RefusesRowAfter body.now start first cells.old fault.old fault.new result }
+    ensures front { result <ℤ pos 0 → GivesRowFrontAfter body.now start first cells.old cells.new }
     ensures untouched { pos 0 ≤ℤ result → fault.new ≡ fault.old }
 {
     match rest_of(body, cells, count, first, start) {
@@ -177,12 +172,9 @@ fn rest_of(
     requires counted { be_u16.Reads body.now count (drop 2 body.now) }
     requires fits { 2 + 4 * count ≤ length body.now }
     requires few { first ≤ count }
-    ensures row { OnOk result
-        (After body.now start first cells.old (λ before. ReadsRow body.now before cells.new (pos count))) }
-    ensures fault { IfErr result (λ fault. After body.now start first cells.old
-        (λ _. IsBodyFault (IsFaultOf data_row) body.now fault)) }
-    ensures front { OnErr result
-        (After body.now start first cells.old (λ before. GivesFrontCells body.now before cells.new)) }
+    ensures row { OnOk result (ReadsRowAfter body.now start first cells.old cells.new (pos count)) }
+    ensures fault { IfErr result (IsRowFaultAfter body.now start first cells.old) }
+    ensures front { OnErr result (GivesRowFrontAfter body.now start first cells.old cells.new) }
 {
     let mut at = start;
     for index in first..count {
@@ -199,8 +191,7 @@ fn rest_of(
 pub(crate) fn place_of(at: usize, value: Option<&[u8]>, end: usize) -> PgmsgCell
     requires wide { at + 4 ≤ end }
     requires short { end ≤ MAX_BODY }
-    ensures { (body : List ℕ) → IsReadAt cell body at (option_copied value.entry) end
-        → cell_in body result ≡ Some (option_copied value.entry) }
+    ensures { SaysItem cell cell_in at (option_copied value.entry) end result }
 {
     let start = at + CELL_LENGTH;
     PgmsgCell {

@@ -5,9 +5,9 @@ ghost use Rattle.pg_format.specs.Messages as page;
 ghost use Rattle.pg_receive.specs.BackendKeyData.{raw_key_data, raw_key};
 ghost use Rattle.pg_receive.specs.CommandComplete.{tag_text};
 ghost use Rattle.pg_receive.specs.ParameterStatus.{raw_parameter_status, raw_setting};
-ghost use Rattle.pg_receive.specs.ReadyForQuery.{shown_status};
 ghost use Rattle.pg_format.specs.Received.{max_body};
-ghost use Rattle.pg_c.specs.Read.{ReadsBody, RefusesBody};
+ghost use Rattle.pg_c.specs.Read.{IfRead, ReadsBody, RefusesBody};
+ghost use Rattle.pg_c.specs.Read.Status.{shown_notification, shown_ready};
 ghost use Rattle.pg_c.specs.Read.Status.{ReadsNotification, ReadsSetting, ReadsKey, ReadsCommand, IsStatusLetter};
 
 use crate::place::PgmsgSpan;
@@ -93,12 +93,7 @@ pub extern "C" fn pgmsg_read_notification(
 }
 
 fn notification_of(body: &[u8]) -> Result<NotificationRef<'_>, ProtocolFault>
-    ensures { ReadsBody page.notification
-        (λ n. record {
-          process_id = n.process_id;
-          channel = n.channel.now;
-          payload = n.payload.now;
-        }) body.now result }
+    ensures { ReadsBody page.notification shown_notification body.now result }
 {
     check_body(body)?;
     NotificationRef::read(body)
@@ -138,8 +133,7 @@ pub extern "C" fn pgmsg_read_parameter_status(
 }
 
 fn setting_of(body: &[u8]) -> Result<RawParameterStatus<'_>, ProtocolFault>
-    ensures { ReadsBody raw_parameter_status
-        raw_setting body.now result }
+    ensures { ReadsBody raw_parameter_status raw_setting body.now result }
 {
     check_body(body)?;
     RawParameterStatus::read(body)
@@ -177,9 +171,7 @@ pub extern "C" fn pgmsg_read_key_data(
 }
 
 fn key_of(body: &[u8]) -> Result<RawKeyData<'_>, ProtocolFault>
-    ensures { ReadsBody raw_key_data
-        raw_key
-        body.now result }
+    ensures { ReadsBody raw_key_data raw_key body.now result }
 {
     check_body(body)?;
     RawKeyData::read(body)
@@ -226,7 +218,7 @@ fn tag_of(body: &[u8]) -> Result<&[u8], ProtocolFault>
 /// one, E in one that has failed.
 #[unsafe(no_mangle)]
 pub extern "C" fn pgmsg_read_ready(alloc: Global, body: &[u8], fault: &mut PgmsgFault) -> i32
-    ensures value { pos 0 ≤ℤ result → IsStatusLetter body.now result }
+    ensures value { IfRead result (IsStatusLetter body.now) }
     ensures fault { RefusesBody page.ready_for_query body.now fault.old fault.new result }
     ensures within { pos 0 ≤ℤ result → length body.now ≤ max_body }
     ensures untouched { pos 0 ≤ℤ result → fault.new ≡ fault.old }
@@ -238,8 +230,7 @@ pub extern "C" fn pgmsg_read_ready(alloc: Global, body: &[u8], fault: &mut Pgmsg
 }
 
 fn status_of(body: &[u8]) -> Result<ReadyForQuery, ProtocolFault>
-    ensures { ReadsBody page.ready_for_query
-        (λ ready. shown_status ready.transaction_status) body.now result }
+    ensures { ReadsBody page.ready_for_query shown_ready body.now result }
 {
     check_body(body)?;
     ReadyForQuery::read(body)

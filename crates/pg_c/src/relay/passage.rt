@@ -1,11 +1,7 @@
 //! What is at the front of a stream that is passed on.
 
 ghost use Rattle.std.specs.Prelude.{◌≡◌, ◌<◌, ◌<ℤ◌, ◌≤ℤ◌, pos};
-ghost use Rattle.pg_frames.specs.Relay.Passage.{NeedsMore};
-ghost use Rattle.pg_frames.specs.Relay.{IsFault};
-ghost use Rattle.pg_c.specs.Relay.{expected};
-ghost use Rattle.pg_c.specs.Relay.Passage.{is_asked, GoesWhole, GoesInParts};
-ghost use Rattle.pg_c.specs.Relay.Refusal.{RefusesRelay};
+ghost use Rattle.pg_c.specs.Relay.Passage.{is_asked, GoesAll, GoesPart, NeedsBytes, RefusesPassage};
 
 use crate::refusal::PgmsgFault;
 use crate::relay::refusal::report_relay;
@@ -62,16 +58,13 @@ pub extern "C" fn pgmsg_relay_next(
     fault: &mut PgmsgFault,
 ) -> i32
     ensures result { result ≤ℤ pos 2 }
-    ensures whole { result ≡ pos 1
-        → GoesWhole (is_asked wanted.now) relay.old stream.now passage.new relay.new }
-    ensures parts { result ≡ pos 2
-        → GoesInParts (is_asked wanted.now) relay.old stream.now passage.old passage.new relay.new }
-    ensures needs { result ≡ pos 0 → NeedsMore (is_asked wanted.now) relay.old.limit
-        (expected relay.old.is_first) relay.old.left stream.now passage.new.length }
-    ensures needs_alone { result ≡ pos 0
-        → (passage.new.tag ≡ passage.old.tag) × (relay.new ≡ relay.old) }
-    ensures fault { result <ℤ pos 0 → RefusesRelay (IsFault (is_asked wanted.now) relay.old.limit
-        (expected relay.old.is_first) stream.now) fault.old fault.new result }
+    ensures whole { result ≡ pos 1 → GoesAll wanted.now relay.old stream.now passage.new relay.new }
+    ensures part { result ≡ pos 2 → GoesPart wanted.now relay.old stream.now passage.new relay.new }
+    ensures part_tag { result ≡ pos 2 → 0 < relay.old.left → passage.new.tag ≡ passage.old.tag }
+    ensures needs { result ≡ pos 0 → NeedsBytes wanted.now relay.old stream.now passage.new.length }
+    ensures needs_tag { result ≡ pos 0 → passage.new.tag ≡ passage.old.tag }
+    ensures needs_alone { result ≡ pos 0 → relay.new ≡ relay.old }
+    ensures fault { RefusesPassage wanted.now relay.old stream.now fault.old fault.new result }
     ensures between { result <ℤ pos 0 → relay.old.left ≡ 0 }
     ensures untouched { pos 0 ≤ℤ result → fault.new ≡ fault.old }
     ensures kept { result <ℤ pos 0 → (passage.new ≡ passage.old) × (relay.new ≡ relay.old) }

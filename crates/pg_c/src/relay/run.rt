@@ -1,10 +1,9 @@
 //! Whether bytes are whole messages.
 
 ghost use Rattle.std.specs.Prelude.{◌≡◌, ◌<ℤ◌, ◌≤ℤ◌, pos};
-ghost use Rattle.pg_frames.specs.declared.frontend.frame.Expects.{Expects};
 ghost use Rattle.pg_frames.specs.Relay.Answer.{IsRun};
 ghost use Rattle.pg_frames.specs.declared.relay.error.RelayError.TheVariants.{NotFrames};
-ghost use Rattle.pg_c.specs.Relay.{expected};
+ghost use Rattle.pg_c.specs.Relay.{expected, AreNoFrames};
 ghost use Rattle.pg_c.specs.Relay.Refusal.{IsRelayReport};
 
 use crate::refusal::PgmsgFault;
@@ -24,8 +23,7 @@ pub extern "C" fn pgmsg_check_frames(
 ) -> i32
     ensures result { result ≤ℤ pos 0 }
     ensures run { result ≡ pos 0 → IsRun (expected is_first.old) bytes.now (expected is_first.new) }
-    ensures none { result <ℤ pos 0
-        → (last : Expects) → ¬ (IsRun (expected is_first.old) bytes.now last) }
+    ensures none { result <ℤ pos 0 → AreNoFrames is_first.old bytes.now }
     ensures fault { result <ℤ pos 0 → IsRelayReport NotFrames fault.old fault.new result }
     ensures untouched { pos 0 ≤ℤ result → fault.new ≡ fault.old }
     ensures kept { result <ℤ pos 0 → is_first.new ≡ is_first.old }

@@ -1,12 +1,10 @@
 //! What a client is asked for before its session begins.
 
-ghost use Rattle.std.specs.Prelude.{◌≡◌, map, option_map};
-ghost use Rattle.pg_format.specs.Messages.{sasl};
+ghost use Rattle.std.specs.Prelude.{◌≡◌, option_map};
 ghost use Rattle.pg_server.specs.Backend.Authentication as authentication;
-ghost use Rattle.pg_server.specs.Backend.Message.{Authentication};
 ghost use Rattle.pg_c.specs.Server.{PutsServerMessage};
 ghost use Rattle.pg_c.specs.Server.Authentication.{requested, PutsRequest};
-ghost use Rattle.pg_c.specs.Server.Lists.{bytes_of};
+ghost use Rattle.pg_c.specs.Server.Messages.{sasl_offer_of};
 
 use crate::refusal::UNKNOWN_AUTHENTICATION;
 use crate::server::put;
@@ -86,7 +84,7 @@ pub extern "C" fn pgmsg_put_authentication_sasl(
     mechanisms: &[PgmsgBytes<'_>],
     out: &mut [u8],
 ) -> isize
-    ensures { PutsServerMessage (Authentication (sasl (map bytes_of mechanisms.now))) out.old out.new result }
+    ensures { PutsServerMessage (sasl_offer_of mechanisms.now) out.old out.new result }
 {
     put(&SaslText { mechanisms }, out)
 }

@@ -1,13 +1,11 @@
 //! Errors, notices and notifications.
 
-ghost use Rattle.std.specs.Prelude.{◌≡◌, map};
-ghost use Rattle.pg_base.specs.declared.error.ProtocolFault.TheVariants.{UnknownMessageType};
-ghost use Rattle.pg_server.specs.Backend.Message as messages;
+ghost use Rattle.std.specs.Prelude.{◌≡◌};
 ghost use Rattle.pg_server.specs.Backend.Notice.{notice_tag};
-ghost use Rattle.pg_c.specs.Server.{PutsServerMessage, PutsByLetter};
+ghost use Rattle.pg_c.specs.Server.{PutsByTag};
 ghost use Rattle.pg_c.specs.Server.Letters.{notice_kind_of};
-ghost use Rattle.pg_c.specs.Server.Lists.{field_of, field_text_of};
-ghost use Rattle.pg_c.specs.Server.Messages.{notification_of};
+ghost use Rattle.pg_c.specs.Server.Lists.{field_text_of};
+ghost use Rattle.pg_c.specs.Server.Messages.{notice_of_kind, PutsNotification};
 
 use crate::refusal::UNKNOWN_MESSAGE_TYPE;
 use crate::server::put;
@@ -38,8 +36,7 @@ impl<'a> AsItem<NoticeFieldText<'a>> for PgmsgFieldText<'a> {
 /// NUL, is refused: it would end the fields. Of other tags it is refused with PGMSG_UNKNOWN_MESSAGE_TYPE.
 #[unsafe(no_mangle)]
 pub extern "C" fn pgmsg_put_notice(tag: u8, fields: &[PgmsgFieldText<'_>], out: &mut [u8]) -> isize
-    ensures { PutsByLetter notice_tag (λ kind. messages.Notice kind (map field_of fields.now))
-        (UnknownMessageType tag) tag out.old out.new result }
+    ensures { PutsByTag notice_tag (notice_of_kind fields.now) tag out.old out.new result }
 {
     match kind_of(tag) {
         Some(kind) => put(&NoticeText { kind, fields }, out),
@@ -66,9 +63,7 @@ pub extern "C" fn pgmsg_put_notification(
     payload: &[u8],
     out: &mut [u8],
 ) -> isize
-    ensures { PutsServerMessage
-        (notification_of process_id channel.now payload.now)
-        out.old out.new result }
+    ensures { PutsNotification process_id channel.now payload.now out.old out.new result }
 {
     let notification = NotificationText {
         process_id,

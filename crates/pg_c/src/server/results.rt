@@ -1,12 +1,11 @@
 //! What a command has done, and what only passes through.
 
-ghost use Rattle.std.specs.Prelude.{◌≡◌, Some, None};
-ghost use Rattle.pg_base.specs.declared.error.ProtocolFault.TheVariants.{UnknownMessageType};
+ghost use Rattle.std.specs.Prelude.{◌≡◌};
 ghost use Rattle.pg_server.specs.Backend.Copy.{direction_tag};
 ghost use Rattle.pg_server.specs.Backend.Message as messages;
-ghost use Rattle.pg_c.specs.Server.{PutsServerMessage, PutsByLetter};
+ghost use Rattle.pg_c.specs.Server.{PutsServerMessage, PutsByTag};
 ghost use Rattle.pg_c.specs.Server.Letters.{direction_of};
-ghost use Rattle.pg_c.specs.Server.Messages.{result_of};
+ghost use Rattle.pg_c.specs.Server.Messages.{copy_answer_of, result_of};
 
 use crate::put::prepared::PgmsgValue;
 use crate::refusal::UNKNOWN_MESSAGE_TYPE;
@@ -34,8 +33,7 @@ pub extern "C" fn pgmsg_put_copy_response(
     codes: &[i16],
     out: &mut [u8],
 ) -> isize
-    ensures { PutsByLetter direction_tag (λ direction. messages.CopyResponse direction format codes.now)
-        (UnknownMessageType tag) tag out.old out.new result }
+    ensures { PutsByTag direction_tag (copy_answer_of format codes.now) tag out.old out.new result }
 {
     match direction_of(tag) {
         Some(direction) => {
@@ -64,9 +62,7 @@ fn direction_of(tag: u8) -> Option<CopyDirection>
 /// A FunctionCallResponse: the result of a function that was called, or NULL.
 #[unsafe(no_mangle)]
 pub extern "C" fn pgmsg_put_function_result(value: &[u8], is_null: bool, out: &mut [u8]) -> isize
-    ensures { PutsServerMessage
-        (result_of is_null value.now)
-        out.old out.new result }
+    ensures { PutsServerMessage (result_of is_null value.now) out.old out.new result }
 {
     let value = PgmsgValue {
         bytes: value,

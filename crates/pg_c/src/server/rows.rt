@@ -1,10 +1,9 @@
 //! Rows, and what they are made of.
 
-ghost use Rattle.std.specs.Prelude.{map};
 ghost use Rattle.pg_server.specs.Backend.Message as messages;
-ghost use Rattle.pg_c.specs.Put.Values.{value_of};
 ghost use Rattle.pg_c.specs.Server.{PutsServerMessage};
-ghost use Rattle.pg_c.specs.Server.Lists.{borrowed, column_of, column_text_of};
+ghost use Rattle.pg_c.specs.Server.Lists.{borrowed, column_text_of};
+ghost use Rattle.pg_c.specs.Server.Messages.{row_description_of, data_row_of};
 
 use crate::put::prepared::PgmsgValue;
 use crate::server::put;
@@ -57,7 +56,7 @@ impl<'a> AsItem<Option<&'a [u8]>> for PgmsgValue<'a> {
 /// The columns of a result. A name that holds a NUL is refused.
 #[unsafe(no_mangle)]
 pub extern "C" fn pgmsg_put_columns(columns: &[PgmsgColumnText<'_>], out: &mut [u8]) -> isize
-    ensures { PutsServerMessage (messages.RowDescription (map column_of columns.now)) out.old out.new result }
+    ensures { PutsServerMessage (row_description_of columns.now) out.old out.new result }
 {
     put(&RowDescriptionText { columns }, out)
 }
@@ -65,7 +64,7 @@ pub extern "C" fn pgmsg_put_columns(columns: &[PgmsgColumnText<'_>], out: &mut [
 /// The values of a row, each in the format that was asked for, or NULL.
 #[unsafe(no_mangle)]
 pub extern "C" fn pgmsg_put_row(values: &[PgmsgValue<'_>], out: &mut [u8]) -> isize
-    ensures { PutsServerMessage (messages.DataRow (map value_of values.now)) out.old out.new result }
+    ensures { PutsServerMessage (data_row_of values.now) out.old out.new result }
 {
     put(&DataRowText { values }, out)
 }

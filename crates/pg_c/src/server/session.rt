@@ -1,12 +1,9 @@
 //! What the server says of the session.
 
-ghost use Rattle.std.specs.Prelude.{◌≡◌, map};
-ghost use Rattle.pg_base.specs.declared.error.ProtocolFault.TheVariants.{UnknownStatus};
-ghost use Rattle.pg_server.specs.Backend.Message as messages;
-ghost use Rattle.pg_c.specs.Server.{PutsServerMessage, PutsByLetter};
-ghost use Rattle.pg_c.specs.Server.Lists.{bytes_of};
-ghost use Rattle.pg_c.specs.Server.Letters.{ready_letter, ready_of};
-ghost use Rattle.pg_c.specs.Server.Messages.{negotiation_of, key_of, setting_of};
+ghost use Rattle.std.specs.Prelude.{◌≡◌};
+ghost use Rattle.pg_c.specs.Server.{PutsServerMessage};
+ghost use Rattle.pg_c.specs.Server.Letters.{ready_of, PutsReady};
+ghost use Rattle.pg_c.specs.Server.Messages.{negotiation_of, key_of, parameter_status_of};
 
 use crate::refusal::UNKNOWN_STATUS;
 use crate::server::authentication::PgmsgBytes;
@@ -23,9 +20,7 @@ pub extern "C" fn pgmsg_put_negotiate_version(
     options: &[PgmsgBytes<'_>],
     out: &mut [u8],
 ) -> isize
-    ensures { PutsServerMessage
-        (negotiation_of minor (map bytes_of options.now))
-        out.old out.new result }
+    ensures { PutsServerMessage (negotiation_of minor options.now) out.old out.new result }
 {
     put(&NegotiateProtocolVersionText { minor, options }, out)
 }
@@ -38,9 +33,7 @@ pub extern "C" fn pgmsg_put_backend_key_data(
     secret_key: &[u8],
     out: &mut [u8],
 ) -> isize
-    ensures { PutsServerMessage
-        (key_of process_id secret_key.now)
-        out.old out.new result }
+    ensures { PutsServerMessage (key_of process_id secret_key.now) out.old out.new result }
 {
     let key = BackendKeyDataText {
         process_id,
@@ -53,9 +46,7 @@ pub extern "C" fn pgmsg_put_backend_key_data(
 /// refused.
 #[unsafe(no_mangle)]
 pub extern "C" fn pgmsg_put_parameter_status(name: &[u8], value: &[u8], out: &mut [u8]) -> isize
-    ensures { PutsServerMessage
-        (setting_of name.now value.now)
-        out.old out.new result }
+    ensures { PutsServerMessage (parameter_status_of name.now value.now) out.old out.new result }
 {
     put(&ParameterStatusText { name, value }, out)
 }
@@ -64,8 +55,7 @@ pub extern "C" fn pgmsg_put_parameter_status(name: &[u8], value: &[u8], out: &mu
 /// is, and `E` where one is and has failed.
 #[unsafe(no_mangle)]
 pub extern "C" fn pgmsg_put_ready(status: u8, out: &mut [u8]) -> isize
-    ensures { PutsByLetter ready_letter messages.ReadyForQuery (UnknownStatus status) status
-        out.old out.new result }
+    ensures { PutsReady status out.old out.new result }
 {
     match ready_of(status) {
         Some(ready) => put(&ready, out),

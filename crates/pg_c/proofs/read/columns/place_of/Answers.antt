@@ -8,7 +8,7 @@ use Rattle.pg_c.proofs.ReadColumnsLemmas.{name_is, table_is, attribute_is}
 use Rattle.pg_c.proofs.read.columns.place_of.Goals as goal
 
 pub returns : goal.returns
-returns c = λ body end p.
+returns c = λ end body p.
     let column = c.args.field.now in
     let numbers = p.reads.second in
     let number = c.unwrap_or.result in
