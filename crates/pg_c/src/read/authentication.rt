@@ -3,7 +3,7 @@
 ghost use Rattle.std.specs.Prelude.{◌≡◌, ◌≤◌, ◌<ℤ◌, ◌≤ℤ◌, pos, length, OnOk, IfOk, IfErr};
 ghost use Rattle.pg_base.specs.declared.error.ProtocolFault.TheVariants.{UnknownAuthentication};
 ghost use Rattle.pg_base.specs.Sink.{IsGiven};
-ghost use Rattle.pg_receive.specs.Authentication.Raw.{raw_request, request_of};
+ghost use Rattle.pg_receive.specs.Authentication.Raw.{raw_request, raw_request_of};
 ghost use Rattle.pg_receive.specs.Authentication.{method_of};
 ghost use Rattle.pg_receive.specs.Authentication.Shown.{authentication_borrowed, continue_borrowed};
 ghost use Rattle.pg_format.specs.Received.{max_body};
@@ -78,7 +78,7 @@ pub extern "C" fn pgmsg_read_authentication(
 }
 
 fn request_of(body: &[u8]) -> Result<RawAuthentication<'_>, ProtocolFault>
-    ensures { ReadsBody raw_request request_of body.now result }
+    ensures { ReadsBody raw_request raw_request_of body.now result }
 {
     check_body(body)?;
     RawAuthentication::read(body)

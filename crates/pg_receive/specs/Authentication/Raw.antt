@@ -13,5 +13,5 @@ pub record Request : Type 0 where
 abbrev pub raw_request : Format Request
 raw_request = record_of (λ r. (r.method, r.content)) (be_u32 ⨾ remaining)
 
-abbrev pub request_of : RawAuthentication → Request
-request_of request = record { method = request.method; content = request.content.now }
+abbrev pub raw_request_of : RawAuthentication → Request
+raw_request_of request = record { method = request.method; content = request.content.now }

@@ -1,7 +1,7 @@
 //! A request for authentication by any method.
 
 ghost use Rattle.pg_format.specs.Format.{ReadsAs};
-ghost use Rattle.pg_receive.specs.Authentication.Raw.{raw_request, request_of};
+ghost use Rattle.pg_receive.specs.Authentication.Raw.{raw_request, raw_request_of};
 
 use super::METHOD_LENGTH;
 use pg_base::ProtocolFault;
@@ -21,7 +21,7 @@ pub struct RawAuthentication<'a> {
 impl<'a> RawAuthentication<'a> {
     /// Reads a body. Refused with `Short` where it has fewer than four bytes.
     pub fn read(body: &'a [u8]) -> Result<RawAuthentication<'a>, ProtocolFault>
-        ensures { ReadsAs raw_request request_of body.now result }
+        ensures { ReadsAs raw_request raw_request_of body.now result }
     {
         let method = u32_at(body, 0)?;
         Ok(RawAuthentication {
