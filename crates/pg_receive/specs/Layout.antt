@@ -5,16 +5,21 @@ use Rattle.pg_base.specs.declared.error.ProtocolFault.TheVariants.{UnknownStatus
 use Rattle.pg_base.specs.declared.format.BackendMessageFormat.{BackendMessageFormat}
 use Rattle.pg_base.specs.declared.format.BackendMessageFormat.TheVariants as backend
 use Rattle.pg_format.specs.Format.{Format}
+use Rattle.pg_format.specs.Format.Ends.{exactly}
 use Rattle.pg_format.specs.Format.Lists.{counted_least, until_zero}
 use Rattle.pg_format.specs.Format.Nullable.{cell}
 use Rattle.pg_format.specs.Format.Parts.{until_nul, be_u32, be_i8, be_i16, bytes_of, remaining, one_of, success}
 use Rattle.pg_format.specs.Format.Sequences.{dep_pair, ◌⨾◌, viewed, choose}
 use Rattle.pg_format.specs.Format.Tests.{only}
-use Rattle.pg_format.specs.Messages.{Meaning, means, column_codes, field, status_of, status_letter}
+use Rattle.pg_format.specs.Messages.{Meaning, means, column_codes, field, Status, status_of, status_letter}
 use Rattle.pg_receive.specs.BackendKeyData.{raw_key_data}
 use Rattle.pg_receive.specs.RowDescription.Raw.{raw_column}
 
 -- ---- by the kind of message
+
+-- the byte of a status
+abbrev pub status : Format Status
+status = one_of status_of status_letter UnknownStatus
 
 abbrev pub nothing : Format (Unit {0})
 nothing = success tt
@@ -55,5 +60,9 @@ layout backend.ParameterDescription = means (counted_least 4 be_u32)
 layout backend.ParameterStatus = means (until_nul ⨾ until_nul)
 layout backend.ParseComplete = means nothing
 layout backend.PortalSuspended = means nothing
-layout backend.ReadyForQuery = means (one_of status_of status_letter UnknownStatus)
+layout backend.ReadyForQuery = means status
 layout backend.RowDescription = means (counted_least 19 raw_column)
+
+-- the parts of a kind, and no byte after them
+abbrev pub exact_layout : (kind : BackendMessageFormat) → Format (layout kind).Value
+exact_layout kind = exactly (layout kind).format

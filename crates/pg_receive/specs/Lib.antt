@@ -6,7 +6,9 @@ pub mod CountedItems
 pub mod DataRow
 pub mod DatabaseError
 pub mod Decimal
+pub mod Laws
 pub mod Layout
+pub mod Notification
 pub mod ParameterDescription
 pub mod ParameterStatus
 pub mod ReadyForQuery

@@ -4,6 +4,7 @@ pub mod Fields
 pub mod FirstPlaces
 pub mod Letters
 pub mod Places
+pub mod ReadPart
 pub mod Severity
 use Rattle.std.specs.Prelude.{◌≡◌, ℕ, List, [], Option, None, unwrap_or}
 use Rattle.std.specs.Option.{option_or}

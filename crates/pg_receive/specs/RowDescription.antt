@@ -21,6 +21,10 @@ column_of field = record {
   format = field.format;
 }
 
+-- the columns that a list of fields is
+abbrev pub columns_shown : Vec Field Global → List Column
+columns_shown fields = map column_of fields.items
+
 -- columns are copied, and nothing else: a body with a fault has none
 abbrev pub ColumnsNeedsNoMemory : List ℕ → Type 0
 ColumnsNeedsNoMemory body = (columns : List Column) → Means row_description body columns → columns ≡ []

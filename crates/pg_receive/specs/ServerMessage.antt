@@ -30,6 +30,11 @@ pub record DecodesBy {A : Type 0} {B : Type 0} (law : Ghosts A) (Gives : A → B
   pub decodes : DecodesMessage law message answer
   pub is : MatchResult answer (λ value. IsOkAnd result (Gives value)) (λ error. result ≡ Err error)
 
+-- the message decodes as the type does, and what is given for its value, wrapped as a message of any kind, is the result
+abbrev pub DecodesCase : {A B : Type 0} → Ghosts A → (A → ServerMessage → Type 0) → (ServerMessage → B → Type 0) → ReceivedMessage → Result B Error → Type 0
+DecodesCase law Wraps Gives message result =
+    DecodesBy law (λ value given. (decoded : ServerMessage) × Wraps value decoded × Gives decoded given) message result
+
 -- the message decodes as the type of its kind does, and what is given for its value in that kind's case is the result
 abbrev pub Decodes : {B : Type 0} → BackendMessageFormat → (ServerMessage → B → Type 0) → ReceivedMessage → Result B Error → Type 0
 Decodes formats.Authentication Gives message result = DecodesBy authentication.ghosts (λ value. Gives (messages.Authentication value)) message result

@@ -8,7 +8,9 @@ use Rattle.pg_receive.specs.Response.Fields.{fields_in}
 use Rattle.pg_format.specs.Format.{Format, ReadsAs}
 use Rattle.pg_format.specs.Messages.{backend_key_data, notification, parameter_status, ready_for_query}
 use Rattle.pg_format.specs.Items.{Reading, IsCountFault, Begins}
-use Rattle.pg_receive.specs.ReadyForQuery.{shown_status}
+use Rattle.pg_receive.specs.BackendKeyData.{key_shown}
+use Rattle.pg_receive.specs.Notification.{notification_borrowed}
+use Rattle.pg_receive.specs.ReadyForQuery.{ready_shown}
 use Rattle.pg_receive.specs.declared.message.server_message_ref.ServerMessageRef.{ServerMessageRef}
 use Rattle.pg_receive.specs.declared.message.server_message_ref.ServerMessageRef.TheVariants as messages
 use Rattle.pg_receive.specs.ParameterStatus.{setting_borrowed}
@@ -38,7 +40,7 @@ pub record Gives (case : Bor (List ℕ) → ServerMessageRef) (body : List ℕ) 
 -- what borrowing a message of this kind from its body answers
 abbrev pub Borrows : BackendMessageFormat → List ℕ → Answer → Type 0
 Borrows formats.Authentication body result = Gives messages.Authentication body result
-Borrows formats.BackendKeyData body result = Reads messages.BackendKeyData backend_key_data (λ key. record { process_id = key.process_id; secret_key = key.secret_key }) body result
+Borrows formats.BackendKeyData body result = Reads messages.BackendKeyData backend_key_data key_shown body result
 Borrows formats.BindComplete body result = result ≡ Ok messages.BindComplete
 Borrows formats.CloseComplete body result = result ≡ Ok messages.CloseComplete
 Borrows formats.CommandComplete body result = Gives messages.CommandComplete body result
@@ -51,10 +53,10 @@ Borrows formats.EmptyQueryResponse body result = result ≡ Ok messages.EmptyQue
 Borrows formats.ErrorResponse body result = result ≡ Ok (messages.ErrorResponse (fields_in body))
 Borrows formats.NoData body result = result ≡ Ok messages.NoData
 Borrows formats.NoticeResponse body result = result ≡ Ok (messages.NoticeResponse (fields_in body))
-Borrows formats.NotificationResponse body result = Reads messages.NotificationResponse notification (λ n. record { process_id = n.process_id; channel = n.channel.now; payload = n.payload.now }) body result
+Borrows formats.NotificationResponse body result = Reads messages.NotificationResponse notification notification_borrowed body result
 Borrows formats.ParameterDescription body result = Gives messages.ParameterDescription body result
 Borrows formats.ParameterStatus body result = Reads messages.ParameterStatus parameter_status setting_borrowed body result
 Borrows formats.ParseComplete body result = result ≡ Ok messages.ParseComplete
 Borrows formats.PortalSuspended body result = result ≡ Ok messages.PortalSuspended
-Borrows formats.ReadyForQuery body result = Reads messages.ReadyForQuery ready_for_query (λ ready. shown_status ready.transaction_status) body result
+Borrows formats.ReadyForQuery body result = Reads messages.ReadyForQuery ready_for_query ready_shown body result
 Borrows formats.RowDescription body result = ReadsItems messages.RowDescription 19 body result

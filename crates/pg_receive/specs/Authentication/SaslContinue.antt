@@ -1,12 +1,13 @@
 -- The challenge of a server in a SASL exchange. Documentation: "Message Formats",
 -- AuthenticationSASLContinue (B), and "SCRAM-SHA-256 Authentication".
-use Rattle.std.specs.Prelude.{ℕ, List, [], length, unwrap_or}
+use Rattle.std.specs.Prelude.{◌≡◌, ℕ, List, [], ◌∷◌, None, length, unwrap_or}
 use Rattle.pg_format.specs.Format.{Format, IsBroken}
 use Rattle.pg_format.specs.Format.Parts.{remaining}
 use Rattle.pg_format.specs.Format.Sequences.{viewed}
 use Rattle.pg_format.specs.Format.Tests.{checked}
 use Rattle.pg_format.specs.Keyed.{plain, last}
-use Rattle.pg_format.specs.Sasl.{salt_key, nonce_key, items_in, keyed, first_message_fault}
+use Rattle.pg_format.specs.Sasl.{salt_key, nonce_key, items_in, keyed, first_message_fault, item_fault}
+use Rattle.pg_receive.specs.declared.message.authentication.sasl_continue.Challenge.{Challenge}
 use Rattle.pg_receive.specs.Decimal.{leading_decimal}
 use Rattle.pg_receive.specs.Authentication.SaslItems.{base64_value}
 
@@ -47,3 +48,10 @@ challenges = viewed challenge_in (checked first_message_fault remaining)
 -- data with a fault is refused before a part of it is copied
 abbrev pub ChallengeNeedsNoMemory : List ℕ → Type 0
 ChallengeNeedsNoMemory bytes = IsBroken challenges (length bytes) bytes
+
+-- an item without a fault is taken in: its value counts for its key, and for other keys what counted before
+pub record TakesItem (item : List ℕ) (old new : Challenge) : Type 0 where
+  pub clean : item_fault salt_key item ≡ None
+  pub salt : new.salt ≡ last base64_value old.salt salt_key (keyed (item ∷ []))
+  pub iterations : new.iterations ≡ last iterations_of old.iterations iterations_key (keyed (item ∷ []))
+  pub nonce : new.nonce.now ≡ last plain old.nonce.now nonce_key (keyed (item ∷ []))

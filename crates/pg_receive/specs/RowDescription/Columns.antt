@@ -1,10 +1,10 @@
 -- The columns that stand one after the other in a body.
-use Rattle.std.specs.Prelude.{ℕ, ◌+◌, ◌==◌, List, [], ◌∷◌, length, take, drop, option_map, if◌then◌else◌}
+use Rattle.std.specs.Prelude.{ℕ, ◌+◌, ◌==◌, List, [], ◌∷◌, ◌++◌, length, take, drop, option_map, if◌then◌else◌}
 use Rattle.pg_base.specs.declared.io.Oid.{Oid}
 use Rattle.pg_base.specs.Numbers.{num, int}
 use Rattle.pg_receive.specs.declared.message.row_description.columns.FieldRef.{FieldRef}
 use Rattle.pg_format.specs.Items.{Reading, items_in, HoldsItems}
-use Rattle.pg_format.specs.Messages.{Column, table, attribute, column}
+use Rattle.pg_format.specs.Messages.{Column, table, attribute, column, numbers, numbers_of}
 
 abbrev pub column_of_ref : FieldRef → Column
 column_of_ref field = record {
@@ -16,6 +16,10 @@ column_of_ref field = record {
   type_modifier = field.type_modifier;
   format = field.format;
 }
+
+-- the bytes are the numbers of a column, whatever follows
+abbrev pub AreNumbersOf : Column → List ℕ → Type 0
+AreNumbersOf column bytes = (more : List ℕ) → numbers.Reads (bytes ++ more) (numbers_of column) more
 
 -- the text at the front of some bytes: what stands before the first NUL
 abbrev pub first_text : List ℕ → List ℕ

@@ -2,14 +2,14 @@
 
 mod values;
 
-ghost use Rattle.std.specs.Prelude.{◌≡◌, ℕ, ◌*◌, ◌≤◌, List, [], ◌∷◌, ◌++◌, Option, Some, length, unwrap_or};
+ghost use Rattle.std.specs.Prelude.{◌≡◌, ℕ, ◌*◌, ◌≤◌, List, Option, length};
 ghost use Rattle.pg_base.specs.Atoi.{Atoi};
 ghost use Rattle.pg_receive.specs.Decimal.{leading_decimal};
-ghost use Rattle.pg_format.specs.Keyed.{last, IsAbsent};
 ghost use Rattle.pg_format.specs.Format.{Means};
-ghost use Rattle.pg_receive.specs.Response.{NoticeValue, notices};
-ghost use Rattle.pg_format.specs.Notices.{code_letter, message_letter, Field};
-ghost use Rattle.pg_receive.specs.Response.Fields.{AreFields, fields_in, first_value, first_text, of_letter};
+ghost use Rattle.pg_receive.specs.Laws.{HoldsOnlyOf, LastCounts, DefaultCounts, HasAtMostOne, IsItsOnly};
+ghost use Rattle.pg_receive.specs.Response.{notices};
+ghost use Rattle.pg_format.specs.Notices.{code_letter, message_letter};
+ghost use Rattle.pg_receive.specs.Response.Fields.{AreFields, fields_in, first_value, first_text};
 
 use crate::message::response::letters;
 use crate::message::{Notice, PgSeverity};
@@ -23,7 +23,7 @@ pub use values::{
 /// and after which no field follows. They are at most half as many as the bytes.
 pub fn fields_are_in_order()
     ensures are { (body : List ℕ) → AreFields body (fields_in body) }
-    ensures only { (body : List ℕ) (fields : List Field) → AreFields body fields → fields ≡ fields_in body }
+    ensures only { HoldsOnlyOf AreFields fields_in }
     ensures half { (body : List ℕ) → 2 * length (fields_in body) ≤ length body }
 {}
 
@@ -31,19 +31,19 @@ pub fn fields_are_in_order()
 #[tactic(auto, using(crate::proofs::DecimalLemmas::number_is, crate::proofs::DecimalLemmas::number_is_there))]
 pub fn numbers_are_found_by_atoi()
     ensures is { (top : ℕ) (bytes : List ℕ) → Atoi top bytes (leading_decimal top bytes) }
-    ensures only { (top : ℕ) (bytes : List ℕ) (result : Option ℕ) → Atoi top bytes result → result ≡ leading_decimal top bytes }
+    ensures only { (top : ℕ) → HoldsOnlyOf (Atoi top) (leading_decimal top) }
 {}
 
 /// Of several values of one key the last counts, whatever comes before it and whatever other keys
 /// follow it. Where no value has the key, it is the default. Texts, numbers and severities are read
 /// so.
 pub fn the_last_of_a_key_counts()
-    ensures is { (view : List ℕ → List ℕ) (default : List ℕ) (key : ℕ) (front : List (ℕ × List ℕ)) (value : List ℕ) (back : List (ℕ × List ℕ)) → IsAbsent key back → last view default key (front ++ (key, value) ∷ back) ≡ view value }
-    ensures none { (view : List ℕ → List ℕ) (default : List ℕ) (key : ℕ) (pairs : List (ℕ × List ℕ)) → IsAbsent key pairs → last view default key pairs ≡ default }
-    ensures number { (view : List ℕ → ℕ) (default key : ℕ) (front : List (ℕ × List ℕ)) (value : List ℕ) (back : List (ℕ × List ℕ)) → IsAbsent key back → last view default key (front ++ (key, value) ∷ back) ≡ view value }
-    ensures no_number { (view : List ℕ → ℕ) (default key : ℕ) (pairs : List (ℕ × List ℕ)) → IsAbsent key pairs → last view default key pairs ≡ default }
-    ensures severity { (view : List ℕ → Option PgSeverity) (default : Option PgSeverity) (key : ℕ) (front : List (ℕ × List ℕ)) (value : List ℕ) (back : List (ℕ × List ℕ)) → IsAbsent key back → last view default key (front ++ (key, value) ∷ back) ≡ view value }
-    ensures no_severity { (view : List ℕ → Option PgSeverity) (default : Option PgSeverity) (key : ℕ) (pairs : List (ℕ × List ℕ)) → IsAbsent key pairs → last view default key pairs ≡ default }
+    ensures is { LastCounts (List ℕ) }
+    ensures none { DefaultCounts (List ℕ) }
+    ensures number { LastCounts ℕ }
+    ensures no_number { DefaultCounts ℕ }
+    ensures severity { LastCounts (Option PgSeverity) }
+    ensures no_severity { DefaultCounts (Option PgSeverity) }
 {}
 
 /// Where a body has at most one field `M`, the message is what [`Notice::get`] answers for `M`, or
@@ -51,17 +51,17 @@ pub fn the_last_of_a_key_counts()
 ///
 /// [`Notice::get`]: crate::message::Notice::get
 pub fn message_is_its_only_field()
-    ensures message { (body : List ℕ) (notice : NoticeValue) → Means notices body notice → length (of_letter message_letter notice.fields) ≤ 1 → notice.message ≡ unwrap_or (first_text message_letter notice.fields) [] }
-    ensures code { (body : List ℕ) (notice : NoticeValue) → Means notices body notice → length (of_letter code_letter notice.fields) ≤ 1 → notice.code ≡ unwrap_or (first_text code_letter notice.fields) [] }
-    ensures raw_message { (body : List ℕ) (notice : NoticeValue) → Means notices body notice → length (of_letter message_letter notice.fields) ≤ 1 → notice.message ≡ unwrap_or (first_value message_letter notice.fields) [] }
-    ensures raw_code { (body : List ℕ) (notice : NoticeValue) → Means notices body notice → length (of_letter code_letter notice.fields) ≤ 1 → notice.code ≡ unwrap_or (first_value code_letter notice.fields) [] }
+    ensures message { IsItsOnly (λ notice. notice.message) message_letter first_text }
+    ensures code { IsItsOnly (λ notice. notice.code) code_letter first_text }
+    ensures raw_message { IsItsOnly (λ notice. notice.message) message_letter first_value }
+    ensures raw_code { IsItsOnly (λ notice. notice.code) code_letter first_value }
 {}
 
 /// The same of a user's notice that was decoded: where it has at most one field `M`, what its `get`
 /// answers for `M`, or empty, is its message.
 pub fn message_by_get(notice: &Notice) -> &str
     requires { (body : List ℕ) × Means notices body notice.now }
-    ensures { length (of_letter message_letter notice.now.fields) ≤ 1 → result.now ≡ notice.now.message }
+    ensures { HasAtMostOne message_letter notice.now.fields → result.now ≡ notice.now.message }
 {
     match notice.get(letters::MESSAGE) {
         Some(message) => message,
@@ -72,7 +72,7 @@ pub fn message_by_get(notice: &Notice) -> &str
 /// As [`message_by_get`], of `C` and the code.
 pub fn code_by_get(notice: &Notice) -> &str
     requires { (body : List ℕ) × Means notices body notice.now }
-    ensures { length (of_letter code_letter notice.now.fields) ≤ 1 → result.now ≡ notice.now.code }
+    ensures { HasAtMostOne code_letter notice.now.fields → result.now ≡ notice.now.code }
 {
     match notice.get(letters::CODE) {
         Some(code) => code,

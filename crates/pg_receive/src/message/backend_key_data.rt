@@ -3,7 +3,7 @@
 ghost use Rattle.pg_base.specs.declared.format.BackendMessageFormat.TheVariants as formats;
 ghost use Rattle.pg_format.specs.Format.{ReadsAs};
 ghost use Rattle.pg_format.specs.Messages.{backend_key_data};
-ghost use Rattle.pg_receive.specs.BackendKeyData.{raw_key_data, raw_key};
+ghost use Rattle.pg_receive.specs.BackendKeyData.{key_shown, raw_key_data, raw_key};
 
 use crate::message::BackendMessage;
 use bytes::Bytes;
@@ -32,7 +32,7 @@ pub struct BackendKeyData {
 impl BackendKeyData {
     /// Reads the body of a message. Refused with `Short` where it has fewer than eight bytes.
     pub fn read(body: &[u8]) -> Result<BackendKeyData, ProtocolFault>
-        ensures { ReadsAs backend_key_data (λ key. record { process_id = key.process_id; secret_key = key.secret_key }) body.now result }
+        ensures { ReadsAs backend_key_data key_shown body.now result }
     {
         let process_id = u32_at(body, 0)?;
         let secret_key = u32_at(body, 4)?;
@@ -53,7 +53,7 @@ impl BackendMessage for BackendKeyData {
 
     ghost Shown = { BackendKey };
 
-    ghost shown = { λ key. record { process_id = key.process_id; secret_key = key.secret_key } };
+    ghost shown = { key_shown };
 
     ghost format = { backend_key_data };
 

@@ -10,10 +10,8 @@ mod row_reader;
 ghost use Rattle.std.specs.Prelude.{◌≡◌, ◌==◌, ℕ, ◌<◌, ◌≤◌, List, Option, length, Some, IfOk, slice_get};
 ghost use Rattle.std.specs.Option.{option_copied};
 ghost use Rattle.pg_base.specs.declared.format.BackendMessageFormat.TheVariants as formats;
-ghost use Rattle.pg_format.specs.Messages.{data_row};
-ghost use Rattle.pg_receive.specs.DataRow.{RowNeedsNoMemory};
-ghost use Rattle.pg_receive.specs.DataRow.CellEnd.{cells_from, first_cell, EndsRise};
-ghost use Rattle.pg_format.specs.Received.{DecodesBody};
+ghost use Rattle.pg_receive.specs.DataRow.{DecodesEnds, RowNeedsNoMemory};
+ghost use Rattle.pg_receive.specs.DataRow.CellEnd.{first_cell, EndsRise};
 
 use crate::message::BackendMessage;
 use bytes::Bytes;
@@ -48,11 +46,11 @@ pub struct DataRow {
 
 impl Model for DataRow {
     ghost use Rattle.std.specs.Prelude.{ℕ, List, Option, length};
-    ghost use Rattle.pg_receive.specs.DataRow.CellEnd.{cells_from, first_cell, EndsRise};
+    ghost use Rattle.pg_receive.specs.DataRow.CellEnd.{cells_in, first_cell, EndsRise};
 
     ghost Value = { List (Option (List ℕ)) };
 
-    ghost view = { λ row. cells_from row.storage first_cell row.ends.items };
+    ghost view = { λ row. cells_in row.storage row.ends.items };
 
     ghost invariant = { λ row. EndsRise first_cell row.ends.items (length row.storage) };
 }
@@ -118,7 +116,7 @@ impl BackendMessage for DataRow {
 // take no memory of their own.
 fn ends_of(alloc: Global, body: &[u8]) -> Result<SmallVec<CellEnd, 8>, Error>
     requires { length body.now ≤ MAX_BODY }
-    ensures answer { DecodesBody data_row RowNeedsNoMemory (λ ends. cells_from body.now first_cell ends.items) body.now result }
+    ensures answer { DecodesEnds RowNeedsNoMemory (λ ends. ends.items) body.now result }
     ensures rise { IfOk result (λ ends. EndsRise first_cell ends.items (length body.now)) }
 {
     let cells = Items::begin(body, CELL_LENGTH)?;

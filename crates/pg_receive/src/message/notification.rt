@@ -5,6 +5,7 @@ ghost use Rattle.pg_base.specs.declared.error.Error.TheVariants.{OutOfMemory};
 ghost use Rattle.pg_base.specs.declared.format.BackendMessageFormat.TheVariants as formats;
 ghost use Rattle.pg_format.specs.Format.{ReadsAs};
 ghost use Rattle.pg_format.specs.Messages.{notification};
+ghost use Rattle.pg_receive.specs.Notification.{notification_borrowed};
 
 use crate::message::{BackendMessage, text_at};
 use bytes::Bytes;
@@ -122,7 +123,7 @@ pub struct NotificationRef<'a> {
 impl<'a> NotificationRef<'a> {
     /// Reads a body. Its value and its faults are those of [`Notification`].
     pub fn read(body: &'a [u8]) -> Result<NotificationRef<'a>, ProtocolFault>
-        ensures { ReadsAs notification (λ n. record { process_id = n.process_id; channel = n.channel.now; payload = n.payload.now }) body.now result }
+        ensures { ReadsAs notification notification_borrowed body.now result }
     {
         let process_id = u32_at(body, 0)?;
         let (channel, after) = text_at(body, PROCESS_LENGTH)?;

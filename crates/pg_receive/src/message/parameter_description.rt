@@ -2,9 +2,8 @@
 
 ghost use Rattle.std.specs.Prelude.{◌≤◌, length};
 ghost use Rattle.pg_base.specs.declared.format.BackendMessageFormat.TheVariants as formats;
-ghost use Rattle.pg_base.specs.Numbers.{numbers_of};
 ghost use Rattle.pg_format.specs.Messages.{parameter_description};
-ghost use Rattle.pg_receive.specs.ParameterDescription.{TypesNeedsNoMemory};
+ghost use Rattle.pg_receive.specs.ParameterDescription.{types_shown, TypesNeedsNoMemory};
 ghost use Rattle.pg_format.specs.Received.{DecodesBody};
 
 use crate::message::BackendMessage;
@@ -30,10 +29,9 @@ pub struct ParameterDescription {
 
 impl BackendMessage for ParameterDescription {
     ghost use Rattle.std.specs.Prelude.{ℕ, List};
-    ghost use Rattle.pg_base.specs.Numbers.{numbers_of};
     ghost use Rattle.pg_format.specs.Messages.{parameter_description};
     ghost use Rattle.pg_format.proofs.FormatLaws.FromServer.{lawful_parameter_description};
-    ghost use Rattle.pg_receive.specs.ParameterDescription.{TypesNeedsNoMemory};
+    ghost use Rattle.pg_receive.specs.ParameterDescription.{types_shown, TypesNeedsNoMemory};
 
     const FORMAT: BackendMessageFormat = BackendMessageFormat::ParameterDescription;
 
@@ -41,7 +39,7 @@ impl BackendMessage for ParameterDescription {
 
     ghost Shown = { List ℕ };
 
-    ghost shown = { λ description. numbers_of description.types.items };
+    ghost shown = { λ description. types_shown description.types };
 
     ghost format = { parameter_description };
 
@@ -57,7 +55,7 @@ impl BackendMessage for ParameterDescription {
 
 fn types_of(alloc: Global, body: &[u8]) -> Result<SmallVec<Oid, 6>, Error>
     requires { length body.now ≤ MAX_BODY }
-    ensures { DecodesBody parameter_description TypesNeedsNoMemory (λ types. numbers_of types.items) body.now result }
+    ensures { DecodesBody parameter_description TypesNeedsNoMemory types_shown body.now result }
 {
     let count = usize::from(u16_at(body, 0)?);
     bytes_at(body, FIRST_TYPE, TYPE_LENGTH * count)?;

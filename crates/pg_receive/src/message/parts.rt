@@ -51,7 +51,7 @@ impl<'a> Iterator for Fields<'a> {
 
 /// The field at the front of some bytes, its letter and its value, and what follows its NUL.
 pub fn split_field(bytes: &[u8]) -> Option<(u8, &[u8], &[u8])>
-    ensures found { IfSome result (λ field. BeginsWithField bytes.now field.0 field.1.now field.2.now) }
+    ensures found { IfSome result (λ item. BeginsWithField bytes.now item.0 item.1.now item.2.now) }
     ensures none { IfNone result (fields_in bytes.now ≡ []) }
 {
     let (letter, rest) = bytes.split_first()?;

@@ -2,7 +2,7 @@
 
 ghost use Rattle.pg_format.specs.Format.{ReadsAs};
 ghost use Rattle.pg_format.specs.Messages.{ready_for_query};
-ghost use Rattle.pg_receive.specs.ReadyForQuery.{shown_status};
+ghost use Rattle.pg_receive.specs.ReadyForQuery.{ready_shown};
 ghost use Rattle.pg_base.specs.declared.format.BackendMessageFormat.TheVariants as formats;
 
 use crate::message::BackendMessage;
@@ -40,7 +40,7 @@ impl ReadyForQuery {
     /// Reads the body of a message: its first byte is the letter of the status. Refused with
     /// `Short` where there is none, and with `UnknownStatus` where it is no such letter.
     pub fn read(body: &[u8]) -> Result<ReadyForQuery, ProtocolFault>
-        ensures { ReadsAs ready_for_query (λ ready. shown_status ready.transaction_status) body.now result }
+        ensures { ReadsAs ready_for_query ready_shown body.now result }
     {
         let transaction_status = match bytes_at(body, 0, 1)?[0] {
             IDLE => TransactionStatus::Idle,
@@ -55,7 +55,7 @@ impl ReadyForQuery {
 impl BackendMessage for ReadyForQuery {
     ghost use Rattle.pg_format.specs.Messages.{Status, ready_for_query};
     ghost use Rattle.pg_format.proofs.FormatLaws.FromServer.{lawful_ready_for_query};
-    ghost use Rattle.pg_receive.specs.ReadyForQuery.{shown_status};
+    ghost use Rattle.pg_receive.specs.ReadyForQuery.{ready_shown};
 
     const FORMAT: BackendMessageFormat = BackendMessageFormat::ReadyForQuery;
 
@@ -63,7 +63,7 @@ impl BackendMessage for ReadyForQuery {
 
     ghost Shown = { Status };
 
-    ghost shown = { λ ready. shown_status ready.transaction_status };
+    ghost shown = { ready_shown };
 
     ghost format = { ready_for_query };
 

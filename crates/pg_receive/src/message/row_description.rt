@@ -4,10 +4,10 @@ mod column_reader;
 mod columns;
 mod raw_columns;
 
-ghost use Rattle.std.specs.Prelude.{◌≡◌, ◌≤◌, [], length, map};
+ghost use Rattle.std.specs.Prelude.{◌≡◌, ◌≤◌, [], length};
 ghost use Rattle.pg_base.specs.declared.format.BackendMessageFormat.TheVariants as formats;
 ghost use Rattle.pg_format.specs.Messages.{row_description};
-ghost use Rattle.pg_receive.specs.RowDescription.{column_of, ColumnsNeedsNoMemory, HasRoomFor};
+ghost use Rattle.pg_receive.specs.RowDescription.{columns_shown, ColumnsNeedsNoMemory, HasRoomFor};
 ghost use Rattle.pg_format.specs.Received.{DecodesBody};
 
 use crate::message::BackendMessage;
@@ -53,10 +53,10 @@ pub struct Field {
 }
 
 impl BackendMessage for RowDescription {
-    ghost use Rattle.std.specs.Prelude.{List, map};
+    ghost use Rattle.std.specs.Prelude.{List};
     ghost use Rattle.pg_format.specs.Messages.{Column, row_description};
     ghost use Rattle.pg_format.proofs.FormatLaws.FromServer.{lawful_row_description};
-    ghost use Rattle.pg_receive.specs.RowDescription.{column_of, ColumnsNeedsNoMemory};
+    ghost use Rattle.pg_receive.specs.RowDescription.{columns_shown, ColumnsNeedsNoMemory};
 
     const FORMAT: BackendMessageFormat = BackendMessageFormat::RowDescription;
 
@@ -64,7 +64,7 @@ impl BackendMessage for RowDescription {
 
     ghost Shown = { List Column };
 
-    ghost shown = { λ description. map column_of description.fields.items };
+    ghost shown = { λ description. columns_shown description.fields };
 
     ghost format = { row_description };
 
@@ -128,7 +128,7 @@ impl<'a> Keeper<'a, FieldRef<'a>> for OwnFields {
 
 fn fields_of(alloc: Global, body: &[u8]) -> Result<Vec<Field>, Error>
     requires { length body.now ≤ MAX_BODY }
-    ensures { DecodesBody row_description ColumnsNeedsNoMemory (λ fields. map column_of fields.items) body.now result }
+    ensures { DecodesBody row_description ColumnsNeedsNoMemory columns_shown body.now result }
 {
     let columns = Items::begin(body, LEAST_COLUMN)?;
     if columns.is_empty() {

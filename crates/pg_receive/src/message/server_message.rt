@@ -1,7 +1,7 @@
 //! Any message from the server, as a value of its kind's type.
 
 ghost use Rattle.std.specs.Prelude.{◌≡◌};
-ghost use Rattle.pg_receive.specs.ServerMessage.{Decodes, DecodesBy};
+ghost use Rattle.pg_receive.specs.ServerMessage.{Decodes, DecodesCase};
 
 use crate::database_error::PgDatabaseError;
 use crate::message::visitor::{Keep, Visitor};
@@ -172,7 +172,7 @@ fn in_case<T: BackendMessage, F: FnOnce(T) -> ServerMessage, V: Visitor>(
     visitor: V,
 ) -> Result<V::Output, Error>
     requires { F.IsAlwaysCallable case }
-    ensures { DecodesBy T.BackendMessage (λ value given. (decoded : ServerMessage) × F.post case value decoded × V.Visitor.gives visitor decoded given) message result }
+    ensures { DecodesCase T.BackendMessage (F.post case) (V.Visitor.gives visitor) message result }
 {
     let value = message.decode(alloc)?;
     Ok(visitor.visit(case(value)))

@@ -1,10 +1,8 @@
 //! The challenge of a server in a SASL exchange.
 
-ghost use Rattle.std.specs.Prelude.{◌≡◌, [], ◌∷◌, None, Some, OnOk, IfErr};
-ghost use Rattle.pg_format.specs.Keyed.{plain, last};
-ghost use Rattle.pg_format.specs.Sasl.{keyed, item_fault, nonce_key, salt_key, first_message_fault};
-ghost use Rattle.pg_receive.specs.Authentication.SaslItems.{base64_value};
-ghost use Rattle.pg_receive.specs.Authentication.SaslContinue.{ContinueValue, challenge_in, challenges, ChallengeNeedsNoMemory, iterations_key, iterations_of};
+ghost use Rattle.std.specs.Prelude.{◌≡◌, Some, OnOk, IfErr};
+ghost use Rattle.pg_format.specs.Sasl.{item_fault, salt_key, first_message_fault};
+ghost use Rattle.pg_receive.specs.Authentication.SaslContinue.{ContinueValue, challenge_in, challenges, ChallengeNeedsNoMemory, TakesItem};
 ghost use Rattle.pg_format.specs.Format.{Means, IsFaultOf, ReadsAs};
 ghost use Rattle.pg_format.proofs.FormatLaws.Whole.{one_meaning, meaning_or_fault};
 ghost use Rattle.pg_format.proofs.FormatLaws.Parts.{lawful_remaining};
@@ -130,11 +128,8 @@ struct Challenge<'a> {
 
 impl<'a> Challenge<'a> {
     fn take(&mut self, item: &'a [u8]) -> Result<(), ProtocolFault>
-        ensures ok { OnOk result (item_fault salt_key item.now ≡ None) }
+        ensures takes { OnOk result (TakesItem item.now self.old self.new) }
         ensures fault { IfErr result (λ fault. item_fault salt_key item.now ≡ Some fault) }
-        ensures salt { OnOk result (self.new.salt ≡ last base64_value self.old.salt salt_key (keyed (item.now ∷ []))) }
-        ensures iterations { OnOk result (self.new.iterations ≡ last iterations_of self.old.iterations iterations_key (keyed (item.now ∷ []))) }
-        ensures nonce { OnOk result (self.new.nonce.now ≡ last plain self.old.nonce.now nonce_key (keyed (item.now ∷ []))) }
     {
         let (key, value) = split_key(item)?;
         match key {

@@ -52,7 +52,7 @@ impl ProtocolDecode for AuthenticationSaslFinal {
 
 /// The verifier in the server-final-message that SASL data is.
 pub(crate) fn decode_verifier(alloc: Global, body: &[u8]) -> Result<Vec<u8>, Error>
-    ensures { DecodesBody verifiers VerifierNeedsNoMemory (λ verifier. verifier.items) body.now result }
+    ensures { DecodesBody verifiers VerifierNeedsNoMemory (λ bytes. bytes.items) body.now result }
 {
     let verifier = AuthenticationSaslFinalRef::read(body)?.verifier;
     Ok(verifier.to_vec(alloc)?)

@@ -1,11 +1,10 @@
 //! The items of SASL data.
 
-ghost use Rattle.std.specs.Prelude.{◌≡◌, ℕ, List, [], ◌∷◌, IfOk, IfErr};
+ghost use Rattle.std.specs.Prelude.{◌≡◌, ℕ, List, ◌∷◌, IfOk, IfErr};
 ghost use Rattle.std.specs.Iterator.{YieldsFirstRef, item_count};
-ghost use Rattle.std.specs.Option.{option_map_or};
 ghost use Rattle.pg_base.specs.declared.error.ProtocolFault.TheVariants.{ShortSaslItem};
 ghost use Rattle.pg_format.specs.Sasl.{items_in};
-ghost use Rattle.pg_receive.specs.Authentication.SaslItems.{IsShortItem};
+ghost use Rattle.pg_receive.specs.Authentication.SaslItems.{IsKeyAndValue, IsShortItem, items_left};
 
 use memchr::memchr;
 use pg_base::ProtocolFault;
@@ -20,7 +19,7 @@ pub(crate) struct SaslItems<'a> {
 impl<'a> Model for SaslItems<'a> {
     ghost Value = { List (List ℕ) };
 
-    ghost view = { λ items. option_map_or (λ rest. items_in rest.now) items.rest [] };
+    ghost view = { λ items. items_left items.rest };
 }
 
 impl<'a> SaslItems<'a> {
@@ -47,7 +46,7 @@ impl<'a> Iterator for SaslItems<'a> {
 
 // The item before the first comma, and what follows it.
 fn split_item(bytes: &[u8]) -> (&[u8], Option<&[u8]>)
-    ensures { items_in bytes.now ≡ result.0.now ∷ option_map_or (λ rest. items_in rest.now) result.1 [] }
+    ensures { items_in bytes.now ≡ result.0.now ∷ items_left result.1 }
 {
     match memchr(b',', bytes) {
         Some(end) => (&bytes[..end], Some(&bytes[end + 1..])),
@@ -57,7 +56,7 @@ fn split_item(bytes: &[u8]) -> (&[u8], Option<&[u8]>)
 
 /// The key of an item and its value, which starts at the third byte.
 pub(crate) fn split_key(item: &[u8]) -> Result<(u8, &[u8]), ProtocolFault>
-    ensures found { IfOk result (λ split. (separator : ℕ) × (item.now ≡ split.0 ∷ separator ∷ split.1.now)) }
+    ensures found { IfOk result (λ split. IsKeyAndValue item.now split.0 split.1.now) }
     ensures short { IfErr result (λ fault. (fault ≡ ShortSaslItem) × IsShortItem item.now) }
 {
     match item {

@@ -1,11 +1,11 @@
 //! Where the cells of a row end, found in its body.
 
-ghost use Rattle.std.specs.Prelude.{◌≡◌, ℕ, ◌<◌, ◌≤◌, List, length, IsErrOf, OnOk, vec_capacity};
+ghost use Rattle.std.specs.Prelude.{◌≡◌, ◌≤◌, length, IsErrOf, OnOk, vec_capacity};
 ghost use Rattle.pg_base.specs.declared.error.Error.TheVariants.{OutOfMemory};
-ghost use Rattle.pg_receive.specs.DataRow.CellEnd.{cells_from, first_cell, EndsRise};
-ghost use Rattle.pg_format.specs.Format.Parts.{be_u16};
+ghost use Rattle.pg_receive.specs.DataRow.{DecodesEnds};
+ghost use Rattle.pg_receive.specs.DataRow.CellEnd.{first_cell, EndsRise};
 ghost use Rattle.pg_format.specs.Messages.{data_row};
-ghost use Rattle.pg_receive.specs.CountedItems.{ItemsNeedNoMemory};
+ghost use Rattle.pg_receive.specs.CountedItems.{CountsMoreThan, ItemsNeedNoMemory};
 ghost use Rattle.pg_format.specs.Received.{DecodesBody};
 
 use crate::message::data_row::cell::Cell;
@@ -50,7 +50,7 @@ impl RowIndex {
         requires { length body.now ≤ MAX_BODY }
         ensures answer { DecodesBody data_row (ItemsNeedNoMemory 4 0) (λ row. row) body.now result }
         // Memory runs out only where the body counts more cells than there is room for.
-        ensures memory { IsErrOf result OutOfMemory → (count : ℕ) (rest : List ℕ) → be_u16.Reads body.now count rest → self.old < count }
+        ensures memory { IsErrOf result OutOfMemory → CountsMoreThan self.old body.now }
     {
         read_ends(body, &mut self.ends)?;
         Ok(Row::new(body, self.ends.as_slice()))
@@ -60,9 +60,9 @@ impl RowIndex {
 // Where each cell of the body ends, in place of what the list had.
 pub(super) fn read_ends(body: &[u8], ends: &mut Vec<CellEnd>) -> Result<(), Error>
     requires { length body.now ≤ MAX_BODY }
-    ensures answer { DecodesBody data_row (ItemsNeedNoMemory 4 0) (λ _. cells_from body.now first_cell ends.new.items) body.now result }
+    ensures answer { DecodesEnds (ItemsNeedNoMemory 4 0) (λ _. ends.new.items) body.now result }
     ensures rise { OnOk result (EndsRise first_cell ends.new.items (length body.now)) }
-    ensures memory { IsErrOf result OutOfMemory → (count : ℕ) (rest : List ℕ) → be_u16.Reads body.now count rest → vec_capacity ends.old < count }
+    ensures memory { IsErrOf result OutOfMemory → CountsMoreThan (vec_capacity ends.old) body.now }
 {
     let cells = Items::begin(body, CELL_LENGTH)?;
     ends.clear();

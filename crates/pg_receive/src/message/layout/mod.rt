@@ -5,9 +5,8 @@ mod parts;
 
 ghost use Rattle.std.specs.Prelude.{◌≤◌, length, IfOk, IfErr};
 ghost use Rattle.pg_format.specs.Format.{IsFaultOf};
-ghost use Rattle.pg_format.specs.Format.Ends.{exactly};
 ghost use Rattle.pg_format.specs.Format.Places.{EndsAt};
-ghost use Rattle.pg_receive.specs.Layout.{layout};
+ghost use Rattle.pg_receive.specs.Layout.{layout, exact_layout};
 
 use lists::{columns_end, fields_end, row_end};
 use parts::{
@@ -59,8 +58,8 @@ pub fn body_end(kind: BackendMessageFormat, body: &[u8]) -> Result<usize, Protoc
 /// them, and nothing else. Refused as there, and with `BodyTooLong` from the offset on where bytes follow.
 pub fn check_exact(kind: BackendMessageFormat, body: &[u8]) -> Result<(), ProtocolFault>
     requires { length body.now ≤ MAX_BODY }
-    ensures exact { IfOk result (λ _. EndsAt (exactly (layout kind).format) body.now 0 (length body.now)) }
-    ensures fault { IfErr result (IsFaultOf (exactly (layout kind).format) body.now) }
+    ensures exact { IfOk result (λ _. EndsAt (exact_layout kind) body.now 0 (length body.now)) }
+    ensures fault { IfErr result (IsFaultOf (exact_layout kind) body.now) }
 {
     let end = body_end(kind, body)?;
     if end < body.len() {

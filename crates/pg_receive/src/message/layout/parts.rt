@@ -1,15 +1,14 @@
 //! Where the parts of a body end that has no list, or one whose items are of one length.
 
 ghost use Rattle.std.specs.Prelude.{IfOk, IfErr};
-ghost use Rattle.pg_base.specs.declared.error.ProtocolFault.TheVariants.{UnknownStatus};
 ghost use Rattle.pg_format.specs.Format.{IsFaultOf};
 ghost use Rattle.pg_format.specs.Format.Lists.{counted_least};
-ghost use Rattle.pg_format.specs.Format.Parts.{until_nul, be_u32, be_i8, be_i16, remaining, one_of};
+ghost use Rattle.pg_format.specs.Format.Parts.{until_nul, be_u32, be_i8, be_i16, remaining};
 ghost use Rattle.pg_format.specs.Format.Sequences.{dep_pair, ◌⨾◌};
-ghost use Rattle.pg_format.specs.Messages.{column_codes, status_of, status_letter};
+ghost use Rattle.pg_format.specs.Messages.{column_codes};
 ghost use Rattle.pg_receive.specs.BackendKeyData.{raw_key_data};
 ghost use Rattle.pg_format.specs.Format.Places.{EndsAt};
-ghost use Rattle.pg_receive.specs.Layout.{asked};
+ghost use Rattle.pg_receive.specs.Layout.{asked, status};
 
 use super::lists::names_end;
 use crate::message::copy::code_count;
@@ -113,8 +112,8 @@ pub(super) fn setting_end(body: &[u8]) -> Result<usize, ProtocolFault>
 
 /// The end of a status.
 pub(super) fn status_end(body: &[u8]) -> Result<usize, ProtocolFault>
-    ensures end { IfOk result (EndsAt (one_of status_of status_letter UnknownStatus) body.now 0) }
-    ensures fault { IfErr result (IsFaultOf (one_of status_of status_letter UnknownStatus) body.now) }
+    ensures end { IfOk result (EndsAt status body.now 0) }
+    ensures fault { IfErr result (IsFaultOf status body.now) }
 {
     ReadyForQuery::read(body)?;
     Ok(1)

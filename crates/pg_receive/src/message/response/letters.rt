@@ -1,12 +1,10 @@
 //! The letters of fields, and where the first field of each is in a body. Documentation: "Error and
 //! Notice Message Fields".
 
-ghost use Rattle.std.specs.Prelude.{◌≡◌, ◌≤◌, ◌<◌, ℕ, List, [], ◌∷◌, length, option_copied, slice_index, IfSome, IfNone};
+ghost use Rattle.std.specs.Prelude.{◌≡◌, ◌≤◌, ◌<◌, ℕ, List, [], option_copied, IfSome, IfNone};
 ghost use Rattle.pg_base.specs.Reading.{HoldsNo};
-ghost use Rattle.pg_format.specs.Notices.{Field};
 ghost use Rattle.pg_receive.specs.Response.Fields.{fields_in, first_value};
-ghost use Rattle.pg_receive.specs.Response.FirstPlaces.{AreFirst, known_letters};
-ghost use Rattle.pg_receive.specs.Response.Places.{bytes_in};
+ghost use Rattle.pg_receive.specs.Response.FirstPlaces.{AreFirst, IsSlotOf, KeepsField, known_letters};
 
 use crate::message::parts::Fields;
 use pg_base::io::MAX_BODY;
@@ -92,7 +90,7 @@ impl FirstPlaces {
         requires after_letter { 0 < place.now.start }
         requires ordered { place.now.start ≤ place.now.end }
         requires fits { place.now.end ≤ MAX_BODY }
-        ensures { (body : List ℕ) (left : List Field) → place.now.end ≤ length body → AreFirst body ((letter, bytes_in body place.now) ∷ left) self.old.starts self.old.ends → AreFirst body left self.new.starts self.new.ends }
+        ensures { KeepsField letter place.now self.old self.new }
     {
         let Some(slot) = slot_of(letter) else {
             return;
@@ -124,7 +122,7 @@ impl FirstPlaces {
 // Inlined, so that it is known where the letter is.
 #[inline(always)]
 fn slot_of(letter: u8) -> Option<usize>
-    ensures known { IfSome result (λ slot. (slot < KNOWN) × (slice_index known_letters slot ≡ letter)) }
+    ensures known { IfSome result (IsSlotOf letter) }
     ensures unknown { IfNone result (HoldsNo letter known_letters) }
 {
     Some(match letter {

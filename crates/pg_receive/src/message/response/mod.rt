@@ -156,7 +156,7 @@ impl BackendMessage for Notice {
 /// [`MAX_BODY`] bytes.
 pub fn severity_in(body: &[u8]) -> Result<PgSeverity, ProtocolFault>
     ensures long { MAX_BODY < length body.now → result ≡ Err (BodyTooLong (length body.now)) }
-    ensures answer { length body.now ≤ MAX_BODY → ReadsAs severities (λ severity. severity) body.now result }
+    ensures answer { length body.now ≤ MAX_BODY → ReadsAs severities (λ s. s) body.now result }
 {
     if body.len() > MAX_BODY {
         return Err(ProtocolFault::BodyTooLong(body.len()));

@@ -1,17 +1,15 @@
 //! The part of an error or a notice that is read when it is decoded.
 
-ghost use Rattle.std.specs.Prelude.{◌≡◌, ◌+◌, None, Some, IfOk, OnOk, IfErr, if◌then◌else◌, ◌==◌, ◌&&◌, nat_lt, true, false, ◌≤◌, [], length};
+ghost use Rattle.std.specs.Prelude.{◌≡◌, ◌≤◌, true, false, [], length, IfOk, OnOk, IfErr};
 ghost use Rattle.std.specs.Str.{is_utf8};
-ghost use Rattle.pg_receive.specs.Response.Fields.{fields_in};
 ghost use Rattle.pg_receive.specs.Response.FirstPlaces.{AreFirst};
 ghost use Rattle.std.specs.Option.{option_or, unwrap_or};
 ghost use Rattle.pg_receive.specs.declared.message.response.severity.PgSeverity.TheVariants.{Log};
-ghost use Rattle.pg_receive.specs.Response.Severity.{severity_of_word};
 ghost use Rattle.pg_base.specs.declared.error.ProtocolFault.TheVariants.{NoticeNotUtf8};
 ghost use Rattle.pg_format.specs.Format.{IsFaultOf};
-ghost use Rattle.pg_receive.specs.Response.{Read, notices};
-ghost use Rattle.pg_format.specs.Notices.{field_fault, code_letter, message_letter, severity_letter, localized_letter};
-ghost use Rattle.pg_receive.specs.Response.Places.{IsPlaceIn, bytes_in, are_full};
+ghost use Rattle.pg_receive.specs.Response.{notices};
+ghost use Rattle.pg_receive.specs.Response.Places.{are_full};
+ghost use Rattle.pg_receive.specs.Response.ReadPart.{IsComplete, TakesField, RefusesField, HasPlacesIn, IsReadOf};
 
 use crate::message::response::PgSeverity;
 use crate::message::response::letters::{CODE, FirstPlaces, LOCALIZED_SEVERITY, MESSAGE, SEVERITY};
@@ -47,13 +45,9 @@ impl ReadPart {
     // Takes in a field whose value is at this place, unless there are a message and a code.
     #[tactic(auto, using(crate::proofs::ResponseSeverityLemmas::unknown_severity))]
     fn take(&mut self, letter: u8, value: &[u8], place: Range<usize>) -> Result<(), ProtocolFault>
-        ensures full { OnOk result (are_full self.old.message self.old.code ≡ true → self.new ≡ self.old) }
-        ensures clean { OnOk result (are_full self.old.message self.old.code ≡ false → field_fault (letter, value.now) ≡ None) }
-        ensures severity { OnOk result (are_full self.old.message self.old.code ≡ false → self.new.severity ≡ (if letter == severity_letter then severity_of_word value.now else self.old.severity)) }
-        ensures localized { OnOk result (are_full self.old.message self.old.code ≡ false → self.new.localized ≡ (if letter == localized_letter then severity_of_word value.now else self.old.localized)) }
-        ensures message { OnOk result (are_full self.old.message self.old.code ≡ false → self.new.message ≡ (if letter == message_letter then place else self.old.message)) }
-        ensures code { OnOk result (are_full self.old.message self.old.code ≡ false → self.new.code ≡ (if letter == code_letter then place else self.old.code)) }
-        ensures fault { IfErr result (λ fault. (are_full self.old.message self.old.code ≡ false) × (field_fault (letter, value.now) ≡ Some fault)) }
+        ensures full { OnOk result (IsComplete self.old → self.new ≡ self.old) }
+        ensures takes { OnOk result (TakesField letter value.now place self.old self.new) }
+        ensures fault { IfErr result (RefusesField letter value.now self.old) }
     {
         if self.is_full() {
             return Ok(());
@@ -90,8 +84,8 @@ fn notice_text(value: &[u8]) -> Result<&str, ProtocolFault>
 /// The first fault of a field that is read is answered.
 pub(crate) fn read(body: &[u8]) -> Result<(ReadPart, FirstPlaces), ProtocolFault>
     requires { length body.now ≤ MAX_BODY }
-    ensures within { IfOk result (λ read. IsPlaceIn body.now read.0.message × IsPlaceIn body.now read.0.code) }
-    ensures reads { IfOk result (λ read. Read (fields_in body.now) (bytes_in body.now read.0.message) (bytes_in body.now read.0.code) read.0.severity read.0.localized) }
+    ensures within { IfOk result (λ read. HasPlacesIn body.now read.0) }
+    ensures reads { IfOk result (λ read. IsReadOf body.now read.0) }
     ensures firsts { IfOk result (λ read. AreFirst body.now [] read.1.starts read.1.ends) }
     ensures fault { IfErr result (IsFaultOf notices body.now) }
 {

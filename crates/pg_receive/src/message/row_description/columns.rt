@@ -1,11 +1,11 @@
 //! The columns of a result, borrowed from their body.
 
-ghost use Rattle.std.specs.Prelude.{◌≡◌, ◌==◌, ◌≤◌, ℕ, List, ◌++◌, length, slice_get, IsOk, IfOk, IfErr, option_map};
+ghost use Rattle.std.specs.Prelude.{◌≡◌, ◌==◌, ◌≤◌, length, slice_get, IsOk, IfOk, IfErr, option_map};
 ghost use Rattle.std.specs.Iterator.{YieldsFirstBy, item_count};
 ghost use Rattle.pg_format.specs.Format.{ReadsAs};
 ghost use Rattle.pg_format.specs.Format.Places.{BreaksAt, ReadsAt};
-ghost use Rattle.pg_format.specs.Messages.{numbers_of, numbers, column, row_description, table, attribute};
-ghost use Rattle.pg_receive.specs.RowDescription.Columns.{column_of_ref};
+ghost use Rattle.pg_format.specs.Messages.{column, row_description, table, attribute};
+ghost use Rattle.pg_receive.specs.RowDescription.Columns.{AreNumbersOf, column_of_ref};
 ghost use Rattle.pg_receive.specs.RowDescription.{column_of};
 
 use crate::message::row_description::{Field, LEAST_COLUMN, NUMBERS_LENGTH};
@@ -164,7 +164,7 @@ pub(super) fn field_of<'a>(name: &'a str, bytes: &[u8]) -> Result<FieldRef<'a>, 
     requires { length bytes.now ≡ 18 }
     ensures whole { IsOk result }
     ensures name { IfOk result (λ field. (column_of_ref field).name ≡ name.now) }
-    ensures numbers { IfOk result (λ field. (more : List ℕ) → numbers.Reads (bytes.now ++ more) (numbers_of (column_of_ref field)) more) }
+    ensures numbers { IfOk result (λ field. AreNumbersOf (column_of_ref field) bytes.now) }
 {
     Ok(FieldRef {
         name,

@@ -1,8 +1,8 @@
 //! The columns of a result whose names are in the encoding of the server.
 
-ghost use Rattle.std.specs.Prelude.{◌≡◌, ◌≤◌, ℕ, List, ◌++◌, length, IsOk, IfOk, IfErr};
+ghost use Rattle.std.specs.Prelude.{◌≡◌, ◌≤◌, length, IsOk, IfOk, IfErr};
 ghost use Rattle.pg_format.specs.Format.Places.{BreaksAt, ReadsAt};
-ghost use Rattle.pg_format.specs.Messages.{numbers_of, numbers};
+ghost use Rattle.pg_receive.specs.RowDescription.Columns.{AreNumbersOf};
 ghost use Rattle.pg_receive.specs.RowDescription.Raw.{column_of_raw, raw_column};
 
 use crate::message::row_description::NUMBERS_LENGTH;
@@ -67,7 +67,7 @@ fn raw_field_of<'a>(name: &'a [u8], bytes: &[u8]) -> Result<RawFieldRef<'a>, Pro
     requires { length bytes.now ≡ 18 }
     ensures whole { IsOk result }
     ensures name { IfOk result (λ field. (column_of_raw field).name ≡ name.now) }
-    ensures numbers { IfOk result (λ field. (more : List ℕ) → numbers.Reads (bytes.now ++ more) (numbers_of (column_of_raw field)) more) }
+    ensures numbers { IfOk result (λ field. AreNumbersOf (column_of_raw field) bytes.now) }
 {
     let field = field_of("", bytes)?;
     Ok(RawFieldRef {

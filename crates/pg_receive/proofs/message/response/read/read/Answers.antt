@@ -30,8 +30,9 @@ loop-letter-preserved c =
                 subst (λ (p : ReadPart). Kept body field.after.now p.message p.code p.severity p.localized) (sym (taken.full full))
                 (kept_past body rest field.letter field.value.now field.after.now part.message part.code part.severity part.localized (is ∙ full) field.ensures.found kept)
             | inr partial ↦
+                let takes = taken.takes partial in
                 kept_more body rest field.letter field.value.now field.after.now _ part.message part.code _ _ part.severity part.localized _ _ (is ∙ partial) refl field.ensures.found
-                (record { clean = taken.clean partial; severity_is = taken.severity partial; localized_is = taken.localized partial; message_is = taken.message partial; code_is = taken.code partial }) kept
+                (record { clean = takes.clean; severity_is = takes.severity; localized_is = takes.localized; message_is = takes.message; code_is = takes.code }) kept
           ];
       are =
           let there = kept_place body rest field.letter field.value.now field.after.now _ part.message part.code part.severity part.localized refl field.ensures.found kept in
