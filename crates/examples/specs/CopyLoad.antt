@@ -1,6 +1,10 @@
 -- Rows as the messages of a COPY. Documentation: "COPY Operations", and "Message Formats", CopyData.
 use Rattle.std.specs.Prelude.{◌≡◌, ℕ, ◌≤◌, List, [], ◌∷◌, ◌++◌, length}
-use Rattle.pg_message.specs.Message.{Cut}
+use Rattle.pg_message.specs.Message.{Cut, frame}
+
+-- a statement as a Query message, by its tag Q
+abbrev pub query_text : List ℕ → List ℕ
+query_text statement = frame 81 (statement ++ 0 ∷ [])
 
 -- bodies, one after the other
 abbrev pub joined : List (List ℕ) → List ℕ

@@ -1,8 +1,7 @@
 //! The messages of a load, and the server's answer to it.
 
-ghost use Rattle.std.specs.Prelude.{◌≡◌, ◌<◌, [], ◌∷◌, ◌++◌, OnOk, OnErr};
-ghost use Rattle.pg_message.specs.Message.{frame};
-ghost use Rattle.examples.specs.CopyLoad.{AddsCopyOf, AddsFrontOf};
+ghost use Rattle.std.specs.Prelude.{◌≡◌, ◌<◌, ◌++◌, OnOk, OnErr};
+ghost use Rattle.examples.specs.CopyLoad.{AddsCopyOf, AddsFrontOf, query_text};
 
 use super::error::LoadError;
 use pg_message::error::Error;
@@ -34,7 +33,7 @@ impl<'a> Load<'a> {
         output: &mut Vec<u8>,
     ) -> Result<Load<'a>, LoadError>
         requires { 0 < most }
-        ensures ok { OnOk result (output.new.items ≡ output.old.items ++ frame 81 (statement.now ++ 0 ∷ [])) }
+        ensures ok { OnOk result (output.new.items ≡ output.old.items ++ query_text statement.now) }
         ensures err { OnErr result (output.new.items ≡ output.old.items) }
     {
         let query = Query(statement);
