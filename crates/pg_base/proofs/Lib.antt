@@ -1,5 +1,4 @@
 pub mod AtoiLemmas
-pub mod BufMutLemmas
 pub mod CuttingLemmas
 pub mod ErrorLemmas
 pub mod IdLemmas

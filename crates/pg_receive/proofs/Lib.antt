@@ -8,13 +8,8 @@ pub mod CopyLemmas
 pub mod CountedItemsLemmas
 pub mod DataRowLemmas
 pub mod DecimalLemmas
-pub mod LastLemmas
-pub mod LayoutLawsLemmas
 pub mod LayoutLemmas
-pub mod NotificationLemmas
-pub mod ParameterStatusLemmas
 pub mod ResponseFieldsLemmas
-pub mod ResponseFirstPlacesLemmas
 pub mod ResponseLemmas
 pub mod ResponseOnlyFieldLemmas
 pub mod ResponseReadLemmas

@@ -1,5 +1,4 @@
 pub mod BindLemmas
-pub mod CancelRequestLemmas
 pub mod CountedLemmas
 pub mod ExecuteLemmas
 pub mod FrontendMessageLemmas
@@ -14,6 +13,5 @@ pub mod RawLemmas
 pub mod RoundTripLemmas
 pub mod RunLemmas
 pub mod SaslInitialResponseLemmas
-pub mod SettingsLemmas
 pub mod TargetLemmas
 pub mod ValuesLemmas

@@ -3,7 +3,6 @@ pub mod BackendItemLemmas
 pub mod BackendMessageLemmas
 pub mod BackendNumbersLemmas
 pub mod FrontendErrorLemmas
-pub mod FrontendFirstMessageRefLemmas
 pub mod FrontendFormatCodesLemmas
 pub mod FrontendMessageLemmas
 pub mod FrontendParameterTypesLemmas

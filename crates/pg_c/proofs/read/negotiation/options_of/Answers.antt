@@ -1,13 +1,52 @@
-use Rattle.std.proofs.Common.{◌≡◌, ◌≤◌, length, pos, sym, ap, ◌∙◌, arith, rules, inr}
+use Rattle.std.proofs.Common.{◌<◌, ◌≤◌, ℕ, List, length, drop, refl, arith, inl, inr, ◌≡◌, pos, sym, ap, ◌∙◌, rules}
 use Rattle.std.proofs.lemmas.Result.{err_from_is_err_and}
-use Rattle.pg_format.specs.Format.Parts.{until_nul}
-use Rattle.pg_format.specs.Format.Places.{IsReadAt}
+use Rattle.pg_base.specs.Error.{IsShort}
+use Rattle.pg_base.specs.declared.error.ProtocolFault.{ProtocolFault}
+use Rattle.pg_format.specs.Format.{Means, IsFaultOf}
+use Rattle.pg_format.specs.Format.Lists.{times}
+use Rattle.pg_format.specs.Format.Parts.{be_u16, be_u32, until_nul}
+use Rattle.pg_format.specs.Format.Places.{IsReadAt, BreaksAt}
+use Rattle.pg_format.specs.Messages.{negotiate_protocol_version, version}
+use Rattle.pg_format.proofs.FormatLaws.Places.{items_then_fault, lacks_at}
 use Rattle.pg_c.specs.Place.{part}
 use Rattle.pg_c.proofs.ClientValuesLemmas.{name_finds}
 use Rattle.pg_c.proofs.ReadLemmas.{gives_none, gives_more, gives_full, gives_front}
-use Rattle.pg_c.proofs.ReadNegotiationLemmas.{version_at, negotiation_at, count_breaks, option_breaks}
 use Rattle.pg_c.proofs.read.negotiation.options_of.Goals as goal
 use Rattle.pg_c.proofs.read.negotiation.options_of.Goals.{then-index-options, else-index-options}
+
+-- The options of a version are read after their count.
+
+-- both halves of the version
+abbrev Versions : List ℕ → ℕ → ℕ → Type 0
+Versions body major minor = version.Reads body (major, minor) (drop 4 body)
+
+version_at : (body : List ℕ) (major minor : ℕ) → be_u16.Reads body major (drop 2 body) → be_u16.Reads (drop 2 body) minor (drop 4 body) → Versions body major minor
+version_at body major minor p q = record { mid = drop 2 body; first = p; second = q }
+
+negotiation_at : (body : List ℕ) (major minor n end : ℕ) (options : List (List ℕ)) → Versions body major minor → be_u32.Reads (drop 4 body) n (drop 8 body)
+    → IsReadAt (times n until_nul) body 8 options end → Means negotiate_protocol_version body (record { major = major; minor = minor; options = options })
+negotiation_at body major minor n end options p counted read =
+    (drop end body, record { mid = drop 4 body; first = p; second = ((n, options), record { mid = drop 8 body; first = counted; second = read.reads }, refl) }, refl)
+
+-- the count isn't there
+count_breaks : (body : List ℕ) (major minor : ℕ) (fault : ProtocolFault) → Versions body major minor → 4 ≤ length body → IsShort body 4 4 fault → IsFaultOf negotiate_protocol_version body fault
+count_breaks body major minor fault p within short = inr (record { value = (major, minor); mid = drop 4 body; reads = p; breaks = inl (lacks_at body 4 4 fault within short) })
+
+-- an option has no end
+option_breaks : (body : List ℕ) (major minor n k at : ℕ) (options : List (List ℕ)) (fault : ProtocolFault) → Versions body major minor → be_u32.Reads (drop 4 body) n (drop 8 body)
+    → IsReadAt (times k until_nul) body 8 options at → k < n → BreaksAt until_nul body at fault → IsFaultOf negotiate_protocol_version body fault
+option_breaks body major minor n k at options fault p counted read fewer breaks =
+    inr (record {
+      value = (major, minor);
+      mid = drop 4 body;
+      reads = p;
+      breaks = inr (record {
+        value = n;
+        mid = drop 8 body;
+        reads = counted;
+        breaks = items_then_fault until_nul options n (length body) (drop 8 body) (drop at body) fault read.reads.1 breaks (omega (arith, read.reads.0, fewer));
+      });
+    })
 
 pub returns-in_err-count-clause-fault : goal.returns-in_err-count-clause-fault
 returns-in_err-count-clause-fault c =

@@ -1,10 +1,19 @@
-use Rattle.std.proofs.Common.{rules}
+use Rattle.std.proofs.Common.{◌<ℤ◌, pos, arith, rules}
+use Rattle.std.proofs.lemmas.Int.{ints, to_z-of_z}
 use Rattle.std.specs.Int.{w32}
-use Rattle.std.proofs.lemmas.Int.{to_z-of_z}
+use Rattle.pg_frames.specs.declared.relay.error.RelayError.{RelayError}
+use Rattle.pg_frames.specs.declared.relay.error.RelayError.TheVariants.{BadLength, TooLong, NotFrames, OutOfMemory}
+use Rattle.pg_c.specs.Relay.Refusal.{relay_number}
 use mir.Val.{SFits}
 use Rattle.pg_frames.specs.Relay.Error.{error_words}
-use Rattle.pg_c.proofs.RelayRefusalLemmas.{relay_below}
 use Rattle.pg_c.proofs.relay.refusal.report_relay.Goals as goal
+
+-- Each number of a relay's refusal is below 0.
+relay_below : (error : RelayError) → relay_number error <ℤ pos 0
+relay_below (BadLength length) = omega (arith, ints)
+relay_below (TooLong length limit) = omega (arith, ints)
+relay_below NotFrames = omega (arith, ints)
+relay_below OutOfMemory = omega (arith, ints)
 
 pub returns-clause-report : goal.returns-clause-report
 returns-clause-report c =

@@ -1,10 +1,18 @@
-use Rattle.std.proofs.Common.{subst}
+use Rattle.std.proofs.Common.{ℕ, ◌<◌, List, length, map, arith, get_or, subst}
+use Rattle.std.specs.List.{All}
+use Rattle.std.proofs.lemmas.List.{length-map, get_or-map, take_all}
+use Rattle.std.proofs.lemmas.List.Elements.{All-get_or, All-map, All-more}
 use Rattle.std.proofs.lemmas.Result.{err_from_is_err_and}
-use Rattle.std.proofs.lemmas.List.{take_all}
-use Rattle.std.proofs.lemmas.List.Elements.{All-map, All-more}
 use Rattle.pg_send.specs.Startup.{IsReadable}
-use Rattle.pg_send.proofs.SettingsLemmas.{readable_at}
 use Rattle.pg_send.proofs.message.settings.check_settings.Goals as goal
+
+-- Settings, one by one.
+
+-- the setting at a place is readable where all are
+readable_at : {T : Type 0} (pair : T → List ℕ × List ℕ) (settings : List T) (i : ℕ) (d : T) → i < length settings → All IsReadable (map pair settings) → IsReadable (pair (get_or settings i d))
+readable_at pair settings i d lt all =
+    let within : i < length (map pair settings) = omega (arith, lt, length-map settings pair) in
+    rw (← get_or-map pair settings i d (pair d) lt) (All-get_or IsReadable (map pair settings) i (pair d) within all)
 
 pub returns-in_err-check_setting-clause-fault : goal.returns-in_err-check_setting-clause-fault
 returns-in_err-check_setting-clause-fault g c =

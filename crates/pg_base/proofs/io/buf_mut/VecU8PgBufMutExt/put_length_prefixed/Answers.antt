@@ -1,12 +1,39 @@
-use Rattle.std.proofs.Common.{ℕ, None, inl, inr, arith, ap, ◌∙◌, ◌++◌, length, length-append, vec_len}
+use Rattle.std.proofs.Common.{◌≡◌, ℕ, ◌+◌, ◌-◌, List, ◌++◌, length, take, drop, ap, arith, append_assoc, length-append, None, inl, inr, ◌∙◌, vec_len}
+use Rattle.std.proofs.lemmas.List.{take_at, drop_at}
 use Rattle.std.proofs.lemmas.Result.{IfOk-weaker, IfErr-weaker}
+use Rattle.pg_base.specs.Numbers.{be32}
+use Rattle.pg_base.specs.BufMut.{four_zeros, prefixed}
 use Rattle.pg_base.specs.declared.error.Error.TheVariants.{Protocol}
 use Rattle.pg_base.specs.declared.error.ProtocolFault.TheVariants.{MessageTooLong}
-use Rattle.pg_base.specs.BufMut.{four_zeros}
-use Rattle.pg_base.proofs.BufMutLemmas.{Holds, len_is, take_old, is_prefixed}
 use Rattle.pg_base.proofs.io.buf_mut.VecU8PgBufMutExt.put_length_prefixed.Given.{Over}
 use Rattle.pg_base.proofs.io.buf_mut.VecU8PgBufMutExt.put_length_prefixed.Goals.{After-finish}
 use Rattle.pg_base.proofs.io.buf_mut.VecU8PgBufMutExt.put_length_prefixed.Goals as goal
+
+-- A length is set before what was written after four zeros.
+
+-- a buffer holds its old bytes, four zeros, and what was added
+record Holds (old added whole : List ℕ) (offset len : ℕ) : Type 0 where
+  pub parts : whole ≡ (old ++ four_zeros) ++ added
+  pub starts : length old ≡ offset
+  pub ends : length whole ≡ len
+
+len_is : (old added whole : List ℕ) (offset len : ℕ) → Holds old added whole offset len → len ≡ offset + (length added + 4)
+len_is old added whole offset len h =
+    omega (arith, ap length h.parts, length-append (old ++ four_zeros) added, length-append old four_zeros, h.starts, h.ends)
+
+take_old : (old added whole : List ℕ) (offset len : ℕ) → Holds old added whole offset len → take offset whole ≡ old
+take_old old added whole offset len h = rw (h.parts, append_assoc) (take_at old (four_zeros ++ added) offset h.starts)
+
+drop_both : (old added whole : List ℕ) (offset len : ℕ) → Holds old added whole offset len → drop (offset + 4) whole ≡ added
+drop_both old added whole offset len h =
+    rw h.parts (drop_at (old ++ four_zeros) added (offset + 4) (omega (arith, length-append old four_zeros, h.starts)))
+
+is_prefixed : (old added whole : List ℕ) (offset len : ℕ) → Holds old added whole offset len
+    → take offset whole ++ be32 (len - offset) ++ drop (offset + 4) whole ≡ old ++ prefixed added
+is_prefixed old added whole offset len h =
+    let e = len_is old added whole offset len h in
+    let n : len - offset ≡ length added + 4 = omega arith in
+    rw (take_old old added whole offset len h, drop_both old added whole offset len h, n) (append_assoc old (be32 (length added + 4)) added)
 
 pub finish-requires : goal.finish-requires
 finish-requires g c =
