@@ -2,7 +2,7 @@
 use Rattle.std.specs.Prelude.{◌≡◌, ℕ, ◌-◌, ◌^◌, ◌<◌, min, List, [], ◌∷◌, ◌++◌, Option, None}
 use Rattle.std.specs.Option.{option_or}
 use Rattle.pg_base.specs.declared.error.ProtocolFault.{ProtocolFault}
-use Rattle.pg_base.specs.Naming.{Naming, IsNamingInRange, ended_name}
+use Rattle.pg_base.specs.Naming.{Naming, IsNamingInRange, with_nul}
 use Rattle.pg_base.specs.Numbers.{be16, be32}
 
 -- a count or a sum, or the greatest that a `usize` holds where it is more
@@ -32,7 +32,7 @@ number32 n = record { text = be32 n; fault = None; IsInRange = n < 2 ^ 32 }
 
 -- a name and a NUL
 abbrev pub name : Naming → PartLaw
-name naming = record { text = ended_name naming; fault = None; IsInRange = IsNamingInRange naming }
+name naming = record { text = with_nul naming; fault = None; IsInRange = IsNamingInRange naming }
 
 -- two, one after the other, and the first limit that they break
 abbrev pub both : PartLaw → PartLaw → PartLaw

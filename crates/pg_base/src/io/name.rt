@@ -1,7 +1,7 @@
 //! Names and texts that a NUL ends.
 
 ghost use Rattle.std.specs.Prelude.{◌≡◌, ◌+◌, ◌≤◌, ◌++◌, length};
-ghost use Rattle.pg_base.specs.Naming.{Naming, Numbered, Free, IsNamingInRange, ended_name};
+ghost use Rattle.pg_base.specs.Naming.{Naming, Numbered, Free, IsNamingInRange, with_nul};
 ghost use Rattle.pg_base.specs.Part.{saturated};
 ghost use Rattle.pg_base.specs.Sink.{HasRoom};
 
@@ -15,12 +15,12 @@ pub trait Name: Copy {
 
     /// The length of the name and a NUL, in bytes; it saturates.
     fn ended_len(&self) -> usize
-        ensures { result ≡ saturated (length (ended_name (naming self.now))) };
+        ensures { result ≡ saturated (length (with_nul (naming self.now))) };
 
     /// Adds the name and a NUL, in room that is there.
     fn put_ended<S: Sink>(&self, sink: &mut S)
-        requires { HasRoom (S.capacity sink.old) (S.written sink.old) (ended_name (naming self.now)) }
-        ensures written { S.written sink.new ≡ S.written sink.old ++ ended_name (naming self.now) }
+        requires { HasRoom (S.capacity sink.old) (S.written sink.old) (with_nul (naming self.now)) }
+        ensures written { S.written sink.new ≡ S.written sink.old ++ with_nul (naming self.now) }
         ensures capacity { S.capacity sink.old ≤ S.capacity sink.new }
         ensures loan { S.loan sink.new ≡ S.loan sink.old }
         ensures range { IsNamingInRange (naming self.now) };
