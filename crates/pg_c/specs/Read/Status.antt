@@ -5,22 +5,11 @@ use Rattle.pg_format.specs.Messages.{Cancel, Notification, notification, Setting
 use Rattle.pg_receive.specs.BackendKeyData.{raw_key_data}
 use Rattle.pg_receive.specs.CommandComplete.{row_count, tag_text}
 use Rattle.pg_receive.specs.ParameterStatus.{raw_parameter_status}
-use Rattle.pg_receive.specs.ReadyForQuery.{shown_status}
-use Rattle.pg_receive.specs.declared.message.notification.NotificationRef.{NotificationRef}
-use Rattle.pg_receive.specs.declared.message.ready_for_query.ReadyForQuery.{ReadyForQuery}
 use Rattle.pg_c.specs.Place.{part}
 use Rattle.pg_c.specs.declared.read.status.PgmsgCommand.{PgmsgCommand}
 use Rattle.pg_c.specs.declared.read.status.PgmsgKeyData.{PgmsgKeyData}
 use Rattle.pg_c.specs.declared.read.status.PgmsgNotification.{PgmsgNotification}
 use Rattle.pg_c.specs.declared.read.status.PgmsgParameterStatus.{PgmsgParameterStatus}
-
--- the notification that was read, as the page has it
-abbrev pub shown_notification : NotificationRef → Notification
-shown_notification n = record { process_id = n.process_id; channel = n.channel.now; payload = n.payload.now }
-
--- the status that was read, as the page has it
-abbrev pub shown_ready : ReadyForQuery → Status
-shown_ready ready = shown_status ready.transaction_status
 
 -- the body means a notification, and this is it
 pub record ReadsNotification (body : List ℕ) (read : PgmsgNotification) : Type 0 where

@@ -4,10 +4,11 @@ ghost use Rattle.std.specs.Prelude.{◌≡◌, ◌≤◌, ◌<ℤ◌, ◌≤ℤ�
 ghost use Rattle.pg_format.specs.Messages as page;
 ghost use Rattle.pg_receive.specs.BackendKeyData.{raw_key_data, raw_key};
 ghost use Rattle.pg_receive.specs.CommandComplete.{tag_text};
+ghost use Rattle.pg_receive.specs.Notification.{notification_borrowed};
 ghost use Rattle.pg_receive.specs.ParameterStatus.{raw_parameter_status, raw_setting};
+ghost use Rattle.pg_receive.specs.ReadyForQuery.{ready_shown};
 ghost use Rattle.pg_format.specs.Received.{max_body};
 ghost use Rattle.pg_c.specs.Read.{IfRead, ReadsBody, RefusesBody};
-ghost use Rattle.pg_c.specs.Read.Status.{shown_notification, shown_ready};
 ghost use Rattle.pg_c.specs.Read.Status.{ReadsNotification, ReadsSetting, ReadsKey, ReadsCommand, IsStatusLetter};
 
 use crate::place::PgmsgSpan;
@@ -93,7 +94,7 @@ pub extern "C" fn pgmsg_read_notification(
 }
 
 fn notification_of(body: &[u8]) -> Result<NotificationRef<'_>, ProtocolFault>
-    ensures { ReadsBody page.notification shown_notification body.now result }
+    ensures { ReadsBody page.notification notification_borrowed body.now result }
 {
     check_body(body)?;
     NotificationRef::read(body)
@@ -230,7 +231,7 @@ pub extern "C" fn pgmsg_read_ready(alloc: Global, body: &[u8], fault: &mut Pgmsg
 }
 
 fn status_of(body: &[u8]) -> Result<ReadyForQuery, ProtocolFault>
-    ensures { ReadsBody page.ready_for_query shown_ready body.now result }
+    ensures { ReadsBody page.ready_for_query ready_shown body.now result }
 {
     check_body(body)?;
     ReadyForQuery::read(body)
