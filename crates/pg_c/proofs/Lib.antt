@@ -10,6 +10,5 @@ pub mod ReadLemmas
 pub mod ReadListsLemmas
 pub mod ReadRowLemmas
 pub mod RefusalLemmas
-pub mod RelayPassageLemmas
 pub mod ServerLettersLemmas
 pub mod ServerListsLemmas
