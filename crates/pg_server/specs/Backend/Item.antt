@@ -3,6 +3,7 @@ use Rattle.std.specs.Prelude.{ℕ, ◌==◌, ◌||◌, Bool, true, false, List, 
 use Rattle.std.specs.List.{flat_map, list_any}
 use Rattle.pg_base.specs.Numbers.{be16}
 use Rattle.pg_base.specs.Part.{PartLaw}
+use Rattle.pg_base.specs.Tagged.{IsSame}
 use Rattle.pg_base.specs.Text.{ended}
 use Rattle.pg_base.specs.declared.error.ProtocolFault.{ProtocolFault}
 use Rattle.pg_base.specs.declared.error.ProtocolFault.TheVariants.{TooMany, TextHoldsNul}
@@ -47,6 +48,10 @@ text_part text = record { text = ended text; fault = text_fault text; IsInRange 
 -- an item, which may be broken
 abbrev pub item_part : {V : Type 0} → Format V → (V → Bool) → (V → Type 0) → V → PartLaw
 item_part format is_broken IsInRange value = record { text = format.Writes value; fault = nul_fault (is_broken value); IsInRange = IsInRange value }
+
+-- the part is that of an item with this value
+abbrev pub IsItemPart : {V : Type 0} → Format V → (V → Bool) → (V → Type 0) → V → PartLaw → Type 0
+IsItemPart format is_broken IsInRange value part = IsSame part (item_part format is_broken IsInRange value)
 
 -- items, one after the other
 abbrev pub items_part : {V : Type 0} → Format V → (V → Bool) → (V → Type 0) → List V → PartLaw

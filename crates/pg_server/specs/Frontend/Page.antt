@@ -2,6 +2,9 @@
 use Rattle.std.specs.Prelude.{option_copied}
 use Rattle.pg_format.specs.Messages.{Bind, Parse, Execute, FunctionCall, SaslInitial, Cancel}
 use Rattle.pg_format.specs.Messages as page
+use Rattle.pg_format.specs.Format.{Format}
+use Rattle.pg_format.specs.Format.Parts.{one_of}
+use Rattle.pg_base.specs.declared.error.ProtocolFault.TheVariants.{UnknownMessageType}
 use Rattle.pg_server.specs.declared.frontend.bind.BindRef.{BindRef}
 use Rattle.pg_server.specs.declared.frontend.parse.ParseRef.{ParseRef}
 use Rattle.pg_server.specs.declared.frontend.execute.ExecuteRef.{ExecuteRef}
@@ -20,6 +23,10 @@ shown_parse p = record { statement = p.statement.now; query = p.query.now; types
 
 abbrev pub shown_execute : ExecuteRef → Execute
 shown_execute e = record { portal = e.portal.now; limit = e.limit }
+
+-- the letter that says of what kind a name is
+abbrev pub target_format : Format page.Target
+target_format = one_of page.target_of page.target_letter UnknownMessageType
 
 abbrev pub shown_target : Target → page.Target
 shown_target targets.Statement = page.statement

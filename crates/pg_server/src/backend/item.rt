@@ -1,9 +1,8 @@
 //! Lists in a body, one item after the other.
 
 ghost use Rattle.std.specs.Prelude.{◌≡◌, Bool, map};
-ghost use Rattle.pg_base.specs.Tagged.{IsSame};
 ghost use Rattle.pg_format.specs.Format.{Format};
-ghost use Rattle.pg_server.specs.Backend.Item.{item_part, too_many, max_unsigned, nul_fault};
+ghost use Rattle.pg_server.specs.Backend.Item.{IsItemPart, too_many, max_unsigned, nul_fault};
 
 use pg_base::ProtocolFault;
 use pg_base::io::Sink;
@@ -34,8 +33,7 @@ pub trait Item: Copy {
 
     /// Its parts, which have a fault where it is broken.
     fn parts(&self) -> Self::Parts
-        ensures { IsSame (Self.Parts.part result)
-            (item_part format is_broken IsInRange (value self.now)) };
+        ensures { IsItemPart format is_broken IsInRange (value self.now) (Self.Parts.part result) };
 }
 
 /// What a caller has in the place of an item.

@@ -1,10 +1,8 @@
 //! A prepared statement or a portal, as a Describe or a Close names the one or the other.
 
-ghost use Rattle.pg_base.specs.declared.error.ProtocolFault.TheVariants.{UnknownMessageType};
-ghost use Rattle.pg_format.specs.Format.Parts.{one_of};
-ghost use Rattle.pg_format.specs.Messages.{targeted, target_of, target_letter};
+ghost use Rattle.pg_format.specs.Messages.{targeted};
 ghost use Rattle.pg_server.specs.Frontend.Message.{GivesAt, ReadsBody};
-ghost use Rattle.pg_server.specs.Frontend.Page.{shown_target, shown_targeted};
+ghost use Rattle.pg_server.specs.Frontend.Page.{shown_target, shown_targeted, target_format};
 
 use crate::frontend::error::FrontendFault;
 use crate::frontend::offsets::{bytes_at, end_at, text_at};
@@ -46,7 +44,7 @@ impl<'a> TargetRef<'a> {
 
 // What the letter at the front of a body stands for.
 fn letter_of(body: &[u8]) -> Result<(Target, usize), FrontendFault>
-    ensures { GivesAt (one_of target_of target_letter UnknownMessageType) shown_target body.now 0 result }
+    ensures { GivesAt target_format shown_target body.now 0 result }
 {
     let (letter, end) = bytes_at(body, 0, 1)?;
     match letter[0] {
