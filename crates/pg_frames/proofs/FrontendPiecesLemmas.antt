@@ -15,8 +15,9 @@ use Rattle.pg_frames.specs.declared.frontend.message.ClientMessageKind.TheVarian
 use Rattle.pg_frames.specs.declared.frontend.pieces.ClientStreamEnd.{ClientStreamEnd}
 use Rattle.pg_frames.specs.declared.frontend.pieces.ClientStreamEnd.TheVariants.{Rest, Fault}
 use Rattle.pg_frames.specs.Frontend.Frame.{BeginsWith, Whole, IsStreamFault}
-use Rattle.pg_frames.specs.Frontend.Reader.{Reading, fed}
-use Rattle.pg_frames.specs.Frontend.Pieces.{Stream, kinds_and_bodies, IsEnd, IsRead}
+use Rattle.pg_frames.specs.Frontend.Reader.{Reading, WholeIn, fed}
+use Rattle.pg_frames.specs.Frontend.Pieces.{Stream, kinds_and_bodies, IsEnd, IsRead, TakesMany}
+use Rattle.pg_frames.specs.Laws.{ReadsAll}
 use Rattle.pg_frames.proofs.FrontendFrameLemmas.{whole_wants_none, fault_not_whole, fault_wants_none, one_fault, one_message, fault_stays}
 
 -- more bytes at the end are more of the rest
@@ -116,3 +117,25 @@ pub one_read : (limit : ℕ) (bytes : List ℕ) (xs ys : List (ClientMessageKind
 one_read limit bytes xs ys d e p q =
     let one = one_stream limit expects.First bytes xs ys p.state q.state p.rest q.rest p.stream (end_not_whole limit p.state p.rest d p.ends) q.stream (end_not_whole limit q.state q.rest e q.ends) in
     (one.0, one_end limit q.state q.rest d e (rw (one.1, one.2) at p.ends) q.ends)
+
+-- ---- of readings
+
+same_reading : (a b : Reading) → a.limit ≡ b.limit → a.expects ≡ b.expects → a.bytes ≡ b.bytes → a ≡ b
+same_reading a b e f g =
+    let limits : a ≡ record a { limit = b.limit } = ap (λ (limit : ℕ). record a { limit = limit }) e in
+    limits ∙ ap (λ (state : Expects). record a { limit = b.limit; expects = state }) f ∙ ap (λ (bytes : List ℕ). record b { bytes = bytes }) g
+
+-- a reading takes one list of messages, and becomes one reading that isn't whole
+pub one_taken : (old : Reading) (xs ys : List (ClientMessageKind × List ℕ)) (r s : Reading) → ReadsAll TakesMany WholeIn old xs r → ReadsAll TakesMany WholeIn old ys s → (xs ≡ ys) × (r ≡ s)
+one_taken old xs ys r s p q =
+    let none : Whole old.limit r.expects r.bytes → ⊥ = λ whole. p.1 (rw p.0.limit whole) in
+    let other : Whole old.limit s.expects s.bytes → ⊥ = λ whole. q.1 (rw q.0.limit whole) in
+    let one = one_stream old.limit old.expects old.bytes xs ys r.expects s.expects r.bytes s.bytes p.0.stream none q.0.stream other in
+    (one.0, same_reading r s (p.0.limit ∙ sym q.0.limit) one.1 one.2)
+
+-- what was left, with the bytes that come next, goes on with the stream
+pub taken_append : (x : Reading) (y : List ℕ) (xs ys : List (ClientMessageKind × List ℕ)) (r s : Reading) → TakesMany x xs r → TakesMany (fed r y) ys s → TakesMany (fed x y) (xs ++ ys) s
+taken_append x y xs ys r s p q = record {
+  limit = q.limit ∙ p.limit;
+  stream = stream_append x.limit x.expects r.expects s.expects x.bytes y xs ys r.bytes s.bytes p.stream (rw p.limit at q.stream);
+}

@@ -1,5 +1,6 @@
 -- What a stream that comes in pieces is read into.
-use Rattle.std.specs.Prelude.{◌≡◌, ℕ, List, [], ◌∷◌, ◌++◌, length, map}
+use Rattle.std.specs.Prelude.{◌≡◌, ℕ, List, [], ◌∷◌, ◌++◌, length, map, Vec}
+use Rattle.std.specs.declared.alloc.Global.{Global}
 use Rattle.std.specs.Borrow.{Bor}
 use Rattle.pg_base.specs.Format.{backend_tag}
 use Rattle.pg_format.specs.declared.received.ReceivedMessage.{ReceivedMessage}
@@ -26,3 +27,11 @@ pub record IsRead (bytes : List ℕ) (messages : List (ℕ × List ℕ)) (end : 
   pub rest : List ℕ
   pub stream : Stream bytes messages rest
   pub ends : IsEnd rest end
+
+-- the pieces, when joined, are read into these messages and this end
+abbrev pub ReadsPieces : {A M E : Type 0} → (List A → List M) → (List ℕ → List M → E → Type 0) → List (Bor (List ℕ)) → (Vec A Global × E) → Type 0
+ReadsPieces shown Reads pieces read = Reads (joined pieces) (shown read.0.items) read.1
+
+-- whatever stream the messages were, and then the rest, they and the rest are still
+abbrev pub ReadsOn : Vec ReceivedMessage Global → Vec ReceivedMessage Global → List ℕ → List ℕ → Type 0
+ReadsOn old new before after = (bytes : List ℕ) → Stream bytes (tags_and_bodies old.items) before → Stream bytes (tags_and_bodies new.items) after

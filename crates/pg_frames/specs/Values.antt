@@ -4,8 +4,8 @@ use Rattle.pg_base.specs.Decode.{Decodes}
 use Rattle.pg_base.specs.Format.{backend_tag}
 use Rattle.pg_base.specs.declared.error.Error.{Error}
 use Rattle.pg_base.specs.declared.error.Error.TheVariants.{Protocol, OutOfMemory}
-use Rattle.pg_base.specs.declared.format.BackendMessageFormat.{BackendMessageFormat}
-use Rattle.pg_format.specs.Format.{Format, Means, IsFaultOf}
+use Rattle.pg_format.specs.Format.{Means, IsFaultOf}
+use Rattle.pg_format.specs.declared.received.BackendMessage.{Ghosts}
 
 -- the bodies of the messages with this tag, in order; other messages are passed over
 abbrev pub bodies_of : ℕ → List (ℕ × List ℕ) → List (List ℕ)
@@ -19,13 +19,14 @@ EachHas Has [] (value ∷ values) = ⊥
 EachHas Has (body ∷ bodies) [] = ⊥
 EachHas Has (body ∷ bodies) (value ∷ values) = Has body value × EachHas Has bodies values
 
--- the messages of a kind mean these values, each by its body; and these are the answers of their decoding
-abbrev pub HaveValues : {V : Type 0} → BackendMessageFormat → Format V → List (ℕ × List ℕ) → List V → Type 0
-HaveValues kind format messages values = EachHas (Means format) (bodies_of (backend_tag kind) messages) values
+-- the messages of a type's kind mean these values, each by its body
+abbrev pub HaveValues : {A : Type 0} (law : Ghosts A) → List (ℕ × List ℕ) → List law.Shown → Type 0
+HaveValues law messages values = EachHas (Means law.format) (bodies_of (backend_tag law.FORMAT) messages) values
 
-abbrev pub HaveAnswers : {A V : Type 0} → BackendMessageFormat → Format V → (List ℕ → Type 0) → (A → V) → List (ℕ × List ℕ) → List (Result A Error) → Type 0
-HaveAnswers kind format needs_none shown messages answers =
-    EachHas (λ body. Decodes (Means format) (IsFaultOf format) needs_none shown (Some kind) body) (bodies_of (backend_tag kind) messages) answers
+-- these are the answers of decoding them
+abbrev pub HaveAnswers : {A : Type 0} → Ghosts A → List (ℕ × List ℕ) → List (Result A Error) → Type 0
+HaveAnswers law messages answers =
+    EachHas (λ body. Decodes (Means law.format) (IsFaultOf law.format) law.NeedsNoMemory law.shown (Some law.FORMAT) body) (bodies_of (backend_tag law.FORMAT) messages) answers
 
 -- two answers for one body: equal values, or not a value and a fault; memory may run out in either
 abbrev pub Agree : {A V : Type 0} → (A → V) → Result A Error → Result A Error → Type 0

@@ -121,8 +121,8 @@ impl Block {
 #[inline(always)]
 fn share(shared: &mut Bytes, buffer: &mut BytesMut) -> Result<(), AllocError>
     requires { 0 < length shared.old → buffer.old.items ≡ [] }
-    ensures all { OnOk result ((shared.new ≡ shared.old ++ buffer.old.items)
-        × (buffer.new.items ≡ [])) }
+    ensures all { OnOk result (shared.new ≡ shared.old ++ buffer.old.items) }
+    ensures none { OnOk result (buffer.new.items ≡ []) }
     ensures err { OnErr result ((shared.new ≡ shared.old) × (buffer.new ≡ buffer.old)) }
 {
     if shared.is_empty() {

@@ -1,8 +1,7 @@
 //! The message at the front of some bytes.
 
-ghost use Rattle.std.specs.Prelude.{IfOk, IfErr, IfSome, IfNone};
-ghost use Rattle.pg_base.specs.Cutting.{Begins};
-ghost use Rattle.pg_base.specs.Format.{backend_tag};
+ghost use Rattle.std.specs.Prelude.{IfErr};
+ghost use Rattle.pg_frames.specs.Frame.{IfFound, IfNotFound, LiesAtFront};
 ghost use Rattle.pg_frames.specs.Stream.{WantsMore, IsStreamFault};
 
 use crate::head::{FrameHead, MIN_LENGTH};
@@ -26,9 +25,8 @@ pub struct Frame<'a> {
 // Inlined, so that the frame isn't written to memory and read again.
 #[inline(always)]
 pub fn next_frame(stream: &[u8]) -> Result<Option<Frame<'_>>, ProtocolFault>
-    ensures whole { IfOk result (λ some. IfSome some
-        (λ frame. Begins stream.now (backend_tag frame.format) frame.body.now frame.rest.now)) }
-    ensures part { IfOk result (λ some. IfNone some (WantsMore stream.now)) }
+    ensures whole { IfFound result (LiesAtFront stream.now) }
+    ensures part { IfNotFound result (WantsMore stream.now) }
     ensures fault { IfErr result (IsStreamFault stream.now) }
 {
     let Some(head) = FrameHead::of(stream) else {

@@ -1,9 +1,10 @@
 //! The messages of a stream that is there in pieces.
 
-ghost use Rattle.std.specs.Prelude.{ℕ, List, IfOk, OnOk, MatchOption, IsOkUnless};
+ghost use Rattle.std.specs.Prelude.{IfOk, OnOk, IsOkUnless};
 ghost use Rattle.pg_base.specs.declared.error.Error.TheVariants.{OutOfMemory};
-ghost use Rattle.pg_frames.specs.Pieces.{joined, tags_and_bodies, IsRead};
-ghost use Rattle.pg_frames.specs.Stream.{Stream, WantsMore, IsStreamFault};
+ghost use Rattle.pg_frames.specs.Frame.{MatchFound};
+ghost use Rattle.pg_frames.specs.Pieces.{tags_and_bodies, IsRead, ReadsOn, ReadsPieces};
+ghost use Rattle.pg_frames.specs.Stream.{WantsMore, IsStreamFault};
 
 use crate::reader::FrameReader;
 use pg_base::{Error, ProtocolFault};
@@ -25,8 +26,7 @@ pub fn read_pieces(
     alloc: Global,
     pieces: &[&[u8]],
 ) -> Result<(Vec<ReceivedMessage>, StreamEnd), Error>
-    ensures read { IfOk result (λ read. IsRead (joined pieces.now)
-        (tags_and_bodies read.0.items) read.1) }
+    ensures read { IfOk result (ReadsPieces tags_and_bodies IsRead pieces.now) }
     ensures memory { IsOkUnless result OutOfMemory }
 {
     let mut reader = FrameReader::new(alloc);
@@ -46,11 +46,8 @@ fn take_all(
     messages: &mut Vec<ReceivedMessage>,
 ) -> Result<Option<ProtocolFault>, Error>
     // The messages and what is left are the stream that they were before.
-    ensures stream { OnOk result ((bytes : List ℕ)
-        → Stream bytes (tags_and_bodies messages.old.items) reader.old
-        → Stream bytes (tags_and_bodies messages.new.items) reader.new) }
-    ensures end { IfOk result (λ some. MatchOption some (WantsMore reader.new)
-        (IsStreamFault reader.new)) }
+    ensures stream { OnOk result (ReadsOn messages.old messages.new reader.old reader.new) }
+    ensures end { MatchFound result (WantsMore reader.new) (IsStreamFault reader.new) }
     ensures memory { IsOkUnless result OutOfMemory }
 {
     loop {

@@ -1,8 +1,8 @@
 //! A message of any tag at the front of some bytes.
 
-ghost use Rattle.std.specs.Prelude.{IfOk, IfErr, IfSome, IfNone};
-ghost use Rattle.pg_base.specs.Cutting.{Begins};
-ghost use Rattle.pg_frames.specs.Stream.Raw.{WantsMore, HasBadLength};
+ghost use Rattle.std.specs.Prelude.{IfErr};
+ghost use Rattle.pg_frames.specs.Frame.{IfFound, IfNotFound};
+ghost use Rattle.pg_frames.specs.Stream.Raw.{WantsMore, HasBadLength, RawLiesAtFront};
 
 use crate::head::{FrameHead, MIN_LENGTH};
 use pg_base::ProtocolFault;
@@ -22,9 +22,8 @@ pub struct RawFrame<'a> {
 /// [`next_frame`](crate::next_frame) but of any tag, also one that no server is known to send. It is
 /// `BadLength` where the length is below 4. Documentation: "Messaging Overview".
 pub fn next_raw_frame(stream: &[u8]) -> Result<Option<RawFrame<'_>>, ProtocolFault>
-    ensures whole { IfOk result (λ some. IfSome some
-        (λ frame. Begins stream.now frame.tag frame.body.now frame.rest.now)) }
-    ensures part { IfOk result (λ some. IfNone some (WantsMore stream.now)) }
+    ensures whole { IfFound result (RawLiesAtFront stream.now) }
+    ensures part { IfNotFound result (WantsMore stream.now) }
     ensures fault { IfErr result (HasBadLength stream.now) }
 {
     let Some(head) = FrameHead::of(stream) else {

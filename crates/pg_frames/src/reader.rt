@@ -1,10 +1,9 @@
 //! A reader of messages from a stream that comes in pieces.
 
-ghost use Rattle.std.specs.Prelude.{◌≡◌, ◌≢◌, ◌⊎◌, ◌<◌, IsTrue, ◌+◌, ◌≤◌, ◌==◌, [], ◌++◌, length, take, drop, Some, None, Ok, Err, IsSome, IfOk, OnOk, IfErr, OnErr, IfSome, IfNone, MatchResult, IsOkUnless};
-ghost use Rattle.pg_base.specs.declared.error.ProtocolFault.{ProtocolFault};
+ghost use Rattle.std.specs.Prelude.{◌≡◌, ◌≢◌, ◌==◌, [], ◌++◌, length, None, Ok, OnOk, IfErr, OnErr, IsOkUnless};
 ghost use Rattle.pg_base.specs.declared.error.Error.TheVariants.{Protocol, OutOfMemory};
-ghost use Rattle.pg_base.specs.Cutting.{Begins};
-ghost use Rattle.pg_base.specs.Format.{backend_tag};
+ghost use Rattle.pg_frames.specs.Frame.{IfFound, IfNotFound};
+ghost use Rattle.pg_frames.specs.Reader.{TakesMessage, IsFoundUnless, GivesFault};
 ghost use Rattle.pg_frames.specs.Stream.{Whole, WantsMore, IsStreamFault, IsReaderError};
 
 use crate::block::Block;
@@ -81,19 +80,15 @@ impl FrameReader {
     /// again: after a fault it gives the fault again, and after `OutOfMemory` it gives the message
     /// as soon as there is memory.
     pub fn next_message(&mut self) -> Result<Option<ReceivedMessage>, Error>
-        ensures message { IfOk result (λ some. IfSome some
-            (λ message. Begins self.old (backend_tag message.format) message.contents self.new)) }
-        ensures partial { IfOk result (λ some. IfNone some (WantsMore self.old
-            × (self.new ≡ self.old))) }
+        ensures message { IfFound result (λ message. TakesMessage self.old message self.new) }
+        ensures partial { IfNotFound result (WantsMore self.old × (self.new ≡ self.old)) }
         ensures error { IfErr result (IsReaderError self.old) }
         ensures err { OnErr result (self.new ≡ self.old) }
 
         // Each answer comes wherever it is due.
-        ensures whole_due { Whole self.old → MatchResult result IsSome
-            (λ error. error ≡ OutOfMemory) }
+        ensures whole_due { Whole self.old → IsFoundUnless result OutOfMemory }
         ensures partial_due { WantsMore self.old → result ≡ Ok None }
-        ensures fault_due { (fault : ProtocolFault) → IsStreamFault self.old fault
-            → result ≡ Err (Protocol None fault) }
+        ensures fault_due { GivesFault result (IsStreamFault self.old) (Protocol None) }
     {
         self.take_next()
     }
@@ -102,10 +97,8 @@ impl FrameReader {
     #[inline(always)]
     #[tactic(auto, using(crate::proofs::StreamLemmas::taken))]
     fn take_next(&mut self) -> Result<Option<ReceivedMessage>, Error>
-        ensures message { IfOk result (λ some. IfSome some
-            (λ message. Begins self.old (backend_tag message.format) message.contents self.new)) }
-        ensures partial { IfOk result (λ some. IfNone some (WantsMore self.old
-            × (self.new ≡ self.old))) }
+        ensures message { IfFound result (λ message. TakesMessage self.old message self.new) }
+        ensures partial { IfNotFound result (WantsMore self.old × (self.new ≡ self.old)) }
         ensures error { IfErr result (IsReaderError self.old) }
         ensures err { OnErr result (self.new ≡ self.old) }
     {

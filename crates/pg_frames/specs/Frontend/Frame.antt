@@ -11,6 +11,7 @@ use Rattle.pg_server.specs.declared.frontend.error.FrontendFault.{FrontendFault}
 use Rattle.pg_server.specs.declared.frontend.error.FrontendFault.TheVariants.{UnknownTag, BadLength, FirstTooLong}
 use Rattle.pg_frames.specs.declared.frontend.frame.Expects.{Expects}
 use Rattle.pg_frames.specs.declared.frontend.frame.Expects.TheVariants as expects
+use Rattle.pg_frames.specs.declared.frontend.frame.FrontendFrame.{FrontendFrame}
 use Rattle.pg_frames.specs.declared.frontend.message.ClientMessageKind.{ClientMessageKind}
 use Rattle.pg_frames.specs.declared.frontend.message.ClientMessageKind.TheVariants as kinds
 
@@ -50,6 +51,10 @@ BeginsTagged bytes (kinds.Tagged format) body rest next = Begins bytes (frontend
 abbrev pub BeginsWith : ℕ → Expects → List ℕ → ClientMessageKind → List ℕ → List ℕ → Expects → Type 0
 BeginsWith limit expects.First bytes kind body rest next = BeginsFirst limit bytes kind body rest next
 BeginsWith limit expects.Tagged bytes kind body rest next = BeginsTagged bytes kind body rest next
+
+-- what the bytes begin with, in such a way, are the parts of a frame
+abbrev pub LiesBy : (List ℕ → ClientMessageKind → List ℕ → List ℕ → Expects → Type 0) → List ℕ → FrontendFrame → Type 0
+LiesBy Begin stream frame = Begin stream frame.kind frame.body.now frame.rest.now frame.next
 
 -- a whole message, as it is expected, stands at the front
 pub record Whole (limit : ℕ) (state : Expects) (bytes : List ℕ) : Type 0 where

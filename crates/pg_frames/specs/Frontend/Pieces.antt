@@ -1,5 +1,6 @@
 -- What a client's stream that comes in pieces is read into.
-use Rattle.std.specs.Prelude.{◌≡◌, ℕ, List, [], ◌∷◌, length, map}
+use Rattle.std.specs.Prelude.{◌≡◌, ℕ, List, [], ◌∷◌, length, map, Vec}
+use Rattle.std.specs.declared.alloc.Global.{Global}
 use Rattle.pg_frames.specs.declared.frontend.frame.Expects.{Expects}
 use Rattle.pg_frames.specs.declared.frontend.frame.Expects.TheVariants.{First}
 use Rattle.pg_frames.specs.declared.frontend.message.ClientMessage.{ClientMessage}
@@ -7,6 +8,7 @@ use Rattle.pg_frames.specs.declared.frontend.message.ClientMessageKind.{ClientMe
 use Rattle.pg_frames.specs.declared.frontend.pieces.ClientStreamEnd.{ClientStreamEnd}
 use Rattle.pg_frames.specs.declared.frontend.pieces.ClientStreamEnd.TheVariants.{Rest, Fault}
 use Rattle.pg_frames.specs.Frontend.Frame.{BeginsWith, WantsMore, IsStreamFault}
+use Rattle.pg_frames.specs.Frontend.Reader.{Reading}
 
 -- messages, each as its kind and its body
 abbrev pub kinds_and_bodies : List ClientMessage → List (ClientMessageKind × List ℕ)
@@ -29,3 +31,14 @@ pub record IsRead (limit : ℕ) (bytes : List ℕ) (messages : List (ClientMessa
   pub rest : List ℕ
   pub stream : Stream limit First bytes messages state rest
   pub ends : IsEnd limit state rest end
+
+-- a reading takes these messages, and is that one then
+pub record TakesMany (old : Reading) (messages : List (ClientMessageKind × List ℕ)) (new : Reading) : Type 0 where
+  pub limit : new.limit ≡ old.limit
+  pub stream : Stream old.limit old.expects old.bytes messages new.expects new.bytes
+
+-- whatever stream the messages were, and then the rest, they and the rest are still
+abbrev pub ClientReadsOn : Vec ClientMessage Global → Vec ClientMessage Global → Reading → Reading → Type 0
+ClientReadsOn old new before after =
+    (state : Expects) (bytes : List ℕ) → Stream before.limit state bytes (kinds_and_bodies old.items) before.expects before.bytes
+    → Stream before.limit state bytes (kinds_and_bodies new.items) after.expects after.bytes

@@ -6,7 +6,8 @@ use Rattle.pg_frames.specs.declared.frontend.frame.Expects.{Expects}
 use Rattle.pg_frames.specs.declared.frontend.message.ClientMessage.{ClientMessage}
 use Rattle.pg_frames.specs.declared.frontend.message.ClientMessageKind.{ClientMessageKind}
 use Rattle.pg_frames.specs.declared.frontend.message.ClientMessageKind.TheVariants as kinds
-use Rattle.pg_frames.specs.Frontend.Frame.{BeginsWith, Whole, IsStreamFault}
+use Rattle.pg_frames.specs.Frontend.Frame.{BeginsWith, Whole, WantsMore, IsStreamFault}
+use Rattle.pg_server.specs.declared.frontend.error.FrontendFault.{FrontendFault}
 
 -- the bytes that were fed and not yet taken, which message is expected there, and how long a first one may be
 pub record Reading : Type 0 where
@@ -17,6 +18,18 @@ pub record Reading : Type 0 where
 -- more bytes were fed
 abbrev pub fed : Reading → List ℕ → Reading
 fed reading more = record { limit = reading.limit; expects = reading.expects; bytes = reading.bytes ++ more }
+
+-- at the front of the bytes a whole message stands, as it is expected
+abbrev pub WholeIn : Reading → Type 0
+WholeIn reading = Whole reading.limit reading.expects reading.bytes
+
+-- more bytes are wanted for one
+abbrev pub WantsMoreIn : Reading → Type 0
+WantsMoreIn reading = WantsMore reading.limit reading.expects reading.bytes
+
+-- this is wrong there, whatever comes next
+abbrev pub IsFaultIn : Reading → FrontendFault → Type 0
+IsFaultIn reading fault = IsStreamFault reading.limit reading.expects reading.bytes fault
 
 -- how many bytes stand before a body: a length, and a tag before it
 abbrev pub header : ClientMessageKind → ℕ
@@ -31,5 +44,5 @@ pub record Takes (old : Reading) (message : ClientMessage) (new : Reading) : Typ
 -- why no message comes out of a stream that wants no more bytes to tell: its fault, or out of memory for a
 -- message that is there
 abbrev pub IsReaderError : Reading → FrontendError → Type 0
-IsReaderError reading (Protocol fault) = IsStreamFault reading.limit reading.expects reading.bytes fault
-IsReaderError reading OutOfMemory = Whole reading.limit reading.expects reading.bytes
+IsReaderError reading (Protocol fault) = IsFaultIn reading fault
+IsReaderError reading OutOfMemory = WholeIn reading

@@ -1,8 +1,14 @@
 -- A message of any tag at the front of a stream: what is wanted of it, or what is wrong.
 use Rattle.std.specs.Prelude.{◌≡◌, ◌+◌, ◌<◌, ◌≤◌, ◌⊎◌, ℕ, ℤ, pos, ◌<ℤ◌, List, length}
+use Rattle.pg_base.specs.Cutting.{Begins}
 use Rattle.pg_base.specs.declared.error.ProtocolFault.{ProtocolFault}
 use Rattle.pg_base.specs.declared.error.ProtocolFault.TheVariants.{BadLength}
 use Rattle.pg_frames.specs.Stream.{Announces}
+use Rattle.pg_frames.specs.declared.raw_frame.RawFrame.{RawFrame}
+
+-- a frame of any tag is the message at the front of the bytes, and what comes after it
+abbrev pub RawLiesAtFront : List ℕ → RawFrame → Type 0
+RawLiesAtFront stream frame = Begins stream frame.tag frame.body.now frame.rest.now
 
 -- the message goes on after the bytes that have come
 pub record GoesOn (bytes : List ℕ) : Type 0 where

@@ -1,7 +1,8 @@
 //! The message at the front of a client's stream.
 
-ghost use Rattle.std.specs.Prelude.{IfOk, IfErr, IfSome, IfNone};
-ghost use Rattle.pg_frames.specs.Frontend.Frame.{BeginsFirst, BeginsTagged, BeginsWith, Follows, IsFirstFault, IsStreamFault, IsTaggedFault, WantsMore, WantsMoreFirst, WantsMoreTagged};
+ghost use Rattle.std.specs.Prelude.{IfErr};
+ghost use Rattle.pg_frames.specs.Frame.{IfFound, IfNotFound};
+ghost use Rattle.pg_frames.specs.Frontend.Frame.{BeginsFirst, BeginsTagged, BeginsWith, Follows, IsFirstFault, IsStreamFault, IsTaggedFault, LiesBy, WantsMore, WantsMoreFirst, WantsMoreTagged};
 
 use crate::frontend::message::ClientMessageKind;
 use crate::head::{FrameHead, MIN_FIRST_LENGTH, MIN_LENGTH, first_length};
@@ -53,10 +54,8 @@ pub fn next_frontend_frame(
     limit: usize,
     stream: &[u8],
 ) -> Result<Option<FrontendFrame<'_>>, FrontendFault>
-    ensures whole { IfOk result (λ some. IfSome some
-        (λ frame. BeginsWith limit expects stream.now frame.kind frame.body.now frame.rest.now
-        frame.next)) }
-    ensures part { IfOk result (λ some. IfNone some (WantsMore limit expects stream.now)) }
+    ensures whole { IfFound result (LiesBy (BeginsWith limit expects) stream.now) }
+    ensures part { IfNotFound result (WantsMore limit expects stream.now) }
     ensures fault { IfErr result (IsStreamFault limit expects stream.now) }
 {
     match expects {
@@ -67,9 +66,8 @@ pub fn next_frontend_frame(
 
 // The first message at the front.
 fn next_first(limit: usize, stream: &[u8]) -> Result<Option<FrontendFrame<'_>>, FrontendFault>
-    ensures whole { IfOk result (λ some. IfSome some
-        (λ frame. BeginsFirst limit stream.now frame.kind frame.body.now frame.rest.now frame.next)) }
-    ensures part { IfOk result (λ some. IfNone some (WantsMoreFirst limit stream.now)) }
+    ensures whole { IfFound result (LiesBy (BeginsFirst limit) stream.now) }
+    ensures part { IfNotFound result (WantsMoreFirst limit stream.now) }
     ensures fault { IfErr result (IsFirstFault limit stream.now) }
 {
     let Some(announced) = first_length(stream) else {
@@ -110,9 +108,8 @@ pub fn after_first(body: &[u8]) -> Expects
 
 // The message with a tag at the front.
 fn next_tagged(stream: &[u8]) -> Result<Option<FrontendFrame<'_>>, FrontendFault>
-    ensures whole { IfOk result (λ some. IfSome some
-        (λ frame. BeginsTagged stream.now frame.kind frame.body.now frame.rest.now frame.next)) }
-    ensures part { IfOk result (λ some. IfNone some (WantsMoreTagged stream.now)) }
+    ensures whole { IfFound result (LiesBy BeginsTagged stream.now) }
+    ensures part { IfNotFound result (WantsMoreTagged stream.now) }
     ensures fault { IfErr result (IsTaggedFault stream.now) }
 {
     let Some(head) = FrameHead::of(stream) else {

@@ -1,10 +1,10 @@
 //! The messages of a client's stream that is there in pieces.
 
-ghost use Rattle.std.specs.Prelude.{◌≡◌, ℕ, List, IfOk, OnOk, MatchOption};
-ghost use Rattle.pg_frames.specs.Pieces.{joined};
-ghost use Rattle.pg_frames.specs.declared.frontend.frame.Expects.{Expects};
-ghost use Rattle.pg_frames.specs.Frontend.Frame.{WantsMore, IsStreamFault};
-ghost use Rattle.pg_frames.specs.Frontend.Pieces.{Stream, IsRead, kinds_and_bodies};
+ghost use Rattle.std.specs.Prelude.{◌≡◌, IfOk, OnOk};
+ghost use Rattle.pg_frames.specs.Frame.{MatchFound};
+ghost use Rattle.pg_frames.specs.Frontend.Pieces.{ClientReadsOn, IsRead, kinds_and_bodies};
+ghost use Rattle.pg_frames.specs.Frontend.Reader.{IsFaultIn, WantsMoreIn};
+ghost use Rattle.pg_frames.specs.Pieces.{ReadsPieces};
 
 use crate::frontend::error::FrontendError;
 use crate::frontend::message::ClientMessage;
@@ -28,8 +28,7 @@ pub fn read_client_pieces(
     limit: usize,
     pieces: &[&[u8]],
 ) -> Result<(Vec<ClientMessage>, ClientStreamEnd), AllocError>
-    ensures { IfOk result (λ read. IsRead limit (joined pieces.now)
-        (kinds_and_bodies read.0.items) read.1) }
+    ensures { IfOk result (ReadsPieces kinds_and_bodies (IsRead limit) pieces.now) }
 {
     let mut reader = FrontendFrameReader::new(alloc, limit);
     let mut messages = Vec::new(alloc);
@@ -48,14 +47,9 @@ fn take_all(
     messages: &mut Vec<ClientMessage>,
 ) -> Result<Option<FrontendFault>, AllocError>
     // The messages and what is left are the stream that they were before.
-    ensures stream { OnOk result ((state : Expects) (bytes : List ℕ)
-        → Stream reader.old.limit state bytes (kinds_and_bodies messages.old.items)
-        reader.old.expects reader.old.bytes → Stream reader.old.limit state bytes
-        (kinds_and_bodies messages.new.items) reader.new.expects reader.new.bytes) }
+    ensures stream { OnOk result (ClientReadsOn messages.old messages.new reader.old reader.new) }
     ensures limit { OnOk result (reader.new.limit ≡ reader.old.limit) }
-    ensures end { IfOk result (λ some. MatchOption some
-        (WantsMore reader.new.limit reader.new.expects reader.new.bytes)
-        (IsStreamFault reader.new.limit reader.new.expects reader.new.bytes)) }
+    ensures end { MatchFound result (WantsMoreIn reader.new) (IsFaultIn reader.new) }
 {
     loop {
         match reader.next_message() {

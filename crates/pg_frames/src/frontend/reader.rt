@@ -1,11 +1,11 @@
 //! A reader of messages from a client's stream that comes in pieces.
 
-ghost use Rattle.std.specs.Prelude.{◌≡◌, ◌≢◌, ◌==◌, [], length, Some, None, Ok, Err, IsSome, IfOk, OnOk, IfErr, OnErr, IfSome, IfNone, MatchResult};
-ghost use Rattle.pg_server.specs.declared.frontend.error.FrontendFault.{FrontendFault};
+ghost use Rattle.std.specs.Prelude.{◌≡◌, ◌≢◌, ◌==◌, [], length, None, Ok, OnOk, IfErr, OnErr};
 ghost use Rattle.pg_frames.specs.declared.frontend.error.FrontendError.TheVariants.{Protocol, OutOfMemory};
 ghost use Rattle.pg_frames.specs.declared.frontend.frame.Expects.TheVariants.{First};
-ghost use Rattle.pg_frames.specs.Frontend.Frame.{Whole, WantsMore, IsStreamFault};
-ghost use Rattle.pg_frames.specs.Frontend.Reader.{Takes, IsReaderError, fed, header};
+ghost use Rattle.pg_frames.specs.Frame.{IfFound, IfNotFound};
+ghost use Rattle.pg_frames.specs.Frontend.Reader.{Takes, IsReaderError, IsFaultIn, WantsMoreIn, WholeIn, fed, header};
+ghost use Rattle.pg_frames.specs.Reader.{IsFoundUnless, GivesFault};
 
 use crate::block::Block;
 use crate::frontend::error::FrontendError;
@@ -86,31 +86,23 @@ impl FrontendFrameReader {
     /// the same call may be made again: after a fault it gives the fault again, and after `OutOfMemory`
     /// it gives the message as soon as there is memory.
     pub fn next_message(&mut self) -> Result<Option<ClientMessage>, FrontendError>
-        ensures message { IfOk result (λ some. IfSome some
-            (λ message. Takes self.old message self.new)) }
-        ensures partial { IfOk result (λ some. IfNone some
-            (WantsMore self.old.limit self.old.expects self.old.bytes × (self.new ≡ self.old))) }
+        ensures message { IfFound result (λ message. Takes self.old message self.new) }
+        ensures partial { IfNotFound result (WantsMoreIn self.old × (self.new ≡ self.old)) }
         ensures error { IfErr result (IsReaderError self.old) }
         ensures err { OnErr result (self.new ≡ self.old) }
 
         // Each answer comes wherever it is due.
-        ensures whole_due { Whole self.old.limit self.old.expects self.old.bytes
-            → MatchResult result IsSome (λ error. error ≡ OutOfMemory) }
-        ensures partial_due { WantsMore self.old.limit self.old.expects self.old.bytes
-            → result ≡ Ok None }
-        ensures fault_due { (fault : FrontendFault)
-            → IsStreamFault self.old.limit self.old.expects self.old.bytes fault
-            → result ≡ Err (Protocol fault) }
+        ensures whole_due { WholeIn self.old → IsFoundUnless result OutOfMemory }
+        ensures partial_due { WantsMoreIn self.old → result ≡ Ok None }
+        ensures fault_due { GivesFault result (IsFaultIn self.old) Protocol }
     {
         self.take_next()
     }
 
     // The same, without that each answer comes wherever it is due.
     fn take_next(&mut self) -> Result<Option<ClientMessage>, FrontendError>
-        ensures message { IfOk result (λ some. IfSome some
-            (λ message. Takes self.old message self.new)) }
-        ensures partial { IfOk result (λ some. IfNone some
-            (WantsMore self.old.limit self.old.expects self.old.bytes × (self.new ≡ self.old))) }
+        ensures message { IfFound result (λ message. Takes self.old message self.new) }
+        ensures partial { IfNotFound result (WantsMoreIn self.old × (self.new ≡ self.old)) }
         ensures error { IfErr result (IsReaderError self.old) }
         ensures err { OnErr result (self.new ≡ self.old) }
     {
