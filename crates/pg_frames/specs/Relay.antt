@@ -2,9 +2,10 @@
 pub mod Answer
 pub mod Error
 pub mod Head
+pub mod Laws
 pub mod Pass
 pub mod Passage
-use Rattle.std.specs.Prelude.{◌≡◌, ◌+◌, ◌<◌, ◌≤◌, ◌⊎◌, ℕ, Bool, true, false, List, [], ◌++◌, length, Option, None, Some}
+use Rattle.std.specs.Prelude.{◌≡◌, ◌+◌, ◌<◌, ◌≤◌, ◌⊎◌, ℕ, Bool, true, false, List, [], ◌++◌, length, Option, None, Some, Result, IfErr}
 use Rattle.pg_frames.specs.declared.frontend.frame.Expects.{Expects}
 use Rattle.pg_frames.specs.Relay.Head.{HasHead, HasLowLength, IsFrame, head_length}
 use Rattle.pg_frames.specs.declared.relay.error.RelayError.{RelayError}
@@ -13,6 +14,7 @@ use Rattle.pg_frames.specs.declared.relay.event.Event.{Event}
 use Rattle.pg_frames.specs.declared.relay.event.Event.TheVariants.{Frame, Part, Held}
 use Rattle.pg_frames.specs.declared.relay.event.FrameBytes.{FrameBytes}
 use Rattle.pg_frames.specs.declared.relay.event.FrameBytes.TheVariants.{Lying, Joined}
+use Rattle.pg_frames.specs.declared.relay.event.Step.{Step}
 use Rattle.pg_frames.specs.declared.relay.fate.Fate.{Fate}
 use Rattle.pg_frames.specs.declared.relay.fate.Fate.TheVariants as fates
 
@@ -23,6 +25,10 @@ pub record Relaying : Type 0 where
   pub expects : Expects
   pub held : List ℕ
   pub left : ℕ
+
+-- one that holds these bytes, and passes nothing on in parts
+abbrev pub holding : ℕ → Expects → List ℕ → Relaying
+holding limit state held = record { limit = limit; expects = state; held = held; left = 0 }
 
 -- the frame at the front goes on after the bytes that have come, and may be held
 pub record GoesOn (limit : ℕ) (state : Expects) (bytes : List ℕ) : Type 0 where
@@ -50,6 +56,10 @@ is_wanted wants (Some tag) count = wants tag count
 pub record IsTaken (wants : ℕ → ℕ → Bool) (limit : ℕ) (tag : Option ℕ) (count : ℕ) : Type 0 where
   pub wanted : is_wanted wants tag count ≡ true
   pub within : count ≤ limit
+
+-- the frame at the front is such a one, where its tag and its length are there
+abbrev pub WouldTake : (ℕ → ℕ → Bool) → ℕ → Expects → List ℕ → Type 0
+WouldTake wants limit state bytes = (tag : Option ℕ) (count : ℕ) → HasHead state bytes tag count → IsTaken wants limit tag count
 
 -- what becomes of the frame at the front
 pub record IsForParts (wants : ℕ → ℕ → Bool) (state : Expects) (bytes : List ℕ) (count : ℕ) : Type 0 where
@@ -100,6 +110,10 @@ IsRelayError wants old piece (TooLong count most) = (old.left ≡ 0) × IsTooLon
 IsRelayError wants old piece NotFrames = ⊥
 IsRelayError wants old piece OutOfMemory = NeedsMemory old piece
 
+-- where a relay that holds bytes refuses more, this is why
+abbrev pub RefusesMore : {A : Type 0} → (ℕ → ℕ → Bool) → ℕ → Expects → List ℕ → List ℕ → Result A RelayError → Type 0
+RefusesMore wants limit state held more result = IfErr result (IsRelayError wants (holding limit state held) more)
+
 -- bytes that are passed on, wherever they lie
 abbrev pub bytes_of : FrameBytes → List ℕ
 bytes_of (Lying bytes) = bytes.now
@@ -142,7 +156,7 @@ pub record Holds (wants : ℕ → ℕ → Bool) (old new : Relaying) : Type 0 wh
   pub between : old.left ≡ 0
   pub expects : new.expects ≡ old.expects
   pub unfinished : IsUnfinished old.limit old.expects new.held
-  pub taken : (tag : Option ℕ) (count : ℕ) → HasHead old.expects new.held tag count → IsTaken wants old.limit tag count
+  pub taken : WouldTake wants old.limit old.expects new.held
   pub left : new.left ≡ 0
 
 abbrev pub Comes : (ℕ → ℕ → Bool) → Relaying → Event → Relaying → Type 0
@@ -157,3 +171,11 @@ pub record Takes (wants : ℕ → ℕ → Bool) (old : Relaying) (piece : List �
   pub limit : new.limit ≡ old.limit
   pub comes : Comes wants old event new
   pub goes_on : (0 < length piece) → length rest < length piece
+
+-- a relay takes the front of a piece, by one step
+abbrev pub TakesStep : (ℕ → ℕ → Bool) → Relaying → List ℕ → Relaying → Step → Type 0
+TakesStep wants old piece new step = Takes wants old piece step.event step.rest.now new
+
+-- by this step for each user that would take the frame at the front of the piece
+abbrev pub TakesIfWanted : Relaying → List ℕ → Relaying → Step → Type 0
+TakesIfWanted old piece new step = (wants : ℕ → ℕ → Bool) → WouldTake wants old.limit old.expects piece → TakesStep wants old piece new step

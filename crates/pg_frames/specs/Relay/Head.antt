@@ -1,6 +1,6 @@
 -- A frame: a message as it stands on a stream, with its tag and its length. A client's first messages have no
 -- tag. Documentation: "Messaging Overview", "Start-up".
-use Rattle.std.specs.Prelude.{◌≡◌, ◌+◌, ◌≤◌, ℕ, ℤ, pos, ◌<ℤ◌, List, length, drop, Option, None, Some}
+use Rattle.std.specs.Prelude.{◌≡◌, ◌+◌, ◌≤◌, ℕ, ℤ, pos, ◌<ℤ◌, List, ◌++◌, length, drop, Option, None, Some}
 use Rattle.pg_base.specs.Cutting.{max_length}
 use Rattle.pg_frames.specs.Stream.{Announces}
 use Rattle.pg_frames.specs.Frontend.Frame.{AnnouncesFirst, Follows}
@@ -31,6 +31,10 @@ HasHead expects.Tagged bytes (Some tag) count = IsCounted bytes tag count
 abbrev pub head_length : Expects → ℕ
 head_length expects.First = 4
 head_length expects.Tagged = 5
+
+-- so many bytes more at least has the frame that begins with these
+abbrev pub AreMissing : Expects → List ℕ → ℕ → Type 0
+AreMissing state bytes missing = (more : List ℕ) (tag : Option ℕ) (count : ℕ) → HasHead state (bytes ++ more) tag count → length bytes + missing ≤ count
 
 -- what is expected after a frame
 abbrev pub IsNext : Expects → List ℕ → Expects → Type 0

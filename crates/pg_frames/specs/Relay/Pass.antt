@@ -1,6 +1,7 @@
 -- What a relay has passed on, and what its user answered.
 pub mod Stops
-use Rattle.std.specs.Prelude.{◌≡◌, ◌+◌, ◌<◌, ◌⊎◌, ℕ, Bool, true, false, List, [], ◌∷◌, ◌++◌, length, Option}
+use Rattle.std.specs.Prelude.{◌≡◌, ◌+◌, ◌<◌, ◌⊎◌, ℕ, Bool, false, List, [], ◌∷◌, ◌++◌, length, Option, Result, IfOk, Vec, vec_capacity}
+use Rattle.std.specs.declared.alloc.Global.{Global}
 use Rattle.pg_frames.specs.declared.frontend.frame.Expects.{Expects}
 use Rattle.pg_frames.specs.Relay.Answer.{bytes_in, Lead, Fits, placed}
 use Rattle.pg_frames.specs.Relay.Head.{HasHead, IsFrame}
@@ -9,6 +10,10 @@ use Rattle.pg_frames.specs.declared.relay.answer.Answer.{Answer}
 use Rattle.pg_frames.specs.declared.relay.answer.Answer.TheVariants.{Keep, Omit, Replace, AddBefore, AddAfter}
 use Rattle.pg_frames.specs.declared.relay.event.Event.{Event}
 use Rattle.pg_frames.specs.declared.relay.event.Event.TheVariants.{Frame, Part, Held}
+
+-- where a user answers a frame, and adds what is in the buffer, this may be the answer
+abbrev pub GivesAnswer : {U E : Type 0} → (U → Option ℕ → List ℕ → Answer → List ℕ → U → Type 0) → U → Option ℕ → List ℕ → Vec ℕ Global → U → Result Answer E → Type 0
+GivesAnswer Answers user tag frame added later result = IfOk result (λ answer. Answers user tag frame answer added.items later)
 
 -- by an answer and the bytes that are added, these frames go out in the place of a frame
 abbrev pub GoOut : Answer → Expects → (Option ℕ × List ℕ) → Expects → List ℕ → List (Option ℕ × List ℕ) → Type 0
@@ -60,6 +65,10 @@ pub record HasPassed {U : Type 0} (wanted : U → ℕ → ℕ → Bool) (Answers
   pub bytes_are : bytes ≡ bytes_in came ++ (given ++ relay.held)
   pub out_is : out ≡ bytes_in sent ++ given
   pub part : IsGiven (wanted user) relay.expects given relay.left
+
+-- a buffer has less room than so many bytes take
+abbrev pub IsTooSmall : Vec ℕ Global → List ℕ → Type 0
+IsTooSmall buffer bytes = vec_capacity buffer < length bytes
 
 -- bytes are added to a buffer whose old bytes stay
 pub record HasAdded (old new : List ℕ) (Are : List ℕ → Type 0) : Type 0 where

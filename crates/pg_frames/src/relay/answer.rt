@@ -1,9 +1,8 @@
 //! What goes out in a frame's place.
 
-ghost use Rattle.std.specs.Prelude.{◌≡◌, ◌++◌, IfOk, IfErr, IfSome, IfNone, Decides};
+ghost use Rattle.std.specs.Prelude.{◌≡◌, IfOk, IfErr, IfSome, IfNone, Decides};
 ghost use Rattle.pg_frames.specs.declared.frontend.frame.Expects.{Expects};
-ghost use Rattle.pg_frames.specs.Relay.Answer.{Fits, IsRun, placed};
-ghost use Rattle.pg_frames.specs.declared.relay.error.RelayError.TheVariants.{NotFrames};
+ghost use Rattle.pg_frames.specs.Relay.Answer.{ArePlaced, Fits, IsMisfit, IsRun};
 
 use crate::frontend::Expects;
 use crate::relay::error::RelayError;
@@ -36,11 +35,9 @@ impl Answer {
         next: Expects,
         added: &'a [u8],
     ) -> Result<(&'a [u8], &'a [u8]), RelayError>
-        ensures placed { IfOk result (λ out. out.0.now ++ out.1.now ≡ placed self frame.now
-            added.now) }
+        ensures placed { IfOk result (ArePlaced self frame.now added.now) }
         ensures fits { IfOk result (λ _. Fits self expects added.now next) }
-        ensures refused { IfErr result (λ error. (error ≡ NotFrames)
-            × (¬ (Fits self expects added.now next))) }
+        ensures refused { IfErr result (IsMisfit self expects added.now next) }
     {
         if !fits(self, expects, added, next) {
             return Err(RelayError::NotFrames);

@@ -1,6 +1,7 @@
 //! How a frame begins: its tag, and how many bytes it has.
 
-ghost use Rattle.std.specs.Prelude.{◌≡◌, ◌≤◌, ◌<◌, length, IfOk, IfErr, IfSome, IfNone};
+ghost use Rattle.std.specs.Prelude.{◌≡◌, ◌≤◌, ◌<◌, length, IfErr};
+ghost use Rattle.pg_frames.specs.Frame.{IfFound, IfNotFound};
 ghost use Rattle.pg_frames.specs.declared.frontend.frame.Expects.TheVariants.{First, Tagged};
 ghost use Rattle.pg_frames.specs.Relay.Head.{HasHead, IsNext, head_length};
 ghost use Rattle.pg_frames.specs.Relay.{IsHeadFault};
@@ -21,9 +22,8 @@ pub(crate) struct Head {
 /// How the frame at the front of the bytes begins, or `None` where too few bytes are there to tell.
 #[inline(always)]
 pub(crate) fn head_of(expects: Expects, bytes: &[u8]) -> Result<Option<Head>, RelayError>
-    ensures known { IfOk result (λ some. IfSome some
-        (λ head. HasHead expects bytes.now head.tag head.count)) }
-    ensures unknown { IfOk result (λ some. IfNone some (length bytes.now < head_length expects)) }
+    ensures known { IfFound result (λ head. HasHead expects bytes.now head.tag head.count) }
+    ensures unknown { IfNotFound result (length bytes.now < head_length expects) }
     ensures fault { IfErr result (IsHeadFault expects bytes.now) }
 {
     match expects {
@@ -34,9 +34,8 @@ pub(crate) fn head_of(expects: Expects, bytes: &[u8]) -> Result<Option<Head>, Re
 
 // The head of a first message.
 fn first_head(bytes: &[u8]) -> Result<Option<Head>, RelayError>
-    ensures known { IfOk result (λ some. IfSome some
-        (λ head. HasHead First bytes.now head.tag head.count)) }
-    ensures unknown { IfOk result (λ some. IfNone some (length bytes.now < 4)) }
+    ensures known { IfFound result (λ head. HasHead First bytes.now head.tag head.count) }
+    ensures unknown { IfNotFound result (length bytes.now < 4) }
     ensures fault { IfErr result (IsHeadFault First bytes.now) }
 {
     let Some(announced) = first_length(bytes) else {
@@ -54,9 +53,8 @@ fn first_head(bytes: &[u8]) -> Result<Option<Head>, RelayError>
 // The head of a message with a tag.
 #[inline(always)]
 fn tagged_head(bytes: &[u8]) -> Result<Option<Head>, RelayError>
-    ensures known { IfOk result (λ some. IfSome some
-        (λ head. HasHead Tagged bytes.now head.tag head.count)) }
-    ensures unknown { IfOk result (λ some. IfNone some (length bytes.now < 5)) }
+    ensures known { IfFound result (λ head. HasHead Tagged bytes.now head.tag head.count) }
+    ensures unknown { IfNotFound result (length bytes.now < 5) }
     ensures fault { IfErr result (IsHeadFault Tagged bytes.now) }
 {
     let Some(FrameHead { tag, announced }) = FrameHead::of(bytes) else {

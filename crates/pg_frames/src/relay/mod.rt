@@ -12,10 +12,10 @@ mod passage;
 mod state;
 mod wants;
 
-ghost use Rattle.std.specs.Prelude.{◌≡◌, ◌<◌, ◌≤◌, ◌+◌, ℕ, Bool, List, [], ◌++◌, length, Option, IfOk, OnOk, IfErr, OnErr};
+ghost use Rattle.std.specs.Prelude.{◌≡◌, ◌<◌, ℕ, Bool, [], ◌++◌, length, IfOk, OnOk, IfErr, OnErr};
 ghost use Rattle.pg_frames.specs.declared.frontend.frame.Expects.TheVariants.{First, Tagged};
-ghost use Rattle.pg_frames.specs.Relay.Head.{HasHead};
-ghost use Rattle.pg_frames.specs.Relay.{HasFate, IsUnfinished, IsTaken, IsRelayError, Takes};
+ghost use Rattle.pg_frames.specs.Relay.Head.{AreMissing};
+ghost use Rattle.pg_frames.specs.Relay.{HasFate, IsUnfinished, IsRelayError, RefusesMore, TakesIfWanted, TakesStep, holding};
 ghost use Rattle.pg_frames.specs.declared.relay.error.RelayError.TheVariants.{OutOfMemory};
 
 use crate::frontend::Expects;
@@ -63,7 +63,7 @@ impl Relay {
     /// no memory.
     #[tactic(auto, using(crate::proofs::RelayHeadLemmas::head_positive))]
     pub fn of_server(alloc: Global, limit: usize) -> Relay
-        ensures { result ≡ record { limit = limit; expects = Tagged; held = []; left = 0 } }
+        ensures { result ≡ holding limit Tagged [] }
     {
         Relay {
             alloc,
@@ -77,7 +77,7 @@ impl Relay {
     /// A relay of a client's stream from the start of a connection, as [`of_server`](Relay::of_server).
     #[tactic(auto, using(crate::proofs::RelayHeadLemmas::head_positive))]
     pub fn of_client(alloc: Global, limit: usize) -> Relay
-        ensures { result ≡ record { limit = limit; expects = First; held = []; left = 0 } }
+        ensures { result ≡ holding limit First [] }
     {
         Relay {
             alloc,
@@ -96,8 +96,7 @@ impl Relay {
     /// held may memory run out. Each error leaves the relay as it was, so the same call may be made again.
     #[inline(always)]
     pub fn next<'a, W: Wants>(&mut self, wants: &W, piece: &'a [u8]) -> Result<Step<'a>, RelayError>
-        ensures takes { IfOk result (λ step. Takes
-            (W.wanted wants.now) self.old piece.now step.event step.rest.now self.new) }
+        ensures takes { IfOk result (TakesStep (W.wanted wants.now) self.old piece.now self.new) }
         ensures error { IfErr result (IsRelayError (W.wanted wants.now) self.old piece.now) }
         ensures err { OnErr result (self.new ≡ self.old) }
     {
@@ -114,8 +113,7 @@ impl Relay {
     // Where a frame is passed on in parts.
     fn next_part<'a>(&mut self, piece: &'a [u8]) -> Step<'a>
         requires { 0 < self.old.left }
-        ensures { (wants : ℕ → ℕ → Bool) → Takes wants self.old piece.now result.event
-            result.rest.now self.new }
+        ensures { (wants : ℕ → ℕ → Bool) → TakesStep wants self.old piece.now self.new result }
     {
         let (bytes, rest) = piece.split_at(self.left.min(piece.len()));
         self.left -= bytes.len();
@@ -136,8 +134,7 @@ impl Relay {
     ) -> Result<Step<'a>, RelayError>
         requires between { self.old.left ≡ 0 }
         requires nothing { self.old.held ≡ [] }
-        ensures takes { IfOk result (λ step. Takes
-            (W.wanted wants.now) self.old piece.now step.event step.rest.now self.new) }
+        ensures takes { IfOk result (TakesStep (W.wanted wants.now) self.old piece.now self.new) }
         ensures error { IfErr result (IsRelayError (W.wanted wants.now) self.old piece.now) }
         ensures err { OnErr result (self.new ≡ self.old) }
     {
@@ -172,10 +169,7 @@ impl Relay {
         requires between { self.old.left ≡ 0 }
         requires nothing { self.old.held ≡ [] }
         requires unfinished { IsUnfinished self.old.limit self.old.expects piece.now }
-        ensures takes { IfOk result (λ step. (wants : ℕ → ℕ → Bool)
-            → ((tag : Option ℕ) (count : ℕ) → HasHead self.old.expects piece.now tag count
-            → IsTaken wants self.old.limit tag count)
-            → Takes wants self.old piece.now step.event step.rest.now self.new) }
+        ensures takes { IfOk result (TakesIfWanted self.old piece.now self.new) }
         ensures error { IfErr result (λ error. (error ≡ OutOfMemory) × (0 < length piece.now)) }
         ensures err { OnErr result (self.new ≡ self.old) }
     {
@@ -194,8 +188,7 @@ impl Relay {
     ) -> Result<Step<'a>, RelayError>
         requires between { self.old.left ≡ 0 }
         requires some { 0 < length self.old.held }
-        ensures takes { IfOk result (λ step. Takes
-            (W.wanted wants.now) self.old piece.now step.event step.rest.now self.new) }
+        ensures takes { IfOk result (TakesStep (W.wanted wants.now) self.old piece.now self.new) }
         ensures error { IfErr result (IsRelayError (W.wanted wants.now) self.old piece.now) }
         ensures err { OnErr result (self.new ≡ self.old) }
     {
@@ -244,8 +237,7 @@ fn fate_with<W: Wants>(
     requires { 0 < length held.old.items }
     ensures held { OnOk result (held.new.items ≡ held.old.items ++ bytes.now) }
     ensures fate { IfOk result (HasFate (W.wanted wants.now) limit expects held.new.items) }
-    ensures error { IfErr result (IsRelayError (W.wanted wants.now)
-        (record { limit = limit; expects = expects; held = held.old.items; left = 0 }) bytes.now) }
+    ensures error { RefusesMore (W.wanted wants.now) limit expects held.old.items bytes.now result }
     ensures err { OnErr result (held.new.items ≡ held.old.items) }
 {
     let before = held.len();
@@ -263,8 +255,7 @@ fn fate_with<W: Wants>(
 fn missing_of(expects: Expects, held: &[u8]) -> usize
     requires { (limit : ℕ) × IsUnfinished limit expects held.now }
     ensures some { 0 < result }
-    ensures within { (more : List ℕ) (tag : Option ℕ) (count : ℕ)
-        → HasHead expects (held.now ++ more) tag count → length held.now + result ≤ count }
+    ensures within { AreMissing expects held.now result }
 {
     match head_of(expects, held) {
         Ok(Some(head)) => head.count - held.len(),

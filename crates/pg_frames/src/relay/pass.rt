@@ -1,12 +1,12 @@
 //! A piece of a stream passed on, with its user's answers.
 
-ghost use Rattle.std.specs.Prelude.{◌≡◌, ◌⊎◌, ◌<◌, ◌+◌, ◌++◌, ℕ, List, [], length, Option, IfOk, OnOk, IfErr, OnErr, vec_len, vec_capacity};
+ghost use Rattle.std.specs.Prelude.{◌≡◌, ◌++◌, ℕ, List, [], Option, OnOk, IfErr, OnErr, vec_capacity};
 ghost use Rattle.pg_frames.specs.declared.frontend.frame.Expects.{Expects};
 ghost use Rattle.pg_frames.specs.Pieces.{joined};
 ghost use Rattle.pg_frames.specs.declared.relay.answer.Answer.{Answer};
 ghost use Rattle.pg_frames.specs.declared.relay.answer.Answer.TheVariants.{Keep};
-ghost use Rattle.pg_frames.specs.Relay.Pass.{HasAdded, PassesOn, PutsAnswer, PutsOut};
-ghost use Rattle.pg_frames.specs.Relay.Pass.Stops.{Stops, StopsIn, IsAnswerError, IsEventError, HasNoRoom};
+ghost use Rattle.pg_frames.specs.Relay.Pass.{GivesAnswer, HasAdded, IsTooSmall, PassesOn, PutsAnswer, PutsOut};
+ghost use Rattle.pg_frames.specs.Relay.Pass.Stops.{AnswerStops, EventStops, Stops, StopsIn};
 
 use crate::frontend::Expects;
 use crate::relay::Relay;
@@ -33,8 +33,7 @@ pub trait Answers: Wants {
         added: &mut Vec<u8>,
     ) -> Result<Answer, AllocError>
         requires { added.old.items ≡ [] }
-        ensures answers { IfOk result (λ answer. answers self.old tag frame.now answer
-            added.new.items self.new) }
+        ensures answers { GivesAnswer answers self.old tag frame.now added.new self.new result }
         ensures exhausts { OnErr result (exhausts self.old tag frame.now self.new) };
 }
 
@@ -117,10 +116,8 @@ fn put_out<U: Answers>(
 ) -> Result<(), RelayError>
     ensures puts { OnOk result
         (PutsOut U.answers user.old expects event.entry next user.new out.old.items out.new.items) }
-    ensures stops { IfErr result (λ error.
-        IsEventError U.answers U.exhausts user.old expects event.entry next user.new error
-        ⊎ HasNoRoom (PutsOut U.answers user.old expects event.entry next user.new out.old.items)
-        (vec_capacity out.new) out.new.items error) }
+    ensures stops { IfErr result (EventStops U.answers U.exhausts user.old expects event.entry next
+        user.new (vec_capacity out.new) out.old.items out.new.items) }
     ensures same { OnErr result (out.new.items ≡ out.old.items) }
 {
     match event {
@@ -148,10 +145,8 @@ fn put_answer<U: Answers>(
 ) -> Result<(), RelayError>
     ensures puts { OnOk result
         (PutsAnswer U.answers user.old expects tag frame.now next user.new out.old.items out.new.items) }
-    ensures stops { IfErr result (λ error.
-        IsAnswerError U.answers U.exhausts user.old expects tag frame.now next user.new error
-        ⊎ HasNoRoom (PutsAnswer U.answers user.old expects tag frame.now next user.new out.old.items)
-        (vec_capacity out.new) out.new.items error) }
+    ensures stops { IfErr result (AnswerStops U.answers U.exhausts user.old expects tag frame.now next
+        user.new (vec_capacity out.new) out.old.items out.new.items) }
     ensures same { OnErr result (out.new.items ≡ out.old.items) }
 {
     let mut added = Vec::new(alloc);
@@ -166,8 +161,7 @@ fn put_answer<U: Answers>(
 fn add_both(out: &mut Vec<u8>, first: &[u8], second: &[u8]) -> Result<(), AllocError>
     ensures added { OnOk result (out.new.items ≡ out.old.items ++ (first.now ++ second.now)) }
     ensures same { OnErr result (out.new.items ≡ out.old.items) }
-    ensures full { OnErr result (vec_capacity out.new < length
-        (out.old.items ++ (first.now ++ second.now))) }
+    ensures full { OnErr result (IsTooSmall out.new (out.old.items ++ (first.now ++ second.now))) }
 {
     out.reserve(first.len() + second.len())?;
     out.put_slice(first);

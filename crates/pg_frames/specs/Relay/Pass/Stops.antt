@@ -4,7 +4,7 @@ use Rattle.std.specs.Borrow.{Bor}
 use Rattle.pg_frames.specs.Pieces.{joined}
 use Rattle.pg_frames.specs.declared.frontend.frame.Expects.{Expects}
 use Rattle.pg_frames.specs.Relay.Answer.{Fits}
-use Rattle.pg_frames.specs.Relay.Pass.{HasAdded, PassesOn, PutsOut}
+use Rattle.pg_frames.specs.Relay.Pass.{HasAdded, PassesOn, PutsAnswer, PutsOut}
 use Rattle.pg_frames.specs.Relay.{Relaying, bytes_of, IsRelayError, Takes}
 use Rattle.pg_frames.specs.declared.relay.answer.Answer.{Answer}
 use Rattle.pg_frames.specs.declared.relay.error.RelayError.{RelayError}
@@ -39,6 +39,16 @@ pub record HasNoRoom (IsOut : List ℕ → Type 0) (room : ℕ) (out : List ℕ)
   pub full : room < length (out ++ more)
   pub is : error ≡ OutOfMemory
 
+-- nothing goes out in a frame's place: its user's answer doesn't fit or finds no memory, or the buffer has no room for it
+abbrev pub AnswerStops : {U : Type 0} → (U → Option ℕ → List ℕ → Answer → List ℕ → U → Type 0) → (U → Option ℕ → List ℕ → U → Type 0) → U → Expects → Option ℕ → List ℕ → Expects → U → ℕ → List ℕ → List ℕ → RelayError → Type 0
+AnswerStops Answers Exhausts user state tag frame next later room old new error =
+    IsAnswerError Answers Exhausts user state tag frame next later error ⊎ HasNoRoom (PutsAnswer Answers user state tag frame next later old) room new error
+
+-- nor for what a relay hands out
+abbrev pub EventStops : {U : Type 0} → (U → Option ℕ → List ℕ → Answer → List ℕ → U → Type 0) → (U → Option ℕ → List ℕ → U → Type 0) → U → Expects → Event → Expects → U → ℕ → List ℕ → List ℕ → RelayError → Type 0
+EventStops Answers Exhausts user state event next later room old new error =
+    IsEventError Answers Exhausts user state event next later error ⊎ HasNoRoom (PutsOut Answers user state event next later old) room new error
+
 -- the relay takes nothing of what comes next, and all stays as it was
 pub record StopsAtRelay {U : Type 0} (wanted : U → ℕ → ℕ → Bool) (user : U) (relay : Relaying) (rest : List ℕ) (later : U) (new : Relaying) (error : RelayError) : Type 0 where
   pub some : 0 < length rest
@@ -53,7 +63,7 @@ pub record StopsAtEvent {U : Type 0} (wanted : U → ℕ → ℕ → Bool) (Answ
   pub event : Event
   pub after : List ℕ
   pub takes : Takes (wanted user) relay rest event after new
-  pub is : IsEventError Answers Exhausts user relay.expects event new.expects later error ⊎ HasNoRoom (PutsOut Answers user relay.expects event new.expects later out) room out error
+  pub is : EventStops Answers Exhausts user relay.expects event new.expects later room out out error
 
 -- the front of a piece passes on, and what it adds follows the old bytes; what comes next doesn't pass, and adds nothing
 pub record Stops {U : Type 0} (wanted : U → ℕ → ℕ → Bool) (Answers : U → Option ℕ → List ℕ → Answer → List ℕ → U → Type 0) (Exhausts : U → Option ℕ → List ℕ → U → Type 0) (user : U) (relay : Relaying) (piece : List ℕ) (room : ℕ) (old new : List ℕ) (later : U) (after : Relaying) (error : RelayError) : Type 0 where
