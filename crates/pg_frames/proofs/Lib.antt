@@ -2,15 +2,12 @@ pub mod FrontendFrameLemmas
 pub mod FrontendPiecesLemmas
 pub mod FrontendReaderLemmas
 pub mod PiecesLemmas
-pub mod ReaderLemmas
 pub mod RelayHeadLemmas
 pub mod RelayLemmas
 pub mod RelayMessagesLemmas
 pub mod RelayOneWayLemmas
 pub mod RelayPassLemmas
 pub mod RelayPassStopsLemmas
-pub mod RelayPassageLemmas
 pub mod RelayPassedLemmas
 pub mod RelayRunLemmas
 pub mod StreamLemmas
-pub mod ValuesLemmas

@@ -21,6 +21,7 @@ pub fn a_stream_is_read_one_way()
 {}
 
 /// What was left of a stream, with the bytes that come next, goes on with the stream.
+#[tactic(auto, using(crate::proofs::PiecesLemmas::stream_append))]
 pub fn streams_compose()
     ensures { StreamsCompose Stream (λ bytes more. bytes ++ more) }
 {}
@@ -33,6 +34,7 @@ pub fn one_answer_is_due()
 {}
 
 /// A fault stays, whatever comes next.
+#[tactic(auto, using(crate::proofs::StreamLemmas::fault_stays))]
 pub fn a_fault_stays()
     ensures { FaultStays IsStreamFault (λ bytes more. bytes ++ more) }
 {}

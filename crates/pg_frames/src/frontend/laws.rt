@@ -20,6 +20,7 @@ pub fn a_stream_is_read_one_way()
 {}
 
 /// What was left of a stream, with the bytes that come next, goes on with the stream.
+#[tactic(auto, using(crate::proofs::FrontendPiecesLemmas::taken_append))]
 pub fn streams_compose()
     ensures { StreamsCompose TakesMany fed }
 {}

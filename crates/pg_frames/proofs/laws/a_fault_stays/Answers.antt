@@ -1,5 +1,0 @@
-use Rattle.pg_frames.proofs.StreamLemmas.{fault_stays}
-use Rattle.pg_frames.proofs.laws.a_fault_stays.Goals as goal
-
-pub returns : goal.returns
-returns c = fault_stays
