@@ -1,10 +1,11 @@
--- The pieces between commas.
+-- The pieces between commas, and what those that are left still say.
 use Rattle.std.proofs.Common.{◌≡◌, ◌≢◌, ℕ, List, [], ◌∷◌, ◌++◌, inl, inr, refl, sym, ap, ◌∙◌}
 use Rattle.std.specs.List.{onto_first, join_with_byte}
 use Rattle.std.proofs.lemmas.Bool.{cases_eq, eq-eqb, ne_eqb}
 use Rattle.std.proofs.lemmas.List.Splits.{join_with_byte-slice_split}
 use Rattle.pg_base.specs.Reading.{HoldsNo}
-use Rattle.pg_format.specs.Sasl.{items_in}
+use Rattle.pg_format.specs.Keyed.{last, first_fault_of}
+use Rattle.pg_format.specs.Sasl.{items_in, keyed, item_fault}
 use Rattle.pg_receive.specs.Authentication.SaslItems.{comma, EachHoldsNo, AreItems}
 
 pub items_none : (bytes : List ℕ) → HoldsNo comma bytes → items_in bytes ≡ bytes ∷ []
@@ -51,3 +52,11 @@ joined_items (item ∷ next ∷ items) there clean =
 
 pub one_items : (bytes : List ℕ) (items : List (List ℕ)) → AreItems bytes items → items ≡ items_in bytes
 one_items bytes items h = sym (joined_items items h.some_are_there h.clean) ∙ ap items_in h.joined
+
+-- the fault of the items that are left is the first of all
+pub record LeftFaults (base64_key : ℕ) (all left : List (List ℕ)) : Type 0 where
+  pub faults : first_fault_of (item_fault base64_key) left ≡ first_fault_of (item_fault base64_key) all
+
+-- what is seen in the last of a key
+pub record LeftLast {A : Type 0} (view : List ℕ → A) (first : A) (key : ℕ) (all : List (List ℕ)) (default : A) (left : List (List ℕ)) : Type 0 where
+  pub is : last view default key (keyed left) ≡ last view first key (keyed all)

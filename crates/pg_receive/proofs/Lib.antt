@@ -2,7 +2,6 @@ pub mod AuthenticationBase64BytesLemmas
 pub mod AuthenticationLemmas
 pub mod AuthenticationMechanismsLemmas
 pub mod AuthenticationSaslItemsLemmas
-pub mod AuthenticationSaslLemmas
 pub mod CommandCompleteLemmas
 pub mod CopyLemmas
 pub mod CountedItemsLemmas

@@ -24,7 +24,6 @@ pub use values::{
 
 /// The cells of a row are in its body in order, each value after the cells before it and its own
 /// length; so a body of n bytes has at most (n - 2) / 4 cells.
-#[tactic(auto, using(crate::proofs::DataRowLemmas::cells_fit, crate::proofs::DataRowLemmas::value_is_after))]
 pub fn cells_are_in_order()
     ensures fit { ItemsFit data_row 4 }
     ensures order { HoldsOfValues IsAfter }

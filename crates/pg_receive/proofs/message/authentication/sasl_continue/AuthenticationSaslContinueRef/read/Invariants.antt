@@ -3,7 +3,7 @@ use Rattle.pg_format.specs.Keyed.{plain}
 use Rattle.pg_format.specs.Sasl.{items_in, nonce_key, salt_key}
 use Rattle.pg_receive.specs.Authentication.SaslItems.{base64_value}
 use Rattle.pg_receive.specs.Authentication.SaslContinue.{iterations_key, iterations_of, default_iterations}
-use Rattle.pg_receive.proofs.AuthenticationSaslLemmas.{LeftFaults, LeftLast}
+use Rattle.pg_receive.proofs.AuthenticationSaslItemsLemmas.{LeftFaults, LeftLast}
 use Rattle.pg_receive.proofs.message.authentication.sasl_continue.AuthenticationSaslContinueRef.read.Given as goal
 
 abbrev pub invariant-loop-item : goal.invariant-loop-item

@@ -1,7 +1,7 @@
 use Rattle.std.proofs.Common.{[]}
 use Rattle.pg_format.specs.Sasl.{items_in, verifier_key}
 use Rattle.pg_receive.specs.Authentication.SaslItems.{base64_value}
-use Rattle.pg_receive.proofs.AuthenticationSaslLemmas.{LeftFaults, LeftLast}
+use Rattle.pg_receive.proofs.AuthenticationSaslItemsLemmas.{LeftFaults, LeftLast}
 use Rattle.pg_receive.proofs.message.authentication.sasl_final.AuthenticationSaslFinalRef.read.Given as goal
 
 abbrev pub invariant-loop-item : goal.invariant-loop-item
