@@ -20,7 +20,6 @@ pub fn at_first_nothing_is_passed<U: Answers>()
 
 /// Where each frame is kept, what went out and what the relay holds are the bytes that came, however they were
 /// cut into pieces.
-#[tactic(auto, using(crate::proofs::RelayMessagesLemmas::kept_passed))]
 pub fn what_is_kept_goes_out_as_it_came<U: Answers>()
     ensures { KeepsEach U.answers → PassesAsItCame U.wanted U.answers }
 {}
@@ -35,14 +34,12 @@ pub fn what_goes_out_is_whole_frames<U: Answers>()
 /// However the bytes were cut into pieces, the same frames came, and as many bytes follow them, given in parts or
 /// held. What a relay holds is no whole frame, as [`Relay::held`](crate::relay::Relay::held) and
 /// [`Relay::left`](crate::relay::Relay::left) say.
-#[tactic(auto, using(crate::proofs::RelayOneWayLemmas::one_passage))]
 pub fn frames_come_however_they_are_cut<U: Answers>()
     ensures { ComesOneWay U.wanted U.answers }
 {}
 
 /// Where a length is too low, what follows it is never passed on, however the bytes are cut and whatever its user
 /// answers.
-#[tactic(auto, using(crate::proofs::RelayOneWayLemmas::low_stops))]
 pub fn no_more_passes_after_a_low_length<U: Answers>()
     ensures { EndsAtLowLength U.wanted U.answers }
 {}
