@@ -38,10 +38,7 @@ impl Stream {
 /// Prints the lines of a stream.
 fn print_all(mut input: impl Read) -> io::Result<()> {
     let (mut stdout, mut out, mut room) = (io::stdout(), Vec::new(), [0; 65536]);
-    let mut stream = Stream {
-        bytes: Vec::new(),
-        decoder: Decoder::of_client(),
-    };
+    let mut stream = Stream { bytes: Vec::new(), decoder: Decoder::of_client() };
     loop {
         let count = input.read(&mut room)?;
         stream.bytes.extend_from_slice(&room[..count]);

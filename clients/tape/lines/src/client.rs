@@ -60,9 +60,7 @@ fn put_items<T>(out: &mut Vec<u8>, items: &[T], item: impl Fn(&mut Vec<u8>, &T))
 }
 
 fn put_formats(out: &mut Vec<u8>, formats: &[Format]) {
-    put_items(out, formats, |out, format| {
-        put(out, format_args!("{}", format.0))
-    });
+    put_items(out, formats, |out, format| put(out, format_args!("{}", format.0)));
 }
 
 fn put_values(out: &mut Vec<u8>, values: &[Value<'_>]) {

@@ -43,10 +43,7 @@ mod tests {
     #[test]
     fn control_characters_are_escaped_in_ascii_and_above() {
         assert_eq!(escape(b"a\x1b[2J\x07\r\n\x7f"), r"a\x1b[2J\x07\x0d\x0a\x7f");
-        assert_eq!(
-            escape("\u{9b}2J \u{a0}é".as_bytes()),
-            "\\xc2\\x9b2J \u{a0}é"
-        );
+        assert_eq!(escape("\u{9b}2J \u{a0}é".as_bytes()), "\\xc2\\x9b2J \u{a0}é");
         assert_eq!(escape(b"\xc2"), "\u{fffd}");
     }
 }

@@ -19,10 +19,7 @@ fn name_of(tag: u8) -> &'static str {
 
 /// Adds the line of a server's message: its name, its length, and its body in hexadecimal digits.
 pub fn server_line(out: &mut Vec<u8>, tag: u8, body: &[u8]) {
-    put(
-        out,
-        format_args!("{} {} ", name_of(tag), body.len() + LENGTH_FIELD),
-    );
+    put(out, format_args!("{} {} ", name_of(tag), body.len() + LENGTH_FIELD));
     put_bytes(out, body);
     out.push(b'\n');
 }

@@ -4,13 +4,7 @@ use lines::trace::{first_message, message, Side, Style};
 use Side::{Client, Server};
 
 /// A message, and its line as libpq prints it; at last the line that shows more, where it is another.
-struct Sample(
-    Side,
-    Option<u8>,
-    &'static [u8],
-    &'static [u8],
-    Option<&'static [u8]>,
-);
+struct Sample(Side, Option<u8>, &'static [u8], &'static [u8], Option<&'static [u8]>);
 
 /// Messages without a fault.
 #[rustfmt::skip]
@@ -94,16 +88,10 @@ impl Sample {
     }
 
     fn has_its_lines(&self, should_be_whole: bool) {
-        let lines = [
-            (Style::AsLibpq, self.3),
-            (Style::Whole, self.4.unwrap_or(self.3)),
-        ];
+        let lines = [(Style::AsLibpq, self.3), (Style::Whole, self.4.unwrap_or(self.3))];
         for (style, wanted) in lines {
             let (line, is_whole) = self.line_of(style, self.2);
-            assert_eq!(
-                line.escape_ascii().to_string(),
-                wanted.escape_ascii().to_string()
-            );
+            assert_eq!(line.escape_ascii().to_string(), wanted.escape_ascii().to_string());
             assert_eq!(is_whole, should_be_whole, "{}", line.escape_ascii());
         }
     }

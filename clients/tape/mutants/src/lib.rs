@@ -81,7 +81,8 @@ pub struct Mutants {
 impl Mutants {
     /// As many as the variables say, or else so many.
     pub fn of_variables(usual: u64) -> Mutants {
-        let number = |name, usual| std::env::var(name).ok().and_then(|it| it.parse().ok()).unwrap_or(usual);
+        let number =
+            |name, usual| std::env::var(name).ok().and_then(|it| it.parse().ok()).unwrap_or(usual);
         let seed = number("MUTANT_SEED", 1);
         Mutants {
             chance: SmallRng::seed_from_u64(seed),
@@ -108,7 +109,10 @@ impl Mutants {
     /// Says how many were taken, and tests that the process holds no more than after the first of them.
     pub fn end(&self, of: &str) {
         let (before, after) = (self.before.unwrap_or_default(), resident());
-        println!("{} {of} by the seed {}: {before} kB after a tenth, {after} kB at the end", self.taken, self.seed);
+        println!(
+            "{} {of} by the seed {}: {before} kB after a tenth, {after} kB at the end",
+            self.taken, self.seed
+        );
         assert!(after <= before + GROWTH_MOST, "they grow");
     }
 
@@ -152,7 +156,9 @@ impl Mutants {
             match self.below(4) {
                 0 if at < bytes.len() => bytes[at] = self.chance.gen(),
                 1 => bytes.truncate(at),
-                2 => bytes.insert(at, *[0, 1, 127, 128, 255].choose(&mut self.chance).unwrap_or(&0)),
+                2 => {
+                    bytes.insert(at, *[0, 1, 127, 128, 255].choose(&mut self.chance).unwrap_or(&0))
+                }
                 _ => bytes.extend_from_within(at..),
             }
         }

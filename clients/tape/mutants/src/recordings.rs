@@ -18,7 +18,9 @@ impl Mutants {
     }
 
     fn add_connection(&mut self, tape: &mut Vec<u8>, connection: u32) {
-        let mut add = |kind, time, content: &[u8]| put_record(tape, kind, connection, time, content, crc32fast::hash(content));
+        let mut add = |kind, time, content: &[u8]| {
+            put_record(tape, kind, connection, time, content, crc32fast::hash(content))
+        };
         add(Kind::Opened, 0, b"");
         let first = if self.below(10) > 0 { STARTUP.to_vec() } else { self.first_bytes() };
         add(Kind::Bytes(Side::Client), 1, &first);

@@ -17,10 +17,7 @@ pub enum Address {
 impl Address {
     /// A port of 127.0.0.1.
     pub fn local(port: u16) -> Address {
-        Address::Tcp {
-            host: "127.0.0.1".to_owned(),
-            port,
-        }
+        Address::Tcp { host: "127.0.0.1".to_owned(), port }
     }
 
     /// The Unix socket of a port in a folder.
@@ -32,10 +29,7 @@ impl Address {
     pub fn of_server(host: &str, port: u16) -> Address {
         match host.starts_with('/') {
             true => Address::in_folder(Path::new(host), port),
-            false => Address::Tcp {
-                host: host.to_owned(),
-                port,
-            },
+            false => Address::Tcp { host: host.to_owned(), port },
         }
     }
 }
@@ -57,10 +51,7 @@ impl FromStr for Address {
         let bare = host.strip_prefix('[').and_then(|it| it.strip_suffix(']'));
         match bare.unwrap_or(host) {
             "" => Err("it has no host".to_owned()),
-            host => Ok(Address::Tcp {
-                host: host.to_owned(),
-                port,
-            }),
+            host => Ok(Address::Tcp { host: host.to_owned(), port }),
         }
     }
 }
@@ -72,9 +63,7 @@ impl fmt::Display for Address {
             Address::Tcp { host, port } => return write!(f, "{host} port {port}"),
             Address::Unix(path) => path,
         };
-        let port = path
-            .file_name()
-            .and_then(|it| it.to_str()?.strip_prefix(SOCKET));
+        let port = path.file_name().and_then(|it| it.to_str()?.strip_prefix(SOCKET));
         match (path.parent(), port) {
             (Some(folder), Some(port)) => write!(f, "{} port {port}", folder.display()),
             _ => write!(f, "{}", path.display()),
@@ -88,12 +77,7 @@ mod tests {
 
     #[test]
     fn an_address_is_a_port_a_host_or_a_socket() {
-        let tcp = |host: &str, port| {
-            Ok(Address::Tcp {
-                host: host.to_owned(),
-                port,
-            })
-        };
+        let tcp = |host: &str, port| Ok(Address::Tcp { host: host.to_owned(), port });
         let unix = |path: &str| Ok(Address::Unix(PathBuf::from(path)));
         assert_eq!("0".parse(), Ok(Address::local(0)));
         assert_eq!("db.example:5432".parse(), tcp("db.example", 5432));
@@ -101,16 +85,7 @@ mod tests {
         assert_eq!("::1:5432".parse(), tcp("::1", 5432));
         assert_eq!("/run/pg:5432".parse(), unix("/run/pg/.s.PGSQL.5432"));
         assert_eq!("/run/pg/own".parse(), unix("/run/pg/own"));
-        for wrong in [
-            "",
-            ":",
-            ":5432",
-            "[]:5432",
-            "host",
-            "host:",
-            "host:65536",
-            "/run/pg:x",
-        ] {
+        for wrong in ["", ":", ":5432", "[]:5432", "host", "host:", "host:65536", "/run/pg:x"] {
             assert!(wrong.parse::<Address>().is_err(), "{wrong}");
         }
     }

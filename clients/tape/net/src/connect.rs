@@ -52,12 +52,7 @@ impl Upstream {
             }
         };
         let connector = connector(mode, roots)?;
-        Ok(Upstream {
-            address,
-            place,
-            mode,
-            connector,
-        })
+        Ok(Upstream { address, place, mode, connector })
     }
 
     /// A connection, encrypted as the mode has it.
@@ -79,10 +74,7 @@ impl Upstream {
                 Err(_) => dial().await.map(Stream::Tcp),
                 encrypted => encrypted,
             },
-            _ => self
-                .encrypt(host, dial().await?)
-                .await
-                .with_context(refused),
+            _ => self.encrypt(host, dial().await?).await.with_context(refused),
         }
     }
 

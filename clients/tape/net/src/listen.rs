@@ -26,19 +26,14 @@ impl Listener {
         let (name, bound) = match address {
             Address::Tcp { host, port } => (
                 format!("port {port} of {host}"),
-                TcpListener::bind((host.as_str(), *port))
-                    .await
-                    .map(Listener::Tcp),
+                TcpListener::bind((host.as_str(), *port)).await.map(Listener::Tcp),
             ),
             Address::Unix(path) => {
                 if is_abandoned(path) {
                     let _ = std::fs::remove_file(path);
                 }
                 let listener = UnixListener::bind(path);
-                (
-                    path.display().to_string(),
-                    listener.map(|it| Listener::Unix(it, path.clone())),
-                )
+                (path.display().to_string(), listener.map(|it| Listener::Unix(it, path.clone())))
             }
         };
         bound.map_err(|why| {
@@ -51,10 +46,7 @@ impl Listener {
         Ok(match self {
             Listener::Tcp(it) => {
                 let at = it.local_addr()?;
-                Address::Tcp {
-                    host: at.ip().to_string(),
-                    port: at.port(),
-                }
+                Address::Tcp { host: at.ip().to_string(), port: at.port() }
             }
             Listener::Unix(_, path) => Address::Unix(path.clone()),
         })

@@ -44,17 +44,9 @@ impl Listening {
         let named = match (&self.folder, port) {
             (Some(folder), Some(port)) if port > 0 => Some(Address::in_folder(folder, port)),
             (None, port) => port.map(Address::local),
-            _ => {
-                return Err(Failure::new(
-                    Status::Usage,
-                    "a folder's socket has a port from 1 on",
-                ))
-            }
+            _ => return Err(Failure::new(Status::Usage, "a folder's socket has a port from 1 on")),
         };
-        Ok(named
-            .into_iter()
-            .chain(self.listen.iter().cloned())
-            .collect())
+        Ok(named.into_iter().chain(self.listen.iter().cloned()).collect())
     }
 
     /// Listens, and says where.
@@ -119,11 +111,7 @@ fn variable(name: &str) -> Option<String> {
 /// A folder that has the server's socket, or this host.
 fn usual_host(port: u16) -> String {
     let has_socket = |folder: &&str| Path::new(folder).join(format!(".s.PGSQL.{port}")).exists();
-    FOLDERS
-        .into_iter()
-        .find(has_socket)
-        .unwrap_or("localhost")
-        .to_owned()
+    FOLDERS.into_iter().find(has_socket).unwrap_or("localhost").to_owned()
 }
 
 impl ServerOptions {
@@ -131,16 +119,12 @@ impl ServerOptions {
     pub fn address(&self) -> Result<Address, Failure> {
         let port = self.port.clone().or_else(|| variable("PGPORT"));
         let port = port.as_deref().unwrap_or("5432");
-        let number = port
-            .parse()
-            .ok()
-            .filter(|&number| number > 0)
-            .ok_or_else(|| Failure::new(Status::Usage, format!("no port has the number {port}")))?;
+        let number =
+            port.parse().ok().filter(|&number| number > 0).ok_or_else(|| {
+                Failure::new(Status::Usage, format!("no port has the number {port}"))
+            })?;
         let host = self.host.clone().or_else(|| variable("PGHOST"));
-        Ok(Address::of_server(
-            &host.unwrap_or_else(|| usual_host(number)),
-            number,
-        ))
+        Ok(Address::of_server(&host.unwrap_or_else(|| usual_host(number)), number))
     }
 
     /// Finds the server.

@@ -43,12 +43,8 @@ fn fail(why: impl std::fmt::Display) -> Failure {
 /// verifies needs them, and `require` verifies where they are there.
 pub(crate) fn connector(mode: SslMode, roots: Option<&Path>) -> Result<SslConnector, Failure> {
     let mut builder = SslConnector::builder(SslMethod::tls_client()).map_err(fail)?;
-    builder
-        .set_min_proto_version(Some(SslVersion::TLS1_2))
-        .map_err(fail)?;
-    builder
-        .set_alpn_protos(crate::tls::PROTOCOL)
-        .map_err(fail)?;
+    builder.set_min_proto_version(Some(SslVersion::TLS1_2)).map_err(fail)?;
+    builder.set_alpn_protos(crate::tls::PROTOCOL).map_err(fail)?;
     builder.set_mode(Mode::RELEASE_BUFFERS);
     let is_system = roots == Some(Path::new(SYSTEM));
     let file = roots.map(Path::to_owned).or_else(usual_roots);

@@ -9,10 +9,8 @@ const FILE_SIZE: i32 = 25;
 
 /// Waits for Ctrl-C or SIGTERM, and gives the status that they end in.
 pub async fn ended() -> io::Result<Status> {
-    let (mut interrupt, mut terminate) = (
-        signal(SignalKind::interrupt())?,
-        signal(SignalKind::terminate())?,
-    );
+    let (mut interrupt, mut terminate) =
+        (signal(SignalKind::interrupt())?, signal(SignalKind::terminate())?);
     Ok(tokio::select! {
         _ = interrupt.recv() => Status::Interrupted,
         _ = terminate.recv() => Status::Terminated,

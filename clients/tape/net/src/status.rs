@@ -37,9 +37,6 @@ pub struct Failure {
 
 impl Failure {
     pub fn new(status: Status, words: impl Into<String>) -> Failure {
-        Failure {
-            status,
-            words: words.into(),
-        }
+        Failure { status, words: words.into() }
     }
 }

@@ -23,11 +23,7 @@ impl ServerTls {
             .set_private_key_file(key, SslFiletype::PEM)
             .with_context(|| format!("{}: no key of the certificate", key.display()))?;
         builder.check_private_key().with_context(|| {
-            format!(
-                "the key {} isn't of the certificate {}",
-                key.display(),
-                certificate.display()
-            )
+            format!("the key {} isn't of the certificate {}", key.display(), certificate.display())
         })?;
         // A connection on which nothing passes holds no buffers.
         builder.set_mode(SslMode::RELEASE_BUFFERS);
@@ -47,10 +43,7 @@ impl ServerTls {
         let handshake = |why: &dyn std::fmt::Display| OpenError::Handshake(why.to_string());
         let ssl = Ssl::new(self.0.context()).map_err(|why| handshake(&why))?;
         let mut tls = SslStream::new(ssl, stream).map_err(|why| handshake(&why))?;
-        Pin::new(&mut tls)
-            .accept()
-            .await
-            .map_err(|why| handshake(&why))?;
+        Pin::new(&mut tls).accept().await.map_err(|why| handshake(&why))?;
         if names && tls.ssl().selected_alpn_protocol() != Some(&PROTOCOL[1..]) {
             return Err(OpenError::Handshake("it names no protocol".to_owned()));
         }

@@ -147,14 +147,8 @@ mod tests {
         let form = |words: &[&str]| parsed(words).unwrap().form();
         assert_eq!(form(&["0"]), None);
         assert_eq!(form(&["--trace", "0"]), Some(Form::Trace(Style::AsLibpq)));
-        assert_eq!(
-            form(&["--trace=whole", "0"]),
-            Some(Form::Trace(Style::Whole))
-        );
+        assert_eq!(form(&["--trace=whole", "0"]), Some(Form::Trace(Style::Whole)));
         assert_eq!(form(&["--trace", "--stream", "0"]), Some(Form::Lines));
-        assert_eq!(
-            form(&["--stream", "--trace", "0"]),
-            Some(Form::Trace(Style::AsLibpq))
-        );
+        assert_eq!(form(&["--stream", "--trace", "0"]), Some(Form::Trace(Style::AsLibpq)));
     }
 }

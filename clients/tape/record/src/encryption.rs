@@ -18,9 +18,7 @@ enum Answer {
 pub async fn link(session: &mut Session<'_>, mut client: Stream) -> Result<Link, NoLink> {
     let (mut from_client, mut connected) = (Vec::new(), None);
     loop {
-        let front = front(&mut client, &mut from_client)
-            .await
-            .map_err(OpenError::from)?;
+        let front = front(&mut client, &mut from_client).await.map_err(OpenError::from)?;
         if let Front::End = front {
             return Err(NoLink::Gone);
         }
@@ -46,13 +44,7 @@ pub async fn link(session: &mut Session<'_>, mut client: Stream) -> Result<Link,
             }
             _ => (true, Vec::new()),
         };
-        return Ok(Link {
-            client,
-            server,
-            from_client,
-            from_server,
-            is_encrypted,
-        });
+        return Ok(Link { client, server, from_client, from_server, is_encrypted });
     }
 }
 

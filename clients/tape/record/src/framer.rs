@@ -109,10 +109,7 @@ impl Framer {
 
     fn push(&self, found: &mut Found, range: Range<usize>) {
         if !range.is_empty() {
-            found.pieces.push(Piece {
-                kind: Kind::Bytes(self.side),
-                range,
-            });
+            found.pieces.push(Piece { kind: Kind::Bytes(self.side), range });
         }
     }
 
@@ -120,10 +117,9 @@ impl Framer {
         let (tag, length) = match self.decoder.next(front) {
             Err(_) => return Front::Broken,
             Ok(Next::Frame(frame)) => (frame.tag, frame.bytes.len()),
-            Ok(Next::Incomplete {
-                tag: Some(tag),
-                needed,
-            }) if front.len() >= MESSAGE_HEAD => (Some(tag), needed),
+            Ok(Next::Incomplete { tag: Some(tag), needed }) if front.len() >= MESSAGE_HEAD => {
+                (Some(tag), needed)
+            }
             Ok(Next::Incomplete { .. }) => return Front::Short,
         };
         match (self.side, tag) {
@@ -215,17 +211,11 @@ mod tests {
     fn all_is_recorded_where_that_is_asked_for_or_the_protocol_is_broken() {
         for step in 1..20 {
             for (side, stream) in [(Side::Client, CLIENT), (Side::Server, SERVER)] {
-                assert_eq!(
-                    recorded(Framer::new(side, false, true), stream, step),
-                    stream
-                );
+                assert_eq!(recorded(Framer::new(side, false, true), stream, step), stream);
             }
             let broken: &[u8] = b"GET / HTTP/1.1\r\n\r\n";
             for side in [Side::Client, Side::Server] {
-                assert_eq!(
-                    recorded(Framer::new(side, true, false), broken, step),
-                    broken
-                );
+                assert_eq!(recorded(Framer::new(side, true, false), broken, step), broken);
             }
         }
     }
@@ -235,10 +225,7 @@ mod tests {
         let (mut framer, mut found) = (Framer::new(Side::Server, true, true), Found::default());
         assert_eq!(framer.scan(&SERVER[..20], false, &mut found), 13);
         assert!(found.mechanisms.is_empty());
-        assert_eq!(
-            framer.scan(&SERVER[13..], false, &mut found),
-            SERVER.len() - 13
-        );
+        assert_eq!(framer.scan(&SERVER[13..], false, &mut found), SERVER.len() - 13);
         assert_eq!(found.mechanisms.first(), Some(&(0..24)));
     }
 

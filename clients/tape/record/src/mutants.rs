@@ -50,7 +50,9 @@ fn pass(mutants: &mut Mutants, side: Side, bytes: &[u8], printer: &mut Printer) 
 fn anything_that_passes_is_recorded_and_printed() {
     let mut mutants = Mutants::of_variables(INPUTS);
     while mutants.go_on() {
-        let form = [Form::Server, Form::Lines, Form::Trace(Style::AsLibpq), Form::Trace(Style::Whole)][mutants.below(4)];
+        let form =
+            [Form::Server, Form::Lines, Form::Trace(Style::AsLibpq), Form::Trace(Style::Whole)]
+                [mutants.below(4)];
         let mut printer = Printer::new(form, None, mutants.flips());
         printer.take(1, Kind::Opened, b"[local]");
         for (side, bytes, count) in sides(&mut mutants) {
@@ -59,7 +61,10 @@ fn anything_that_passes_is_recorded_and_printed() {
         }
         printer.take(1, Kind::Closed, b"F");
         let lines = std::mem::take(printer.lines());
-        assert!(!lines.iter().any(|it| *it < b' ' && !matches!(it, b'\n' | b'\t')), "a control character is printed");
+        assert!(
+            !lines.iter().any(|it| *it < b' ' && !matches!(it, b'\n' | b'\t')),
+            "a control character is printed"
+        );
     }
     mutants.end("first bytes and messages of both sides, recorded and printed");
 }

@@ -40,10 +40,7 @@ impl Waiting {
     fn take(&self) -> Vec<u8> {
         let mut waiting = self.lock();
         while waiting.0.is_empty() {
-            waiting = self
-                .is_called
-                .wait(waiting)
-                .unwrap_or_else(PoisonError::into_inner);
+            waiting = self.is_called.wait(waiting).unwrap_or_else(PoisonError::into_inner);
         }
         mem::take(&mut waiting.0)
     }

@@ -52,9 +52,6 @@ fn write(printer: &mut Printer) -> Result<(), Failure> {
     let written = stdout.write_all(lines).and_then(|()| stdout.flush());
     lines.clear();
     written.map_err(|why| {
-        Failure::new(
-            Status::Local,
-            format!("standard output can't be written: {why}"),
-        )
+        Failure::new(Status::Local, format!("standard output can't be written: {why}"))
     })
 }

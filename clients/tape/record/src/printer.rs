@@ -49,10 +49,7 @@ impl Printer {
             only,
             shows_numbers,
             all: BTreeMap::new(),
-            out: Out {
-                bytes: Vec::new(),
-                said: Vec::new(),
-            },
+            out: Out { bytes: Vec::new(), said: Vec::new() },
         }
     }
 
@@ -62,10 +59,7 @@ impl Printer {
             return;
         }
         let at = |side| if side == Side::Client { 0 } else { 1 };
-        let lines = Lines {
-            form: self.form,
-            prefix: self.shows_numbers.then_some(number),
-        };
+        let lines = Lines { form: self.form, prefix: self.shows_numbers.then_some(number) };
         match (kind, self.all.get_mut(&number)) {
             (Kind::Opened, _) => {
                 let both = [Direction::new(Side::Client), Direction::new(Side::Server)];
@@ -80,8 +74,7 @@ impl Printer {
                 self.out.said.push(words);
             }
             (Kind::Closed, Some(both)) => {
-                both.iter()
-                    .for_each(|direction| lines.end(direction, &mut self.out));
+                both.iter().for_each(|direction| lines.end(direction, &mut self.out));
                 self.all.remove(&number);
             }
             (_, None) => {}
@@ -91,12 +84,8 @@ impl Printer {
     /// Ends the connections that are open.
     pub fn end(&mut self) {
         for (number, both) in std::mem::take(&mut self.all) {
-            let lines = Lines {
-                form: self.form,
-                prefix: self.shows_numbers.then_some(number),
-            };
-            both.iter()
-                .for_each(|direction| lines.end(direction, &mut self.out));
+            let lines = Lines { form: self.form, prefix: self.shows_numbers.then_some(number) };
+            both.iter().for_each(|direction| lines.end(direction, &mut self.out));
         }
     }
 
@@ -168,8 +157,7 @@ impl Lines {
         loop {
             match self.next(direction, &bytes[at..]) {
                 Ok(Next::Incomplete { needed, .. }) if needed > LONGEST_SHOWN => {
-                    out.said
-                        .push(format!("a message of {needed} bytes isn't shown"));
+                    out.said.push(format!("a message of {needed} bytes isn't shown"));
                     (direction.left, direction.skipped) = (needed, 0);
                     direction.skip(&bytes[at..]);
                     return bytes.len();

@@ -30,10 +30,7 @@ fn local(why: io::Error) -> Failure {
 /// Serves, and gives the status in which that ends.
 pub fn serve(arguments: &Arguments, says: &Sayer) -> Result<Status, Failure> {
     // Signals and the end have a thread of their own, so that a write which blocks all others doesn't hold them up.
-    let own = Builder::new_current_thread()
-        .enable_all()
-        .build()
-        .map_err(local)?;
+    let own = Builder::new_current_thread().enable_all().build().map_err(local)?;
     let _file_size = own.block_on(async { ignore_file_size() }).map_err(local)?;
     let signal = own.spawn(ended());
     let sessions = arguments.listening.runtime().map_err(local)?;
@@ -45,11 +42,7 @@ pub fn serve(arguments: &Arguments, says: &Sayer) -> Result<Status, Failure> {
             let single = arguments.is_single.then_some(single);
             let proxy = proxy_of(arguments, says, tape, upstream, bound.tls, single);
             let accepting = accept(&proxy, bound.listeners, &sessions);
-            let ends = Ends {
-                failures,
-                signal,
-                first,
-            };
+            let ends = Ends { failures, signal, first };
             own.block_on(end(&proxy, accepting, ends))
         }
         Err(failure) => {
@@ -69,13 +62,8 @@ fn tape_of(
     says: &Sayer,
     fails: mpsc::UnboundedSender<Failure>,
 ) -> Result<Tape, Failure> {
-    let file = arguments
-        .output
-        .as_deref()
-        .map(|path| (path, arguments.keep_passing));
-    let form = arguments
-        .form()
-        .or_else(|| Some(Form::Server).filter(|_| file.is_none()));
+    let file = arguments.output.as_deref().map(|path| (path, arguments.keep_passing));
+    let form = arguments.form().or_else(|| Some(Form::Server).filter(|_| file.is_none()));
     let told = fails.clone();
     let lines = form.map(|form| {
         let printer = Printer::new(form, arguments.only, arguments.numbers);
@@ -90,10 +78,7 @@ fn tape_of(
 async fn begin(arguments: &Arguments, says: &Sayer) -> Result<(Upstream, Bound), Failure> {
     let upstream = arguments.server.find().await?;
     let says = |words| says.say_plain(words);
-    let bound = arguments
-        .listening
-        .bind(arguments.listen_port, says)
-        .await?;
+    let bound = arguments.listening.bind(arguments.listen_port, says).await?;
     Ok((upstream, bound))
 }
 
@@ -174,8 +159,6 @@ fn say_cancels(proxy: &Proxy) {
     match proxy.cancels.load(Ordering::Relaxed) {
         0 => {}
         1 => proxy.says.say("1 request to cancel was passed on"),
-        count => proxy
-            .says
-            .say(format_args!("{count} requests to cancel were passed on")),
+        count => proxy.says.say(format_args!("{count} requests to cancel were passed on")),
     }
 }

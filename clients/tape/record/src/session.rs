@@ -56,10 +56,7 @@ impl From<OpenError> for NoLink {
 
 impl NoLink {
     fn late() -> NoLink {
-        NoLink::Refused(
-            "took too long to open its session".to_owned(),
-            Status::Broken,
-        )
+        NoLink::Refused("took too long to open its session".to_owned(), Status::Broken)
     }
 }
 
@@ -74,12 +71,7 @@ pub struct Session<'p> {
 
 impl<'p> Session<'p> {
     pub fn new(proxy: &'p Proxy, peer: String) -> Session<'p> {
-        Session {
-            proxy,
-            peer,
-            number: 0,
-            begun: Instant::now(),
-        }
+        Session { proxy, peer, number: 0, begun: Instant::now() }
     }
 
     /// Serves the client until both sides have ended.
@@ -92,9 +84,7 @@ impl<'p> Session<'p> {
             Err(NoLink::Over) => return,
             Err(NoLink::Gone) => (Status::Ok, None),
             Err(NoLink::Refused(words, status)) => {
-                self.proxy
-                    .says
-                    .say(format_args!("a client at {} {words}", self.peer));
+                self.proxy.says.say(format_args!("a client at {} {words}", self.peer));
                 (status, Some(Side::Client))
             }
             Err(NoLink::Unreachable(words)) => {
@@ -156,10 +146,7 @@ impl<'p> Session<'p> {
         let first_end = OnceCell::new();
         let drops_binding = drops_binding(&link);
         if link.is_encrypted {
-            self.proxy
-                .tape
-                .take(self.number, &[(Kind::Encrypted, &[])])
-                .await?;
+            self.proxy.tape.take(self.number, &[(Kind::Encrypted, &[])]).await?;
         }
         let direction = |side| Direction {
             tape: &self.proxy.tape,
@@ -178,8 +165,7 @@ impl<'p> Session<'p> {
             let down = down.pass(&mut server_in, &mut client_out, &link.from_server);
             until_second(up, down).await?;
         }
-        self.close(first_end.get().copied().unwrap_or(Side::Server))
-            .await?;
+        self.close(first_end.get().copied().unwrap_or(Side::Server)).await?;
         // A socket that is closed before it is read to its end may take back what was written to it.
         let _ = timeout(CLOSING, discard(&mut client_in)).await;
         Ok(())
@@ -187,20 +173,14 @@ impl<'p> Session<'p> {
 
     async fn close(&self, first: Side) -> Result<(), Over> {
         let content = [Kind::Bytes(first).letter()];
-        self.proxy
-            .tape
-            .take(self.number, &[(Kind::Closed, &content)])
-            .await
+        self.proxy.tape.take(self.number, &[(Kind::Closed, &content)]).await
     }
 }
 
 /// Whether mechanisms with channel binding can't be offered: they bind to the server's certificate, and the client would
 /// see another one or none.
 fn drops_binding(link: &Link) -> bool {
-    let (theirs, ours) = (
-        link.server.peer_certificate(),
-        link.client.own_certificate(),
-    );
+    let (theirs, ours) = (link.server.peer_certificate(), link.client.own_certificate());
     theirs.is_some() && theirs != ours
 }
 

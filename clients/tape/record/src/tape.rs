@@ -48,12 +48,7 @@ impl Recorded {
     fn new(path: &Path, goes_on: bool) -> Result<Recorded, Failure> {
         let tape = recording::Tape::create(path)
             .map_err(|why| Failure::new(Status::Unrecorded, format!("{} {why}", path.display())))?;
-        Ok(Recorded {
-            tape,
-            path: path.to_owned(),
-            goes_on,
-            is_lost: AtomicBool::new(false),
-        })
+        Ok(Recorded { tape, path: path.to_owned(), goes_on, is_lost: AtomicBool::new(false) })
     }
 }
 
@@ -65,15 +60,10 @@ impl Tape {
         says: Sayer,
         fails: Fails,
     ) -> Result<Tape, Failure> {
-        let file = file
-            .map(|(path, goes_on)| Recorded::new(path, goes_on))
-            .transpose()?;
+        let file = file.map(|(path, goes_on)| Recorded::new(path, goes_on)).transpose()?;
         Ok(Tape {
             file,
-            lines: lines.map(|(printer, output)| Printed {
-                printer: Mutex::new(printer),
-                output,
-            }),
+            lines: lines.map(|(printer, output)| Printed { printer: Mutex::new(printer), output }),
             opened: Mutex::new(0),
             says,
             fails,

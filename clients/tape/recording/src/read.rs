@@ -83,12 +83,7 @@ impl Head {
         if !kind.fits(len) {
             return Err("its content isn't as long as its kind has it");
         }
-        Ok(Head {
-            kind,
-            connection: four(&head[5..9]),
-            time: eight(&head[9..17]),
-            len,
-        })
+        Ok(Head { kind, connection: four(&head[5..9]), time: eight(&head[9..17]), len })
     }
 }
 

@@ -12,7 +12,12 @@ pub struct Turns {
 
 impl Turns {
     /// Takes the next record, or says why none like it may come next.
-    pub fn take(&mut self, kind: Kind, connection: u32, content: &[u8]) -> Result<(), &'static str> {
+    pub fn take(
+        &mut self,
+        kind: Kind,
+        connection: u32,
+        content: &[u8],
+    ) -> Result<(), &'static str> {
         let is_open = self.open.contains(&connection);
         match kind {
             Kind::Closed if !matches!(content, b"F" | b"B") => Err("it names no side"),

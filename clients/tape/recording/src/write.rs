@@ -52,27 +52,16 @@ impl Tape {
     pub fn create(path: &Path) -> Result<Tape, String> {
         let mut options = OpenOptions::new();
         options.append(true).create(true).mode(0o600);
-        let mut file = options
-            .open(path)
-            .map_err(|why| format!("can't be opened: {why}"))?;
-        if file
-            .metadata()
-            .map_or(false, |it| it.is_file() && it.len() > 0)
-        {
+        let mut file = options.open(path).map_err(|why| format!("can't be opened: {why}"))?;
+        if file.metadata().map_or(false, |it| it.is_file() && it.len() > 0) {
             return Err("has something in it: name a file for a new recording".to_owned());
         }
-        let now = SystemTime::now()
-            .duration_since(UNIX_EPOCH)
-            .unwrap_or_default();
+        let now = SystemTime::now().duration_since(UNIX_EPOCH).unwrap_or_default();
         let head = file_head(now.as_micros() as u64);
-        file.write_all(&head)
-            .map_err(|why| format!("can't be written: {why}"))?;
+        file.write_all(&head).map_err(|why| format!("can't be written: {why}"))?;
         Ok(Tape {
             begun: Instant::now(),
-            queue: Mutex::new(Queue {
-                bytes: Vec::new(),
-                added: HEAD as u64,
-            }),
+            queue: Mutex::new(Queue { bytes: Vec::new(), added: HEAD as u64 }),
             out: Mutex::new(Out {
                 file,
                 spare: Vec::new(),
@@ -95,13 +84,7 @@ impl Tape {
             _ => {
                 let mut queue = lock(&self.queue);
                 for &(kind, content) in records {
-                    queue.put(
-                        self.begun,
-                        connection,
-                        kind,
-                        content,
-                        crc32fast::hash(content),
-                    );
+                    queue.put(self.begun, connection, kind, content, crc32fast::hash(content));
                 }
                 queue.added
             }
@@ -177,10 +160,7 @@ pub struct Copy<W: Write> {
 impl<W: Write> Copy<W> {
     pub fn new(mut out: W, begun: u64) -> io::Result<Copy<W>> {
         out.write_all(&file_head(begun))?;
-        Ok(Copy {
-            out,
-            bytes: Vec::new(),
-        })
+        Ok(Copy { out, bytes: Vec::new() })
     }
 
     pub fn add(
@@ -221,18 +201,12 @@ mod tests {
         tape.add(1, &records[1..]).unwrap();
         tape.close();
         assert!(matches!(tape.add(1, &records[..1]), Err(Lost::Before)));
-        assert!(Tape::create(&path)
-            .err()
-            .unwrap()
-            .contains("has something in it"));
+        assert!(Tape::create(&path).err().unwrap().contains("has something in it"));
         let mut reader = Reader::new(File::open(&path).unwrap()).unwrap();
         fs::remove_file(&path).unwrap();
         for (kind, content) in records {
             let record = reader.read().unwrap().unwrap();
-            assert_eq!(
-                (record.kind, record.connection, record.content),
-                (kind, 1, content)
-            );
+            assert_eq!((record.kind, record.connection, record.content), (kind, 1, content));
         }
         assert!(reader.read().unwrap().is_none() && !reader.is_cut());
     }

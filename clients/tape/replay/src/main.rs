@@ -27,7 +27,9 @@ const SHUTTING_DOWN: Duration = Duration::from_secs(1);
 
 /// The password in a file: its first line.
 fn login(path: &Path) -> Result<Login, Failure> {
-    let unread = |why: &dyn std::fmt::Display| Failure::new(Status::Local, format!("{} can't be read: {why}", path.display()));
+    let unread = |why: &dyn std::fmt::Display| {
+        Failure::new(Status::Local, format!("{} can't be read: {why}", path.display()))
+    };
     let bytes = std::fs::read(path).map_err(|why| unread(&tape::plain(&why)))?;
     let password = bytes.split(|it| matches!(it, b'\n' | b'\r')).next().unwrap_or_default();
     Login::new(password).map_err(|why| unread(&why))
@@ -50,7 +52,8 @@ async fn run(options: &Options, tell: Sayer) -> Result<Status, Failure> {
     let tape = tape::load(&options.file, &rules, options.speed, &|words| tell.say(words))?;
     let settings = settings(options)?;
     options.check_paths()?;
-    let Bound { listeners, tls } = options.listening.bind(options.listen_port, |words| tell.say_plain(words)).await?;
+    let Bound { listeners, tls } =
+        options.listening.bind(options.listen_port, |words| tell.say_plain(words)).await?;
     let (shared, ends) = Shared::new(tape, rules, tell, tls, settings);
     let shared = Arc::new(shared);
     tokio::select! {

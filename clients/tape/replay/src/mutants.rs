@@ -90,7 +90,9 @@ fn any_bytes_are_cut_and_compared_in_little_room() {
             while let Ok(Some(cut)) = cutter.cut(&mut rest) {
                 if let Cut::Whole(message) = cut {
                     assert!(message.len() <= MESSAGE_MOST);
-                    let form = forms.number(former.message(Some(message[0]), message.get(HEAD..).unwrap_or_default()));
+                    let form = forms.number(
+                        former.message(Some(message[0]), message.get(HEAD..).unwrap_or_default()),
+                    );
                     former.settle(form);
                     mutants.took(1);
                 }

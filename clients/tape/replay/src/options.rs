@@ -93,19 +93,27 @@ impl Options {
 
     /// Refuses the path of a socket that is longer than one may be.
     pub fn check_paths(&self) -> Result<(), Failure> {
-        let named = self.listening.folder.as_ref().zip(self.listen_port).map(|(folder, port)| Address::in_folder(folder, port));
+        let named = self
+            .listening
+            .folder
+            .as_ref()
+            .zip(self.listen_port)
+            .map(|(folder, port)| Address::in_folder(folder, port));
         let mut all = named.iter().chain(&self.listening.listen);
-        let long = all.find(|it| matches!(it, Address::Unix(path) if path.as_os_str().len() > PATH_MOST));
-        long.map_or(Ok(()), |it| Err(Failure::new(Status::Unreachable, format!("{it} is too long"))))
+        let long =
+            all.find(|it| matches!(it, Address::Unix(path) if path.as_os_str().len() > PATH_MOST));
+        long.map_or(Ok(()), |it| {
+            Err(Failure::new(Status::Unreachable, format!("{it} is too long")))
+        })
     }
 
     /// What may differ.
     pub fn rules(&self) -> Result<Rules, Failure> {
         let mut rules = match &self.rules {
             None => Rules::default(),
-            Some(path) => {
-                Rules::read(path).map_err(|why| Failure::new(Status::Usage, format!("{}: {why:#}", path.display())))?
-            }
+            Some(path) => Rules::read(path).map_err(|why| {
+                Failure::new(Status::Usage, format!("{}: {why:#}", path.display()))
+            })?,
         };
         rules.allow(&self.any_setting, &self.any_parameter, &self.any_literal);
         Ok(rules)

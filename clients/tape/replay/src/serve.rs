@@ -56,7 +56,13 @@ pub struct Settings {
 }
 
 impl Shared {
-    pub fn new(tape: Tape, rules: Arc<Rules>, tell: Sayer, tls: Option<ServerTls>, settings: Settings) -> (Shared, mpsc::Receiver<Result<(), Failure>>) {
+    pub fn new(
+        tape: Tape,
+        rules: Arc<Rules>,
+        tell: Sayer,
+        tls: Option<ServerTls>,
+        settings: Settings,
+    ) -> (Shared, mpsc::Receiver<Result<(), Failure>>) {
         let (end, ends) = mpsc::channel(1);
         let tape = Arc::new(tape);
         let shared = Shared {
@@ -152,7 +158,10 @@ pub async fn serve(
         let (shared, places) = (shared.clone(), places.clone());
         tokio::spawn(async move {
             if let Err(why) = accept(&shared, &listener, &places).await {
-                let failure = Failure::new(Status::Local, format!("no connection can be accepted: {}", plain(&why)));
+                let failure = Failure::new(
+                    Status::Local,
+                    format!("no connection can be accepted: {}", plain(&why)),
+                );
                 let _ = shared.end.send(Err(failure)).await;
             }
         });
@@ -170,7 +179,8 @@ pub fn ended(shared: &Shared, ended: Result<(), Failure>) -> Status {
     let mut is_different = shared.is_different.load(Ordering::Relaxed);
     if let (Some((connection, said)), false, true) = (unsaid, is_different, ended.is_ok()) {
         is_different = true;
-        let recorded = shared.tape.message(said).map_or_else(|why| Side::Words(why.to_string()), Side::read);
+        let recorded =
+            shared.tape.message(said).map_or_else(|why| Side::Words(why.to_string()), Side::read);
         let received = Side::Words("no client said it".to_owned());
         let place = (Some(connection), shared.tape.script.number(said));
         let allowed = Allowed { rules: &shared.rules, statement: None };
@@ -190,7 +200,11 @@ pub fn ended(shared: &Shared, ended: Result<(), Failure>) -> Status {
 }
 
 /// Accepts clients. Where that can't be now, the oldest that says nothing gives its place.
-async fn accept(shared: &Arc<Shared>, listener: &Listener, places: &Arc<Semaphore>) -> std::io::Result<()> {
+async fn accept(
+    shared: &Arc<Shared>,
+    listener: &Listener,
+    places: &Arc<Semaphore>,
+) -> std::io::Result<()> {
     loop {
         let place = loop {
             match places.clone().try_acquire_owned() {

@@ -23,8 +23,10 @@ impl Bar {
             true => ProgressDrawTarget::hidden(),
             false => ProgressDrawTarget::stderr(),
         };
-        let style = ProgressStyle::with_template(FORM).unwrap_or_else(|_| ProgressStyle::default_bar());
-        let bar = ProgressBar::with_draw_target(Some(len), target).with_style(style).with_message(what);
+        let style =
+            ProgressStyle::with_template(FORM).unwrap_or_else(|_| ProgressStyle::default_bar());
+        let bar =
+            ProgressBar::with_draw_target(Some(len), target).with_style(style).with_message(what);
         Bar(bar)
     }
 

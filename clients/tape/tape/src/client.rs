@@ -2,8 +2,8 @@
 
 use crate::kinds::kinds;
 use crate::shapes::{
-    Bind, CopyFail, Data, Empty, Execute, FunctionCall, Initial, Key, Other, Parse, Password, Query, Setting, Startup, Tag,
-    Target, TargetKind, Values,
+    Bind, CopyFail, Data, Empty, Execute, FunctionCall, Initial, Key, Other, Parse, Password,
+    Query, Setting, Startup, Tag, Target, TargetKind, Values,
 };
 use crate::text::Text;
 use pgmsg::frontend::{self, Message, PasswordMessage, SaslInitialResponse};
@@ -65,9 +65,10 @@ impl<'a> Client<'a> {
     pub fn of(message: &Message<'a>) -> Option<Client<'a>> {
         Some(match message {
             Message::Startup(startup) => Client::StartupMessage(startup_of(startup)),
-            Message::CancelRequest(cancel) => {
-                Client::CancelRequest(Key { process_id: cancel.process_id, secret_key: cancel.secret_key.0.into() })
-            }
+            Message::CancelRequest(cancel) => Client::CancelRequest(Key {
+                process_id: cancel.process_id,
+                secret_key: cancel.secret_key.0.into(),
+            }),
             Message::SslRequest => Client::SSLRequest(Empty {}),
             Message::GssEncRequest => Client::GSSENCRequest(Empty {}),
             Message::Bind(bind) => Client::Bind(bind_of(bind)),
@@ -76,9 +77,10 @@ impl<'a> Client<'a> {
             Message::CopyDone => Client::CopyDone(Empty {}),
             Message::CopyFail(reason) => Client::CopyFail(CopyFail { reason: text(*reason) }),
             Message::Describe(target) => Client::Describe(target_of(target)),
-            Message::Execute(execute) => {
-                Client::Execute(Execute { portal: text(execute.portal), max_rows: execute.max_rows })
-            }
+            Message::Execute(execute) => Client::Execute(Execute {
+                portal: text(execute.portal),
+                max_rows: execute.max_rows,
+            }),
             Message::Flush => Client::Flush(Empty {}),
             Message::FunctionCall(call) => Client::FunctionCall(call_of(call)),
             Message::Parse(parse) => Client::Parse(Parse {
@@ -97,7 +99,9 @@ impl<'a> Client<'a> {
     /// Appends the message.
     pub fn write(&self, out: &mut Vec<u8>) -> Result<(), Refusal> {
         let message = match self {
-            Client::PasswordMessage(it) => return PasswordMessage(Secret(&it.password.0)).write(out),
+            Client::PasswordMessage(it) => {
+                return PasswordMessage(Secret(&it.password.0)).write(out)
+            }
             Client::SASLInitialResponse(it) => return initial(it).write(out),
             Client::SASLResponse(it) => Message::Password(frontend::Password(&it.data.0)),
             Client::Other(it) => return other(it, out),
@@ -114,9 +118,10 @@ impl<'a> Client<'a> {
             Client::CopyDone(_) => Message::CopyDone,
             Client::CopyFail(it) => Message::CopyFail(ByteStr(&it.reason.0)),
             Client::Describe(it) => Message::Describe(target(it)),
-            Client::Execute(it) => {
-                Message::Execute(frontend::Execute { portal: ByteStr(&it.portal.0), max_rows: it.max_rows })
-            }
+            Client::Execute(it) => Message::Execute(frontend::Execute {
+                portal: ByteStr(&it.portal.0),
+                max_rows: it.max_rows,
+            }),
             Client::Flush(_) => Message::Flush,
             Client::FunctionCall(it) => Message::FunctionCall(call(it)),
             Client::Parse(it) => Message::Parse(parse(it)),
@@ -139,12 +144,16 @@ pub fn untyped(tag: u8, body: &[u8]) -> Other<'_> {
 }
 
 fn startup_of<'a>(it: &frontend::Startup<'a>) -> Startup<'a> {
-    let settings = it.settings.iter().map(|it| Setting { name: text(it.name), value: text(it.value) });
+    let settings =
+        it.settings.iter().map(|it| Setting { name: text(it.name), value: text(it.value) });
     Startup { minor: it.minor, settings: settings.collect() }
 }
 
 fn startup<'t>(it: &'t Startup<'_>) -> frontend::Startup<'t> {
-    let settings = it.settings.iter().map(|it| frontend::Setting { name: ByteStr(&it.name.0), value: ByteStr(&it.value.0) });
+    let settings = it
+        .settings
+        .iter()
+        .map(|it| frontend::Setting { name: ByteStr(&it.name.0), value: ByteStr(&it.value.0) });
     frontend::Startup { minor: it.minor, settings: settings.collect() }
 }
 
@@ -203,7 +212,11 @@ fn call<'t>(it: &'t FunctionCall<'_>) -> frontend::FunctionCall<'t> {
 }
 
 fn parse<'t>(it: &'t Parse<'_>) -> frontend::Parse<'t> {
-    frontend::Parse { statement: ByteStr(&it.statement.0), query: ByteStr(&it.query.0), types: List::from(&it.types[..]) }
+    frontend::Parse {
+        statement: ByteStr(&it.statement.0),
+        query: ByteStr(&it.query.0),
+        types: List::from(&it.types[..]),
+    }
 }
 
 fn initial<'t>(it: &'t Initial<'_>) -> SaslInitialResponse<'t> {
@@ -218,7 +231,10 @@ fn answer_of(answer: frontend::Password<'_>) -> Client<'_> {
     let data = Client::SASLResponse(Data { data: answer.0.into() });
     if let Ok(initial) = answer.sasl_initial() {
         let response = initial.response.map(|response| response.0.into());
-        return Client::SASLInitialResponse(Initial { mechanism: text(initial.mechanism), response });
+        return Client::SASLInitialResponse(Initial {
+            mechanism: text(initial.mechanism),
+            response,
+        });
     }
     match answer.password() {
         Ok(password) if answer.0.len() == password.len() + 1 => {

@@ -116,8 +116,14 @@ impl Cutter {
     }
 
     /// Cuts the bytes of a record.
-    fn bytes<E>(&mut self, record: &Record<'_>, side: Side, sink: &mut impl Sink<E>) -> Result<(), E> {
-        let slot = Slot { connection: record.connection, time: record.time, begins: true, side, len: 0 };
+    fn bytes<E>(
+        &mut self,
+        record: &Record<'_>,
+        side: Side,
+        sink: &mut impl Sink<E>,
+    ) -> Result<(), E> {
+        let slot =
+            Slot { connection: record.connection, time: record.time, begins: true, side, len: 0 };
         let mut cut = Cut { slot, rest: record.content, waiting: None };
         if cut.rest.is_empty() {
             return self.pass_on(&mut cut, 0, sink);
@@ -133,7 +139,12 @@ impl Cutter {
     }
 
     /// Takes the next message of a record, or what there is of it.
-    fn step<E>(&mut self, direction: &mut Direction, cut: &mut Cut<'_>, sink: &mut impl Sink<E>) -> Result<(), E> {
+    fn step<E>(
+        &mut self,
+        direction: &mut Direction,
+        cut: &mut Cut<'_>,
+        sink: &mut impl Sink<E>,
+    ) -> Result<(), E> {
         match direction.way {
             Way::Broken => {
                 let count = cut.rest.len();
@@ -150,21 +161,34 @@ impl Cutter {
     }
 
     /// Gives the next bytes of a record as they came.
-    fn pass_on<E>(&mut self, cut: &mut Cut<'_>, count: usize, sink: &mut impl Sink<E>) -> Result<(), E> {
+    fn pass_on<E>(
+        &mut self,
+        cut: &mut Cut<'_>,
+        count: usize,
+        sink: &mut impl Sink<E>,
+    ) -> Result<(), E> {
         let slot = cut.slot;
         self.give(slot.bytes(cut.split(count)), sink)
     }
 
     /// Looks for a message at the front of what is left of a record.
-    fn look<E>(&mut self, direction: &mut Direction, cut: &mut Cut<'_>, sink: &mut impl Sink<E>) -> Result<(), E> {
+    fn look<E>(
+        &mut self,
+        direction: &mut Direction,
+        cut: &mut Cut<'_>,
+        sink: &mut impl Sink<E>,
+    ) -> Result<(), E> {
         match direction.decoder.next(cut.rest) {
             Ok(Next::Frame(frame)) => {
                 let slot = cut.slot;
                 let here = cut.split(frame.bytes.len()).len();
                 let message = Message { tag: frame.tag, bytes: Cow::Borrowed(frame.bytes) };
-                return self.give(slot.item(What::Message { side: slot.side, message, here }), sink);
+                return self
+                    .give(slot.item(What::Message { side: slot.side, message, here }), sink);
             }
-            Ok(Next::Incomplete { tag: Some(_), needed }) if needed > LONGEST && cut.rest.len() >= MESSAGE_HEAD => {
+            Ok(Next::Incomplete { tag: Some(_), needed })
+                if needed > LONGEST && cut.rest.len() >= MESSAGE_HEAD =>
+            {
                 direction.pass(needed, 0);
             }
             Ok(Next::Incomplete { .. }) => {
@@ -178,7 +202,12 @@ impl Cutter {
     }
 
     /// Adds bytes of a record to the front of a message that is held.
-    fn hold<E>(&mut self, direction: &mut Direction, cut: &mut Cut<'_>, sink: &mut impl Sink<E>) -> Result<(), E> {
+    fn hold<E>(
+        &mut self,
+        direction: &mut Direction,
+        cut: &mut Cut<'_>,
+        sink: &mut impl Sink<E>,
+    ) -> Result<(), E> {
         let needed = match direction.decoder.next(&direction.held) {
             Ok(Next::Incomplete { needed, .. }) => needed,
             _ => 0,

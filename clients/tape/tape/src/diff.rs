@@ -49,7 +49,8 @@ pub fn diff(one: &Path, other: &Path) -> Result<Status> {
 /// Reads the exchanges of a recording.
 fn sessions(path: &Path, bar: &Bar) -> Result<Sessions> {
     let mut tape = Tape::open(path, bar)?;
-    let (mut sessions, mut exchanges, mut writer) = (Sessions::new(), Exchanges::default(), Writer::default());
+    let (mut sessions, mut exchanges, mut writer) =
+        (Sessions::new(), Exchanges::default(), Writer::default());
     tape.items(|item| {
         let session = sessions.entry(item.connection).or_default();
         let number = exchanges.number(item.connection, &item.what).unwrap_or_default() as usize;
@@ -72,8 +73,12 @@ fn sessions(path: &Path, bar: &Bar) -> Result<Sessions> {
 fn line(what: &What<'_>, writer: &mut Writer) -> Option<(Side, String)> {
     match what {
         What::Message { side, message, .. } => Some((*side, shown(*side, message, writer))),
-        What::LeftOut { side, tag, .. } => Some((*side, format!("{} {} left out", name(*side), char::from(*tag)))),
-        What::Bytes { side, bytes } => Some((*side, format!("{} bytes {}", name(*side), escape(bytes)))),
+        What::LeftOut { side, tag, .. } => {
+            Some((*side, format!("{} {} left out", name(*side), char::from(*tag))))
+        }
+        What::Bytes { side, bytes } => {
+            Some((*side, format!("{} bytes {}", name(*side), escape(bytes))))
+        }
         _ => None,
     }
 }
@@ -89,8 +94,10 @@ fn name(side: Side) -> &'static str {
 fn shown(side: Side, message: &Message<'_>, writer: &mut Writer) -> String {
     let said = writer.message(side, message);
     let is_secret = match side {
-        Side::Client => pgmsg::frontend::Message::read_body(message.tag, message.body()).map_or(false, |it| it.is_secret()),
-        Side::Server => pgmsg::backend::Message::read_body(message.tag, message.body()).map_or(false, |it| it.is_secret()),
+        Side::Client => pgmsg::frontend::Message::read_body(message.tag, message.body())
+            .map_or(false, |it| it.is_secret()),
+        Side::Server => pgmsg::backend::Message::read_body(message.tag, message.body())
+            .map_or(false, |it| it.is_secret()),
     };
     let fields = match is_secret {
         true => String::new(),
@@ -148,10 +155,19 @@ fn put_session(out: &mut Vec<u8>, number: u32, one: &[Exchange], other: &[Exchan
 
 fn heading(connection: u32, left: Option<usize>, right: Option<usize>) -> String {
     match (left, right) {
-        (Some(left), Some(right)) if left == right => format!("connection {connection}, exchange {left}:"),
-        (Some(left), Some(right)) => format!("connection {connection}, exchange {left}, now {right}:"),
-        (Some(left), None) => format!("connection {connection}, exchange {left}, of the first alone:"),
-        (None, right) => format!("connection {connection}, exchange {}, of the second alone:", right.unwrap_or_default()),
+        (Some(left), Some(right)) if left == right => {
+            format!("connection {connection}, exchange {left}:")
+        }
+        (Some(left), Some(right)) => {
+            format!("connection {connection}, exchange {left}, now {right}:")
+        }
+        (Some(left), None) => {
+            format!("connection {connection}, exchange {left}, of the first alone:")
+        }
+        (None, right) => format!(
+            "connection {connection}, exchange {}, of the second alone:",
+            right.unwrap_or_default()
+        ),
     }
 }
 

@@ -68,7 +68,9 @@ impl Direction {
         }
         let there = self.held.len();
         match self.decoder.next(&self.held) {
-            Ok(Next::Incomplete { tag: Some(_), needed }) if there >= MESSAGE_HEAD => self.pass(needed, there),
+            Ok(Next::Incomplete { tag: Some(_), needed }) if there >= MESSAGE_HEAD => {
+                self.pass(needed, there)
+            }
             _ => {}
         }
     }

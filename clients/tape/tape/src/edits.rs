@@ -88,7 +88,8 @@ fn connections_are_dropped_or_kept() {
         assert_eq!(sessions(&to.bytes()), wanted, "{named:?}");
     }
     std::fs::remove_file(to.path()).unwrap();
-    let failure = remove(from.path(), &[Choice(1..=1), Choice(6..=9)], false, to.path()).unwrap_err();
+    let failure =
+        remove(from.path(), &[Choice(1..=1), Choice(6..=9)], false, to.path()).unwrap_err();
     assert_eq!(failure.status, Status::Usage);
     assert!(failure.to_string().ends_with("has no connection 6-9") && !to.path().exists());
 }
@@ -100,9 +101,11 @@ fn a_recording_that_is_split_and_merged_says_the_same() {
     let folder = std::env::temp_dir().join(format!("pg_tape.{}.parts", std::process::id()));
     split(from.path(), &folder).unwrap();
     assert!(split(from.path(), &folder).unwrap_err().to_string().contains("is there already"));
-    let mut paths: Vec<PathBuf> = std::fs::read_dir(&folder).unwrap().map(|it| it.unwrap().path()).collect();
+    let mut paths: Vec<PathBuf> =
+        std::fs::read_dir(&folder).unwrap().map(|it| it.unwrap().path()).collect();
     paths.sort();
-    let parts: Vec<_> = paths.iter().flat_map(|path| sessions(&std::fs::read(path).unwrap())).collect();
+    let parts: Vec<_> =
+        paths.iter().flat_map(|path| sessions(&std::fs::read(path).unwrap())).collect();
     let merged = TempFile::new("split.merged");
     merge(&paths, merged.path()).unwrap();
     std::fs::remove_dir_all(&folder).unwrap();

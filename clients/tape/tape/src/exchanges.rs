@@ -30,7 +30,8 @@ impl Exchanges {
     pub fn number(&mut self, connection: u32, what: &What<'_>) -> Option<u32> {
         match what {
             What::Opened(_) => {
-                let session = Session { client: 1, server: 0, has_begun: false, by_sync: false, last: 0 };
+                let session =
+                    Session { client: 1, server: 0, has_begun: false, by_sync: false, last: 0 };
                 self.sessions.insert(connection, session);
                 None
             }
@@ -48,7 +49,9 @@ impl Exchanges {
                 };
                 Some(session.last)
             }
-            What::Continued { .. } | What::Bytes { .. } => self.sessions.get(&connection).map(|it| it.last),
+            What::Continued { .. } | What::Bytes { .. } => {
+                self.sessions.get(&connection).map(|it| it.last)
+            }
         }
     }
 }

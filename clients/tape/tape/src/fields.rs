@@ -39,7 +39,9 @@ pub struct Report<'a>(Vec<(u8, Text<'a>)>);
 impl<'a> Report<'a> {
     /// The fields, unless a letter comes again.
     pub fn of(fields: &Fields<'a>) -> Option<Report<'a>> {
-        let is_again = |(at, it): (usize, &Field<'_>)| fields[..at].iter().any(|before| before.letter == it.letter);
+        let is_again = |(at, it): (usize, &Field<'_>)| {
+            fields[..at].iter().any(|before| before.letter == it.letter)
+        };
         if fields.len() > MANY || fields.iter().enumerate().any(is_again) {
             return None;
         }
@@ -48,7 +50,8 @@ impl<'a> Report<'a> {
     }
 
     pub fn list(&self) -> Fields<'_> {
-        let fields = self.0.iter().map(|(letter, text)| Field { letter: *letter, value: ByteStr(&text.0) });
+        let fields =
+            self.0.iter().map(|(letter, text)| Field { letter: *letter, value: ByteStr(&text.0) });
         fields.collect()
     }
 }
@@ -92,8 +95,9 @@ impl<'de> Visitor<'de> for ReportVisitor {
     fn visit_map<M: MapAccess<'de>>(self, mut map: M) -> Result<Report<'de>, M::Error> {
         let mut fields: Vec<(u8, Text<'de>)> = Vec::new();
         while let Some(name) = map.next_key::<Cow<'de, str>>()? {
-            let letter =
-                letter_of(&name).ok_or_else(|| de::Error::custom(format_args!("no field of an error is `{name}`")))?;
+            let letter = letter_of(&name).ok_or_else(|| {
+                de::Error::custom(format_args!("no field of an error is `{name}`"))
+            })?;
             if fields.iter().any(|(it, _)| *it == letter) {
                 return Err(de::Error::custom(format_args!("the field `{name}` is there twice")));
             }

@@ -50,8 +50,13 @@ pub fn import(path: &Path, to: &Path) -> Result<()> {
 
 /// Reads all lines, and gives what follows the last whole record.
 fn read(file: &mut impl BufRead, out: &mut Output, path: &Path, to: &Path) -> Result<Vec<u8>> {
-    let mut import =
-        Import { out: Some(out), joiner: None, message: Vec::new(), rows: RowLines::default(), tail: Vec::new() };
+    let mut import = Import {
+        out: Some(out),
+        joiner: None,
+        message: Vec::new(),
+        rows: RowLines::default(),
+        tail: Vec::new(),
+    };
     let (mut bytes, mut number) = (Vec::new(), 0_u64);
     loop {
         bytes.clear();
@@ -123,7 +128,9 @@ impl Import<'_> {
         }
         let joiner = match (said, &mut self.joiner) {
             (Said::Recording(head), None) => return self.begin(head),
-            (Said::Recording(_), Some(_)) => return Err(Wrong::Other("the recording has begun before")),
+            (Said::Recording(_), Some(_)) => {
+                return Err(Wrong::Other("the recording has begun before"))
+            }
             (_, None) => return Err(Wrong::Other("the first line isn't of the kind `Recording`")),
             (_, Some(joiner)) => joiner,
         };

@@ -46,7 +46,9 @@ impl Tape {
         let mut tail = Vec::new();
         if self.reader.is_cut() {
             let mut file = open(&self.path)?;
-            let read = file.seek(SeekFrom::Start(self.reader.at())).and_then(|_| file.read_to_end(&mut tail));
+            let read = file
+                .seek(SeekFrom::Start(self.reader.at()))
+                .and_then(|_| file.read_to_end(&mut tail));
             read.map_err(|why| Failure::unread(&self.path, &why))?;
         }
         Ok(tail)
@@ -56,7 +58,9 @@ impl Tape {
     pub fn say_cut(&self) {
         if self.reader.is_cut() {
             let (path, at) = (self.path.display(), self.reader.at());
-            crate::say(format_args!("{path} ends within a record: it is read up to its last whole one, to offset {at}"));
+            crate::say(format_args!(
+                "{path} ends within a record: it is read up to its last whole one, to offset {at}"
+            ));
         }
     }
 

@@ -59,9 +59,13 @@ impl Item<'_> {
             What::Closed(side) => What::Closed(side),
             What::Encrypted => What::Encrypted,
             What::LeftOut { side, tag, length } => What::LeftOut { side, tag, length },
-            What::Message { side, message, here } => What::Message { side, message: message.into_owned(), here },
+            What::Message { side, message, here } => {
+                What::Message { side, message: message.into_owned(), here }
+            }
             What::Continued { side, here } => What::Continued { side, here },
-            What::Bytes { side, bytes } => What::Bytes { side, bytes: Cow::Owned(bytes.into_owned()) },
+            What::Bytes { side, bytes } => {
+                What::Bytes { side, bytes: Cow::Owned(bytes.into_owned()) }
+            }
         };
         Item { connection: self.connection, time: self.time, begins: self.begins, what }
     }

@@ -54,7 +54,13 @@ impl<W: Write> Joiner<W> {
     }
 
     /// Adds a record that has no bytes of messages.
-    pub fn record(&mut self, kind: Kind, connection: u32, time: u64, content: &[u8]) -> Result<(), Unjoined> {
+    pub fn record(
+        &mut self,
+        kind: Kind,
+        connection: u32,
+        time: u64,
+        content: &[u8],
+    ) -> Result<(), Unjoined> {
         self.flush()?;
         if kind == Kind::Closed {
             self.is_whole(connection, Side::Client)?;
@@ -64,7 +70,12 @@ impl<W: Write> Joiner<W> {
     }
 
     /// Adds a message, of which so many bytes are at this spot.
-    pub fn message(&mut self, spot: Spot, bytes: &[u8], here: Option<usize>) -> Result<(), Unjoined> {
+    pub fn message(
+        &mut self,
+        spot: Spot,
+        bytes: &[u8],
+        here: Option<usize>,
+    ) -> Result<(), Unjoined> {
         // A record without bytes may stand anywhere.
         if !bytes.is_empty() {
             self.is_whole(spot.connection, spot.side)?;
@@ -117,7 +128,8 @@ impl<W: Write> Joiner<W> {
 
     /// Adds bytes to the record at hand, or begins another one.
     fn join(&mut self, spot: Spot, mut bytes: &[u8]) -> Result<(), Unjoined> {
-        let goes_on = |it: Spot| (it.connection, it.time, it.side) == (spot.connection, spot.time, spot.side);
+        let goes_on =
+            |it: Spot| (it.connection, it.time, it.side) == (spot.connection, spot.time, spot.side);
         if spot.begins || !self.current.map_or(false, goes_on) {
             self.flush()?;
             self.current = Some(spot);
@@ -144,7 +156,13 @@ impl<W: Write> Joiner<W> {
         Ok(())
     }
 
-    fn put(&mut self, kind: Kind, connection: u32, time: u64, content: &[u8]) -> Result<(), Unjoined> {
+    fn put(
+        &mut self,
+        kind: Kind,
+        connection: u32,
+        time: u64,
+        content: &[u8],
+    ) -> Result<(), Unjoined> {
         self.turns.take(kind, connection, content).map_err(Unjoined::Turn)?;
         Ok(self.out.add(kind, connection, time, content)?)
     }

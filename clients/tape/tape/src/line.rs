@@ -151,7 +151,9 @@ impl Writer {
     pub fn item(&mut self, out: &mut Vec<u8>, item: &Item<'_>) {
         let place = self.place(item);
         match &item.what {
-            What::Message { side: Side::Server, message, .. } if message.tag == Some(b'D') => self.row(out, place, message),
+            What::Message { side: Side::Server, message, .. } if message.tag == Some(b'D') => {
+                self.row(out, place, message)
+            }
             what => put(out, place, &self.said(what)),
         }
     }
@@ -159,7 +161,9 @@ impl Writer {
     /// Where the line of an item stands.
     fn place(&mut self, item: &Item<'_>) -> Place {
         let (side, here) = match &item.what {
-            What::Message { side, message, here } => (Some(*side), Some(*here).filter(|here| *here < message.bytes.len())),
+            What::Message { side, message, here } => {
+                (Some(*side), Some(*here).filter(|here| *here < message.bytes.len()))
+            }
             What::Continued { side, here } => (Some(*side), *here),
             What::Bytes { side, .. } | What::LeftOut { side, .. } => (Some(*side), None),
             _ => (None, None),
@@ -177,7 +181,9 @@ impl Writer {
             What::Opened(address) => Said::Opened(Opened { address: Text(Cow::Borrowed(address)) }),
             What::Closed(side) => Said::Closed(Closed { by: *side }),
             What::Encrypted => Said::Encrypted(Empty {}),
-            What::LeftOut { tag, length, .. } => Said::LeftOut(LeftOut { tag: Tag(*tag), length: *length }),
+            What::LeftOut { tag, length, .. } => {
+                Said::LeftOut(LeftOut { tag: Tag(*tag), length: *length })
+            }
             What::Message { side, message, .. } => self.message(*side, message),
             What::Continued { .. } => Said::Continued(Empty {}),
             What::Bytes { bytes, .. } => Said::Bytes(Bytes { data: Text(Cow::Borrowed(bytes)) }),
@@ -203,16 +209,22 @@ impl Writer {
     pub fn message<'m>(&mut self, side: Side, message: &'m Message<'_>) -> Said<'m> {
         let (tag, body) = (message.tag, message.body());
         let said = match side {
-            Side::Client => {
-                pgmsg::frontend::Message::read_body(tag, body).ok().and_then(|it| Client::of(&it)).map(Said::Client)
-            }
-            Side::Server => {
-                pgmsg::backend::Message::read_body(tag, body).ok().and_then(|it| Server::of(&it)).map(Said::Server)
-            }
+            Side::Client => pgmsg::frontend::Message::read_body(tag, body)
+                .ok()
+                .and_then(|it| Client::of(&it))
+                .map(Said::Client),
+            Side::Server => pgmsg::backend::Message::read_body(tag, body)
+                .ok()
+                .and_then(|it| Server::of(&it))
+                .map(Said::Server),
         };
         self.again.clear();
         match (said, tag) {
-            (Some(said), _) if write(&said, &mut self.again).is_ok() && self.again == *message.bytes => said,
+            (Some(said), _)
+                if write(&said, &mut self.again).is_ok() && self.again == *message.bytes =>
+            {
+                said
+            }
             (_, Some(tag)) => other(side, client::untyped(tag, body)),
             (_, None) => Said::Bytes(Bytes { data: Text(Cow::Borrowed(&message.bytes)) }),
         }

@@ -58,7 +58,9 @@ fn run(command: &Command) -> Result<Status> {
         Command::Export { tape, output } => export::export(tape, output.as_deref())?,
         Command::Import { file, output } => import::import(file, output)?,
         Command::Merge { tapes, output } => merge::merge(tapes, output)?,
-        Command::Drop { tape, connections, keep, output } => remove::remove(tape, connections, *keep, output)?,
+        Command::Drop { tape, connections, keep, output } => {
+            remove::remove(tape, connections, *keep, output)?
+        }
         Command::Split { tape, folder } => split::split(tape, folder)?,
         Command::Redact { tape, rules, output } => redact::redact(tape, rules.as_deref(), output)?,
         Command::View { tape, output } => view::view(tape, output)?,

@@ -48,8 +48,11 @@ pub fn merge(paths: &[PathBuf], to: &Path) -> Result<()> {
     let mut out = Output::create(to)?;
     let mut copy = Copy::new(&mut out, begun).map_err(unwritten)?;
     let mut numbers = Numbers::default();
-    let time_of = |(_, source): &(usize, &mut Source)| source.next.map_or(u64::MAX, |(_, _, time)| time);
-    while let Some((at, source)) = sources.iter_mut().enumerate().filter(|(_, it)| it.next.is_some()).min_by_key(time_of) {
+    let time_of =
+        |(_, source): &(usize, &mut Source)| source.next.map_or(u64::MAX, |(_, _, time)| time);
+    while let Some((at, source)) =
+        sources.iter_mut().enumerate().filter(|(_, it)| it.next.is_some()).min_by_key(time_of)
+    {
         if let Some((kind, connection, time)) = source.next {
             let number = numbers.of(at, connection);
             copy.add(kind, number, time - begun, &source.content).map_err(unwritten)?;

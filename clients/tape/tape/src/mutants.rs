@@ -43,8 +43,14 @@ const FAULTS: [(&str, &str); 25] = [
     (r#"H|O|{P,"kind":"Query","query":"","a":1}"#, "3: unknown field `a`, expected `query`"),
     (r#"H|O|{P,"kind":"Query","query":"a\u0000"}"#, "3: the message can't be written: "),
     (r#"H|O|{"connection":1,"time":0,"kind":"Query","query":""}"#, "3: missing field `side`"),
-    (r#"H|O|{"time":0,"side":"client","kind":"Query","query":""}"#, "3: missing field `connection`"),
-    (r#"H|O|{"connection":1,"time":-1,"side":"client","kind":"Sync"}"#, "3: invalid value: integer `-1`, expected u64"),
+    (
+        r#"H|O|{"time":0,"side":"client","kind":"Query","query":""}"#,
+        "3: missing field `connection`",
+    ),
+    (
+        r#"H|O|{"connection":1,"time":-1,"side":"client","kind":"Sync"}"#,
+        "3: invalid value: integer `-1`, expected u64",
+    ),
     (r#"H|O|{P,"side":"client","kind":"Sync"}"#, "3: duplicate field `side`"),
     (r#"H|O|{P,"here":6,"kind":"Sync"}"#, "3: all 5 bytes of the message are here"),
     (r#"H|O|{P,"here":2,"kind":"Sync"}"#, "4: the rest of the message before is missing: 3 bytes"),
@@ -67,7 +73,8 @@ fn spelled(lines: &str) -> String {
         "H" => HEAD.to_owned(),
         "O" => OPENED.to_owned(),
         "Q" => r#"{"connection":1,"time":1,"side":"client","kind":"Query","query":"a"}"#.to_owned(),
-        "R" => r#"{"connection":1,"time":1,"side":"server","kind":"DataRow","values":["1"]}"#.to_owned(),
+        "R" => r#"{"connection":1,"time":1,"side":"server","kind":"DataRow","values":["1"]}"#
+            .to_owned(),
         it => it.replace("{P", r#"{"connection":1,"time":0,"side":"client""#),
     });
     lines.collect::<Vec<_>>().join("\n")
@@ -77,7 +84,10 @@ fn spelled(lines: &str) -> String {
 fn each_fault_is_named_by_its_line() {
     for (at, (lines, wanted)) in FAULTS.into_iter().enumerate() {
         let found = fault(&format!("fault{at}"), spelled(lines).as_bytes());
-        assert!(found.as_deref().map_or(false, |it| it.starts_with(&format!("line {wanted}"))), "{wanted}, not {found:?}");
+        assert!(
+            found.as_deref().map_or(false, |it| it.starts_with(&format!("line {wanted}"))),
+            "{wanted}, not {found:?}"
+        );
     }
 }
 
@@ -90,8 +100,11 @@ fn fields_may_stand_in_any_order() {
         r#"{"query":"a","kind":"Query","side":"client","time":1,"connection":1}"#,
         r#"{"kind":"ErrorResponse","fields":{"severity":"ERROR","message":"b","code":"c"},"connection":1,"time":2,"side":"server"}"#,
     ];
-    let (from, to, back) =
-        (TempFile::with("order", lines.join("\n").as_bytes()), TempFile::new("order.to"), TempFile::new("order.back"));
+    let (from, to, back) = (
+        TempFile::with("order", lines.join("\n").as_bytes()),
+        TempFile::new("order.to"),
+        TempFile::new("order.back"),
+    );
     import(from.path(), to.path()).unwrap();
     export(to.path(), Some(back.path())).unwrap();
     let wanted = [
@@ -100,8 +113,14 @@ fn fields_may_stand_in_any_order() {
     ];
     let found = String::from_utf8(back.bytes()).unwrap();
     assert_eq!(found.lines().skip(2).collect::<Vec<_>>(), wanted);
-    let twice = [HEAD, OPENED, r#"{"query":"a","query":"b","kind":"Query","side":"client","time":1,"connection":1}"#];
-    assert!(fault("twice", twice.join("\n").as_bytes()).unwrap().contains("duplicate field `query`"));
+    let twice = [
+        HEAD,
+        OPENED,
+        r#"{"query":"a","query":"b","kind":"Query","side":"client","time":1,"connection":1}"#,
+    ];
+    assert!(fault("twice", twice.join("\n").as_bytes())
+        .unwrap()
+        .contains("duplicate field `query`"));
 }
 
 #[test]

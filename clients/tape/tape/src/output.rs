@@ -43,7 +43,11 @@ impl Output {
                 (options.open(&partial.name).map_err(failed)?, Some(partial))
             }
         };
-        Ok(Output { writer: BufWriter::with_capacity(room, Box::new(file)), partial, path: path.to_owned() })
+        Ok(Output {
+            writer: BufWriter::with_capacity(room, Box::new(file)),
+            partial,
+            path: path.to_owned(),
+        })
     }
 
     /// Output to a file, or to standard output where none is named.

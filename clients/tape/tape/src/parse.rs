@@ -51,7 +51,9 @@ pub fn ordered(text: &str) -> Option<String> {
     fields.sort_by_key(|(name, _)| rank(&name.0));
     let fields: Result<Vec<String>, _> = fields
         .iter()
-        .map(|(name, value)| serde_json::to_string(&name.0).map(|name| format!("{name}:{}", value.get())))
+        .map(|(name, value)| {
+            serde_json::to_string(&name.0).map(|name| format!("{name}:{}", value.get()))
+        })
         .collect();
     Some(format!("{{{}}}", fields.ok()?.join(",")))
 }
@@ -129,7 +131,11 @@ impl<'de> Visitor<'de> for LineVisitor {
 }
 
 /// Reads the fields of a kind.
-fn said<'de, D: Deserializer<'de>>(kind: &str, side: Option<Side>, fields: D) -> Result<Said<'de>, D::Error> {
+fn said<'de, D: Deserializer<'de>>(
+    kind: &str,
+    side: Option<Side>,
+    fields: D,
+) -> Result<Said<'de>, D::Error> {
     Ok(match (kind, side) {
         ("Recording", _) => Said::Recording(Deserialize::deserialize(fields)?),
         ("Opened", _) => Said::Opened(Deserialize::deserialize(fields)?),
@@ -148,9 +154,12 @@ fn said<'de, D: Deserializer<'de>>(kind: &str, side: Option<Side>, fields: D) ->
 /// Whether a line has the parts of a place that its kind needs, and no others.
 fn check(place: &Place, said: &Said<'_>) -> Result<(), String> {
     let has_place = !matches!(said, Said::Recording(_) | Said::Cut(_));
-    let has_side =
-        !matches!(said, Said::Recording(_) | Said::Cut(_) | Said::Opened(_) | Said::Closed(_) | Said::Encrypted(_));
-    let is_message = matches!(said, Said::Client(_) | Said::Server(_) | Said::Continued(_) | Said::Bytes(_));
+    let has_side = !matches!(
+        said,
+        Said::Recording(_) | Said::Cut(_) | Said::Opened(_) | Said::Closed(_) | Said::Encrypted(_)
+    );
+    let is_message =
+        matches!(said, Said::Client(_) | Said::Server(_) | Said::Continued(_) | Said::Bytes(_));
     let parts = [
         ("connection", place.connection.is_some(), has_place, has_place),
         ("time", place.time.is_some(), has_place, has_place),

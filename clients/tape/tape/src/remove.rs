@@ -26,6 +26,9 @@ pub fn remove(path: &Path, named: &[Choice], keeps: bool, to: &Path) -> Result<(
     tape.say_cut();
     match &choices.missing()[..] {
         [] => out.end(),
-        missing => Err(Failure::new(Status::Usage, format!("{} has no connection {}", path.display(), missing.join(", ")))),
+        missing => Err(Failure::new(
+            Status::Usage,
+            format!("{} has no connection {}", path.display(), missing.join(", ")),
+        )),
     }
 }

@@ -8,7 +8,8 @@ use recording::{Copy, Kind, Side};
 /// Exports a recording, imports that, and gives both.
 fn there_and_back(name: &str, tape: &[u8]) -> (String, Vec<u8>) {
     let from = TempFile::with(&format!("{name}.tape"), tape);
-    let (lines, back) = (TempFile::new(&format!("{name}.jsonl")), TempFile::new(&format!("{name}.back")));
+    let (lines, back) =
+        (TempFile::new(&format!("{name}.jsonl")), TempFile::new(&format!("{name}.back")));
     export(from.path(), Some(lines.path())).unwrap();
     import(lines.path(), back.path()).unwrap_or_else(|why| panic!("{name}: {why}"));
     (String::from_utf8(lines.bytes()).unwrap(), back.bytes())
@@ -124,6 +125,9 @@ fn a_message_that_waits_while_much_else_passes_is_given_as_bytes() {
         let (lines, back) = there_and_back("waits", &file);
         assert!(back == file);
         assert_eq!(lines.matches("\"kind\":\"Bytes\"").count(), parts, "{front:?}");
-        assert_eq!((lines.matches("CopyData").count(), lines.matches("Terminate").count()), (12, 1));
+        assert_eq!(
+            (lines.matches("CopyData").count(), lines.matches("Terminate").count()),
+            (12, 1)
+        );
     }
 }

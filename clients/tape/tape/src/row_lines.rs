@@ -94,9 +94,13 @@ mod tests {
             let line = format!("{begin}{rest}");
             let found = lines.read(&line).map(|(found, values)| {
                 assert_eq!(found, place);
-                values.iter().map(|it| it.bytes().map(|it| std::str::from_utf8(it).unwrap().to_owned())).collect::<Vec<_>>()
+                values
+                    .iter()
+                    .map(|it| it.bytes().map(|it| std::str::from_utf8(it).unwrap().to_owned()))
+                    .collect::<Vec<_>>()
             });
-            let wanted = wanted.map(|it| it.iter().map(|it| it.map(str::to_owned)).collect::<Vec<_>>());
+            let wanted =
+                wanted.map(|it| it.iter().map(|it| it.map(str::to_owned)).collect::<Vec<_>>());
             assert_eq!(found, wanted, "{rest}");
         }
         assert!(lines.read(&begin.replace('5', "6")).is_none());

@@ -1,7 +1,11 @@
 //! Recordings for tests: sessions of messages of all kinds, cut anywhere, with sides that break the protocol.
 
-use pgmsg::backend::{self, Authentication, Column, CopyResponse, Field, FieldKind, TransactionStatus};
-use pgmsg::frontend::{self, Bind, CancelRequest, Execute, FunctionCall, Parse, Password, Startup, Target};
+use pgmsg::backend::{
+    self, Authentication, Column, CopyResponse, Field, FieldKind, TransactionStatus,
+};
+use pgmsg::frontend::{
+    self, Bind, CancelRequest, Execute, FunctionCall, Parse, Password, Startup, Target,
+};
 use pgmsg::{ByteStr, Format, Secret, Value};
 use rand::rngs::SmallRng;
 use rand::{Rng, SeedableRng};
@@ -41,7 +45,8 @@ impl Drop for TempFile {
 /// A client's messages of all kinds.
 pub fn client_messages() -> Vec<frontend::Message<'static>> {
     use frontend::Message as M;
-    let values = || [Value::new(b"5"), Value::NULL, Value::new(b"\0\0\0\x07"), Value::new(b"")].into();
+    let values =
+        || [Value::new(b"5"), Value::NULL, Value::new(b"\0\0\0\x07"), Value::new(b"")].into();
     vec![
         M::Startup(Startup::new(&[("user", "ann"), ("database", "d\u{e9}")])),
         M::Password(Password(b"secret\0")),
@@ -77,7 +82,9 @@ pub fn client_messages() -> Vec<frontend::Message<'static>> {
 /// A server's messages of all kinds.
 pub fn server_messages() -> Vec<backend::Message<'static>> {
     use backend::Message as M;
-    let fields = || [Field::new(FieldKind::Severity, "ERROR"), Field::new(FieldKind::Other(b'!'), "x")].into();
+    let fields = || {
+        [Field::new(FieldKind::Severity, "ERROR"), Field::new(FieldKind::Other(b'!'), "x")].into()
+    };
     let copy = || CopyResponse { format: 1, columns: [Format(1), Format(0)].into() };
     vec![
         M::Authentication(Authentication::Sasl([ByteStr(b"SCRAM-SHA-256")].into())),
@@ -87,11 +94,22 @@ pub fn server_messages() -> Vec<backend::Message<'static>> {
         M::Authentication(Authentication::CleartextPassword),
         M::Authentication(Authentication::Other(8, Secret(b"\x60"))),
         M::Authentication(Authentication::Ok),
-        M::BackendKeyData(backend::BackendKeyData { process_id: 12, secret_key: Secret(b"\0\x01ab") }),
-        M::ParameterStatus(backend::ParameterStatus { name: "TimeZone".into(), value: "UTC".into() }),
-        M::NegotiateProtocolVersion(backend::NegotiateProtocolVersion { minor: 0, options: ["_pq_.a".into()].into() }),
+        M::BackendKeyData(backend::BackendKeyData {
+            process_id: 12,
+            secret_key: Secret(b"\0\x01ab"),
+        }),
+        M::ParameterStatus(backend::ParameterStatus {
+            name: "TimeZone".into(),
+            value: "UTC".into(),
+        }),
+        M::NegotiateProtocolVersion(backend::NegotiateProtocolVersion {
+            minor: 0,
+            options: ["_pq_.a".into()].into(),
+        }),
         M::ReadyForQuery(TransactionStatus::Idle),
-        M::RowDescription([Column::new("a\"b", 25), Column { type_size: 4, ..Column::new("", 23) }].into()),
+        M::RowDescription(
+            [Column::new("a\"b", 25), Column { type_size: 4, ..Column::new("", 23) }].into(),
+        ),
         M::DataRow(["1".into(), Value::NULL, Value::new(b"\xff\0")].into()),
         M::CommandComplete("SELECT 1".into()),
         M::CopyInResponse(copy()),
@@ -102,7 +120,11 @@ pub fn server_messages() -> Vec<backend::Message<'static>> {
         M::ErrorResponse(fields()),
         M::NoticeResponse(fields()),
         M::FunctionCallResponse(backend::FunctionCallResponse(Value::NULL)),
-        M::NotificationResponse(backend::NotificationResponse { process_id: 1, channel: "c".into(), payload: "".into() }),
+        M::NotificationResponse(backend::NotificationResponse {
+            process_id: 1,
+            channel: "c".into(),
+            payload: "".into(),
+        }),
         M::ParameterDescription([23, 25].into()),
         M::ParseComplete,
         M::BindComplete,
@@ -179,7 +201,12 @@ fn session(random: &mut SmallRng, number: u32, changes: bool) -> Session {
 }
 
 /// Adds a record of a session, or tells that there is no more.
-fn step(random: &mut SmallRng, session: &mut Session, time: u64, out: &mut Copy<&mut Vec<u8>>) -> bool {
+fn step(
+    random: &mut SmallRng,
+    session: &mut Session,
+    time: u64,
+    out: &mut Copy<&mut Vec<u8>>,
+) -> bool {
     let (side, rest) = &mut session.rests[random.gen_range(0..2)];
     if rest.is_empty() {
         let all = session.rests.iter().map(|(_, rest)| rest.len()).sum::<usize>();

@@ -4,8 +4,8 @@ use crate::client::{format_list, formats, list, other, text, values};
 use crate::fields::Report;
 use crate::kinds::kinds;
 use crate::shapes::{
-    Column, Columns, Command, Copy, Data, Empty, FunctionResult, Key, Mechanisms, Method, Negotiation, Notification, Other,
-    Ready, Row, Salt, Setting, Status, Types,
+    Column, Columns, Command, Copy, Data, Empty, FunctionResult, Key, Mechanisms, Method,
+    Negotiation, Notification, Other, Ready, Row, Salt, Setting, Status, Types,
 };
 use crate::text::Text;
 use pgmsg::backend::{self, Authentication, CopyResponse, Message, TransactionStatus};
@@ -72,23 +72,35 @@ impl<'a> Server<'a> {
             Message::CopyBothResponse(it) => Server::CopyBothResponse(copy_of(it)),
             Message::DataRow(it) => Server::DataRow(Row { values: values(it) }),
             Message::EmptyQueryResponse => Server::EmptyQueryResponse(Empty {}),
-            Message::ErrorResponse(it) => Server::ErrorResponse(Response { fields: Report::of(it)? }),
+            Message::ErrorResponse(it) => {
+                Server::ErrorResponse(Response { fields: Report::of(it)? })
+            }
             Message::FunctionCallResponse(it) => {
                 Server::FunctionCallResponse(FunctionResult { value: it.0.bytes().map(Text::from) })
             }
-            Message::NegotiateProtocolVersion(it) => Server::NegotiateProtocolVersion(Negotiation {
-                minor: it.minor,
-                options: it.options.iter().map(|it| text(*it)).collect(),
-            }),
+            Message::NegotiateProtocolVersion(it) => {
+                Server::NegotiateProtocolVersion(Negotiation {
+                    minor: it.minor,
+                    options: it.options.iter().map(|it| text(*it)).collect(),
+                })
+            }
             Message::NoData => Server::NoData(Empty {}),
-            Message::NoticeResponse(it) => Server::NoticeResponse(Response { fields: Report::of(it)? }),
+            Message::NoticeResponse(it) => {
+                Server::NoticeResponse(Response { fields: Report::of(it)? })
+            }
             Message::NotificationResponse(it) => Server::NotificationResponse(notification_of(it)),
-            Message::ParameterDescription(it) => Server::ParameterDescription(Types { types: it.to_vec() }),
-            Message::ParameterStatus(it) => Server::ParameterStatus(Setting { name: text(it.name), value: text(it.value) }),
+            Message::ParameterDescription(it) => {
+                Server::ParameterDescription(Types { types: it.to_vec() })
+            }
+            Message::ParameterStatus(it) => {
+                Server::ParameterStatus(Setting { name: text(it.name), value: text(it.value) })
+            }
             Message::ParseComplete => Server::ParseComplete(Empty {}),
             Message::PortalSuspended => Server::PortalSuspended(Empty {}),
             Message::ReadyForQuery(it) => Server::ReadyForQuery(Ready { status: status_of(*it)? }),
-            Message::RowDescription(it) => Server::RowDescription(Columns { columns: it.iter().map(column_of).collect() }),
+            Message::RowDescription(it) => {
+                Server::RowDescription(Columns { columns: it.iter().map(column_of).collect() })
+            }
             _ => return None,
         })
     }
@@ -110,18 +122,25 @@ impl<'a> Server<'a> {
             Server::EmptyQueryResponse(_) => Message::EmptyQueryResponse,
             Server::ErrorResponse(it) => Message::ErrorResponse(it.fields.list()),
             Server::FunctionCallResponse(it) => Message::FunctionCallResponse(result(it)),
-            Server::NegotiateProtocolVersion(it) => Message::NegotiateProtocolVersion(negotiation(it)),
+            Server::NegotiateProtocolVersion(it) => {
+                Message::NegotiateProtocolVersion(negotiation(it))
+            }
             Server::NoData(_) => Message::NoData,
             Server::NoticeResponse(it) => Message::NoticeResponse(it.fields.list()),
             Server::NotificationResponse(it) => Message::NotificationResponse(notification(it)),
-            Server::ParameterDescription(it) => Message::ParameterDescription(List::from(&it.types[..])),
-            Server::ParameterStatus(it) => {
-                Message::ParameterStatus(backend::ParameterStatus { name: ByteStr(&it.name.0), value: ByteStr(&it.value.0) })
+            Server::ParameterDescription(it) => {
+                Message::ParameterDescription(List::from(&it.types[..]))
             }
+            Server::ParameterStatus(it) => Message::ParameterStatus(backend::ParameterStatus {
+                name: ByteStr(&it.name.0),
+                value: ByteStr(&it.value.0),
+            }),
             Server::ParseComplete(_) => Message::ParseComplete,
             Server::PortalSuspended(_) => Message::PortalSuspended,
             Server::ReadyForQuery(it) => Message::ReadyForQuery(status(it.status)),
-            Server::RowDescription(it) => Message::RowDescription(it.columns.iter().map(column).collect()),
+            Server::RowDescription(it) => {
+                Message::RowDescription(it.columns.iter().map(column).collect())
+            }
             asked => Message::Authentication(authentication(asked)),
         };
         message.write(out)
@@ -135,12 +154,18 @@ fn authentication_of<'a>(it: &Authentication<'a>) -> Option<Server<'a>> {
         Authentication::Md5Password(salt) => {
             Server::AuthenticationMD5Password(Salt { salt: Text(Cow::Owned(salt.to_vec())) })
         }
-        Authentication::Sasl(names) => {
-            Server::AuthenticationSASL(Mechanisms { mechanisms: names.iter().map(|it| text(*it)).collect() })
+        Authentication::Sasl(names) => Server::AuthenticationSASL(Mechanisms {
+            mechanisms: names.iter().map(|it| text(*it)).collect(),
+        }),
+        Authentication::SaslContinue(data) => {
+            Server::AuthenticationSASLContinue(Data { data: data.0.into() })
         }
-        Authentication::SaslContinue(data) => Server::AuthenticationSASLContinue(Data { data: data.0.into() }),
-        Authentication::SaslFinal(data) => Server::AuthenticationSASLFinal(Data { data: data.0.into() }),
-        Authentication::Other(method, data) => Server::Authentication(Method { method: *method, data: data.0.into() }),
+        Authentication::SaslFinal(data) => {
+            Server::AuthenticationSASLFinal(Data { data: data.0.into() })
+        }
+        Authentication::Other(method, data) => {
+            Server::Authentication(Method { method: *method, data: data.0.into() })
+        }
         _ => return None,
     })
 }

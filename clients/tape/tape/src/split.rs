@@ -25,7 +25,10 @@ impl Part {
     fn create(folder: &Path, connection: u32, begun: u64) -> Result<Part> {
         let path = folder.join(format!("{connection:06}.tape"));
         if path.exists() {
-            return Err(Failure::new(Status::Local, format!("{} is there already", path.display())));
+            return Err(Failure::new(
+                Status::Local,
+                format!("{} is there already", path.display()),
+            ));
         }
         let out = Output::with_room(&path, ROOM)?;
         let copy = Copy::new(out, begun).map_err(|why| Failure::unwritten(&path, &why))?;

@@ -74,10 +74,15 @@ impl<'de> Visitor<'de> for TextVisitor {
     fn visit_map<M: MapAccess<'de>>(self, mut map: M) -> Result<Text<'de>, M::Error> {
         match map.next_key::<Cow<'de, str>>()? {
             Some(key) if key == "base64" => {}
-            _ => return Err(de::Error::custom("bytes are a string, or an object with `base64` alone")),
+            _ => {
+                return Err(de::Error::custom(
+                    "bytes are a string, or an object with `base64` alone",
+                ))
+            }
         }
         let digits: Cow<'de, str> = map.next_value()?;
-        let bytes = base64::decode(digits.as_bytes()).map_err(|why| de::Error::custom(format_args!("no Base64: {why}")))?;
+        let bytes = base64::decode(digits.as_bytes())
+            .map_err(|why| de::Error::custom(format_args!("no Base64: {why}")))?;
         match map.next_key::<de::IgnoredAny>()? {
             None => Ok(Text(Cow::Owned(bytes))),
             Some(_) => Err(de::Error::custom("bytes in Base64 have no other field")),
@@ -103,12 +108,23 @@ mod tests {
             assert_eq!(serde_json::to_string(&Text::from(bytes)).unwrap(), json);
             assert_eq!(serde_json::from_str::<Text<'_>>(json).unwrap(), Text::from(bytes));
         }
-        assert_eq!(serde_json::from_str::<Text<'_>>(r#""\u0000\u00e9""#).unwrap().0, &b"\0\xc3\xa9"[..]);
+        assert_eq!(
+            serde_json::from_str::<Text<'_>>(r#""\u0000\u00e9""#).unwrap().0,
+            &b"\0\xc3\xa9"[..]
+        );
     }
 
     #[test]
     fn other_shapes_are_refused() {
-        for wrong in ["5", "null", "[]", "{}", r#"{"hex":"00"}"#, r#"{"base64":"?"}"#, r#"{"base64":"","a":1}"#] {
+        for wrong in [
+            "5",
+            "null",
+            "[]",
+            "{}",
+            r#"{"hex":"00"}"#,
+            r#"{"base64":"?"}"#,
+            r#"{"base64":"","a":1}"#,
+        ] {
             assert!(serde_json::from_str::<Text<'_>>(wrong).is_err(), "{wrong}");
         }
     }

@@ -21,10 +21,7 @@ pub(super) fn kind(tag: u8) -> Option<Kind> {
         b'c' => Kind::empty("CopyDone"),
         b'd' => Kind::copy_data(),
         b'f' => Kind::new("CopyFail", |parts| parts.text()),
-        b'p' => Some(Kind {
-            shown: Shown::Unknown,
-            ..Kind::empty("PasswordMessage")?
-        }),
+        b'p' => Some(Kind { shown: Shown::Unknown, ..Kind::empty("PasswordMessage")? }),
         _ => None,
     }
 }

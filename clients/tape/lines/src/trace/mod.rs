@@ -150,10 +150,7 @@ fn is_whole(side: Side, tag: u8, body: &[u8]) -> Result<(), Fault> {
     };
     match read {
         Err(fault)
-            if !matches!(
-                fault.refusal,
-                Refusal::TrailingBytes | Refusal::UnknownMessageType
-            ) =>
+            if !matches!(fault.refusal, Refusal::TrailingBytes | Refusal::UnknownMessageType) =>
         {
             Err(fault)
         }
@@ -162,10 +159,7 @@ fn is_whole(side: Side, tag: u8, body: &[u8]) -> Result<(), Fault> {
 }
 
 fn put_mismatch(out: &mut Vec<u8>, consumed: usize, expected: usize) {
-    put(
-        out,
-        format_args!("mismatched message length: consumed {consumed}, expected {expected}\n"),
-    );
+    put(out, format_args!("mismatched message length: consumed {consumed}, expected {expected}\n"));
 }
 
 /// Ends the line of a body that the library refuses.
@@ -178,10 +172,7 @@ fn end_refused(out: &mut Vec<u8>, fault: &Fault) -> bool {
 fn end_line(parts: &mut Parts<'_, '_>) -> bool {
     let (at, len) = (parts.at, parts.body.len());
     if parts.is_short {
-        put(
-            parts.out,
-            format_args!(" broken: a part is cut off after offset {at}\n"),
-        );
+        put(parts.out, format_args!(" broken: a part is cut off after offset {at}\n"));
         return false;
     }
     parts.out.push(b'\n');

@@ -27,28 +27,17 @@ pub(super) struct Kind {
 impl Kind {
     /// A kind that libpq shows.
     pub fn new(name: &'static str, parts: fn(&mut Parts<'_, '_>)) -> Option<Kind> {
-        Some(Kind {
-            name,
-            parts: Some(parts),
-            shown: Shown::Named,
-        })
+        Some(Kind { name, parts: Some(parts), shown: Shown::Named })
     }
 
     /// A kind without parts.
     pub fn empty(name: &'static str) -> Option<Kind> {
-        Some(Kind {
-            name,
-            parts: None,
-            shown: Shown::Named,
-        })
+        Some(Kind { name, parts: None, shown: Shown::Named })
     }
 
     /// The data of a COPY.
     pub fn copy_data() -> Option<Kind> {
-        Some(Kind {
-            shown: Shown::Dropped,
-            ..Kind::new("CopyData", |parts| parts.rest())?
-        })
+        Some(Kind { shown: Shown::Dropped, ..Kind::new("CopyData", |parts| parts.rest())? })
     }
 }
 
@@ -64,13 +53,7 @@ pub(super) struct Parts<'o, 'b> {
 
 impl<'o, 'b> Parts<'o, 'b> {
     pub fn new(out: &'o mut Vec<u8>, style: Style, body: &'b [u8]) -> Parts<'o, 'b> {
-        Parts {
-            out,
-            style,
-            body,
-            at: 0,
-            is_short: false,
-        }
+        Parts { out, style, body, at: 0, is_short: false }
     }
 
     /// What isn't printed yet.

@@ -154,7 +154,8 @@ impl Former {
         put_numbers(&mut self.form, bind.formats.iter().map(|it| it.0 as u32));
         put_numbers(&mut self.form, bind.result_formats.iter().map(|it| it.0 as u32));
         for (place, value) in bind.values.iter().enumerate() {
-            let is_free = about.free.contains(&(place + 1)) || self.rules.is_any_parameter(place + 1);
+            let is_free =
+                about.free.contains(&(place + 1)) || self.rules.is_any_parameter(place + 1);
             match value.bytes() {
                 _ if is_free => self.form.extend_from_slice(&FREE.to_be_bytes()),
                 None => self.form.extend_from_slice(&NULL.to_be_bytes()),
@@ -175,7 +176,9 @@ impl Former {
 
     fn put_close(&mut self, target: Target<'_>) {
         let (about, effect) = match target {
-            Target::Statement(it) => (self.names.about_statement(&it), Effect::DropStatement(it.to_vec())),
+            Target::Statement(it) => {
+                (self.names.about_statement(&it), Effect::DropStatement(it.to_vec()))
+            }
             Target::Portal(it) => (self.names.about_portal(&it), Effect::DropPortal(it.to_vec())),
         };
         self.ignored = about.ignored.is_some().then_some(Ignored::Close);

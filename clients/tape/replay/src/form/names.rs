@@ -130,7 +130,9 @@ impl Names {
     /// Adds a name of SQL, as it is before the text takes effect but for the effects so far.
     pub fn put_taken(&self, out: &mut Vec<u8>, sort: Sort, name: &[u8], effects: &[Effect]) {
         let made = effects.iter().rposition(|effect| match effect {
-            Effect::MakeStatement(it, _) => matches!(sort, Sort::Execute | Sort::Deallocate) && it == name,
+            Effect::MakeStatement(it, _) => {
+                matches!(sort, Sort::Execute | Sort::Deallocate) && it == name
+            }
             Effect::MakePortal(it, _) => matches!(sort, Sort::Fetch | Sort::Close) && it == name,
             Effect::MakeSavepoint(it) => matches!(sort, Sort::Release | Sort::Back) && it == name,
             _ => false,

@@ -43,7 +43,8 @@ const SPACE: &str = r"\s|--[^\n]*\n|/\*(?s:.*?)\*/";
 const IDENTIFIER: &str = r#""(?:[^"]|"")+"|[A-Za-z_\x80-\xff][A-Za-z0-9_$\x80-\xff]*"#;
 
 /// The first words of such statements.
-const VERBS: &str = r"(?i-u)\b(?:SAVEPOINT|RELEASE|ROLLBACK|DECLARE|PREPARE|EXECUTE|DEALLOCATE|CLOSE|FETCH|MOVE)\b";
+const VERBS: &str =
+    r"(?i-u)\b(?:SAVEPOINT|RELEASE|ROLLBACK|DECLARE|PREPARE|EXECUTE|DEALLOCATE|CLOSE|FETCH|MOVE)\b";
 
 /// A pattern of this file, which is compiled once.
 macro_rules! pattern {
@@ -174,16 +175,12 @@ fn name_of(found: &Captures<'_>) -> Option<(Sort, Range<usize>)> {
         ("close", Sort::Close),
         ("fetch", Sort::Fetch),
     ];
-    sorts
-        .into_iter()
-        .find_map(|(name, sort)| Some((sort, found.name(name)?.range())))
+    sorts.into_iter().find_map(|(name, sort)| Some((sort, found.name(name)?.range())))
 }
 
 /// An identifier as the server takes it.
 fn folded(identifier: &[u8]) -> Cow<'_, [u8]> {
-    let quoted = identifier
-        .strip_prefix(b"\"")
-        .and_then(|it| it.strip_suffix(b"\""));
+    let quoted = identifier.strip_prefix(b"\"").and_then(|it| it.strip_suffix(b"\""));
     match quoted {
         None => Cow::Owned(identifier.to_ascii_lowercase()),
         Some(inner) if !inner.contains(&b'"') => Cow::Borrowed(inner),

@@ -61,7 +61,8 @@ mod tests {
     #[test]
     fn forms_of_any_length_are_told_apart() {
         let mut forms = Forms::default();
-        let texts: Vec<Vec<u8>> = (0..100).flat_map(|len| [vec![0; len], vec![1; len + 1]]).collect();
+        let texts: Vec<Vec<u8>> =
+            (0..100).flat_map(|len| [vec![0; len], vec![1; len + 1]]).collect();
         for (number, text) in texts.iter().enumerate() {
             assert_eq!(forms.find(text), UNRECORDED);
             assert_eq!(forms.number(text), number as u32);

@@ -56,14 +56,20 @@ impl Pool {
 
     /// Takes another turn where data aren't the recorded ones: one that went the same up to here, and has data of which so
     /// many bytes are the same, and these come next; or none, where the data are to end. Answers which message has them.
-    pub fn choose_bytes(&mut self, id: usize, passed: u64, next: &[u8]) -> Result<Option<usize>, Changed> {
+    pub fn choose_bytes(
+        &mut self,
+        id: usize,
+        passed: u64,
+        next: &[u8],
+    ) -> Result<Option<usize>, Changed> {
         let seat = &self.seats[&id];
         let (Some(turn), at) = (seat.turn, seat.at) else {
             return Ok(None);
         };
         let (own, count) = (self.tape.turns[turn].said().start + at, self.passed(turn, at));
         for other in self.like(turn, count) {
-            let place = self.place_after(other, count).map(|it| self.tape.turns[other].said().start + it);
+            let place =
+                self.place_after(other, count).map(|it| self.tape.turns[other].said().start + it);
             let Some(said) = place.filter(|it| *it < self.tape.turns[other].said().end) else {
                 continue;
             };

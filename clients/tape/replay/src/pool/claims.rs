@@ -20,7 +20,9 @@ impl Pool {
             self.begin_round();
             first = self.free().next();
         }
-        let fits = |it: &usize| self.tape.script.what(self.tape.connections[*it].startup) == What::Form(form);
+        let fits = |it: &usize| {
+            self.tape.script.what(self.tape.connections[*it].startup) == What::Form(form)
+        };
         let found = self.free().filter(fits).min_by_key(|it| self.connections[*it].rounds);
         match found {
             None => Claim::Differs(first),

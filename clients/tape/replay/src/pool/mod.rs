@@ -113,7 +113,8 @@ impl Pool {
         let mut by_first = Vec::with_capacity(tape.turns.len());
         by_first.extend(firsts);
         by_first.sort_unstable();
-        let preparing = (0..tape.script.len()).filter(|it| tape.is_free(*it) && !tape.heard_of(*it).is_empty());
+        let preparing =
+            (0..tape.script.len()).filter(|it| tape.is_free(*it) && !tape.heard_of(*it).is_empty());
         let preparing = preparing.filter_map(|it| match tape.script.what(it) {
             What::Form(form) => Some((form, it)),
             What::Bytes(_) => None,
@@ -153,7 +154,8 @@ impl Pool {
         let seat = &self.seats[&id];
         let connection = &self.tape.connections[seat.connection];
         let said = match seat.turn {
-            Some(turn) => Some(self.tape.turns[turn].said().start + seat.at).filter(|it| *it < self.tape.turns[turn].said().end),
+            Some(turn) => Some(self.tape.turns[turn].said().start + seat.at)
+                .filter(|it| *it < self.tape.turns[turn].said().end),
             None => self.own_next(seat).map(|turn| self.tape.turns[turn].said().start),
         };
         Expected {
@@ -220,11 +222,16 @@ impl Pool {
         let seat = &self.seats[&id];
         let end = self.tape.connections[seat.connection].turns.end;
         let mut own = (seat.next..end).filter(|turn| self.is_free(*turn));
-        let own = own.find(|turn| self.find(*turn, 0, form).is_some() || !self.may_be_left_out(*turn));
+        let own =
+            own.find(|turn| self.find(*turn, 0, form).is_some() || !self.may_be_left_out(*turn));
         let jumps = !self.tape.is_single() && !self.preparing.contains_key(&form);
-        let found = own
-            .filter(|turn| self.find(*turn, 0, form).is_some())
-            .or_else(|| if jumps { self.first_of(form) } else { None });
+        let found = own.filter(|turn| self.find(*turn, 0, form).is_some()).or_else(|| {
+            if jumps {
+                self.first_of(form)
+            } else {
+                None
+            }
+        });
         let at = found.and_then(|turn| self.find(turn, 0, form));
         if let (Some(turn), Some(at)) = (found, at) {
             self.hold(id, turn, at);
@@ -235,7 +242,8 @@ impl Pool {
     /// Whether all of a turn may be left out.
     fn may_be_left_out(&self, turn: usize) -> bool {
         let said = self.tape.turns[turn].said();
-        self.tape.script.ignored(said.start) as usize == said.len() || said.into_iter().all(|it| self.tape.is_free(it))
+        self.tape.script.ignored(said.start) as usize == said.len()
+            || said.into_iter().all(|it| self.tape.is_free(it))
     }
 
     /// The turn that begins with a form, of those that were taken most seldom.
@@ -295,7 +303,10 @@ impl Pool {
 
     /// Begins with data or a long message, where the recorded client does so next.
     pub fn begin_bytes(&mut self, id: usize) -> Option<usize> {
-        let said = self.expected(id).said.filter(|it| matches!(self.tape.script.what(*it), What::Bytes(_)))?;
+        let said = self
+            .expected(id)
+            .said
+            .filter(|it| matches!(self.tape.script.what(*it), What::Bytes(_)))?;
         if self.seats[&id].turn.is_none() {
             let turn = self.own_next(&self.seats[&id])?;
             self.hold(id, turn, 0);

@@ -15,11 +15,14 @@ pub type Parts = Vec<(String, Vec<u8>)>;
 
 /// A line for each part that differs.
 pub fn lines(allowed: &Allowed<'_>, recorded: &Side, received: &Side) -> String {
-    let (Some(one), Some(other)) = (compared(allowed, recorded), compared(allowed, received)) else {
+    let (Some(one), Some(other)) = (compared(allowed, recorded), compared(allowed, received))
+    else {
         return String::new();
     };
     let line = |name: &str, words: String| format!("\n  {}: {words}", escaped(name.as_bytes()));
-    let find = |all: &Parts, name: &str| all.iter().find(|(it, _)| it == name).map(|(_, text)| escaped(text));
+    let find = |all: &Parts, name: &str| {
+        all.iter().find(|(it, _)| it == name).map(|(_, text)| escaped(text))
+    };
     let changed = one.iter().filter_map(|(name, text)| match find(&other, name) {
         Some(text_there) if text_there == escaped(text) => None,
         Some(text_there) => Some(line(name, words(&escaped(text), &text_there))),
@@ -83,9 +86,9 @@ pub fn compared(allowed: &Allowed<'_>, side: &Side) -> Option<Parts> {
 fn parts(side: &Side) -> Option<Parts> {
     match side {
         Side::Startup(bytes) => match Message::read_body(None, &bytes[4..]) {
-            Ok(Message::Startup(it)) => {
-                Some(it.settings.iter().map(|it| part(&it.name.to_str_lossy(), &it.value)).collect())
-            }
+            Ok(Message::Startup(it)) => Some(
+                it.settings.iter().map(|it| part(&it.name.to_str_lossy(), &it.value)).collect(),
+            ),
             _ => None,
         },
         Side::Message(bytes) => {
@@ -110,7 +113,11 @@ fn of_message(message: &Message<'_>) -> Parts {
         Message::Query(query) => vec![part("query", query)],
         Message::Parse(parse) => {
             let types = format!("{:?}", parse.types);
-            vec![part("statement", &parse.statement), part("query", &parse.query), part("types", types.as_bytes())]
+            vec![
+                part("statement", &parse.statement),
+                part("query", &parse.query),
+                part("types", types.as_bytes()),
+            ]
         }
         Message::Bind(bind) => {
             let values = bind.values.iter().enumerate().map(|(place, value)| {

@@ -47,7 +47,9 @@ impl Side {
         let said = match (expected.said, expected.ending) {
             (Some(said), _) => said,
             (None, Ending::Terminate) => return Side::Message(b"X\0\0\0\x04".to_vec()),
-            (None, Ending::Unrecorded { .. }) => return Side::Words("the recording ends here".to_owned()),
+            (None, Ending::Unrecorded { .. }) => {
+                return Side::Words("the recording ends here".to_owned())
+            }
             (None, _) => return Side::Words("the connection ended".to_owned()),
         };
         match tape.message(said) {
@@ -78,7 +80,9 @@ impl Side {
         let (mut out, style, client) = (Vec::new(), Style::Whole, trace::Side::Client);
         match self {
             Side::Words(_) => {}
-            Side::Message(message) => drop(trace::message(&mut out, style, client, message[0], &message[HEAD..])),
+            Side::Message(message) => {
+                drop(trace::message(&mut out, style, client, message[0], &message[HEAD..]))
+            }
             Side::Startup(message) => drop(trace::first_message(&mut out, style, &message[4..])),
             Side::Long { tag, length } => trace::left_out(&mut out, style, client, *tag, *length),
         }
@@ -153,7 +157,8 @@ impl Report {
 
     /// What the client hears: an error, and a ReadyForQuery after it, without which some drivers show none.
     pub fn error(&self) -> Vec<u8> {
-        let (sentence, detail) = (plain(&self.sentence), plain(&format!("{}{}", self.sides, self.more)));
+        let (sentence, detail) =
+            (plain(&self.sentence), plain(&format!("{}{}", self.sides, self.more)));
         let mut fields = fatal("08P01", &sentence);
         fields.push(Field::new(FieldKind::Detail, &detail));
         let mut messages = vec![Message::ErrorResponse(fields.into())];
@@ -178,6 +183,7 @@ pub fn fatal<'a>(code: &'a str, message: &'a str) -> Vec<Field<'a>> {
 
 /// A text that a client takes in any encoding.
 fn plain(text: &str) -> String {
-    let plain = |it: char| if it == '\n' || it == '\t' || (' '..='~').contains(&it) { it } else { '?' };
+    let plain =
+        |it: char| if it == '\n' || it == '\t' || (' '..='~').contains(&it) { it } else { '?' };
     text.chars().map(plain).collect()
 }

@@ -22,10 +22,14 @@ impl Parting {
     }
 
     pub fn words(&self, recorded: &Side, received: &Side) -> String {
-        let position = if self.position > 0 { format!(" {}", self.position) } else { String::new() };
+        let position =
+            if self.position > 0 { format!(" {}", self.position) } else { String::new() };
         let mut words = format!("they part in {}{position}, at byte {}", self.part, self.recorded);
         if self.recorded != self.received {
-            words.push_str(&format!(" of the recorded one and {} of the received one", self.received));
+            words.push_str(&format!(
+                " of the recorded one and {} of the received one",
+                self.received
+            ));
         }
         let (one, other) = (excerpt(recorded, self.recorded), excerpt(received, self.received));
         if !one.is_empty() || !other.is_empty() {
@@ -50,7 +54,9 @@ fn excerpt(side: &Side, at: usize) -> String {
 /// Where two sides part that are messages.
 pub fn parting(allowed: &Allowed<'_>, recorded: &Side, received: &Side) -> Option<Parting> {
     match (recorded, received) {
-        (Side::Startup(one), Side::Startup(other)) => Some(Bodies::new(allowed, None, one, other).parting()),
+        (Side::Startup(one), Side::Startup(other)) => {
+            Some(Bodies::new(allowed, None, one, other).parting())
+        }
         (Side::Words(_), _) | (_, Side::Words(_)) => None,
         _ => {
             let (one, other) = (tag_of(recorded)?, tag_of(received)?);
@@ -58,7 +64,9 @@ pub fn parting(allowed: &Allowed<'_>, recorded: &Side, received: &Side) -> Optio
                 return Some(Parting::at("the kind", 0));
             }
             match (recorded, received) {
-                (Side::Message(a), Side::Message(b)) => Some(Bodies::new(allowed, Some(one), a, b).parting()),
+                (Side::Message(a), Side::Message(b)) => {
+                    Some(Bodies::new(allowed, Some(one), a, b).parting())
+                }
                 _ => Some(Parting::at("the length", 1)),
             }
         }
@@ -93,7 +101,12 @@ fn same(one: &[u8], other: &[u8]) -> usize {
 }
 
 impl<'a> Bodies<'a> {
-    fn new(allowed: &'a Allowed<'a>, tag: Option<u8>, one: &'a [u8], other: &'a [u8]) -> Bodies<'a> {
+    fn new(
+        allowed: &'a Allowed<'a>,
+        tag: Option<u8>,
+        one: &'a [u8],
+        other: &'a [u8],
+    ) -> Bodies<'a> {
         let head = if tag.is_some() { HEAD } else { 4 };
         Bodies { allowed, tag, head, one: &one[head..], other: &other[head..] }
     }
@@ -121,12 +134,19 @@ impl<'a> Bodies<'a> {
     }
 
     fn parting(&self) -> Parting {
-        let read = (Message::read_body(self.tag, self.one), Message::read_body(self.tag, self.other));
+        let read =
+            (Message::read_body(self.tag, self.one), Message::read_body(self.tag, self.other));
         let found = match &read {
-            (Ok(Message::Startup(one)), Ok(Message::Startup(other))) => self.of_startups(one, other),
-            (Ok(Message::Parse(one)), Ok(Message::Parse(other))) => Some(self.of_parses(one, other)),
+            (Ok(Message::Startup(one)), Ok(Message::Startup(other))) => {
+                self.of_startups(one, other)
+            }
+            (Ok(Message::Parse(one)), Ok(Message::Parse(other))) => {
+                Some(self.of_parses(one, other))
+            }
             (Ok(Message::Bind(one)), Ok(Message::Bind(other))) => Some(self.of_binds(one, other)),
-            (Ok(Message::Execute(one)), Ok(Message::Execute(other))) => Some(self.of_executes(one, other)),
+            (Ok(Message::Execute(one)), Ok(Message::Execute(other))) => {
+                Some(self.of_executes(one, other))
+            }
             (Ok(Message::Describe(one)), Ok(Message::Describe(other)))
             | (Ok(Message::Close(one)), Ok(Message::Close(other))) => self.of_targets(*one, *other),
             _ => None,
@@ -141,8 +161,12 @@ impl<'a> Bodies<'a> {
     fn of_parses(&self, one: &Parse<'_>, other: &Parse<'_>) -> Parting {
         let types = one.types != other.types;
         self.differ("the query", &one.query, &other.query)
-            .or_else(|| types.then(|| self.after("the types of the parameters", &one.query, &other.query)))
-            .unwrap_or_else(|| self.names("the name of the statement", &one.statement, &other.statement))
+            .or_else(|| {
+                types.then(|| self.after("the types of the parameters", &one.query, &other.query))
+            })
+            .unwrap_or_else(|| {
+                self.names("the name of the statement", &one.statement, &other.statement)
+            })
     }
 
     /// A part that follows a text and its NUL.
@@ -159,7 +183,8 @@ impl<'a> Bodies<'a> {
             return self.after("the number of values", &one.statement, &other.statement);
         }
         let mut pairs = one.values.iter().zip(other.values.iter()).enumerate();
-        let differing = pairs.find(|(place, (one, other))| one != other && !self.allowed.is_any_value(place + 1));
+        let differing = pairs
+            .find(|(place, (one, other))| one != other && !self.allowed.is_any_value(place + 1));
         if let Some((position, _)) = differing {
             return self.of_values(position, one, other);
         }
@@ -178,11 +203,15 @@ impl<'a> Bodies<'a> {
         let at = |body: &[u8], bind: &Bind<'_>| {
             let formats = 2 + 2 * bind.formats.len();
             let begin = place(body, &bind.statement) + bind.statement.len() + 1 + formats + 2;
-            let before = bind.values.iter().take(position).map(|it| 4 + it.bytes().map_or(0, <[u8]>::len));
+            let before =
+                bind.values.iter().take(position).map(|it| 4 + it.bytes().map_or(0, <[u8]>::len));
             begin + before.sum::<usize>()
         };
         let (one_at, other_at) = (at(self.one, one), at(self.other, other));
-        let shared = same(&self.one[one_at.min(self.one.len())..], &self.other[other_at.min(self.other.len())..]);
+        let shared = same(
+            &self.one[one_at.min(self.one.len())..],
+            &self.other[other_at.min(self.other.len())..],
+        );
         self.part("the value of parameter", position + 1, one_at + shared, other_at + shared)
     }
 
@@ -198,7 +227,9 @@ impl<'a> Bodies<'a> {
             (Target::Statement(one), Target::Statement(other)) => {
                 Some(self.names("the name of the statement", &one, &other))
             }
-            (Target::Portal(one), Target::Portal(other)) => Some(self.names("the name of the portal", &one, &other)),
+            (Target::Portal(one), Target::Portal(other)) => {
+                Some(self.names("the name of the portal", &one, &other))
+            }
             _ => None,
         }
     }
@@ -217,13 +248,17 @@ impl<'a> Bodies<'a> {
         });
         let end = |body: &[u8]| body.len().saturating_sub(1);
         let (ours, theirs) = (self.one, self.other);
-        let added = |name| self.part("a setting that wasn't recorded", 0, end(ours), place(theirs, name));
+        let added =
+            |name| self.part("a setting that wasn't recorded", 0, end(ours), place(theirs, name));
         let gone = |name| self.part("a setting that is missing", 0, place(ours, name), end(theirs));
         changed.or_else(|| more.map(added)).or_else(|| missing.map(gone))
     }
 }
 
 /// The names of settings that the others don't have.
-fn missing_of<'a, 's>(of: &'s Settings<'a>, others: &'s Settings<'_>) -> impl Iterator<Item = &'a [u8]> + 's {
+fn missing_of<'a, 's>(
+    of: &'s Settings<'a>,
+    others: &'s Settings<'_>,
+) -> impl Iterator<Item = &'a [u8]> + 's {
     of.iter().map(|it| it.name.0).filter(|name| others.value(name).is_none())
 }

@@ -39,7 +39,8 @@ fn of_settings(one: &Parts, other: &Parts) -> String {
     names.sort_unstable();
     names.dedup();
     names.retain(|name| differs(name));
-    let names: Vec<_> = names.into_iter().map(|it| toml::Value::String(it.to_owned()).to_string()).collect();
+    let names: Vec<_> =
+        names.into_iter().map(|it| toml::Value::String(it.to_owned()).to_string()).collect();
     format!("[settings]\nignore = [{}]", names.join(", "))
 }
 
@@ -51,8 +52,13 @@ fn of_parameters(statement: &[u8], one: &Parts, other: &Parts) -> Option<String>
         .filter_map(|(name, _)| name.strip_prefix("parameter "))
         .collect();
     let pattern = format!("^{}$", regex::escape(text));
-    (!positions.is_empty())
-        .then(|| format!("[[parameter]]\nstatement = {}\npositions = [{}]", quoted(&pattern), positions.join(", ")))
+    (!positions.is_empty()).then(|| {
+        format!(
+            "[[parameter]]\nstatement = {}\npositions = [{}]",
+            quoted(&pattern),
+            positions.join(", ")
+        )
+    })
 }
 
 /// A replacement that makes two texts the same.
@@ -84,7 +90,18 @@ fn near(text: &str, is_end: bool) -> &str {
 
 /// The narrowest pattern of a few that two texts have.
 fn like(one: &str, other: &str) -> Option<&'static str> {
-    let patterns = [r"\d+", r"[0-9a-f]+", r"\w+", r"[0-9a-f-]+", r"[\d :.+TZ-]+", r"[^' ]*", r"[^']*", r"(?s:.*)"];
-    let fits = |text: &str, pattern: &str| Regex::new(&format!("^(?:{pattern})$")).map_or(false, |it| it.is_match(text.as_bytes()));
+    let patterns = [
+        r"\d+",
+        r"[0-9a-f]+",
+        r"\w+",
+        r"[0-9a-f-]+",
+        r"[\d :.+TZ-]+",
+        r"[^' ]*",
+        r"[^']*",
+        r"(?s:.*)",
+    ];
+    let fits = |text: &str, pattern: &str| {
+        Regex::new(&format!("^(?:{pattern})$")).map_or(false, |it| it.is_match(text.as_bytes()))
+    };
     patterns.into_iter().find(|pattern| fits(one, pattern) && fits(other, pattern))
 }

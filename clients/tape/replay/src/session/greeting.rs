@@ -52,7 +52,9 @@ async fn receive(shared: &Shared, stream: Stream) -> Result<Option<Guest>> {
         return Err(fault.into());
     }
     let mut rest = opened.bytes.split_off(opened.length);
-    if let frontend::Message::CancelRequest(cancel) = frontend::Message::read_body(None, &opened.bytes[4..])? {
+    if let frontend::Message::CancelRequest(cancel) =
+        frontend::Message::read_body(None, &opened.bytes[4..])?
+    {
         if shared.pool().cancel(cancel.process_id) {
             shared.stirred.notify_waiters();
         }
@@ -79,7 +81,10 @@ async fn refuse(stream: &mut Stream) {
 
 /// Gives a client a recorded connection, and serves it.
 async fn seat(shared: &Shared, mut guest: Guest) {
-    let form = shared.tape.forms.find(Former::new(shared.rules.clone()).message(None, &guest.startup[4..]));
+    let form = shared
+        .tape
+        .forms
+        .find(Former::new(shared.rules.clone()).message(None, &guest.startup[4..]));
     match claim(shared, form).await {
         Claim::Seat(seat, connection) => {
             let ended = match shared.tape.connections[connection].is_left_at_password {
@@ -118,7 +123,11 @@ async fn claim(shared: &Shared, form: u32) -> Claim {
             Claim::Seat(..) => false,
             Claim::Differs(first) => first.is_none() || shared.any_order,
         };
-        if !(may_fit && shared.again && shared.pool().is_held() && begun.elapsed() < TAKING_PATIENCE) {
+        if !(may_fit
+            && shared.again
+            && shared.pool().is_held()
+            && begun.elapsed() < TAKING_PATIENCE)
+        {
             return claim;
         }
         sleep(TAKING_PAUSE).await;
@@ -129,7 +138,9 @@ async fn claim(shared: &Shared, form: u32) -> Claim {
 async fn ask_in_vain(guest: &mut Guest) -> Result<bool> {
     say(&mut guest.stream, &Message::Authentication(Authentication::CleartextPassword)).await?;
     let mut answer = [0];
-    let _ = timeout(OPENING_PATIENCE, tokio::io::AsyncReadExt::read(&mut guest.stream, &mut answer)).await;
+    let _ =
+        timeout(OPENING_PATIENCE, tokio::io::AsyncReadExt::read(&mut guest.stream, &mut answer))
+            .await;
     linger(&mut guest.stream).await;
     Ok(true)
 }

@@ -66,12 +66,18 @@ async fn answer(stream: &mut Stream, bytes: &mut Vec<u8>) -> Result<Vec<u8>> {
     let mut decoder = Decoder::of_open_client().with_limit(MESSAGE_MOST);
     loop {
         if let Next::Frame(frame) = decoder.next(bytes)? {
-            ensure!(frame.tag == Some(b'p'), "another message than an answer to the request for a password");
+            ensure!(
+                frame.tag == Some(b'p'),
+                "another message than an answer to the request for a password"
+            );
             let (body, length) = (frame.body().to_vec(), frame.bytes.len());
             bytes.drain(..length);
             return Ok(body);
         }
-        ensure!(stream.read_buf(bytes).await? > 0, "the client leaves at the request for a password");
+        ensure!(
+            stream.read_buf(bytes).await? > 0,
+            "the client leaves at the request for a password"
+        );
     }
 }
 
@@ -80,7 +86,8 @@ fn end_point(certificate: &[u8]) -> Result<Vec<u8>> {
     let signed = X509::from_der(certificate)?.signature_algorithm().object().nid();
     let digest = signed.signature_algorithms().and_then(|it| MessageDigest::from_nid(it.digest));
     let weak = [MessageDigest::md5().type_(), MessageDigest::sha1().type_()];
-    let digest = digest.filter(|it| !weak.contains(&it.type_())).unwrap_or_else(MessageDigest::sha256);
+    let digest =
+        digest.filter(|it| !weak.contains(&it.type_())).unwrap_or_else(MessageDigest::sha256);
     Ok(hash(digest, certificate)?.to_vec())
 }
 
@@ -98,7 +105,9 @@ impl Exchange {
         match flag {
             BINDING if is_bound => {}
             "n" if !is_bound => {}
-            "y" if !is_bound => ensure!(binding.is_none(), "the client doesn't see that channels can be bound"),
+            "y" if !is_bound => {
+                ensure!(binding.is_none(), "the client doesn't see that channels can be bound")
+            }
             _ => bail!("another channel binding than the mechanism has"),
         }
         let (name, bare) = rest.split_once(',').context("no end of the header")?;
@@ -109,7 +118,11 @@ impl Exchange {
         if is_bound {
             repeated.extend(binding.unwrap_or_default());
         }
-        Ok(Exchange { client_first: bare.to_owned(), nonce: format!("{theirs}{}", encode_block(&ours)), binding: repeated })
+        Ok(Exchange {
+            client_first: bare.to_owned(),
+            nonce: format!("{theirs}{}", encode_block(&ours)),
+            binding: repeated,
+        })
     }
 
     fn server_first(&self, salt: &[u8]) -> String {
@@ -125,8 +138,12 @@ impl Exchange {
         let client_key = mac(&login.salted, b"Client Key")?;
         let signature = mac(&sha256(&client_key), said.as_bytes())?;
         let proof = decode_block(proof)?;
-        let wanted: Vec<u8> = client_key.iter().zip(&signature).map(|(one, other)| one ^ other).collect();
-        ensure!(proof.len() == wanted.len() && memcmp::eq(&proof, &wanted), "the password is wrong");
+        let wanted: Vec<u8> =
+            client_key.iter().zip(&signature).map(|(one, other)| one ^ other).collect();
+        ensure!(
+            proof.len() == wanted.len() && memcmp::eq(&proof, &wanted),
+            "the password is wrong"
+        );
         let server_key = mac(&login.salted, b"Server Key")?;
         Ok(format!("v={}", encode_block(&mac(&server_key, said.as_bytes())?)))
     }
@@ -149,7 +166,8 @@ mod tests {
         let mut login = Login { salt: [0; 16], salted: [0; 32] };
         let salt = decode_block("W22ZaJ0SNY7soEsUEjb6gQ==").expect("base64");
         login.salt.copy_from_slice(&salt[..16]);
-        pbkdf2_hmac(b"pencil", &login.salt, ITERATIONS, MessageDigest::sha256(), &mut login.salted).expect("a key");
+        pbkdf2_hmac(b"pencil", &login.salt, ITERATIONS, MessageDigest::sha256(), &mut login.salted)
+            .expect("a key");
         let exchange = Exchange {
             client_first: "n=user,r=rOprNGfwEbeRWgbNEkqO".to_owned(),
             nonce: "rOprNGfwEbeRWgbNEkqO%hvYDpWUa2RaTCAfuxFIlj)hNlF$k0".to_owned(),

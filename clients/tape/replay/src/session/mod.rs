@@ -96,7 +96,12 @@ impl<'s> Session<'s> {
 
     /// Serves a client whose Startup fits a connection, and which has said these bytes after it. Answers whether it did
     /// as recorded.
-    pub async fn serve(mut self, mut stream: Stream, startup: usize, bytes: Vec<u8>) -> Result<bool> {
+    pub async fn serve(
+        mut self,
+        mut stream: Stream,
+        startup: usize,
+        bytes: Vec<u8>,
+    ) -> Result<bool> {
         self.out.add(&self.shared.tape, startup, self.heard_at);
         self.end_without_turns();
         let ends = self.talk(&mut stream, bytes).await;
@@ -138,7 +143,9 @@ impl<'s> Session<'s> {
                 Ok(sent) => sent,
                 Err(outgoing::Unsent::Changed(why)) => return Err(self.changed(&why).into()),
                 // A client that is gone hears nothing more.
-                Err(outgoing::Unsent::Broken) => return self.end_of_client().map_err(|why| self.changed(&why).into()),
+                Err(outgoing::Unsent::Broken) => {
+                    return self.end_of_client().map_err(|why| self.changed(&why).into())
+                }
             };
             if !self.wait(stream, &mut bytes, waits, stirred).await {
                 return self.end_of_client().map_err(|why| self.changed(&why).into());
@@ -197,7 +204,10 @@ impl<'s> Session<'s> {
     fn differ_from(&mut self, recorded: &Side, received: &Side, part: Option<Parting>) {
         let (expected, shared) = (self.shared.pool().expected(self.seat), self.shared);
         let statement = expected.said.and_then(|it| shared.tape.statement_of(it));
-        let (allowed, place) = (Allowed { rules: &shared.rules, statement }, (Some(expected.connection), expected.number));
+        let (allowed, place) = (
+            Allowed { rules: &shared.rules, statement },
+            (Some(expected.connection), expected.number),
+        );
         let report = Report::new(place, &allowed, recorded, received, part);
         shared.tell_difference(&report);
         self.out.add_made(report.error());
@@ -223,5 +233,6 @@ async fn say(stream: &mut Stream, message: &Message<'_>) -> Result<()> {
 async fn linger(stream: &mut Stream) {
     let mut rest = vec![0; 4096];
     let _ = stream.shutdown().await;
-    let _ = timeout(PATIENCE, async { while matches!(stream.read(&mut rest).await, Ok(1..)) {} }).await;
+    let _ =
+        timeout(PATIENCE, async { while matches!(stream.read(&mut rest).await, Ok(1..)) {} }).await;
 }

@@ -12,7 +12,11 @@ const TOGETHER: usize = 64 << 10;
 
 enum Item {
     /// What was recorded, by its number; when the client said what it answers, here and by the recording's clock.
-    Heard { number: usize, said_at: Instant, recorded_at: u64 },
+    Heard {
+        number: usize,
+        said_at: Instant,
+        recorded_at: u64,
+    },
     Made(Vec<u8>),
 }
 
@@ -133,7 +137,9 @@ impl Outgoing {
         let mut due = None;
         match shared.tape.wait(number) {
             Wait::No => {}
-            Wait::Time(milliseconds) => due = Some(said_at + Duration::from_millis(milliseconds.into())),
+            Wait::Time(milliseconds) => {
+                due = Some(said_at + Duration::from_millis(milliseconds.into()))
+            }
             Wait::Cancel if !shared.pool().take_cancel(seat) => {
                 self.put_back(number, said_at, recorded_at);
                 return Gate::Others;

@@ -62,7 +62,9 @@ impl Session<'_> {
                 self.is_ignoring = true;
                 self.holds = false;
             }
-            Step::Differs(_) if is_end_of_ignored || self.former.ignored().is_some() => self.ignore(form),
+            Step::Differs(_) if is_end_of_ignored || self.former.ignored().is_some() => {
+                self.ignore(form)
+            }
             Step::Differs(_) => self.differ(Side::message(message)),
         }
         Ok(())
@@ -135,7 +137,8 @@ impl Session<'_> {
                 self.differ(Side::bytes(bytes, length));
                 return Ok(());
             };
-            self.run = Run::of(&shared.tape, said).map(|run| Run { is_data: bytes[0] == b'd', ..run });
+            self.run =
+                Run::of(&shared.tape, said).map(|run| Run { is_data: bytes[0] == b'd', ..run });
         }
         let Some(run) = self.run.as_mut() else {
             return Ok(());
@@ -160,7 +163,13 @@ impl Session<'_> {
         Ok(())
     }
 
-    fn differ_in_bytes(&mut self, bytes: &[u8], from: usize, at: usize, length: usize) -> Result<(), Changed> {
+    fn differ_in_bytes(
+        &mut self,
+        bytes: &[u8],
+        from: usize,
+        at: usize,
+        length: usize,
+    ) -> Result<(), Changed> {
         let begins = self.run.as_ref().map(|it| it.begins).unwrap_or_default();
         let recorded = Side::read(self.shared.tape.message_at(begins, HEAD)?);
         let received = if from == 0 { Side::bytes(bytes, length) } else { recorded.clone() };
@@ -181,7 +190,8 @@ impl Session<'_> {
         let Some(run) = &self.run else {
             return Ok(true);
         };
-        let is_over = run.left == 0 || self.shared.pool().choose_bytes(self.seat, run.passed(), &[])?.is_some();
+        let is_over = run.left == 0
+            || self.shared.pool().choose_bytes(self.seat, run.passed(), &[])?.is_some();
         match is_over {
             true => self.finish_run(),
             false => self.differ(Side::message(message)),
@@ -252,9 +262,11 @@ fn compare(run: &mut Run, tape: &Tape, mut bytes: &[u8]) -> Result<Option<usize>
     let mut at = 0;
     while !bytes.is_empty() {
         let next = run.reader.next(tape)?;
-        let count = next.len().min(bytes.len()).min(usize::try_from(run.left).unwrap_or(usize::MAX));
+        let count =
+            next.len().min(bytes.len()).min(usize::try_from(run.left).unwrap_or(usize::MAX));
         if count == 0 || next[..count] != bytes[..count] {
-            let same = next.iter().zip(bytes).take(count).take_while(|(one, other)| one == other).count();
+            let same =
+                next.iter().zip(bytes).take(count).take_while(|(one, other)| one == other).count();
             return Ok(Some(at + same));
         }
         run.reader.pass(count);

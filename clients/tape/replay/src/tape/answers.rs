@@ -26,7 +26,8 @@ impl Building {
             let cut = match server.cut(&mut rest) {
                 Ok(Some(cut)) => cut,
                 Ok(None) => {
-                    let rest = (begin < bytes.content.len()).then(|| piece(begin, bytes.content.len()));
+                    let rest =
+                        (begin < bytes.content.len()).then(|| piece(begin, bytes.content.len()));
                     self.pending.extend(rest);
                     break;
                 }
@@ -92,19 +93,29 @@ impl Building {
             place = rest_of(place);
             match target {
                 Target::Held => self.held.push(piece),
-                Target::Said(said) | Target::After(said) if said < self.script.len() => self.hear_of(said, piece),
+                Target::Said(said) | Target::After(said) if said < self.script.len() => {
+                    self.hear_of(said, piece)
+                }
                 Target::Said(_) | Target::After(_) => return,
             }
             match wait {
                 Wait::No => {}
-                Wait::Said(process) => self.notified.push(Notified { at: piece.at(), process: process as u32, time }),
+                Wait::Said(process) => {
+                    self.notified.push(Notified { at: piece.at(), process: process as u32, time })
+                }
                 wait => drop(self.waits.insert(piece.at(), wait)),
             }
         }
     }
 
     /// Where a server's message belongs, and what it waits for. Requests for a password have no place.
-    fn place(&mut self, tag: u8, body: &[u8], time: u64, cancelled: &HashMap<u32, u64>) -> Option<(Target, Wait)> {
+    fn place(
+        &mut self,
+        tag: u8,
+        body: &[u8],
+        time: u64,
+        cancelled: &HashMap<u32, u64>,
+    ) -> Option<(Target, Wait)> {
         if tag == b'R' && body.len() >= METHOD_OK.len() && !body.starts_with(&METHOD_OK) {
             self.asks_for_password = true;
             return None;
@@ -141,9 +152,18 @@ impl Building {
         }
     }
 
-    fn wait(&self, tag: u8, body: &[u8], target: Target, time: u64, cancelled: &HashMap<u32, u64>) -> Wait {
+    fn wait(
+        &self,
+        tag: u8,
+        body: &[u8],
+        target: Target,
+        time: u64,
+        cancelled: &HashMap<u32, u64>,
+    ) -> Wait {
         let said = match target {
-            Target::Said(said) | Target::After(said) if said < self.script.len() => self.script.time(said),
+            Target::Said(said) | Target::After(said) if said < self.script.len() => {
+                self.script.time(said)
+            }
             Target::Said(_) | Target::After(_) => 0,
             Target::Held => return Wait::No,
         };
@@ -156,12 +176,13 @@ impl Building {
             },
             b'E' => {
                 let code = code_of(body);
-                let is_cancelled = self.process.and_then(|it| cancelled.get(&it)).map_or(false, |at| *at >= said);
+                let is_cancelled =
+                    self.process.and_then(|it| cancelled.get(&it)).map_or(false, |at| *at >= said);
                 match code {
                     b"57014" if is_cancelled => Wait::Cancel,
-                    code if is_by_itself || TIMED.contains(&code) => {
-                        Wait::Time(((time.saturating_sub(said)) / 1000).min(u64::from(u32::MAX)) as u32)
-                    }
+                    code if is_by_itself || TIMED.contains(&code) => Wait::Time(
+                        ((time.saturating_sub(said)) / 1000).min(u64::from(u32::MAX)) as u32,
+                    ),
                     _ => Wait::No,
                 }
             }
@@ -174,9 +195,16 @@ impl Building {
 type Open = ((Target, Wait), usize, usize);
 
 /// Whether a message goes on what is open, which it extends then.
-fn extends(open: &mut Option<Open>, place: Option<(Target, Wait)>, begin: usize, end: usize) -> bool {
+fn extends(
+    open: &mut Option<Open>,
+    place: Option<(Target, Wait)>,
+    begin: usize,
+    end: usize,
+) -> bool {
     match (open, place) {
-        (Some((own, _, last)), Some(place)) if *last == begin && own.0 == place.0 && place.1 == Wait::No => {
+        (Some((own, _, last)), Some(place))
+            if *last == begin && own.0 == place.0 && place.1 == Wait::No =>
+        {
             // What waits for another client's message isn't waited for by what follows.
             let is_one = !matches!(own.1, Wait::Said(_));
             if is_one {

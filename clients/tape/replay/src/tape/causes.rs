@@ -46,7 +46,9 @@ impl Sort {
             Sort::Parse => tag == b'1',
             Sort::Bind => tag == b'2',
             Sort::Describe => matches!(tag, b't' | b'T' | b'n'),
-            Sort::Execute => matches!(tag, b'D' | b'C' | b'I' | b's' | b'H' | b'd' | b'c' | b'G' | b'W'),
+            Sort::Execute => {
+                matches!(tag, b'D' | b'C' | b'I' | b's' | b'H' | b'd' | b'c' | b'G' | b'W')
+            }
             Sort::Close => tag == b'3',
             Sort::Sync | Sort::Data | Sort::DataEnd => false,
         }

@@ -122,7 +122,9 @@ impl Building {
     /// Takes what the client said.
     pub fn take_client(&mut self, bytes: Bytes<'_>) {
         let mut rest = bytes.content;
-        self.script.spoken.push(Spoken { piece: Piece::of(bytes.content, bytes.at), time: bytes.time });
+        self.script
+            .spoken
+            .push(Spoken { piece: Piece::of(bytes.content, bytes.at), time: bytes.time });
         let mut client = std::mem::replace(&mut self.client, Cutter::of_connection());
         while !self.is_broken {
             if !client.is_within() {
@@ -198,7 +200,9 @@ impl Building {
     fn say_bytes(&mut self, len: usize, is_data: bool) {
         let what = What::Bytes(len as u64);
         match self.script.len().checked_sub(1).map(|last| self.script.what(last)) {
-            Some(What::Bytes(_)) if is_data && !self.is_last_heard => self.script.extend_last(len as u64),
+            Some(What::Bytes(_)) if is_data && !self.is_last_heard => {
+                self.script.extend_last(len as u64)
+            }
             _ if is_data => self.add(what, Sort::Data),
             _ => self.push(what),
         }
@@ -206,7 +210,11 @@ impl Building {
 
     /// Adds a message whose form is made when its exchange is over.
     fn add_message(&mut self, tag: Option<u8>, body: &[u8], sort: Sort) {
-        self.unformed.push_back(Unformed { said: self.script.len() as u32, tag, body: body.to_vec() });
+        self.unformed.push_back(Unformed {
+            said: self.script.len() as u32,
+            tag,
+            body: body.to_vec(),
+        });
         self.add(What::Form(UNRECORDED), sort);
     }
 

@@ -78,7 +78,10 @@ impl Cutter {
     }
 
     /// Where nothing is held.
-    fn cut_in_piece<'a, 'p: 'a>(&'a mut self, piece: &mut &'p [u8]) -> Result<Option<Cut<'a>>, Fault> {
+    fn cut_in_piece<'a, 'p: 'a>(
+        &'a mut self,
+        piece: &mut &'p [u8],
+    ) -> Result<Option<Cut<'a>>, Fault> {
         if piece.is_empty() {
             return Ok(None);
         }

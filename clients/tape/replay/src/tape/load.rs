@@ -37,14 +37,26 @@ struct Loading {
 
 /// Reads a recording, with the times of what the server said where they are wanted. What is to be said of it is said by
 /// `tell`.
-pub fn load(path: &Path, rules: &Arc<Rules>, keeps_times: bool, tell: &dyn Fn(String)) -> Result<Tape, Failure> {
-    let unread = |why: &dyn std::fmt::Display| Failure::new(Status::Local, format!("{} can't be read: {why}", path.display()));
+pub fn load(
+    path: &Path,
+    rules: &Arc<Rules>,
+    keeps_times: bool,
+    tell: &dyn Fn(String),
+) -> Result<Tape, Failure> {
+    let unread = |why: &dyn std::fmt::Display| {
+        Failure::new(Status::Local, format!("{} can't be read: {why}", path.display()))
+    };
     let file = File::open(path).map_err(|why| unread(&plain(&why)))?;
     let damaged = |damage: Damage| match damage {
         Damage::File(why) => unread(&plain(&why)),
         damage => Failure::new(Status::Damaged, damage.about(path)),
     };
-    let uncounted = || Failure::new(Status::Local, format!("{} has more messages than can be counted", path.display()));
+    let uncounted = || {
+        Failure::new(
+            Status::Local,
+            format!("{} has more messages than can be counted", path.display()),
+        )
+    };
     let length = file.metadata().map_or(0, |it| it.len());
     let mut reader = Reader::new(BufReader::with_capacity(1 << 18, &file)).map_err(damaged)?;
     let mut loading = Loading {
@@ -70,11 +82,18 @@ pub fn load(path: &Path, rules: &Arc<Rules>, keeps_times: bool, tell: &dyn Fn(St
         ));
     }
     if loading.encrypted > 0 {
-        tell(format!("{}: {} connections are encrypted, and left out", path.display(), loading.encrypted));
+        tell(format!(
+            "{}: {} connections are encrypted, and left out",
+            path.display(),
+            loading.encrypted
+        ));
     }
     let tape = loading.finish(path, file).ok_or_else(uncounted)?;
     match tape.connections.is_empty() {
-        true => Err(Failure::new(Status::Damaged, format!("{} has no session that can be replayed", path.display()))),
+        true => Err(Failure::new(
+            Status::Damaged,
+            format!("{} has no session that can be replayed", path.display()),
+        )),
         false => Ok(tape),
     }
 }
@@ -158,7 +177,9 @@ impl Loading {
             times: self.times.unwrap_or_default(),
             processes: HashMap::new(),
         };
-        let sum = |of: fn(&Building) -> usize| self.over.iter().map(|(building, _)| of(building)).sum::<usize>();
+        let sum = |of: fn(&Building) -> usize| {
+            self.over.iter().map(|(building, _)| of(building)).sum::<usize>()
+        };
         tape.heard.reserve_exact(sum(|it| it.heard.len()));
         tape.script.reserve(sum(|it| it.script.len()), sum(|it| it.script.records()));
         let mut notified = Vec::new();
@@ -179,7 +200,12 @@ impl Building {
 }
 
 impl Tape {
-    fn add(&mut self, mut building: Building, closed_by_client: Option<bool>, notified: &mut Vec<Notified>) {
+    fn add(
+        &mut self,
+        mut building: Building,
+        closed_by_client: Option<bool>,
+        notified: &mut Vec<Notified>,
+    ) {
         let (base, connection) = (self.script.len(), self.connections.len());
         let ending = building.ending(closed_by_client);
         let begin = self.turns.len();
@@ -200,7 +226,9 @@ impl Tape {
             startup: base,
             turns: begin..self.turns.len(),
             ending,
-            is_left_at_password: building.asks_for_password && building.ends.is_empty() && building.heard.is_empty(),
+            is_left_at_password: building.asks_for_password
+                && building.ends.is_empty()
+                && building.heard.is_empty(),
         });
         self.add_heard(building.heard, &mut building.script.said);
         self.script.append(building.script);

@@ -74,7 +74,9 @@ pub enum Ending {
     ByClient,
     ByServer,
     /// The recording ends before, and the server had answered all, or hadn't.
-    Unrecorded { is_idle: bool },
+    Unrecorded {
+        is_idle: bool,
+    },
 }
 
 /// What a client says from one time on when it is outside of a transaction up to the next: an exchange, or those of a
@@ -110,7 +112,9 @@ impl Tape {
 
     /// The parts of the answer to a message.
     pub fn heard_of(&self, said: usize) -> Range<usize> {
-        let begin = |said: usize| self.script.said.get(said).map_or(self.heard.len(), |it| it.heard as usize);
+        let begin = |said: usize| {
+            self.script.said.get(said).map_or(self.heard.len(), |it| it.heard as usize)
+        };
         begin(said)..begin(said + 1)
     }
 
@@ -133,7 +137,9 @@ impl Tape {
     pub fn heard<'w>(&self, heard: usize, window: &'w mut Window) -> Result<&'w [u8], Changed> {
         let piece = &self.heard[heard];
         let (mut end, mut rest) = (piece.end(), self.heard[heard + 1..].iter());
-        while let Some(next) = rest.next().filter(|it| it.at() == end && it.end() <= piece.at() + WINDOW_MOST) {
+        while let Some(next) =
+            rest.next().filter(|it| it.at() == end && it.end() <= piece.at() + WINDOW_MOST)
+        {
             end = next.end();
         }
         window.piece(piece, end, &self.file)
@@ -141,7 +147,10 @@ impl Tape {
 
     /// The recorded bytes of a message: the whole of one of up to `MESSAGE_MOST` bytes, else its head.
     pub fn message(&self, said: usize) -> Result<Vec<u8>, Changed> {
-        self.message_at(self.script.said[said].at, if said == 0 || self.is_startup(said) { 4 } else { HEAD })
+        self.message_at(
+            self.script.said[said].at,
+            if said == 0 || self.is_startup(said) { 4 } else { HEAD },
+        )
     }
 
     fn is_startup(&self, said: usize) -> bool {
@@ -162,7 +171,13 @@ impl Tape {
     }
 
     /// Whether data begin with so many bytes of others, and go on with these; or end there, where there are none.
-    pub fn begins_with(&self, said: usize, other: usize, passed: u64, next: &[u8]) -> Result<bool, Changed> {
+    pub fn begins_with(
+        &self,
+        said: usize,
+        other: usize,
+        passed: u64,
+        next: &[u8],
+    ) -> Result<bool, Changed> {
         let What::Bytes(len) = self.script.what(said) else {
             return Ok(false);
         };
@@ -193,7 +208,8 @@ impl Tape {
     /// The text of the statement that a recorded Bind names.
     pub fn statement_of(&self, said: usize) -> Option<Vec<u8>> {
         let message = self.message(said).ok()?;
-        let Ok(Message::Bind(bind)) = Message::read_body(Some(message[0]), message.get(HEAD..)?) else {
+        let Ok(Message::Bind(bind)) = Message::read_body(Some(message[0]), message.get(HEAD..)?)
+        else {
             return None;
         };
         let begin = self.connections.iter().rev().find(|it| it.startup <= said)?.startup;
@@ -201,7 +217,9 @@ impl Tape {
         before.filter(|it| matches!(self.script.what(*it), What::Form(_))).find_map(|it| {
             let message = self.message(it).ok()?;
             match Message::read_body(Some(message[0]), message.get(HEAD..)?) {
-                Ok(Message::Parse(parse)) if parse.statement == bind.statement => Some(parse.query.to_vec()),
+                Ok(Message::Parse(parse)) if parse.statement == bind.statement => {
+                    Some(parse.query.to_vec())
+                }
                 _ => None,
             }
         })
@@ -215,7 +233,8 @@ impl Tape {
     /// Whether the same was heard of two messages.
     pub fn is_same_answer(&self, one: usize, other: usize) -> Result<bool, Changed> {
         let (one, other) = (self.heard_of(one), self.heard_of(other));
-        let len = |range: &Range<usize>| self.heard[range.clone()].iter().map(Piece::len).sum::<usize>();
+        let len =
+            |range: &Range<usize>| self.heard[range.clone()].iter().map(Piece::len).sum::<usize>();
         if len(&one) != len(&other) {
             return Ok(false);
         }

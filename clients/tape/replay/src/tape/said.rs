@@ -51,7 +51,15 @@ pub struct Said {
 
 impl Said {
     pub(super) fn new(form: u32, at: Place) -> Said {
-        Said { form, at, heard: 0, goes_on: false, opens_both: false, is_cause: false, is_preparing: false }
+        Said {
+            form,
+            at,
+            heard: 0,
+            goes_on: false,
+            opens_both: false,
+            is_cause: false,
+            is_preparing: false,
+        }
     }
 }
 
@@ -134,11 +142,18 @@ impl Script {
     }
 
     /// The last message up to a time of those of a connection, after which another begins with that message.
-    pub(super) fn last_until(&self, said: Range<usize>, next: Option<usize>, time: u64) -> Option<usize> {
+    pub(super) fn last_until(
+        &self,
+        said: Range<usize>,
+        next: Option<usize>,
+        time: u64,
+    ) -> Option<usize> {
         let piece = |said: usize| self.said[said].at.piece as usize;
         let records = piece(said.start)..next.map_or(self.spoken.len(), piece);
-        let record = records.start + self.spoken[records.clone()].partition_point(|it| it.time <= time);
-        let begun = said.start + self.said[said.clone()].partition_point(|it| (it.at.piece as usize) < record);
+        let record =
+            records.start + self.spoken[records.clone()].partition_point(|it| it.time <= time);
+        let begun = said.start
+            + self.said[said.clone()].partition_point(|it| (it.at.piece as usize) < record);
         // The last of them may not have been whole then.
         (said.start..begun).rev().find(|it| self.time(*it) <= time)
     }

@@ -22,7 +22,8 @@ impl SpokenReader {
     /// The next bytes, as many as there are in a record. There are none at the end of the recording.
     pub fn next<'a>(&'a mut self, tape: &Tape) -> Result<&'a [u8], Changed> {
         loop {
-            let Some(Spoken { piece, .. }) = tape.script.spoken.get(self.place.piece as usize) else {
+            let Some(Spoken { piece, .. }) = tape.script.spoken.get(self.place.piece as usize)
+            else {
                 return Ok(&[]);
             };
             if (self.place.at as usize) < piece.len() {

@@ -135,15 +135,23 @@ impl Session {
             (M::RowDescription(columns), front) => {
                 let columns: Vec<Named> = columns.iter().map(Named::of).collect();
                 match front {
-                    Some(Asked::Describe(Statement { columns: known, .. }) | Asked::DescribePortal(known)) => {
+                    Some(
+                        Asked::Describe(Statement { columns: known, .. })
+                        | Asked::DescribePortal(known),
+                    ) => {
                         *known.borrow_mut() = columns;
                         self.asked.pop_front();
                     }
                     _ => self.columns = columns,
                 }
             }
-            (M::NoData, Some(Asked::Describe(_) | Asked::DescribePortal(_))) => drop(self.asked.pop_front()),
-            (M::CommandComplete(_) | M::EmptyQueryResponse | M::PortalSuspended, Some(Asked::Execute(_))) => {
+            (M::NoData, Some(Asked::Describe(_) | Asked::DescribePortal(_))) => {
+                drop(self.asked.pop_front())
+            }
+            (
+                M::CommandComplete(_) | M::EmptyQueryResponse | M::PortalSuspended,
+                Some(Asked::Execute(_)),
+            ) => {
                 self.asked.pop_front();
             }
             (M::ErrorResponse(_), _) => self.pass_over(),
@@ -184,7 +192,11 @@ mod tests {
     use pgmsg::frontend::{Bind, Execute, Parse};
 
     fn parse(name: &'static str) -> frontend::Message<'static> {
-        frontend::Message::Parse(Parse { statement: name.into(), query: name.into(), ..Parse::default() })
+        frontend::Message::Parse(Parse {
+            statement: name.into(),
+            query: name.into(),
+            ..Parse::default()
+        })
     }
 
     fn described(name: &'static str) -> backend::Message<'static> {
@@ -203,25 +215,42 @@ mod tests {
         use frontend::Message as F;
         let ready = || B::ReadyForQuery(TransactionStatus::Idle);
         let bind = |portal: &'static str, statement: &'static str, formats: &'static [Format]| {
-            let (portal, statement, result_formats) = (portal.into(), statement.into(), formats.into());
+            let (portal, statement, result_formats) =
+                (portal.into(), statement.into(), formats.into());
             F::Bind(Bind { portal, statement, result_formats, ..Bind::default() })
         };
-        let execute = |portal: &'static str| F::Execute(Execute { portal: portal.into(), max_rows: 0 });
+        let execute =
+            |portal: &'static str| F::Execute(Execute { portal: portal.into(), max_rows: 0 });
         let describe = |name: &'static str| F::Describe(Target::Statement(name.into()));
         let mut session = Session::default();
         for said in [parse("a"), describe("a"), parse("b"), describe("b"), F::Sync] {
             session.client(&said);
         }
-        for said in [bind("p", "b", &[Format::BINARY]), execute("p"), bind("", "a", &[]), execute(""), F::Sync] {
+        for said in [
+            bind("p", "b", &[Format::BINARY]),
+            execute("p"),
+            bind("", "a", &[]),
+            execute(""),
+            F::Sync,
+        ] {
             session.client(&said);
         }
-        for answer in [B::ParseComplete, B::ParameterDescription([7].into()), described("a"), B::ParseComplete] {
+        for answer in [
+            B::ParseComplete,
+            B::ParameterDescription([7].into()),
+            described("a"),
+            B::ParseComplete,
+        ] {
             session.server(&answer);
         }
-        for answer in [B::ParameterDescription([].into()), described("b"), ready(), B::BindComplete] {
+        for answer in [B::ParameterDescription([].into()), described("b"), ready(), B::BindComplete]
+        {
             session.server(&answer);
         }
-        assert_eq!((session.statement(b"a").type_of(0), session.statement(b"b").type_of(0)), (7, 0));
+        assert_eq!(
+            (session.statement(b"a").type_of(0), session.statement(b"b").type_of(0)),
+            (7, 0)
+        );
         assert_eq!(found(&session), [("b".to_owned(), 1)]);
         session.server(&B::CommandComplete("SELECT 1".into()));
         assert_eq!(found(&session), [("a".to_owned(), 0)]);
@@ -233,7 +262,13 @@ mod tests {
         use frontend::Message as F;
         let mut session = Session::default();
         let execute = F::Execute(Execute::default());
-        for said in [parse(""), F::Describe(Target::Portal("".into())), execute, F::Sync, F::Query("SELECT".into())] {
+        for said in [
+            parse(""),
+            F::Describe(Target::Portal("".into())),
+            execute,
+            F::Sync,
+            F::Query("SELECT".into()),
+        ] {
             session.client(&said);
         }
         session.server(&B::ErrorResponse([].into()));

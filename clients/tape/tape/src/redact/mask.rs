@@ -61,7 +61,8 @@ fn binary(type_id: u32, bytes: &mut [u8]) {
 
 /// Whether bytes of a type that isn't known are a text: up to eight may be a number.
 fn looks_like_text(bytes: &[u8]) -> bool {
-    bytes.len() > 8 && std::str::from_utf8(bytes).map_or(false, |text| !text.chars().any(char::is_control))
+    bytes.len() > 8
+        && std::str::from_utf8(bytes).map_or(false, |text| !text.chars().any(char::is_control))
 }
 
 /// Masks a text, by what it looks like.
@@ -91,7 +92,8 @@ fn date(bytes: &mut [u8]) {
 
 fn is_number(bytes: &[u8]) -> bool {
     let digits = bytes.strip_prefix(b"-").unwrap_or(bytes);
-    digits.first().map_or(false, u8::is_ascii_digit) && digits.iter().all(|it| it.is_ascii_digit() || b".eE+-".contains(it))
+    digits.first().map_or(false, u8::is_ascii_digit)
+        && digits.iter().all(|it| it.is_ascii_digit() || b".eE+-".contains(it))
 }
 
 fn is_uuid(bytes: &[u8]) -> bool {
@@ -130,7 +132,9 @@ fn json(bytes: &mut [u8]) {
     while at < bytes.len() {
         let end = match bytes[at] {
             b'"' => end_of_string(bytes, at + 1),
-            it if it.is_ascii_digit() => at + bytes[at..].iter().take_while(|it| it.is_ascii_digit()).count(),
+            it if it.is_ascii_digit() => {
+                at + bytes[at..].iter().take_while(|it| it.is_ascii_digit()).count()
+            }
             _ => at + 1,
         };
         match bytes[at] {
@@ -203,7 +207,9 @@ fn letter(byte: u8) -> u8 {
 fn character(bytes: &[u8]) -> usize {
     let most = bytes.len().min(4);
     (2..=most)
-        .find(|len| std::str::from_utf8(&bytes[..*len]).map_or(false, |text| text.chars().count() == 1))
+        .find(|len| {
+            std::str::from_utf8(&bytes[..*len]).map_or(false, |text| text.chars().count() == 1)
+        })
         .filter(|_| bytes[0] >= 0x80)
         .unwrap_or(1)
 }
@@ -231,7 +237,10 @@ mod tests {
             ("7", "1"),
             ("1e-5", "1e-0"),
             ("Jos\u{e9} \u{65e5}\u{672c} \u{1f600}", "Xxx\u{f8} \u{3042}\u{3042} \u{1d431}"),
-            (r#"{"name": "Ann\n\u00e9", "age": 41, "ok": true}"#, r#"{"name": "Xxx\n\u0078", "age": 10, "ok": true}"#),
+            (
+                r#"{"name": "Ann\n\u00e9", "age": 41, "ok": true}"#,
+                r#"{"name": "Xxx\n\u0078", "age": 10, "ok": true}"#,
+            ),
             ("{a,NULL}", "{x,XXXX}"),
             ("550e8400-e29b-41d4-a716-446655440000", "00000000-0000-0000-0000-000000000000"),
             ("[1, -20]", "[1, -10]"),
@@ -268,7 +277,9 @@ mod tests {
 
     #[test]
     fn broken_json_and_cut_characters_are_masked_as_letters() {
-        for bytes in [&b"{\"a\\"[..], b"[\"\\u00", b"\xe3\x81", b"\xf0\x9f\x98", b"{", b"[1", b"\"\\"] {
+        for bytes in
+            [&b"{\"a\\"[..], b"[\"\\u00", b"\xe3\x81", b"\xf0\x9f\x98", b"{", b"[1", b"\"\\"]
+        {
             let mut json_like = bytes.to_vec();
             json(&mut json_like);
             assert_eq!(masked(Mask::Text, bytes).len(), bytes.len());

@@ -30,7 +30,8 @@ pub fn redact(path: &Path, rules: Option<&Path>, to: &Path) -> Result<()> {
     let mut tape = Tape::open(path, &Bar::new("redact", &[path]))?;
     let mut out = Output::create(to)?;
     let unjoined = |why| Failure::unwritten(to, &other(why));
-    let mut joiner = Joiner::new(&mut out, tape.begun()).map_err(|why| Failure::unwritten(to, &why))?;
+    let mut joiner =
+        Joiner::new(&mut out, tape.begun()).map_err(|why| Failure::unwritten(to, &why))?;
     let mut redactor = Redactor { rules, sessions: Sessions::default(), unread: 0 };
     tape.items(|item| add(&mut joiner, redactor.item(item)).map_err(unjoined))?;
     joiner.end().map(drop).map_err(unjoined)?;

@@ -79,7 +79,10 @@ fn regex(pattern: &str) -> std::result::Result<Regex, String> {
 }
 
 /// Makes something of each rule of a kind.
-fn each<R, T>(rules: Vec<R>, make: impl Fn(R) -> std::result::Result<T, String>) -> std::result::Result<Vec<T>, String> {
+fn each<R, T>(
+    rules: Vec<R>,
+    make: impl Fn(R) -> std::result::Result<T, String>,
+) -> std::result::Result<Vec<T>, String> {
     rules.into_iter().map(make).collect()
 }
 
@@ -87,13 +90,19 @@ impl Rules {
     /// Reads a file of rules.
     pub fn read(path: &Path) -> Result<Rules> {
         let text = std::fs::read_to_string(path).map_err(|why| Failure::unread(path, &why))?;
-        Rules::parse(&text).map_err(|why| Failure::new(Status::Usage, format!("{}: {why}", path.display())))
+        Rules::parse(&text)
+            .map_err(|why| Failure::new(Status::Usage, format!("{}: {why}", path.display())))
     }
 
     pub fn parse(text: &str) -> std::result::Result<Rules, String> {
         let File { redact, .. } = toml::from_str(text).map_err(|why| why.to_string())?;
         let pattern = |table: &'static str| {
-            move |it: Pattern| Ok(Rule::new(regex(&it.pattern)?, format!("[[redact.{table}]] pattern = {:?}", it.pattern)))
+            move |it: Pattern| {
+                Ok(Rule::new(
+                    regex(&it.pattern)?,
+                    format!("[[redact.{table}]] pattern = {:?}", it.pattern),
+                ))
+            }
         };
         Ok(Rules {
             columns: each(redact.column, |it| {
@@ -101,7 +110,10 @@ impl Rules {
                 Ok(Rule::new(it.name, name))
             })?,
             parameters: each(redact.parameter, |it| {
-                let name = format!("[[redact.parameter]] statement = {:?}, positions = {:?}", it.statement, it.positions);
+                let name = format!(
+                    "[[redact.parameter]] statement = {:?}, positions = {:?}",
+                    it.statement, it.positions
+                );
                 Ok(Rule::new((regex(&it.statement)?, it.positions), name))
             })?,
             statements: each(redact.statement, pattern("statement"))?,
@@ -121,7 +133,9 @@ impl Rules {
 
     /// Whether the value of a parameter is masked, by its position from 1 on.
     pub fn parameter(&mut self, sql: &[u8], position: usize) -> bool {
-        let fits = |it: &&mut Rule<(Regex, Vec<usize>)>| it.what.1.contains(&position) && it.what.0.is_match(sql);
+        let fits = |it: &&mut Rule<(Regex, Vec<usize>)>| {
+            it.what.1.contains(&position) && it.what.0.is_match(sql)
+        };
         met(self.parameters.iter_mut().filter(fits))
     }
 
@@ -180,7 +194,10 @@ mod tests {
         "#;
         let mut rules = Rules::parse(text).unwrap();
         assert!(rules.column(b"email") && !rules.column(b"Email"));
-        assert!(rules.parameter(b"INSERT INTO users ..", 3) && !rules.parameter(b"INSERT INTO users ..", 2));
+        assert!(
+            rules.parameter(b"INSERT INTO users ..", 3)
+                && !rules.parameter(b"INSERT INTO users ..", 2)
+        );
         assert!(!rules.statement(b"SELECT"));
         assert_eq!(rules.idle(), [r#"[[redact.text]] pattern = "card (\\d+)""#]);
     }

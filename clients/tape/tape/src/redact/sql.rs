@@ -8,13 +8,17 @@ use std::ops::Range;
 
 /// Verifiers of passwords, whose prefix and number of turns stay.
 static VERIFIERS: Lazy<Vec<Regex>> = Lazy::new(|| {
-    let patterns = [r"SCRAM-SHA-256\$[0-9]+:([A-Za-z0-9+/=]+\$[A-Za-z0-9+/=]+:[A-Za-z0-9+/=]+)", r"\bmd5([0-9a-f]{32})\b"];
+    let patterns = [
+        r"SCRAM-SHA-256\$[0-9]+:([A-Za-z0-9+/=]+\$[A-Za-z0-9+/=]+:[A-Za-z0-9+/=]+)",
+        r"\bmd5([0-9a-f]{32})\b",
+    ];
     patterns.iter().filter_map(|it| Regex::new(it).ok()).collect()
 });
 
 /// A password in SQL that stands in a string, where its quotes are doubled, or in the words of an error.
-static QUOTED: Lazy<Option<Regex>> =
-    Lazy::new(|| Regex::new(r"(?i)\bpassword\s*(?:=>?|:=)?\s*(?:[eu]&?)?(?:''([^']+)''|'((?:[^']|'')*)')").ok());
+static QUOTED: Lazy<Option<Regex>> = Lazy::new(|| {
+    Regex::new(r"(?i)\bpassword\s*(?:=>?|:=)?\s*(?:[eu]&?)?(?:''([^']+)''|'((?:[^']|'')*)')").ok()
+});
 
 /// How deep texts in dollar quotes are looked into.
 const DEEPEST: usize = 4;
@@ -66,7 +70,8 @@ fn look(sql: &[u8], places: &mut Places, depth: usize) {
             Piece::Text(range, _) => quoted_passwords(&sql[range], places),
             Piece::Word(range) => {
                 // A prefix of a string is a word too, and the string follows.
-                let is_prefix = range.len() == 1 && matches!(sql.get(range.end), Some(b'\'' | b'&'));
+                let is_prefix =
+                    range.len() == 1 && matches!(sql.get(range.end), Some(b'\'' | b'&'));
                 is_asked = sql[range].eq_ignore_ascii_case(b"password") || (is_asked && is_prefix);
                 continue;
             }
@@ -141,14 +146,16 @@ impl<'s> Pieces<'s> {
 
     fn word(&mut self) -> Range<usize> {
         let range = self.run(is_of_word);
-        self.escapes_at = Some(range.end).filter(|_| self.sql[range.clone()].eq_ignore_ascii_case(b"e"));
+        self.escapes_at =
+            Some(range.end).filter(|_| self.sql[range.clone()].eq_ignore_ascii_case(b"e"));
         range
     }
 
     /// The tag of a dollar quote at the front, with its dollars.
     fn tag(&self) -> Option<&'s [u8]> {
         let rest = self.rest();
-        let len = 1 + rest.get(1..)?.iter().take_while(|it| is_of_word(**it) && **it != b'$').count();
+        let len =
+            1 + rest.get(1..)?.iter().take_while(|it| is_of_word(**it) && **it != b'$').count();
         let is_quote = rest.get(len) == Some(&b'$') && !rest[1].is_ascii_digit();
         rest.get(..len + 1).filter(|_| is_quote)
     }
@@ -194,7 +201,10 @@ impl<'s> Pieces<'s> {
             [first, ..] if is_of_word(*first) => return Some(Piece::Word(self.word())),
             _ => {
                 self.at += 1;
-                return rest.first().filter(|it| !it.is_ascii_whitespace()).map(|it| Piece::Mark(*it));
+                return rest
+                    .first()
+                    .filter(|it| !it.is_ascii_whitespace())
+                    .map(|it| Piece::Mark(*it));
             }
         }
         None
@@ -236,11 +246,17 @@ mod tests {
     fn passwords_are_found_however_they_are_quoted() {
         let table = [
             ("ALTER ROLE a PASSWORD 'Secret1'", "ALTER ROLE a PASSWORD 'Xxxxxx0'"),
-            ("create user b encrypted password 'it''s'", "create user b encrypted password 'xx''x'"),
+            (
+                "create user b encrypted password 'it''s'",
+                "create user b encrypted password 'xx''x'",
+            ),
             (r"CREATE ROLE c PASSWORD E'a\'b' LOGIN", r"CREATE ROLE c PASSWORD E'x\'x' LOGIN"),
             ("ALTER USER d PASSWORD $$pw$$", "ALTER USER d PASSWORD $$xx$$"),
             ("ALTER USER d PASSWORD $a$p$$w$a$ VALID", "ALTER USER d PASSWORD $a$x$$x$a$ VALID"),
-            ("DO $$BEGIN ALTER ROLE e PASSWORD 'pw'; END$$", "DO $$BEGIN ALTER ROLE e PASSWORD 'xx'; END$$"),
+            (
+                "DO $$BEGIN ALTER ROLE e PASSWORD 'pw'; END$$",
+                "DO $$BEGIN ALTER ROLE e PASSWORD 'xx'; END$$",
+            ),
             (
                 "DO $$BEGIN EXECUTE 'ALTER ROLE e PASSWORD ''pw'''; END$$",
                 "DO $$BEGIN EXECUTE 'ALTER ROLE e PASSWORD ''xx'''; END$$",
@@ -254,7 +270,10 @@ mod tests {
             ("ALTER ROLE a PASSWORD U&'p'", "ALTER ROLE a PASSWORD U&'x'"),
             ("ALTER ROLE a PASSWORD 'cut", "ALTER ROLE a PASSWORD 'xxx"),
             ("UPDATE t SET password = 'p', a = 'b'", "UPDATE t SET password = 'x', a = 'b'"),
-            ("SELECT f(password => E'p', \"password\" 'b')", "SELECT f(password => E'x', \"password\" 'b')"),
+            (
+                "SELECT f(password => E'p', \"password\" 'b')",
+                "SELECT f(password => E'x', \"password\" 'b')",
+            ),
         ];
         for (sql, wanted) in table {
             assert_eq!(masked(sql, passwords), wanted);
@@ -266,7 +285,10 @@ mod tests {
         let table = [
             ("SELECT 'Ann', 41 FROM t1 WHERE a=$1", "SELECT 'Xxx', 10 FROM t1 WHERE a=$1"),
             ("SELECT \"a'b\" /* 'c' */ , 'd' -- 5", "SELECT \"a'b\" /* 'c' */ , 'x' -- 5"),
-            ("INSERT INTO t VALUES ('a', E'\\'b', $x$c$x$)", "INSERT INTO t VALUES ('x', E'\\'x', $x$x$x$)"),
+            (
+                "INSERT INTO t VALUES ('a', E'\\'b', $x$c$x$)",
+                "INSERT INTO t VALUES ('x', E'\\'x', $x$x$x$)",
+            ),
             ("SELECT '1971-03-21'::date, 1.50", "SELECT '2000-01-01'::date, 1.00"),
             ("", ""),
             ("'", "'"),
@@ -282,8 +304,10 @@ mod tests {
 
     #[test]
     fn verifiers_are_found_in_any_text() {
-        let scram = "rolpassword=SCRAM-SHA-256$4096:ab+/==$cd:ef= md5".to_owned() + &"0a".repeat(16);
-        let wanted = "rolpassword=SCRAM-SHA-256$4096:xx+/==$xx:xx= md5".to_owned() + &"0x".repeat(16);
+        let scram =
+            "rolpassword=SCRAM-SHA-256$4096:ab+/==$cd:ef= md5".to_owned() + &"0a".repeat(16);
+        let wanted =
+            "rolpassword=SCRAM-SHA-256$4096:xx+/==$xx:xx= md5".to_owned() + &"0x".repeat(16);
         assert_eq!(masked(&scram, secrets), wanted);
     }
 

@@ -35,10 +35,17 @@ fn search_values(values: &[Value<'_>], rules: &mut Rules, places: &mut Places) {
 }
 
 /// Marks what is secret in a client's message.
-pub fn client(message: &frontend::Message<'_>, session: &Session, rules: &mut Rules, places: &mut Places) {
+pub fn client(
+    message: &frontend::Message<'_>,
+    session: &Session,
+    rules: &mut Rules,
+    places: &mut Places,
+) {
     use frontend::Message as M;
     match message {
-        M::Startup(startup) => startup.settings.iter().for_each(|it| search(&it.value, rules, places)),
+        M::Startup(startup) => {
+            startup.settings.iter().for_each(|it| search(&it.value, rules, places))
+        }
         M::CancelRequest(cancel) => places.add(cancel.secret_key.0, Mask::Zeros),
         M::Password(answer) => password(*answer, places),
         M::Query(query) => search_sql(query, rules, places),
@@ -77,12 +84,19 @@ fn bind(bind: &Bind<'_>, session: &Session, rules: &mut Rules, places: &mut Plac
 }
 
 /// Marks what is secret in a server's message.
-pub fn server(message: &backend::Message<'_>, session: &Session, rules: &mut Rules, places: &mut Places) {
+pub fn server(
+    message: &backend::Message<'_>,
+    session: &Session,
+    rules: &mut Rules,
+    places: &mut Places,
+) {
     use backend::Message as M;
     match message {
         M::BackendKeyData(key) => places.add(key.secret_key.0, Mask::Zeros),
         M::Authentication(
-            Authentication::SaslContinue(data) | Authentication::SaslFinal(data) | Authentication::Other(_, data),
+            Authentication::SaslContinue(data)
+            | Authentication::SaslFinal(data)
+            | Authentication::Other(_, data),
         ) => {
             places.add(data.0, Mask::Letters);
         }

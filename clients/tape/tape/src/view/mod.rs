@@ -11,8 +11,12 @@ use std::path::Path;
 
 const PAGE: &str = include_str!("page.html");
 const STYLE: &str = include_str!("page.css");
-const SCRIPT: [&str; 4] =
-    [include_str!("data.js"), include_str!("list.js"), include_str!("lanes.js"), include_str!("page.js")];
+const SCRIPT: [&str; 4] = [
+    include_str!("data.js"),
+    include_str!("list.js"),
+    include_str!("lanes.js"),
+    include_str!("page.js"),
+];
 
 /// The longest line that is in the page; of others it has the length.
 const LONGEST: usize = 16 << 10;
@@ -24,7 +28,10 @@ pub fn view(path: &Path, to: &Path) -> Result<()> {
     let mut tape = Tape::open(path, &Bar::new("view", &[path]))?;
     let mut out = Output::create(to)?;
     let name = path.file_name().unwrap_or_default().to_string_lossy();
-    let page = PAGE.replace("{{title}}", &text(&name)).replace("{{style}}", STYLE).replace("{{script}}", &SCRIPT.concat());
+    let page = PAGE
+        .replace("{{title}}", &text(&name))
+        .replace("{{style}}", STYLE)
+        .replace("{{script}}", &SCRIPT.concat());
     let (before, after) = page.split_once("{{data}}").unwrap_or((&page, ""));
     out.put(before.as_bytes())?;
     let mut rows = Rows::default();
@@ -82,7 +89,8 @@ impl Rows {
 /// Adds the place and the kind of a line, and its length.
 fn put_long(out: &mut Vec<u8>, fields: &[u8]) {
     let kind = b"\"kind\":\"";
-    let start = fields.windows(kind.len()).position(|it| it == kind).map_or(0, |at| at + kind.len());
+    let start =
+        fields.windows(kind.len()).position(|it| it == kind).map_or(0, |at| at + kind.len());
     let end = start + fields[start..].iter().position(|it| *it == b'"').unwrap_or(0);
     out.extend_from_slice(&fields[..end]);
     out.extend_from_slice(format!("\",\"long\":{}}}\n", fields.len()).as_bytes());
