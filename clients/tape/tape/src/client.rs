@@ -1,14 +1,13 @@
 //! A client's messages with their fields.
 
 use crate::kinds::kinds;
+use crate::parts::{format_list, formats, list, other, text, values};
 use crate::shapes::{
     Bind, CopyFail, Data, Empty, Execute, FunctionCall, Initial, Key, Other, Parse, Password,
-    Query, Setting, Startup, Tag, Target, TargetKind, Values,
+    Query, Setting, Startup, Target, TargetKind,
 };
-use crate::text::Text;
 use pgmsg::frontend::{self, Message, PasswordMessage, SaslInitialResponse};
-use pgmsg::{ByteStr, Format, List, Refusal, Secret, Value};
-use std::borrow::Cow;
+use pgmsg::{ByteStr, Format, List, Refusal, Secret};
 
 kinds! {
     /// A message from a client.
@@ -35,29 +34,6 @@ kinds! {
         Terminate(Empty),
         Other(Other<'a>),
     }
-}
-
-/// Bytes of a message as JSON has them.
-pub fn text<'a>(bytes: impl Into<ByteStr<'a>>) -> Text<'a> {
-    Text(Cow::Borrowed(bytes.into().0))
-}
-
-/// Values of a message as JSON has them.
-pub fn values<'a>(values: &[Value<'a>]) -> Values<'a> {
-    values.iter().map(|value| value.bytes().map(Text::from)).collect()
-}
-
-pub fn formats(formats: &[Format]) -> Vec<i16> {
-    formats.iter().map(|format| format.0).collect()
-}
-
-/// Values as a message has them.
-pub fn list<'t>(values: &'t Values<'_>) -> List<'t, Value<'t>> {
-    values.iter().map(|value| value.as_ref().map(|text| &text.0).into()).collect()
-}
-
-pub fn format_list(formats: &[i16]) -> List<'static, Format> {
-    formats.iter().copied().map(Format).collect()
 }
 
 impl<'a> Client<'a> {
@@ -131,16 +107,6 @@ impl<'a> Client<'a> {
         };
         message.write(out)
     }
-}
-
-/// Appends a message by its tag and its body.
-pub fn other(it: &Other<'_>, out: &mut Vec<u8>) -> Result<(), Refusal> {
-    pgmsg::backend::Other { tag: it.tag.0, body: ByteStr(&it.body.0) }.write(out)
-}
-
-/// A message as its tag and its body.
-pub fn untyped(tag: u8, body: &[u8]) -> Other<'_> {
-    Other { tag: Tag(tag), body: body.into() }
 }
 
 fn startup_of<'a>(it: &frontend::Startup<'a>) -> Startup<'a> {

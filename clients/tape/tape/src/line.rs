@@ -1,7 +1,8 @@
 //! The lines of a recording as JSON: what each says, and how one is written.
 
-use crate::client::{self, Client};
+use crate::client::Client;
 use crate::item::{Item, Message, What};
+use crate::parts::untyped;
 use crate::rows::Rows;
 use crate::server::Server;
 use crate::shapes::{Empty, Other, Tag};
@@ -225,7 +226,7 @@ impl Writer {
             {
                 said
             }
-            (_, Some(tag)) => other(side, client::untyped(tag, body)),
+            (_, Some(tag)) => other(side, untyped(tag, body)),
             (_, None) => Said::Bytes(Bytes { data: Text(Cow::Borrowed(&message.bytes)) }),
         }
     }

@@ -26,6 +26,7 @@ mod numbers;
 mod options;
 mod output;
 mod parse;
+mod parts;
 mod queue;
 mod redact;
 mod remove;

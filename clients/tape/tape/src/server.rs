@@ -1,8 +1,8 @@
 //! A server's messages with their fields.
 
-use crate::client::{format_list, formats, list, other, text, values};
 use crate::fields::Report;
 use crate::kinds::kinds;
+use crate::parts::{format_list, formats, list, other, text, values};
 use crate::shapes::{
     Column, Columns, Command, Copy, Data, Empty, FunctionResult, Key, Mechanisms, Method,
     Negotiation, Notification, Other, Ready, Row, Salt, Setting, Status, Types,
