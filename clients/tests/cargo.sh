@@ -48,6 +48,16 @@ by_strict_cargo() {
     RUSTC_WORKSPACE_WRAPPER=$PWD/$driver by_cargo "$@"
 }
 
+# Tests that all sources of a workspace are as rustfmt has them, where $cargo_folder has it.
+expect_format() {
+    if ! "$cargo_folder/cargo" fmt --version > /dev/null 2>&1; then
+        echo "left out: the format of the workspace $1, which needs rustfmt"
+        return
+    fi
+    try env -C "$1" PATH="$cargo_folder:$PATH" "$cargo_folder/cargo" fmt --all --check
+    expect "the workspace $1 is formatted by rustfmt" 0
+}
+
 # Writes a registry of empty crates, of which cargo resolves what is optional, or only for tests: it looks for that also
 # where nothing asks for it.
 write_registry() {

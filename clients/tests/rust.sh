@@ -40,6 +40,7 @@ test_rust() {
     [ ${#features[@]} -gt 0 ] || echo "left out: the features of the Rust crate, which need$lacking"
     try by_strict_cargo rust test --workspace "${features[@]}" "${source[@]}"
     expect "the Rust crates, $version, without a warning" 0
+    expect_format rust
     test_rust_words
     test_rust_package
     test_rust_program
@@ -128,6 +129,7 @@ END
 test_tape() {
     local cargo_folder count inputs
     read -r cargo_folder _ < <(rust_folders 1.65)
+    expect_format tape
     try by_strict_cargo tape test --workspace -- --show-output
     count=$(grep -o '[0-9]* passed' <<< "$output" | awk '{ count += $1 } END { print count }')
     expect "the crates of pg_record, without a warning: $count tests" 0
