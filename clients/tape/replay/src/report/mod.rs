@@ -81,9 +81,11 @@ impl Side {
         match self {
             Side::Words(_) => {}
             Side::Message(message) => {
-                drop(trace::message(&mut out, style, client, message[0], &message[HEAD..]))
+                let _ = trace::message(&mut out, style, client, message[0], &message[HEAD..]);
             }
-            Side::Startup(message) => drop(trace::first_message(&mut out, style, &message[4..])),
+            Side::Startup(message) => {
+                let _ = trace::first_message(&mut out, style, &message[4..]);
+            }
             Side::Long { tag, length } => trace::left_out(&mut out, style, client, *tag, *length),
         }
         String::from_utf8_lossy(&out).trim_end_matches('\n').to_owned()
