@@ -14,6 +14,7 @@ mod signals;
 mod status;
 mod stream;
 mod tls;
+mod workers;
 
 pub use address::Address;
 pub use connect::Upstream;
@@ -25,5 +26,6 @@ pub use roots::SslMode;
 pub use say::Sayer;
 pub use signals::{ended, ignore_file_size};
 pub use status::{Failure, Status};
-pub use stream::Stream;
+pub use stream::{Accepted, Stream};
 pub use tls::ServerTls;
+pub use workers::{let_others, Workers};

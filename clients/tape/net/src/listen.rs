@@ -1,7 +1,7 @@
 //! What clients connect to.
 
 use crate::stream::tune;
-use crate::{Address, Failure, Status, Stream};
+use crate::{Accepted, Address, Failure, Status};
 use std::io;
 use std::os::unix::fs::FileTypeExt;
 use std::os::unix::net::UnixStream as Trying;
@@ -53,16 +53,16 @@ impl Listener {
     }
 
     /// The next client, with its address as PostgreSQL's log has it.
-    pub async fn accept(&self) -> io::Result<(Stream, String)> {
+    pub async fn accept(&self) -> io::Result<(Accepted, String)> {
         match self {
             Listener::Tcp(it) => {
                 let (stream, peer) = it.accept().await?;
                 tune(&stream);
-                Ok((Stream::Tcp(stream), peer.to_string()))
+                Ok((Accepted::Tcp(stream.into_std()?), peer.to_string()))
             }
             Listener::Unix(it, _) => {
                 let (stream, _) = it.accept().await?;
-                Ok((Stream::Unix(stream), "[local]".to_owned()))
+                Ok((Accepted::Unix(stream.into_std()?), "[local]".to_owned()))
             }
         }
     }

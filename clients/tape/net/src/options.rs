@@ -1,6 +1,6 @@
 //! Options that programs share.
 
-use crate::{Address, Failure, Listener, ServerTls, SslMode, Status, Upstream};
+use crate::{Address, Failure, Listener, ServerTls, SslMode, Status, Upstream, Workers};
 use clap::Args;
 use std::env;
 use std::path::{Path, PathBuf};
@@ -27,7 +27,8 @@ pub struct Listening {
     /// The key of that certificate
     #[arg(long, value_name = "FILE", requires = "cert")]
     pub key: Option<PathBuf>,
-    /// Serve with so many threads, not with half as many as there are processors
+    /// Serve with at most so many threads, not with twice as many as there are processors. A client has a thread of its own
+    /// while there are no more clients than that
     #[arg(long, value_name = "N", value_parser = clap::value_parser!(u64).range(1..=THREADS_MOST))]
     pub threads: Option<u64>,
 }
@@ -70,19 +71,11 @@ impl Listening {
         Ok(Bound { listeners, tls })
     }
 
-    /// How many threads are wanted.
-    pub fn threads(&self) -> usize {
-        let processors = std::thread::available_parallelism().map_or(2, usize::from);
-        let usual = (processors / 2).clamp(1, THREADS_MOST as usize);
-        self.threads.map_or(usual, |threads| threads as usize)
-    }
-
-    /// What runs tasks on them.
-    pub fn runtime(&self) -> std::io::Result<tokio::runtime::Runtime> {
-        tokio::runtime::Builder::new_multi_thread()
-            .worker_threads(self.threads())
-            .enable_all()
-            .build()
+    /// The threads that serve clients.
+    pub fn workers(&self) -> std::io::Result<Workers> {
+        let processors = std::thread::available_parallelism().map_or(1, |it| it.get() as u64);
+        let usual = (2 * processors).min(THREADS_MOST);
+        Workers::new(self.threads.unwrap_or(usual) as usize)
     }
 }
 

@@ -14,6 +14,23 @@ pub(crate) fn tune(stream: &TcpStream) {
     let _ = SockRef::from(stream).set_keepalive(true);
 }
 
+/// A connection that was accepted, and that no runtime watches yet.
+#[derive(Debug)]
+pub enum Accepted {
+    Tcp(std::net::TcpStream),
+    Unix(std::os::unix::net::UnixStream),
+}
+
+impl Accepted {
+    /// Has the runtime of this thread watch it.
+    pub fn watch(self) -> io::Result<Stream> {
+        Ok(match self {
+            Accepted::Tcp(stream) => Stream::Tcp(TcpStream::from_std(stream)?),
+            Accepted::Unix(stream) => Stream::Unix(UnixStream::from_std(stream)?),
+        })
+    }
+}
+
 /// A connection over TCP, over a Unix socket, or encrypted.
 pub enum Stream {
     Tcp(TcpStream),

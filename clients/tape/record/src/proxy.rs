@@ -2,7 +2,7 @@
 
 use crate::session::{Session, OPENING};
 use crate::tape::Tape;
-use net::{Listener, Sayer, ServerTls, Status, Upstream};
+use net::{Listener, Sayer, ServerTls, Status, Upstream, Workers};
 use std::io;
 use std::sync::atomic::{AtomicU64, Ordering};
 use std::sync::Arc;
@@ -67,7 +67,7 @@ impl Proxy {
     }
 
     /// Serves those who connect to a listener, each by a task of its own.
-    pub async fn accept(self: Arc<Proxy>, listener: Listener) {
+    pub async fn accept(self: Arc<Proxy>, listener: Listener, workers: Arc<Workers>) {
         loop {
             let (client, peer) = match listener.accept().await {
                 Ok(accepted) => accepted,
@@ -81,8 +81,10 @@ impl Proxy {
                 None => return,
             };
             let proxy = self.clone();
-            tokio::spawn(async move {
-                Session::new(&proxy, peer).serve(client).await;
+            workers.spawn(async move {
+                if let Ok(client) = client.watch() {
+                    Session::new(&proxy, peer).serve(client).await;
+                }
                 drop(place);
             });
         }

@@ -6,14 +6,13 @@ use crate::printer::Printer;
 use crate::proxy::Proxy;
 use crate::tape::Tape;
 use net::{
-    ended, ignore_file_size, most_sessions, Bound, Failure, Listener, Sayer, ServerTls, Status,
-    Upstream,
+    ended, ignore_file_size, most_sessions, Bound, Failure, Sayer, ServerTls, Status, Upstream,
 };
 use std::io;
 use std::sync::atomic::{AtomicU64, Ordering};
 use std::sync::Arc;
 use std::time::Duration;
-use tokio::runtime::{Builder, Runtime};
+use tokio::runtime::Builder;
 use tokio::sync::{mpsc, Notify, Semaphore};
 use tokio::task::{spawn_blocking, JoinError, JoinHandle};
 use tokio::time::timeout;
@@ -29,19 +28,23 @@ fn local(why: io::Error) -> Failure {
 
 /// Serves, and gives the status in which that ends.
 pub fn serve(arguments: &Arguments, says: &Sayer) -> Result<Status, Failure> {
-    // Signals and the end have a thread of their own, so that a write which blocks all others doesn't hold them up.
+    // Signals, the end and those who connect have a thread of their own, so that a write which blocks all others doesn't hold
+    // them up.
     let own = Builder::new_current_thread().enable_all().build().map_err(local)?;
     let _file_size = own.block_on(async { ignore_file_size() }).map_err(local)?;
     let signal = own.spawn(ended());
-    let sessions = arguments.listening.runtime().map_err(local)?;
+    let workers = Arc::new(arguments.listening.workers().map_err(local)?);
     let (fails, failures) = mpsc::unbounded_channel();
     let tape = tape_of(arguments, says, fails)?;
-    let served = match sessions.block_on(begin(arguments, says)) {
+    let served = match own.block_on(begin(arguments, says)) {
         Ok((upstream, bound)) => {
             let (single, first) = mpsc::unbounded_channel();
             let single = arguments.is_single.then_some(single);
-            let proxy = proxy_of(arguments, says, tape, upstream, bound.tls, single);
-            let accepting = accept(&proxy, bound.listeners, &sessions);
+            let Bound { listeners, tls } = bound;
+            let threads = workers.most();
+            let proxy = proxy_of(arguments, says, tape, upstream, tls, threads, single);
+            let accepting = |listener| own.spawn(proxy.clone().accept(listener, workers.clone()));
+            let accepting = listeners.into_iter().map(accepting).collect();
             let ends = Ends { failures, signal, first };
             own.block_on(end(&proxy, accepting, ends))
         }
@@ -51,7 +54,6 @@ pub fn serve(arguments: &Arguments, says: &Sayer) -> Result<Status, Failure> {
         }
     };
     // Threads that wait for a pipe which nobody reads end with the process.
-    sessions.shutdown_background();
     own.shutdown_background();
     served
 }
@@ -88,6 +90,7 @@ fn proxy_of(
     tape: Tape,
     upstream: Upstream,
     tls: Option<ServerTls>,
+    threads: usize,
     single: Option<mpsc::UnboundedSender<Status>>,
 ) -> Arc<Proxy> {
     let prints_server = arguments.form().is_none() && arguments.output.is_none();
@@ -99,16 +102,10 @@ fn proxy_of(
         leaves_out: !arguments.passwords && !prints_server,
         says: says.clone(),
         single,
-        places: Arc::new(Semaphore::new(most_sessions(DESCRIPTORS))),
+        places: Arc::new(Semaphore::new(most_sessions(DESCRIPTORS, threads))),
         is_crowded: Notify::new(),
         cancels: AtomicU64::new(0),
     })
-}
-
-/// Accepts clients of all listeners.
-fn accept(proxy: &Arc<Proxy>, listeners: Vec<Listener>, sessions: &Runtime) -> Vec<JoinHandle<()>> {
-    let accepting = |listener| sessions.spawn(proxy.clone().accept(listener));
-    listeners.into_iter().map(accepting).collect()
 }
 
 /// What ends the program.

@@ -13,7 +13,7 @@ mod tape;
 #[cfg(test)]
 mod mutants;
 
-use net::{Bound, Failure, Sayer, Status};
+use net::{Bound, Failure, Sayer, Status, Workers};
 use options::Options;
 use serve::{Settings, Shared};
 use session::Login;
@@ -21,6 +21,7 @@ use std::path::Path;
 use std::process::ExitCode;
 use std::sync::Arc;
 use std::time::Duration;
+use tokio::runtime::Builder;
 
 /// How long tasks may take to end.
 const SHUTTING_DOWN: Duration = Duration::from_secs(1);
@@ -47,7 +48,7 @@ fn settings(options: &Options) -> Result<Settings, Failure> {
 }
 
 /// Serves until it is over, or a signal comes. Answers the status.
-async fn run(options: &Options, tell: Sayer) -> Result<Status, Failure> {
+async fn run(options: &Options, tell: Sayer, workers: &Arc<Workers>) -> Result<Status, Failure> {
     let rules = Arc::new(options.rules()?);
     let tape = tape::load(&options.file, &rules, options.speed, &|words| tell.say(words))?;
     let settings = settings(options)?;
@@ -57,12 +58,26 @@ async fn run(options: &Options, tell: Sayer) -> Result<Status, Failure> {
     let (shared, ends) = Shared::new(tape, rules, tell, tls, settings);
     let shared = Arc::new(shared);
     tokio::select! {
-        end = serve::serve(shared.clone(), listeners, ends) => Ok(serve::ended(&shared, end)),
+        end = serve::serve(shared.clone(), listeners, workers, ends) => Ok(serve::ended(&shared, end)),
         status = net::ended() => {
             serve::ended(&shared, Ok(()));
             status.map_err(|why| Failure::new(Status::Local, why.to_string()))
         }
     }
+}
+
+/// The same with the threads that serve clients; another one accepts them.
+fn serve_all(options: &Options, tell: &Sayer) -> Result<Status, Failure> {
+    let local = |why| Failure::new(Status::Local, format!("no thread can be begun: {why}"));
+    let workers = Arc::new(options.listening.workers().map_err(local)?);
+    let runtime = Builder::new_current_thread().enable_all().build().map_err(local)?;
+    let status = runtime.block_on(run(options, tell.clone(), &workers));
+    // The sockets are taken away with what listens on them.
+    runtime.shutdown_timeout(SHUTTING_DOWN);
+    if let Ok(workers) = Arc::try_unwrap(workers) {
+        workers.end();
+    }
+    status
 }
 
 fn main() -> ExitCode {
@@ -78,22 +93,13 @@ fn main() -> ExitCode {
         }
     };
     let tell = Sayer::new("pg_replay");
-    let runtime = options.listening.runtime();
-    let ended = match &runtime {
-        Ok(runtime) => runtime.block_on(run(&options, tell.clone())),
-        Err(why) => Err(Failure::new(Status::Local, format!("no thread can be begun: {why}"))),
-    };
-    let status = ended.unwrap_or_else(|failure| {
+    let status = serve_all(&options, &tell).unwrap_or_else(|failure| {
         tell.say(&failure);
         if failure.status == Status::Usage {
             tell.say_plain(options::USAGE);
         }
         failure.status
     });
-    if let Ok(runtime) = runtime {
-        // The sockets are taken away with what listens on them.
-        runtime.shutdown_timeout(SHUTTING_DOWN);
-    }
     tell.end();
     ExitCode::from(status as u8)
 }

@@ -6,7 +6,7 @@ use crate::rules::Rules;
 use crate::session::{greet, Login};
 use crate::tape::{plain, Tape};
 use anyhow::Result;
-use net::{Failure, Listener, Sayer, ServerTls, Status};
+use net::{Failure, Listener, Sayer, ServerTls, Status, Workers};
 use std::collections::VecDeque;
 use std::sync::atomic::{AtomicBool, Ordering};
 use std::sync::{Arc, Mutex, MutexGuard, PoisonError};
@@ -151,13 +151,14 @@ impl Shared {
 pub async fn serve(
     shared: Arc<Shared>,
     listeners: Vec<Listener>,
+    workers: &Arc<Workers>,
     mut ends: mpsc::Receiver<Result<(), Failure>>,
 ) -> Result<(), Failure> {
     let places = Arc::new(Semaphore::new(CLIENTS_MOST));
     for listener in listeners {
-        let (shared, places) = (shared.clone(), places.clone());
+        let (shared, places, workers) = (shared.clone(), places.clone(), workers.clone());
         tokio::spawn(async move {
-            if let Err(why) = accept(&shared, &listener, &places).await {
+            if let Err(why) = accept(&shared, &listener, &places, &workers).await {
                 let failure = Failure::new(
                     Status::Local,
                     format!("no connection can be accepted: {}", plain(&why)),
@@ -204,6 +205,7 @@ async fn accept(
     shared: &Arc<Shared>,
     listener: &Listener,
     places: &Arc<Semaphore>,
+    workers: &Workers,
 ) -> std::io::Result<()> {
     loop {
         let place = loop {
@@ -218,9 +220,11 @@ async fn accept(
         match listener.accept().await {
             Ok((stream, _)) => {
                 let (session, has_to_go) = (shared.clone(), shared.note_opening());
-                tokio::spawn(async move {
+                workers.spawn(async move {
                     let _place = place;
-                    greet(&session, stream, has_to_go).await;
+                    if let Ok(stream) = stream.watch() {
+                        greet(&session, stream, has_to_go).await;
+                    }
                 });
             }
             Err(why) if may_pass(&why) => {
