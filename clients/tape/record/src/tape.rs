@@ -2,11 +2,14 @@
 
 use crate::output::Output;
 use crate::printer::Printer;
-use net::{Failure, Sayer, Status};
+use net::{let_others, Failure, Sayer, Status};
 use recording::{Kind, Lost};
 use std::path::{Path, PathBuf};
 use std::sync::atomic::{AtomicBool, Ordering};
 use std::sync::{Mutex, MutexGuard, PoisonError};
+
+/// Longer contents are written without being copied.
+const COPIED_MOST: usize = 4 << 10;
 
 /// Nothing may pass any more. Why is told to the one that ends the program.
 #[derive(Debug)]
@@ -74,6 +77,7 @@ impl Tape {
     pub async fn open(&self, peer: &str) -> Result<u32, Over> {
         let records = [(Kind::Opened, peer.as_bytes())];
         let (number, end) = {
+            // The records are in the order of the numbers.
             let mut opened = lock(&self.opened);
             *opened += 1;
             (*opened, self.put(*opened, &records)?)
@@ -83,8 +87,28 @@ impl Tape {
 
     /// Takes records of a connection. They may pass once this is over.
     pub async fn take(&self, connection: u32, records: &[(Kind, &[u8])]) -> Result<(), Over> {
-        let end = self.put(connection, records)?;
-        self.wait(end).await
+        let file = match (&self.lines, self.file()) {
+            (None, None) => return Ok(()),
+            (None, Some(file)) => file,
+            _ => {
+                let end = self.put(connection, records)?;
+                return self.wait(end).await;
+            }
+        };
+        if let &[(kind, content)] = records {
+            if content.len() > COPIED_MOST {
+                return self.judge(file, file.tape.write_long(connection, kind, content));
+            }
+        }
+        let end = file.tape.add(connection, records);
+        // What comes for several sessions at the same time is written at once.
+        let_others().await;
+        self.judge(file, file.tape.write(end))
+    }
+
+    /// The file, while something can be recorded.
+    fn file(&self) -> Option<&Recorded> {
+        self.file.as_ref().filter(|file| !file.is_lost.load(Ordering::Relaxed))
     }
 
     /// Records and prints, and gives where the lines end.
@@ -103,11 +127,18 @@ impl Tape {
     }
 
     fn record(&self, connection: u32, records: &[(Kind, &[u8])]) -> Result<(), Over> {
-        let file = match &self.file {
-            Some(file) if !file.is_lost.load(Ordering::Relaxed) => file,
-            _ => return Ok(()),
-        };
-        let why = match file.tape.add(connection, records) {
+        match self.file() {
+            Some(file) => {
+                let end = file.tape.add(connection, records);
+                self.judge(file, file.tape.write(end))
+            }
+            None => Ok(()),
+        }
+    }
+
+    /// Whether what is recorded may pass. That a recording is lost is told once.
+    fn judge(&self, file: &Recorded, written: Result<(), Lost>) -> Result<(), Over> {
+        let why = match written {
             Ok(()) => return Ok(()),
             Err(why) => why,
         };

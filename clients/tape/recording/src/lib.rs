@@ -48,13 +48,15 @@
 //! of turn, or isn't open. Nothing after a fault is read.
 #![forbid(unsafe_code)]
 
+mod copy;
 mod read;
 mod turns;
 mod write;
 
+pub use copy::Copy;
 pub use read::{Damage, Reader, Record};
 pub use turns::Turns;
-pub use write::{Copy, Lost, Tape};
+pub use write::{Lost, Tape};
 
 /// The bytes before the first record.
 pub const HEAD: usize = 24;
@@ -144,14 +146,19 @@ pub fn put_record(
     content: &[u8],
     checksum: u32,
 ) {
+    out.extend_from_slice(&record_head(kind, connection, time, content.len()));
+    out.extend_from_slice(content);
+    out.extend_from_slice(&checksum.to_be_bytes());
+}
+
+/// The head of a record.
+fn record_head(kind: Kind, connection: u32, time: u64, len: usize) -> [u8; RECORD_HEAD] {
     let mut head = [0; RECORD_HEAD];
-    head[..4].copy_from_slice(&(content.len() as u32).to_be_bytes());
+    head[..4].copy_from_slice(&(len as u32).to_be_bytes());
     head[4] = kind.letter();
     head[5..9].copy_from_slice(&connection.to_be_bytes());
     head[9..17].copy_from_slice(&time.to_be_bytes());
-    let head_checksum = crc32fast::hash(&head[..17]);
-    head[17..].copy_from_slice(&head_checksum.to_be_bytes());
-    out.extend_from_slice(&head);
-    out.extend_from_slice(content);
-    out.extend_from_slice(&checksum.to_be_bytes());
+    let checksum = crc32fast::hash(&head[..17]);
+    head[17..].copy_from_slice(&checksum.to_be_bytes());
+    head
 }

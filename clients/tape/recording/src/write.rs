@@ -1,16 +1,16 @@
 //! A recording that is written.
 
-use crate::{file_head, put_record, Kind, HEAD};
+use crate::{file_head, put_record, record_head, Kind, HEAD, RECORD_HEAD, RECORD_TAIL};
 use std::fs::{self, File, OpenOptions};
-use std::io::{self, Write};
+use std::io::{self, IoSlice, Write};
 use std::mem;
 use std::os::unix::fs::OpenOptionsExt;
 use std::path::Path;
 use std::sync::{Mutex, MutexGuard, PoisonError};
 use std::time::{Instant, SystemTime, UNIX_EPOCH};
 
-/// A recording to which many sessions add records. A record is in the file before `add` is over: a thread that waits for
-/// the file while another writes finds its records written with those of others.
+/// A recording to which many sessions add records. A thread that writes takes the records of all, so that those who wait for
+/// it find theirs written. What is written is in the file, also where the process is killed right after.
 pub struct Tape {
     begun: Instant,
     queue: Mutex<Queue>,
@@ -59,37 +59,64 @@ impl Tape {
         let now = SystemTime::now().duration_since(UNIX_EPOCH).unwrap_or_default();
         let head = file_head(now.as_micros() as u64);
         file.write_all(&head).map_err(|why| format!("can't be written: {why}"))?;
-        Ok(Tape {
-            begun: Instant::now(),
-            queue: Mutex::new(Queue { bytes: Vec::new(), added: HEAD as u64 }),
-            out: Mutex::new(Out {
-                file,
-                spare: Vec::new(),
-                written: HEAD as u64,
-                is_closed: false,
-            }),
-        })
+        let begun = HEAD as u64;
+        let queue = Queue { bytes: Vec::new(), added: begun };
+        let out = Out { file, spare: Vec::new(), written: begun, is_closed: false };
+        Ok(Tape { begun: Instant::now(), queue: Mutex::new(queue), out: Mutex::new(out) })
     }
 
-    /// Adds records of a connection, one after the other.
-    pub fn add(&self, connection: u32, records: &[(Kind, &[u8])]) -> Result<(), Lost> {
+    /// Adds records of a connection, one after the other, and gives the place where they end, up to which they are to be
+    /// written.
+    pub fn add(&self, connection: u32, records: &[(Kind, &[u8])]) -> u64 {
         // The checksum of one is made before others are kept waiting; more at a time are rare.
-        let end = match records {
-            [] => return Ok(()),
-            &[(kind, content)] => {
-                let checksum = crc32fast::hash(content);
-                let mut queue = lock(&self.queue);
-                queue.put(self.begun, connection, kind, content, checksum)
-            }
-            _ => {
-                let mut queue = lock(&self.queue);
-                for &(kind, content) in records {
-                    queue.put(self.begun, connection, kind, content, crc32fast::hash(content));
-                }
-                queue.added
-            }
+        let checksum = match records {
+            &[(_, content)] => crc32fast::hash(content),
+            _ => 0,
         };
-        lock(&self.out).write_to(end, &self.queue)
+        let mut queue = lock(&self.queue);
+        for &(kind, content) in records {
+            let checksum = if records.len() > 1 { crc32fast::hash(content) } else { checksum };
+            let time = self.now();
+            put_record(&mut queue.bytes, kind, connection, time, content, checksum);
+            queue.added += (RECORD_HEAD + content.len() + RECORD_TAIL) as u64;
+        }
+        queue.added
+    }
+
+    /// Writes all that was added, unless another thread has written it up to a place.
+    pub fn write(&self, end: u64) -> Result<(), Lost> {
+        let mut out = lock(&self.out);
+        if out.written >= end && !out.is_closed {
+            return Ok(());
+        }
+        let (bytes, _) = self.take(&mut out, 0);
+        out.write([&bytes, &[], &[], &[]])?;
+        out.keep(bytes);
+        Ok(())
+    }
+
+    /// Writes a record after all that was added, without copying its content.
+    pub fn write_long(&self, connection: u32, kind: Kind, content: &[u8]) -> Result<(), Lost> {
+        let checksum = crc32fast::hash(content).to_be_bytes();
+        let mut out = lock(&self.out);
+        let (bytes, time) = self.take(&mut out, RECORD_HEAD + content.len() + RECORD_TAIL);
+        let head = record_head(kind, connection, time, content.len());
+        out.write([&bytes, &head, content, &checksum])?;
+        out.keep(bytes);
+        Ok(())
+    }
+
+    /// Takes what was added away, and counts bytes of a record that follows it at once, at a time.
+    fn take(&self, out: &mut Out, following: usize) -> (Vec<u8>, u64) {
+        let spare = mem::take(&mut out.spare);
+        let mut queue = lock(&self.queue);
+        queue.added += following as u64;
+        (mem::replace(&mut queue.bytes, spare), self.now())
+    }
+
+    /// How long it has been recorded, in microseconds.
+    fn now(&self) -> u64 {
+        self.begun.elapsed().as_micros() as u64
     }
 
     /// Has nothing be written any more: what is being written is whole before.
@@ -106,81 +133,44 @@ impl Tape {
     }
 }
 
-impl Queue {
-    /// Adds a record, and gives where it ends.
-    fn put(
-        &mut self,
-        begun: Instant,
-        connection: u32,
-        kind: Kind,
-        content: &[u8],
-        checksum: u32,
-    ) -> u64 {
-        let before = self.bytes.len();
-        let time = begun.elapsed().as_micros() as u64;
-        put_record(&mut self.bytes, kind, connection, time, content, checksum);
-        self.added += (self.bytes.len() - before) as u64;
-        self.added
-    }
-}
-
 impl Out {
-    /// Writes what has been added, where another hasn't.
-    fn write_to(&mut self, end: u64, queue: &Mutex<Queue>) -> Result<(), Lost> {
+    /// Writes parts one after the other, or cuts the file where it ended before.
+    fn write(&mut self, parts: [&[u8]; 4]) -> Result<(), Lost> {
         if self.is_closed {
             return Err(Lost::Before);
         }
-        if self.written >= end {
-            return Ok(());
-        }
-        let spare = mem::take(&mut self.spare);
-        let (mut bytes, added) = {
-            let mut queue = lock(queue);
-            (mem::replace(&mut queue.bytes, spare), queue.added)
-        };
-        if let Err(why) = self.file.write_all(&bytes) {
+        if let Err(why) = write_all(&mut self.file, parts) {
             self.is_closed = true;
             // A file that can't be cut ends within a record, which a reader sees.
             let _ = self.file.set_len(self.written);
             return Err(Lost::Now(why));
         }
-        bytes.clear();
-        self.spare = bytes;
-        self.written = added;
+        self.written += parts.iter().map(|part| part.len() as u64).sum::<u64>();
         Ok(())
     }
+
+    /// Keeps the room of what is written.
+    fn keep(&mut self, mut bytes: Vec<u8>) {
+        bytes.clear();
+        self.spare = bytes;
+    }
 }
 
-/// A recording that is written from records whose times are known.
-pub struct Copy<W: Write> {
-    out: W,
-    bytes: Vec<u8>,
-}
-
-impl<W: Write> Copy<W> {
-    pub fn new(mut out: W, begun: u64) -> io::Result<Copy<W>> {
-        out.write_all(&file_head(begun))?;
-        Ok(Copy { out, bytes: Vec::new() })
+/// Writes parts by one call of the system, or by more where a file takes less at a time.
+fn write_all(file: &mut File, parts: [&[u8]; 4]) -> io::Result<()> {
+    let mut passed = match parts {
+        [_, [], [], []] => 0,
+        _ => match file.write_vectored(&parts.map(IoSlice::new)) {
+            Err(why) if why.kind() == io::ErrorKind::Interrupted => 0,
+            written => written?,
+        },
+    };
+    for part in parts {
+        let skipped = passed.min(part.len());
+        passed -= skipped;
+        file.write_all(&part[skipped..])?;
     }
-
-    pub fn add(
-        &mut self,
-        kind: Kind,
-        connection: u32,
-        time: u64,
-        content: &[u8],
-    ) -> io::Result<()> {
-        self.bytes.clear();
-        let checksum = crc32fast::hash(content);
-        put_record(&mut self.bytes, kind, connection, time, content, checksum);
-        self.out.write_all(&self.bytes)
-    }
-
-    /// Gives what it was written to, to which all is written then.
-    pub fn end(mut self) -> io::Result<W> {
-        self.out.flush()?;
-        Ok(self.out)
-    }
+    Ok(())
 }
 
 #[cfg(test)]
@@ -197,10 +187,13 @@ mod tests {
             (Kind::Bytes(Side::Client), b"\0\0\0\x08\x04\xd2\x16\x2f"),
             (Kind::Closed, b"F"),
         ];
-        tape.add(1, &records[..1]).unwrap();
-        tape.add(1, &records[1..]).unwrap();
+        let first = tape.add(1, &records[..1]);
+        let second = tape.add(1, &records[1..2]);
+        tape.write(first).unwrap();
+        tape.write(second).unwrap();
+        tape.write_long(1, records[2].0, records[2].1).unwrap();
         tape.close();
-        assert!(matches!(tape.add(1, &records[..1]), Err(Lost::Before)));
+        assert!(matches!(tape.write(tape.add(1, &records[..1])), Err(Lost::Before)));
         assert!(Tape::create(&path).err().unwrap().contains("has something in it"));
         let mut reader = Reader::new(File::open(&path).unwrap()).unwrap();
         fs::remove_file(&path).unwrap();

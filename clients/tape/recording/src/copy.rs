@@ -1,0 +1,36 @@
+//! A recording that is made of the records of others.
+
+use crate::{file_head, put_record, Kind};
+use std::io::{self, Write};
+
+/// A recording that is written from records whose times are known.
+pub struct Copy<W: Write> {
+    out: W,
+    bytes: Vec<u8>,
+}
+
+impl<W: Write> Copy<W> {
+    pub fn new(mut out: W, begun: u64) -> io::Result<Copy<W>> {
+        out.write_all(&file_head(begun))?;
+        Ok(Copy { out, bytes: Vec::new() })
+    }
+
+    pub fn add(
+        &mut self,
+        kind: Kind,
+        connection: u32,
+        time: u64,
+        content: &[u8],
+    ) -> io::Result<()> {
+        self.bytes.clear();
+        let checksum = crc32fast::hash(content);
+        put_record(&mut self.bytes, kind, connection, time, content, checksum);
+        self.out.write_all(&self.bytes)
+    }
+
+    /// Gives what it was written to, to which all is written then.
+    pub fn end(mut self) -> io::Result<W> {
+        self.out.flush()?;
+        Ok(self.out)
+    }
+}
