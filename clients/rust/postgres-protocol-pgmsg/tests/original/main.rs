@@ -1,7 +1,5 @@
-//! Compares the crate with the original: random streams and random calls, of a fixed seed; and reads
-//! what the original writes.
+//! Compares the crate with the original: random streams and random calls, of a fixed seed.
 
-mod client;
 mod random;
 mod read;
 mod streams;
@@ -90,21 +88,4 @@ fn is_different(name: &str, it: &Arguments) -> bool {
         "startup_message" => it.settings.iter().any(|(name, _)| name.is_empty()),
         _ => false,
     }
-}
-
-#[test]
-fn what_the_original_writes_is_read() {
-    let mut random = Random::new(37);
-    let mut count = 0;
-    for (name, write) in write::theirs::CALLS {
-        for _ in 0..ROUNDS {
-            let arguments = Arguments::new(&mut random);
-            let mut bytes = BytesMut::new();
-            if !write(&arguments, &mut bytes) {
-                client::assert_read(name, &arguments, &bytes);
-                count += 1;
-            }
-        }
-    }
-    println!("{count} messages of the original read alike");
 }
