@@ -3,39 +3,21 @@
 
 mod common;
 
-use common::{assert_within, checked, Numbers};
+use common::{assert_within, checked, samples, Numbers};
 use pgmsg::backend::{self, end, rows_affected, RowIndex, Severity};
 use pgmsg::frontend::{self, SaslInitialResponse};
 use pgmsg::Refusal;
 use std::thread;
 
-/// A body of each form of either side.
-const BODIES: [&[u8]; 24] = [
-    b"\0\x03\0\0\0\x02ab\xff\xff\xff\xff\0\0\0\0",
-    b"\0\x01id\0\0\0\x40\x01\0\x02\0\0\0\x17\0\x04\xff\xff\xff\xff\0\x01",
-    b"\0\x02\0\0\0\x17\0\0\0\x19",
-    b"SERROR\0VERROR\0C42601\0Msyntax error\0P8\0\0",
-    b"\0\0\0\x2achannel\0payload\0",
-    b"TimeZone\0UTC\0",
-    b"\0\0\x04\xd2\xfe\xdc\xba\x98",
-    b"INSERT 0 1214\0",
-    b"\0\0\x02\0\0\0\x01",
-    b"\0\0\0\x05\x01\x02\x03\x04",
-    b"\0\0\0\x0aSCRAM-SHA-256-PLUS\0SCRAM-SHA-256\0\0",
-    b"\0\0\0\x0br=abcdef,s=AAEC,i=8192",
-    b"\0\0\0\x0cv=AAEC",
-    b"p\0s\0\0\x02\0\x01\0\0\0\x02\0\0\0\x02ab\xff\xff\xff\xff\0\x01\0\x01",
-    b"Ps0\0",
-    b"no\0",
-    b"p\0\0\0\0\x64",
-    b"\0\0\x40\x01\0\x01\0\0\0\x02\0\0\0\x01a\xff\xff\xff\xff\0\x01",
-    b"s\0SELECT $1\0\0\x02\0\0\0\x17\0\0\0\0",
-    b"SCRAM-SHA-256\0\0\0\0\x05n,,n=",
-    b"\0\x03\0\0user\0ann\0database\0shop\0\0",
-    b"\x04\xd2\x16\x2e\0\0\0\x01a key",
-    b"\x04\xd2\x16\x2f",
-    b"\x04\xd2\x16\x30",
-];
+/// The bodies of all messages of either side.
+fn bodies() -> Vec<&'static [u8]> {
+    let of_server = samples::of_server().into_iter().map(|(bytes, _)| &bytes[5..]);
+    let of_client = samples::of_client().into_iter().map(|(bytes, message)| match message.tag() {
+        Some(_) => &bytes[5..],
+        None => &bytes[4..],
+    });
+    of_server.chain(of_client).collect()
+}
 
 /// The tags of either side, and one that is of neither.
 const TAGS: &[u8] = b"RK23CdcGHWDIEnNAtS1sZTBFPQXfp!";
@@ -96,7 +78,7 @@ fn read_all(reader: &mut RowIndex, body: &[u8]) {
 #[test]
 fn every_truncation_of_every_body() {
     let mut reader = RowIndex::new();
-    for body in BODIES {
+    for body in bodies() {
         for len in 0..=body.len() {
             read_all(&mut reader, &body[..len]);
         }
@@ -106,7 +88,7 @@ fn every_truncation_of_every_body() {
 #[test]
 fn every_byte_of_every_body_replaced() {
     let mut reader = RowIndex::new();
-    for body in BODIES {
+    for body in bodies() {
         for at in 0..body.len() {
             let mut broken = body.to_vec();
             for byte in [0, 1, 3, b'S', b',', b'=', 0x7f, 0x80, 0xfe, 0xff] {
@@ -120,13 +102,13 @@ fn every_byte_of_every_body_replaced() {
 #[test]
 fn random_bodies() {
     let mut numbers = Numbers::new(0x9e37_79b9_7f4a_7c15);
-    let mut reader = RowIndex::new();
+    let (bodies, mut reader) = (bodies(), RowIndex::new());
     for _ in 0..2_000 {
         let len = numbers.below(64);
         let mut body = numbers.bytes(len);
         read_all(&mut reader, &body);
-        let start = BODIES[numbers.below(BODIES.len())];
-        body.splice(..0, start[..numbers.below(start.len())].iter().copied());
+        let start = bodies[numbers.below(bodies.len())];
+        body.splice(..0, start[..numbers.below(start.len() + 1)].iter().copied());
         read_all(&mut reader, &body);
     }
 }
@@ -152,7 +134,7 @@ fn threads_read_at_once() {
         for _ in 0..4 {
             scope.spawn(|| {
                 let mut reader = RowIndex::new();
-                for body in BODIES.repeat(100) {
+                for body in bodies().repeat(30) {
                     read_all(&mut reader, body);
                 }
             });

@@ -4,6 +4,7 @@
 #![allow(dead_code, unused_imports, unused_macros)]
 
 pub mod passing;
+pub mod samples;
 
 use pgmsg::{Fault, Refusal};
 
