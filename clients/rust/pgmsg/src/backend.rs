@@ -31,7 +31,7 @@ use crate::byte_str::ByteStr;
 use crate::calls::{ask, put};
 use crate::error::{Fault, Refusal};
 use crate::frame::Frame;
-use crate::frontend::{read_data, write_data};
+use crate::frontend::read_data;
 use crate::list::List;
 use crate::message::messages;
 use crate::value::Value;
@@ -79,19 +79,19 @@ messages! {
         /// A Close succeeded.
         CloseComplete = b'3';
         /// A command succeeded: its tag, such as `INSERT 0 1`, of which [`rows_affected`] has the number.
-        CommandComplete(command: ByteStr<'a>) = b'C', answers::read_command, answers::write_command;
+        CommandComplete(command: ByteStr<'a>) = b'C', answers::read_command, pgmsg_put_command_complete([command]);
         /// Data of a COPY.
-        CopyData(data: ByteStr<'a>) = b'd', read_data, write_data;
+        CopyData(data: ByteStr<'a>) = b'd', read_data, pgmsg_put_copy_data([data]);
         /// The end of the data of a COPY.
         CopyDone = b'c';
         /// The server waits for the data of a COPY.
-        CopyInResponse(copy: CopyResponse<'a>) = b'G', CopyResponse::read, copy::write_in;
+        CopyInResponse(copy: CopyResponse<'a>) = b'G', CopyResponse::read, pgmsg_put_copy_response(b'G', copy.format, [copy.codes()]);
         /// The data of a COPY follows.
-        CopyOutResponse(copy: CopyResponse<'a>) = b'H', CopyResponse::read, copy::write_out;
+        CopyOutResponse(copy: CopyResponse<'a>) = b'H', CopyResponse::read, pgmsg_put_copy_response(b'H', copy.format, [copy.codes()]);
         /// A COPY both ways begins, as in replication.
-        CopyBothResponse(copy: CopyResponse<'a>) = b'W', CopyResponse::read, copy::write_both;
+        CopyBothResponse(copy: CopyResponse<'a>) = b'W', CopyResponse::read, pgmsg_put_copy_response(b'W', copy.format, [copy.codes()]);
         /// A row of a result.
-        DataRow(values: List<'a, Value<'a>>) = b'D', crate::row::read, crate::row::write;
+        DataRow(values: List<'a, Value<'a>>) = b'D', crate::row::read, pgmsg_put_row([Value::list(values)]);
         /// A query without a statement succeeded.
         EmptyQueryResponse = b'I';
         /// An error.
@@ -107,7 +107,7 @@ messages! {
         /// A notification from another session.
         NotificationResponse(notification: NotificationResponse<'a>) = b'A', NotificationResponse::read, NotificationResponse::write;
         /// The object ids of the types of a statement's parameters.
-        ParameterDescription(types: List<'a, u32>) = b't', columns::read_types, columns::write_types;
+        ParameterDescription(types: List<'a, u32>) = b't', columns::read_types, pgmsg_put_parameter_types([types]);
         /// A setting of the server and its value.
         ParameterStatus(status: ParameterStatus<'a>) = b'S', ParameterStatus::read, ParameterStatus::write;
         /// A Parse succeeded.
@@ -115,7 +115,7 @@ messages! {
         /// An Execute reached its limit of rows.
         PortalSuspended = b's';
         /// The server is ready for the next query.
-        ReadyForQuery(status: TransactionStatus) = b'Z', TransactionStatus::read, TransactionStatus::write;
+        ReadyForQuery(status: TransactionStatus) = b'Z', TransactionStatus::read, pgmsg_put_ready(status.letter());
         /// The columns of a result.
         RowDescription(columns: List<'a, Column<'a>>) = b'T', columns::read, columns::write;
     }

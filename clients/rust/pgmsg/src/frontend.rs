@@ -29,7 +29,7 @@ pub use first::{CancelRequest, Setting, Settings, Startup, MAX_FIRST_LENGTH};
 pub use password::{Md5Password, Password, PasswordMessage, SaslInitialResponse};
 pub use prepared::{Execute, Parse, Target};
 
-pub(crate) use copy::{read as read_data, write as write_data};
+pub(crate) use copy::read as read_data;
 
 use crate::buffer::Buffer;
 use crate::byte_str::ByteStr;
@@ -72,23 +72,23 @@ messages! {
         /// What another session runs is to be cancelled. The server answers nothing, and closes the connection.
         CancelRequest(cancel: CancelRequest<'a>) = None, CancelRequest::write;
         /// An encrypted connection is asked for. The server answers with one byte, `S` or `N`.
-        SslRequest = None, first::write_ssl_request;
+        SslRequest = None, pgmsg_put_ssl_request();
         /// A connection that GSSAPI encrypts is asked for. The server answers with one byte, `G` or `N`.
-        GssEncRequest = None, first::write_gss_enc_request;
+        GssEncRequest = None, pgmsg_put_gss_enc_request();
     }
     read by tag {
         /// A portal is made of a prepared statement and the values of its parameters.
         Bind(bind: Bind<'a>) = b'B', Bind::read, Bind::write;
         /// A statement or a portal is closed.
-        Close(target: Target<'a>) = b'C', Target::read, prepared::write_close;
+        Close(target: Target<'a>) = b'C', Target::read, pgmsg_put_close(target.kind(), [target.name()]);
         /// A part of the data of a COPY.
-        CopyData(data: ByteStr<'a>) = b'd', read_data, write_data;
+        CopyData(data: ByteStr<'a>) = b'd', read_data, pgmsg_put_copy_data([data]);
         /// The data of a COPY has ended.
         CopyDone = b'c';
         /// A COPY is given up, for this reason.
-        CopyFail(reason: ByteStr<'a>) = b'f', text::read, text::write_copy_fail;
+        CopyFail(reason: ByteStr<'a>) = b'f', text::read, pgmsg_put_copy_fail([reason]);
         /// A statement or a portal is described.
-        Describe(target: Target<'a>) = b'D', Target::read, prepared::write_describe;
+        Describe(target: Target<'a>) = b'D', Target::read, pgmsg_put_describe(target.kind(), [target.name()]);
         /// A portal is run.
         Execute(execute: Execute<'a>) = b'E', Execute::read, Execute::write;
         /// The server is asked to send what it has.
@@ -101,7 +101,7 @@ messages! {
         /// GSSResponse, as the request says.
         Password(password: Password<'a>) = b'p', Password::read, Password::write;
         /// The statements of a text are run.
-        Query(query: ByteStr<'a>) = b'Q', text::read, text::write_query;
+        Query(query: ByteStr<'a>) = b'Q', text::read, pgmsg_put_query([query]);
         /// A run of messages ends, which the server answers with ReadyForQuery.
         Sync = b'S';
         /// The session ends.

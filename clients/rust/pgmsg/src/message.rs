@@ -1,25 +1,29 @@
 //! The enum of a side's messages, by a table.
 
-/// Makes the enum of a side's messages by a table: for each its parts, its tag, and the functions that read
-/// its body and that write it, unless it has none. The first rows are of messages that are not read by a tag
-/// of their own.
+/// Makes the enum of a side's messages by a table: for each its parts, its tag, the function that reads its body, and
+/// the one that writes it or the call of the library, unless it has no body. The first rows are of messages that are not
+/// read by a tag of their own.
 macro_rules! messages {
     (@read $body:ident $name:ident) => {{
         ask!(pgmsg_read_no_body([$body]))?;
         Message::$name
     }};
     (@read $body:ident $name:ident $read:expr) => { Message::$name($read($body)?) };
+    (@write $out:ident ($($parts:ident)?) $call:ident($($arguments:tt)*)) => { put!($out, $call($($arguments)*)) };
+    (@write $out:ident ($parts:ident) $($write:ident)::+) => { $($write)::+($parts, $out) };
     (@write $out:ident $tag:literal) => { put!($out, pgmsg_put_no_body($tag)) };
-    (@write $out:ident $tag:literal $parts:ident $write:expr) => { $write($parts, $out) };
+    (@write $out:ident $tag:literal $($write:tt)+) => { messages!(@write $out $($write)+) };
     (
         $(#[$doc:meta])*
         read by $read_rest:ident {$(
             $(#[$rest_doc:meta])*
-            $rest:ident$(($rest_parts:ident: $rest_type:ty))? = $rest_tag:expr, $write_rest:expr;
+            $rest:ident$(($rest_parts:ident: $rest_type:ty))? = $rest_tag:expr,
+                $($write_rest:ident)::+$(($($rest_arguments:tt)*))?;
         )*}
         read by tag {$(
             $(#[$row_doc:meta])*
-            $name:ident$(($parts:ident: $type:ty))? = $tag:literal$(, $read:expr, $write:expr)?;
+            $name:ident$(($parts:ident: $type:ty))? = $tag:literal
+                $(, $read:expr, $($write:ident)::+$(($($arguments:tt)*))?)?;
         )*}
     ) => {
         $(#[$doc])*
@@ -50,8 +54,12 @@ macro_rules! messages {
             #[inline]
             pub fn write<B: Buffer>(&self, out: &mut B) -> Result<(), Refusal> {
                 match self {
-                    $(Message::$rest$(($rest_parts))? => $write_rest($($rest_parts,)? out),)*
-                    $(Message::$name$(($parts))? => messages!(@write out $tag $($parts $write)?),)*
+                    $(Message::$rest$(($rest_parts))? => {
+                        messages!(@write out ($($rest_parts)?) $($write_rest)::+$(($($rest_arguments)*))?)
+                    })*
+                    $(Message::$name$(($parts))? => {
+                        messages!(@write out $tag $(($parts) $($write)::+$(($($arguments)*))?)?)
+                    })*
                 }
             }
 

@@ -5,9 +5,8 @@ mod cells;
 pub use cells::{Cell, Cells};
 
 use crate::answer::fill;
-use crate::buffer::Buffer;
-use crate::calls::{ask, put};
-use crate::error::{Fault, Refusal};
+use crate::calls::ask;
+use crate::error::Fault;
 use crate::list::List;
 use crate::value::Value;
 use alloc::vec;
@@ -39,12 +38,6 @@ fn values_at<'b>(body: &'b [u8], cells: &[Cell]) -> List<'b, Value<'b>> {
 #[inline]
 pub(crate) fn read(body: &[u8]) -> Result<List<'_, Value<'_>>, Fault> {
     read_values(body, |room| places_in(body, room))
-}
-
-/// Appends a DataRow.
-#[inline]
-pub(crate) fn write<B: Buffer>(values: &[Value<'_>], out: &mut B) -> Result<(), Refusal> {
-    put!(out, pgmsg_put_row([Value::list(values)]))
 }
 
 /// Reads rows, and keeps the room for the places of their cells from one row to the next.

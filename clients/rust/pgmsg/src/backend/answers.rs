@@ -17,10 +17,6 @@ pub(super) fn read_command(body: &[u8]) -> Result<ByteStr<'_>, Fault> {
     part(body, read.tag).map(ByteStr)
 }
 
-pub(super) fn write_command<B: Buffer>(tag: &[u8], out: &mut B) -> Result<(), Refusal> {
-    put!(out, pgmsg_put_command_complete([tag]))
-}
-
 /// How many rows a command had to do with, by its tag: the number after the last space, and 0 where there
 /// is none.
 ///

@@ -93,7 +93,3 @@ pub(super) fn write<B: Buffer>(columns: &[Column<'_>], out: &mut B) -> Result<()
 pub(super) fn read_types(body: &[u8]) -> Result<List<'static, u32>, Fault> {
     items(|room| ask!(pgmsg_read_parameter_types([body], mut [room]))).map(List::from)
 }
-
-pub(super) fn write_types<B: Buffer>(types: &[u32], out: &mut B) -> Result<(), Refusal> {
-    put!(out, pgmsg_put_parameter_types([types]))
-}

@@ -1,12 +1,12 @@
 //! How the data of a COPY is spelled.
 
 use crate::answer::items;
-use crate::buffer::Buffer;
-use crate::calls::{ask, put};
-use crate::error::{Fault, Refusal};
+use crate::calls::ask;
+use crate::error::Fault;
 use crate::format::Format;
 use crate::list::List;
 use crate::sys;
+use core::slice;
 
 /// How the data of a COPY is spelled.
 ///
@@ -24,7 +24,8 @@ use crate::sys;
 pub struct CopyResponse<'a> {
     /// The format of the data as a whole: 0 for text, 1 for binary.
     pub format: i8,
-    /// The format of each column. There is none, too, where a server announces fewer than 0.
+    /// The format of each column. There is none, too, where a server announces fewer than 0. A message of more than
+    /// 32767 is refused with [`TooMany`](crate::Refusal::TooMany).
     pub columns: List<'a, Format>,
 }
 
@@ -40,22 +41,10 @@ impl CopyResponse<'_> {
         Ok(CopyResponse { format: response.format, columns: columns.into() })
     }
 
-    /// Appends the message of a tag. Refused with [`TooMany`](Refusal::TooMany) above 32767 columns.
-    fn write<B: Buffer>(&self, tag: u8, out: &mut B) -> Result<(), Refusal> {
-        // A `Format` is a number of the library.
+    /// The formats of the columns as the library takes them: each is 16 bits.
+    pub(super) fn codes(&self) -> &[i16] {
         let (start, length) = (self.columns.as_ptr().cast(), self.columns.len());
-        put!(out, pgmsg_put_copy_response(tag, self.format, start, length))
+        // SAFETY: it is the same slice, since a `Format` is a number of the library.
+        unsafe { slice::from_raw_parts(start, length) }
     }
-}
-
-pub(super) fn write_in<B: Buffer>(copy: &CopyResponse<'_>, out: &mut B) -> Result<(), Refusal> {
-    copy.write(b'G', out)
-}
-
-pub(super) fn write_out<B: Buffer>(copy: &CopyResponse<'_>, out: &mut B) -> Result<(), Refusal> {
-    copy.write(b'H', out)
-}
-
-pub(super) fn write_both<B: Buffer>(copy: &CopyResponse<'_>, out: &mut B) -> Result<(), Refusal> {
-    copy.write(b'W', out)
 }

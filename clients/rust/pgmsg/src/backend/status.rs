@@ -167,10 +167,6 @@ impl TransactionStatus {
             _ => Err(Fault::unexpected(letter)),
         }
     }
-
-    pub(super) fn write<B: Buffer>(&self, out: &mut B) -> Result<(), Refusal> {
-        put!(out, pgmsg_put_ready(self.letter()))
-    }
 }
 
 /// Which minor version of the protocol's version 3 is the newest that the server speaks, and which options

@@ -1,8 +1,6 @@
 //! The data of a COPY.
 
-use crate::buffer::Buffer;
 use crate::byte_str::ByteStr;
-use crate::calls::put;
 use crate::error::{Fault, Refusal};
 use crate::sys;
 use crate::version;
@@ -34,9 +32,4 @@ pub fn copy_head(len: usize) -> Result<[u8; 5], Refusal> {
 #[inline]
 pub(crate) fn read(body: &[u8]) -> Result<ByteStr<'_>, Fault> {
     Ok(ByteStr(body))
-}
-
-#[inline]
-pub(crate) fn write<B: Buffer>(data: &[u8], out: &mut B) -> Result<(), Refusal> {
-    put!(out, pgmsg_put_copy_data([data]))
 }

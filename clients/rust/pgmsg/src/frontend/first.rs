@@ -101,14 +101,6 @@ impl CancelRequest<'_> {
     }
 }
 
-pub(super) fn write_ssl_request<B: Buffer>(out: &mut B) -> Result<(), Refusal> {
-    put!(out, pgmsg_put_ssl_request())
-}
-
-pub(super) fn write_gss_enc_request<B: Buffer>(out: &mut B) -> Result<(), Refusal> {
-    put!(out, pgmsg_put_gss_enc_request())
-}
-
 /// Reads the body of a message without a tag.
 pub(super) fn read_first(tag: Option<u8>, body: &[u8]) -> Result<Message<'_>, Fault> {
     if let Some(tag) = tag {

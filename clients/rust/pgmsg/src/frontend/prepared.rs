@@ -98,22 +98,12 @@ impl<'a> Target<'a> {
 
     /// The letter of its kind.
     #[inline]
-    fn kind(self) -> u8 {
+    pub(super) fn kind(self) -> u8 {
         match self {
             Target::Statement(_) => b'S',
             Target::Portal(_) => b'P',
         }
     }
-}
-
-#[inline]
-pub(super) fn write_describe<B: Buffer>(target: &Target<'_>, out: &mut B) -> Result<(), Refusal> {
-    put!(out, pgmsg_put_describe(target.kind(), [target.name()]))
-}
-
-#[inline]
-pub(super) fn write_close<B: Buffer>(target: &Target<'_>, out: &mut B) -> Result<(), Refusal> {
-    put!(out, pgmsg_put_close(target.kind(), [target.name()]))
 }
 
 /// A portal that is run.
