@@ -78,18 +78,18 @@ fn a_message_in_one_piece_is_given_where_it_lies() {
 }
 
 #[test]
-fn frames_have_a_tag_and_a_body() {
+fn frames_have_a_tag_an_offset_and_a_body() {
     let mut relay = Relay::of_client(LIMIT, Wanted::ALL);
     let mut found = Vec::new();
     let stream = [FIRSTS[1], &tagged(b'Q', b"SELECT 1\0")].concat();
     for byte in stream.chunks(1) {
         let passed = relay.pass(byte, &mut Vec::new(), |frame| {
-            found.push((frame.tag, frame.body().to_vec()));
+            found.push((frame.tag, frame.offset, frame.body().to_vec()));
             Ok(Answer::Keep)
         });
         passed.expect("no fault");
     }
-    let due = [(None, FIRSTS[1][4..].to_vec()), (Some(b'Q'), b"SELECT 1\0".to_vec())];
+    let due = [(None, 0, FIRSTS[1][4..].to_vec()), (Some(b'Q'), 18, b"SELECT 1\0".to_vec())];
     assert_eq!(found, due);
 }
 
