@@ -55,11 +55,11 @@ pub(crate) fn text_len(text: &[u8]) -> usize {
     text.len() + 1
 }
 
-/// The count at the front of a body, which a list is read by later.
+/// Tests that a body has so many bytes at least, such as the count that a list is read by later.
 #[inline]
-pub(crate) fn has_count(body: &[u8]) -> io::Result<()> {
-    match body.len() {
-        0 | 1 => Err(refused("message body is too short")),
-        _ => Ok(()),
+pub(crate) fn has(body: &[u8], least: usize) -> io::Result<()> {
+    match body.len() < least {
+        true => Err(refused("message body is too short")),
+        false => Ok(()),
     }
 }

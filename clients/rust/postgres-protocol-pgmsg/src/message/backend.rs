@@ -2,6 +2,7 @@
 
 mod answer;
 mod authentication;
+mod body;
 mod copy;
 mod description;
 mod fields;

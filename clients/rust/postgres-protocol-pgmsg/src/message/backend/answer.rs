@@ -12,7 +12,7 @@ use pgmsg::backend;
 pub(super) fn take(tag: u8, length: usize, buf: &mut BytesMut) -> io::Result<Option<Message>> {
     Ok(Some(match tag {
         DATA_ROW_TAG => Message::DataRow(DataRowBody::read(body(buf, length))?),
-        COPY_DATA_TAG => Message::CopyData(CopyDataBody::read(body(buf, length))),
+        COPY_DATA_TAG => Message::CopyData(CopyDataBody::read(body(buf, length))?),
         COMMAND_COMPLETE_TAG => {
             Message::CommandComplete(CommandCompleteBody::read(body(buf, length))?)
         }
@@ -64,27 +64,20 @@ fn read(tag: u8, body: Bytes) -> io::Result<Message> {
         BACKEND_KEY_DATA_TAG => Message::BackendKeyData(BackendKeyDataBody::read(&body)?),
         COPY_IN_RESPONSE_TAG => Message::CopyInResponse(CopyInResponseBody::read(body)?),
         COPY_OUT_RESPONSE_TAG => Message::CopyOutResponse(CopyOutResponseBody::read(body)?),
-        ERROR_RESPONSE_TAG => Message::ErrorResponse(ErrorResponseBody::read(body)),
-        NOTICE_RESPONSE_TAG => Message::NoticeResponse(NoticeResponseBody::read(body)),
+        ERROR_RESPONSE_TAG => Message::ErrorResponse(ErrorResponseBody::read(body)?),
+        NOTICE_RESPONSE_TAG => Message::NoticeResponse(NoticeResponseBody::read(body)?),
         PARAMETER_DESCRIPTION_TAG => {
             Message::ParameterDescription(ParameterDescriptionBody::read(body)?)
         }
         PARAMETER_STATUS_TAG => Message::ParameterStatus(ParameterStatusBody::read(&body)?),
         ROW_DESCRIPTION_TAG => Message::RowDescription(RowDescriptionBody::read(body)?),
-        _ => return read_empty(tag, &body),
+        _ => match backend::Message::read_body(Some(tag), &body)? {
+            backend::Message::CloseComplete => Message::CloseComplete,
+            backend::Message::CopyDone => Message::CopyDone,
+            backend::Message::EmptyQueryResponse => Message::EmptyQueryResponse,
+            backend::Message::NoData => Message::NoData,
+            backend::Message::PortalSuspended => Message::PortalSuspended,
+            _ => return Err(lacking::refused("message of a kind that isn't known")),
+        },
     })
-}
-
-/// Reads the body of a message that has none.
-fn read_empty(tag: u8, body: &[u8]) -> io::Result<Message> {
-    let message = match tag {
-        CLOSE_COMPLETE_TAG => Message::CloseComplete,
-        COPY_DONE_TAG => Message::CopyDone,
-        EMPTY_QUERY_RESPONSE_TAG => Message::EmptyQueryResponse,
-        NO_DATA_TAG => Message::NoData,
-        PORTAL_SUSPENDED_TAG => Message::PortalSuspended,
-        _ => return Err(lacking::refused("message of a kind that isn't known")),
-    };
-    empty(tag, body)?;
-    Ok(message)
 }

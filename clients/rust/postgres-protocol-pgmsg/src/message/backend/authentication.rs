@@ -1,13 +1,13 @@
 //! What the server asks of a client that opens a session.
 
-use super::items::{list, Items};
+use super::body::body;
+use super::items::list;
 use super::Message;
+use crate::getters::getters;
 use crate::lacking::{ends, ends_list, refused, text, text_len};
 use bytes::Bytes;
-use fallible_iterator::FallibleIterator;
 use pgmsg::backend::Authentication;
 use std::io;
-use std::marker::PhantomData;
 
 /// The bytes of the number of the method, which all else follows.
 const METHOD: usize = 4;
@@ -23,18 +23,11 @@ pub(super) fn read(body: Bytes) -> io::Result<Message> {
         5 => AuthenticationMd5PasswordBody::read(&body).map(Message::AuthenticationMd5Password),
         6 => fixed(METHOD, Message::AuthenticationScmCredential),
         7 => fixed(METHOD, Message::AuthenticationGss),
+        8 => AuthenticationGssContinueBody::read(body).map(Message::AuthenticationGssContinue),
         9 => fixed(METHOD, Message::AuthenticationSspi),
-        _ => read_exchange(method, body),
-    }
-}
-
-/// Reads the body of an Authentication that an exchange is part of.
-fn read_exchange(method: u32, body: Bytes) -> io::Result<Message> {
-    match method {
-        8 => Ok(Message::AuthenticationGssContinue(AuthenticationGssContinueBody(body))),
-        10 => Ok(Message::AuthenticationSasl(AuthenticationSaslBody(body))),
-        11 => Ok(Message::AuthenticationSaslContinue(AuthenticationSaslContinueBody(body))),
-        12 => Ok(Message::AuthenticationSaslFinal(AuthenticationSaslFinalBody(body))),
+        10 => AuthenticationSaslBody::read(body).map(Message::AuthenticationSasl),
+        11 => AuthenticationSaslContinueBody::read(body).map(Message::AuthenticationSaslContinue),
+        12 => AuthenticationSaslFinalBody::read(body).map(Message::AuthenticationSaslFinal),
         _ => Err(refused("unknown method of authentication")),
     }
 }
@@ -55,24 +48,20 @@ impl AuthenticationMd5PasswordBody {
         }
     }
 
-    /// The salt.
-    #[inline]
-    pub fn salt(&self) -> [u8; 4] {
-        self.salt
+    getters! {
+        /// The salt.
+        salt(self) -> [u8; 4] = self.salt;
     }
 }
 
 /// A body that is data after the number of the method.
 macro_rules! data {
     ($(#[$doc:meta])* $name:ident) => {
-        $(#[$doc])*
-        pub struct $name(Bytes);
-
-        impl $name {
-            /// The data.
-            #[inline]
-            pub fn data(&self) -> &[u8] {
-                self.0.get(METHOD..).unwrap_or_default()
+        body! {
+            $(#[$doc])*
+            $name of METHOD, {
+                /// The data.
+                data(self) -> &[u8] = self.0.get(METHOD..).unwrap_or_default();
             }
         }
     };
@@ -93,14 +82,11 @@ data! {
     AuthenticationSaslFinalBody
 }
 
-/// The mechanisms of SASL that the server offers.
-pub struct AuthenticationSaslBody(Bytes);
-
-impl AuthenticationSaslBody {
-    /// The names of the mechanisms.
-    #[inline]
-    pub fn mechanisms(&self) -> SaslMechanisms<'_> {
-        SaslMechanisms::of(&self.0)
+body! {
+    /// The mechanisms of SASL that the server offers.
+    AuthenticationSaslBody of METHOD, {
+        /// The names of the mechanisms.
+        mechanisms(self) -> SaslMechanisms<'_> = SaslMechanisms::of(&self.0);
     }
 }
 

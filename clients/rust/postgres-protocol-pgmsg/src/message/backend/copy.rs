@@ -1,64 +1,41 @@
 //! The data of a COPY, and how it is spelled.
 
-use super::items::{list, Items};
+use super::body::body;
+use super::items::list;
 use crate::lacking::{ends, refused};
 use bytes::Bytes;
-use fallible_iterator::FallibleIterator;
 use pgmsg::backend::CopyResponse;
 use std::io;
-use std::marker::PhantomData;
 
 /// The bytes before the formats of the columns: the format of all, and a count.
 const COUNTED: usize = 3;
 
-/// Data of a COPY.
-pub struct CopyDataBody {
-    storage: Bytes,
+body! {
+    /// Data of a COPY.
+    CopyDataBody of 0, {
+        /// The data.
+        data(self) -> &[u8] = &self.0;
+    }
 }
 
 impl CopyDataBody {
-    #[inline]
-    pub(super) fn read(storage: Bytes) -> CopyDataBody {
-        CopyDataBody { storage }
-    }
-
-    /// The data.
-    #[inline]
-    pub fn data(&self) -> &[u8] {
-        &self.storage
-    }
-
     /// The data, without copying it.
     #[inline]
     pub fn into_bytes(self) -> Bytes {
-        self.storage
+        self.0
     }
 }
 
 /// A body that says how the data of a COPY is spelled.
 macro_rules! response {
     ($(#[$doc:meta])* $name:ident) => {
-        $(#[$doc])*
-        pub struct $name(Bytes);
-
-        impl $name {
-            pub(super) fn read(body: Bytes) -> io::Result<$name> {
-                if body.len() < COUNTED {
-                    return Err(refused("message body is too short"));
-                }
-                Ok($name(body))
-            }
-
-            /// The format of the data: 0 for text, 1 for binary.
-            #[inline]
-            pub fn format(&self) -> u8 {
-                self.0.first().copied().unwrap_or_default()
-            }
-
-            /// The formats of the columns.
-            #[inline]
-            pub fn column_formats(&self) -> ColumnFormats<'_> {
-                ColumnFormats::of(&self.0)
+        body! {
+            $(#[$doc])*
+            $name of COUNTED, {
+                /// The format of the data: 0 for text, 1 for binary.
+                format(self) -> u8 = self.0.first().copied().unwrap_or_default();
+                /// The formats of the columns.
+                column_formats(self) -> ColumnFormats<'_> = ColumnFormats::of(&self.0);
             }
         }
     };

@@ -1,14 +1,12 @@
 //! The columns of a result, and the types of a statement's parameters.
 
-use super::items::{list, Items};
+use super::body::body;
+use super::items::list;
 use crate::getters::getters;
-use crate::lacking::{ends, has_count, refused, text, text_len};
+use crate::lacking::{ends, refused, text, text_len};
 use crate::Oid;
-use bytes::Bytes;
-use fallible_iterator::FallibleIterator;
 use pgmsg::backend::{self, Column};
 use std::io;
-use std::marker::PhantomData;
 
 /// The bytes of the count before a list.
 const COUNT: usize = 2;
@@ -16,21 +14,11 @@ const COUNT: usize = 2;
 /// The bytes of a column after its name.
 const NUMBERS: usize = 18;
 
-/// The columns of a result.
-pub struct RowDescriptionBody {
-    storage: Bytes,
-}
-
-impl RowDescriptionBody {
-    pub(super) fn read(storage: Bytes) -> io::Result<RowDescriptionBody> {
-        has_count(&storage)?;
-        Ok(RowDescriptionBody { storage })
-    }
-
-    /// The columns.
-    #[inline]
-    pub fn fields(&self) -> Fields<'_> {
-        Fields::of(&self.storage)
+body! {
+    /// The columns of a result.
+    RowDescriptionBody of COUNT, {
+        /// The columns.
+        fields(self) -> Fields<'_> = Fields::of(&self.0);
     }
 }
 
@@ -78,21 +66,11 @@ impl<'a> Field<'a> {
     }
 }
 
-/// The types of a statement's parameters.
-pub struct ParameterDescriptionBody {
-    storage: Bytes,
-}
-
-impl ParameterDescriptionBody {
-    pub(super) fn read(storage: Bytes) -> io::Result<ParameterDescriptionBody> {
-        has_count(&storage)?;
-        Ok(ParameterDescriptionBody { storage })
-    }
-
-    /// The object ids of the types.
-    #[inline]
-    pub fn parameters(&self) -> Parameters<'_> {
-        Parameters::of(&self.storage)
+body! {
+    /// The types of a statement's parameters.
+    ParameterDescriptionBody of COUNT, {
+        /// The object ids of the types.
+        parameters(self) -> Parameters<'_> = Parameters::of(&self.0);
     }
 }
 

@@ -1,44 +1,26 @@
 //! The fields of an error or a notice.
 
-use super::items::{list, Items};
+use super::body::body;
+use super::items::list;
 use crate::getters::getters;
 use crate::lacking::{ends_list, text, text_len};
-use bytes::Bytes;
-use fallible_iterator::FallibleIterator;
 use pgmsg::backend::Fields;
 use std::io;
-use std::marker::PhantomData;
 
-/// A body that is a list of fields.
-macro_rules! fields {
-    ($(#[$doc:meta])* $name:ident) => {
-        $(#[$doc])*
-        pub struct $name {
-            storage: Bytes,
-        }
-
-        impl $name {
-            pub(super) fn read(storage: Bytes) -> $name {
-                $name { storage }
-            }
-
-            /// The fields.
-            #[inline]
-            pub fn fields(&self) -> ErrorFields<'_> {
-                ErrorFields::of(&self.storage)
-            }
-        }
-    };
-}
-
-fields! {
+body! {
     /// An error.
-    ErrorResponseBody
+    ErrorResponseBody of 0, {
+        /// The fields.
+        fields(self) -> ErrorFields<'_> = ErrorFields::of(&self.0);
+    }
 }
 
-fields! {
+body! {
     /// A notice.
-    NoticeResponseBody
+    NoticeResponseBody of 0, {
+        /// The fields.
+        fields(self) -> ErrorFields<'_> = ErrorFields::of(&self.0);
+    }
 }
 
 list! {

@@ -37,18 +37,19 @@ macro_rules! list {
     ($(#[$doc:meta])* $name:ident: $item:ty = $read:ident) => {
         $(#[$doc])*
         pub struct $name<'a> {
-            items: Items<$item>,
-            body: PhantomData<&'a [u8]>,
+            items: super::items::Items<$item>,
+            body: std::marker::PhantomData<&'a [u8]>,
         }
 
         impl<'a> $name<'a> {
             #[inline]
             fn of(body: &'a [u8]) -> $name<'a> {
-                $name { items: Items::new($read(body)), body: PhantomData }
+                let items = super::items::Items::new($read(body));
+                $name { items, body: std::marker::PhantomData }
             }
         }
 
-        impl<'a> FallibleIterator for $name<'a> {
+        impl<'a> fallible_iterator::FallibleIterator for $name<'a> {
             type Item = $item;
             type Error = io::Error;
 

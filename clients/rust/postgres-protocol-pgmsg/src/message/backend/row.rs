@@ -1,7 +1,8 @@
 //! The cells of a row.
 
-use crate::lacking::{ends, has_count};
-use bytes::{Buf, Bytes};
+use super::body::body;
+use crate::lacking::ends;
+use bytes::Buf;
 use fallible_iterator::FallibleIterator;
 use pgmsg::backend::{places_in, Cell};
 use std::ops::Range;
@@ -13,28 +14,13 @@ const COUNT: usize = 2;
 /// The bytes of the length before a value.
 const LENGTH: usize = 4;
 
-/// A row.
-pub struct DataRowBody {
-    storage: Bytes,
-}
-
-impl DataRowBody {
-    #[inline]
-    pub(super) fn read(storage: Bytes) -> io::Result<DataRowBody> {
-        has_count(&storage)?;
-        Ok(DataRowBody { storage })
-    }
-
-    /// Where the values lie in the buffer.
-    #[inline]
-    pub fn ranges(&self) -> DataRowRanges<'_> {
-        DataRowRanges { body: &self.storage, left: None }
-    }
-
-    /// The bytes that the values lie in.
-    #[inline]
-    pub fn buffer(&self) -> &[u8] {
-        self.storage.get(COUNT..).unwrap_or_default()
+body! {
+    /// A row.
+    DataRowBody of COUNT, {
+        /// Where the values lie in the buffer.
+        ranges(self) -> DataRowRanges<'_> = DataRowRanges { body: &self.0, left: None };
+        /// The bytes that the values lie in.
+        buffer(self) -> &[u8] = self.0.get(COUNT..).unwrap_or_default();
     }
 }
 
