@@ -19,20 +19,9 @@ use std::{env, thread};
 
 type Result<T> = std::result::Result<T, Box<dyn Error>>;
 
-/// Adds what the client says next, or fails where it says no more.
-fn receive(client: &mut TcpStream, stream: &mut Vec<u8>) -> Result<()> {
-    let mut block = [0; 1 << 16];
-    match client.read(&mut block)? {
-        0 => Err("the client is gone".into()),
-        count => {
-            stream.extend_from_slice(&block[..count]);
-            Ok(())
-        }
-    }
-}
-
 fn serve(mut client: TcpStream) -> Result<()> {
     let (mut decoder, mut stream, mut session) = (Decoder::of_client(), vec![], Session::default());
+    let mut block = [0; 1 << 16];
     loop {
         let mut done = 0;
         while let Next::Frame(frame) = decoder.next(&stream[done..])? {
@@ -45,7 +34,10 @@ fn serve(mut client: TcpStream) -> Result<()> {
         stream.drain(..done);
         client.write_all(&session.out)?;
         session.out.clear();
-        receive(&mut client, &mut stream)?;
+        match client.read(&mut block)? {
+            0 => return Err("the client is gone".into()),
+            count => stream.extend_from_slice(&block[..count]),
+        }
     }
 }
 

@@ -54,30 +54,33 @@ impl Session {
 
     pub fn take(&mut self, message: Message<'_>) -> Result<()> {
         match message {
-            Message::Startup(_) => self.greet()?,
+            Message::Startup(_) => self.greet(),
             // No encryption; this byte is no message.
-            Message::SslRequest | Message::GssEncRequest => self.out.push(b'N'),
-            Message::Query(query) => self.answer(query.as_str()?)?,
+            Message::SslRequest | Message::GssEncRequest => {
+                self.out.push(b'N');
+                Ok(())
+            }
+            Message::Query(query) => self.answer(query.as_str()?),
             Message::CopyData(data) => {
                 self.lines += data.iter().filter(|&&byte| byte == b'\n').count();
+                Ok(())
             }
             Message::CopyDone => {
                 let tag = format!("COPY {}", self.lines);
                 self.say(Reply::CommandComplete((&tag).into()))?;
-                self.ready()?;
+                self.ready()
             }
             Message::CopyFail(_) => {
                 OTHER.finish("", &mut self.out)?;
-                self.ready()?;
+                self.ready()
             }
             Message::Sync => {
                 self.is_failed = false;
-                self.ready()?;
+                self.ready()
             }
-            message if !self.is_failed => self.is_failed = !self.take_extended(message)?,
-            _ => {}
+            _ if self.is_failed => Ok(()),
+            message => self.take_extended(message),
         }
-        Ok(())
     }
 
     /// Answers a Query.
@@ -120,58 +123,49 @@ impl Session {
         Ok(())
     }
 
-    /// Takes a message of the extended protocol. False where it is answered by an error.
-    fn take_extended(&mut self, message: Message<'_>) -> Result<bool> {
+    /// Takes a message of the extended protocol.
+    fn take_extended(&mut self, message: Message<'_>) -> Result<()> {
         match message {
             Message::Parse(parse) => {
                 let canned = Canned::of(parse.query.as_str()?);
                 self.statements.insert(parse.statement.to_vec(), canned);
-                self.say(Reply::ParseComplete)?;
+                self.say(Reply::ParseComplete)
             }
-            Message::Bind(bind) => match self.known(Target::Statement(bind.statement))? {
-                Some(canned) => {
-                    self.portals.insert(bind.portal.to_vec(), canned);
-                    self.say(Reply::BindComplete)?;
+            Message::Bind(bind) => {
+                let canned = self.known(Target::Statement(bind.statement));
+                self.portals.insert(bind.portal.to_vec(), canned);
+                self.say(Reply::BindComplete)
+            }
+            Message::Describe(target) => {
+                if let Target::Statement(_) = target {
+                    self.say(Reply::ParameterDescription([].into()))?;
                 }
-                None => return Ok(false),
-            },
-            Message::Describe(target) => match self.known(target)? {
-                Some(canned) => {
-                    if let Target::Statement(_) = target {
-                        self.say(Reply::ParameterDescription([].into()))?;
-                    }
-                    canned.describe(&mut self.out)?;
-                }
-                None => return Ok(false),
-            },
-            Message::Execute(execute) => match self.known(Target::Portal(execute.portal))? {
-                Some(canned) => canned.finish("", &mut self.out)?,
-                None => return Ok(false),
-            },
+                Ok(self.known(target).describe(&mut self.out)?)
+            }
+            Message::Execute(execute) => {
+                let canned = self.known(Target::Portal(execute.portal));
+                self.is_failed = matches!(canned.answer, Answer::Failure(_));
+                Ok(canned.finish("", &mut self.out)?)
+            }
             Message::Close(target) => {
                 match target {
                     Target::Statement(name) => self.statements.remove(name.0),
                     Target::Portal(name) => self.portals.remove(name.0),
                 };
-                self.say(Reply::CloseComplete)?;
+                self.say(Reply::CloseComplete)
             }
             // A Flush: all is sent at once.
-            _ => {}
+            _ => Ok(()),
         }
-        Ok(true)
     }
 
-    /// The answer of a statement or a portal, or an error. What is not rows is for a Query alone.
-    fn known(&mut self, target: Target<'_>) -> Result<Option<&'static Canned>> {
+    /// The answer of a statement or a portal: an error where that isn't known, or isn't rows, which a Query alone gets.
+    fn known(&self, target: Target<'_>) -> &'static Canned {
         let known = match target {
             Target::Statement(name) => self.statements.get(name.0),
             Target::Portal(name) => self.portals.get(name.0),
         };
-        let known = known.copied();
         let rows = known.filter(|canned| matches!(canned.answer, Answer::Rows(..)));
-        if rows.is_none() {
-            OTHER.finish("", &mut self.out)?;
-        }
-        Ok(rows)
+        rows.copied().unwrap_or(&OTHER)
     }
 }
