@@ -58,11 +58,11 @@ expect_format() {
     expect "the workspace $1 is formatted by rustfmt" 0
 }
 
-# Writes a registry of empty crates, of which cargo resolves what is optional, or only for tests: it looks for that also
-# where nothing asks for it.
+# Writes a registry of empty crates, of which cargo resolves what is optional: it looks for that also where nothing asks
+# for it.
 write_registry() {
     local crate name version features feature
-    for crate in 'bytes 1.2.0' 'futures-util 0.3.0 sink' 'hmac 0.12.0' 'sha2 0.10.0' 'tokio 1.0.0 net rt' 'tokio-util 0.7.0 codec'; do
+    for crate in 'bytes 1.2.0' 'hmac 0.12.0' 'sha2 0.10.0' 'tokio-util 0.7.0 codec'; do
         read -r name version features <<< "$crate"
         mkdir -p "$1/$name/src"
         : > "$1/$name/src/lib.rs"

@@ -11,7 +11,7 @@ find_rust() {
     read -r cargo_folder version < <(rust_folders $oldest_rust) || return
     [ -d "$work/registry" ] || write_registry "$work/registry"
     empty=(--config "source.debian.directory='$work/registry'")
-    if has_crates bytes futures-util hmac sha2 tokio tokio-util; then
+    if has_crates bytes hmac sha2 tokio-util; then
         features=(--features pgmsg/codec,pgmsg/sha2) source=()
     else
         features=() source=("${empty[@]}")

@@ -1,142 +1,91 @@
-//! The codecs, over a pair of sockets.
+//! The codecs, on the bytes that go between two sides.
 
-use futures_util::{SinkExt, StreamExt};
-use pgmsg::backend::{self, Authentication, BackendKeyData, TransactionStatus};
+use bytes::{Bytes, BytesMut};
+use pgmsg::backend::{self, Authentication, TransactionStatus};
 use pgmsg::codec::{ClientCodec, ServerCodec, SharedFrame};
 use pgmsg::frontend::{self, Startup};
 use pgmsg::Value;
 use std::io;
-use tokio::net::{TcpListener, TcpStream};
-use tokio::runtime::Builder;
-use tokio_util::codec::{Decoder, Framed};
+use tokio_util::codec::{Decoder, Encoder};
 
-/// Runs a client and a server at the ends of a connection, each with its codec.
-fn run<C, S, F, G>(client: C, server: S)
-where
-    C: FnOnce(Framed<TcpStream, ClientCodec>) -> F,
-    S: FnOnce(Framed<TcpStream, ServerCodec>) -> G,
-    F: std::future::Future<Output = io::Result<()>>,
-    G: std::future::Future<Output = io::Result<()>>,
-{
-    let runtime = Builder::new_current_thread().enable_io().build();
-    let both = async {
-        let listener = TcpListener::bind("127.0.0.1:0").await?;
-        let address = listener.local_addr()?;
-        let client = async {
-            let socket = TcpStream::connect(address).await?;
-            client(ClientCodec::new().framed(socket)).await
-        };
-        let server = async {
-            let (socket, _) = listener.accept().await?;
-            server(ServerCodec::with_limit(1 << 20).framed(socket)).await
-        };
-        let (client, server) = futures_util::future::join(client, server).await;
-        client.and(server)
-    };
-    let runtime = runtime.expect("a runtime");
-    runtime.block_on(both).expect("a session");
-}
-
-/// The next message, which must come.
-async fn next<T, C>(framed: &mut Framed<T, C>) -> io::Result<SharedFrame>
-where
-    T: tokio::io::AsyncRead + Unpin,
-    C: Decoder<Item = SharedFrame, Error = io::Error>,
-{
-    let closed = io::ErrorKind::UnexpectedEof;
-    framed.next().await.unwrap_or_else(|| Err(closed.into()))
-}
-
-/// Bytes that go out as they are.
-fn frame(bytes: &'static [u8]) -> SharedFrame {
-    SharedFrame { tag: None, bytes: bytes.into(), offset: 0 }
-}
-
-async fn serve(mut server: Framed<TcpStream, ServerCodec>) -> io::Result<()> {
-    let startup = next(&mut server).await?;
-    match frontend::Message::read(&startup.frame())? {
-        frontend::Message::Startup(it) => assert_eq!(it.settings.value("user"), Some("ann".into())),
-        other => panic!("{other:?}"),
-    }
-    server.feed(backend::Message::Authentication(Authentication::Ok)).await?;
-    let key = BackendKeyData { process_id: 7, secret_key: b"key!".into() };
-    server.feed(backend::Message::BackendKeyData(key)).await?;
-    server.send(backend::Message::ReadyForQuery(TransactionStatus::Idle)).await?;
-    while let Some(frame) = server.next().await {
-        let frame = frame?;
-        match frontend::Message::read(&frame.frame())? {
-            frontend::Message::Query(query) => {
-                let row = backend::Message::DataRow([Value::new(&query), Value::NULL].into());
-                server.feed(row).await?;
-                server.send(backend::Message::CommandComplete("SELECT 1".into())).await?;
-            }
-            frontend::Message::Terminate => return Ok(()),
-            other => panic!("{other:?}"),
+/// All messages of a stream that comes in pieces of a size, up to a fault.
+fn decoded(
+    codec: &mut impl Decoder<Item = SharedFrame, Error = io::Error>,
+    stream: &[u8],
+    size: usize,
+) -> io::Result<Vec<SharedFrame>> {
+    let (mut came, mut frames) = (BytesMut::new(), Vec::new());
+    for piece in stream.chunks(size) {
+        came.extend_from_slice(piece);
+        while let Some(frame) = codec.decode(&mut came)? {
+            frames.push(frame);
         }
     }
-    panic!("no Terminate")
+    match codec.decode_eof(&mut came)? {
+        None => Ok(frames),
+        Some(frame) => panic!("{frame:?} after the last one"),
+    }
 }
 
 #[test]
-fn a_session_over_sockets() {
+fn what_a_client_says_in_pieces_of_any_size() {
     let long = "x".repeat(300_000);
-    let queries = ["SELECT 1", "", &long];
-    let client = |mut client: Framed<TcpStream, ClientCodec>| async move {
-        let startup = Startup::new(&[("user", "ann")]);
-        client.send(frontend::Message::Startup(startup)).await?;
-        let mut offset = 0;
-        for tag in *b"RKZ" {
-            let frame = next(&mut client).await?;
-            assert_eq!((frame.tag, frame.offset), (Some(tag), offset));
-            offset += frame.bytes.len() as u64;
-        }
-        for query in queries {
-            client.send(frontend::Message::Query(query.into())).await?;
-            let row = next(&mut client).await?;
-            let due = [Value::from(query), Value::NULL];
-            let due = backend::Message::DataRow((&due).into());
-            assert_eq!(backend::Message::read(&row.frame())?, due);
-            let shown = format!("{row:?}");
-            assert!(shown.starts_with("Frame { tag: Some('D')") && shown.len() < 80);
-            assert_eq!(next(&mut client).await?.tag, Some(b'C'));
-        }
-        client.send(frame(b"X\0\0\0\x04")).await
-    };
-    run(client, serve);
+    let messages = [
+        frontend::Message::Startup(Startup::new(&[("user", "ann")])),
+        frontend::Message::Query("".into()),
+        frontend::Message::Query((&long).into()),
+    ];
+    let (mut client, mut out) = (ClientCodec::new(), BytesMut::new());
+    for message in messages.clone() {
+        client.encode(message, &mut out).expect("no refusal");
+    }
+    let end = SharedFrame { tag: None, bytes: Bytes::from_static(b"X\0\0\0\x04"), offset: 0 };
+    client.encode(end, &mut out).expect("no refusal");
+    for size in [1, 7, 1 << 16, out.len()] {
+        let frames = decoded(&mut ServerCodec::with_limit(1 << 20), &out, size).expect("no fault");
+        let read = frames.iter().map(|it| frontend::Message::read(&it.frame()).expect("no fault"));
+        let due = messages.clone().into_iter().chain([frontend::Message::Terminate]);
+        assert!(read.eq(due));
+        let offsets: Vec<_> = frames.iter().map(|it| it.offset).collect();
+        assert_eq!(offsets, [0, 18, 24, 300_030]);
+        assert_eq!(
+            format!("{:?}", frames[3]),
+            "Frame { tag: Some('X'), length: 5, offset: 300030, .. }"
+        );
+    }
 }
 
 #[test]
-fn faults_end_a_stream() {
-    let client = |mut client: Framed<TcpStream, ClientCodec>| async move {
-        let refused = client.send(frontend::Message::Query("\0".into())).await;
-        assert_eq!(refused.unwrap_err().kind(), io::ErrorKind::InvalidInput);
-        client.send(frame(b"\0\0\0\x09\0\x03\0\0\0!\0\0\0\x04")).await
-    };
-    let server = |mut server: Framed<TcpStream, ServerCodec>| async move {
-        assert_eq!(next(&mut server).await?.tag, None);
-        let fault = next(&mut server).await.expect_err("no client sends the tag");
-        assert_eq!(fault.kind(), io::ErrorKind::InvalidData);
-        assert_eq!(fault.to_string(), "unknown message type: 33");
-        Ok(())
-    };
-    run(client, server);
+fn what_a_server_says() {
+    let messages = [
+        backend::Message::Authentication(Authentication::Ok),
+        backend::Message::DataRow(["a".into(), Value::NULL].into()),
+        backend::Message::ReadyForQuery(TransactionStatus::Idle),
+    ];
+    let mut out = BytesMut::new();
+    for message in messages.clone() {
+        ServerCodec::new().encode(message, &mut out).expect("no refusal");
+    }
+    let frames = decoded(&mut ClientCodec::new(), &out, 4).expect("no fault");
+    let read = frames.iter().map(|it| backend::Message::read(&it.frame()).expect("no fault"));
+    assert!(read.eq(messages));
 }
 
 #[test]
-fn a_message_that_is_cut_off_is_a_fault() {
-    let client = |mut client: Framed<TcpStream, ClientCodec>| async move {
-        client.send(frame(b"\0\0\0\x09\0\x03")).await
-    };
-    let server = |mut server: Framed<TcpStream, ServerCodec>| async move {
-        assert!(next(&mut server).await.is_err());
-        Ok(())
-    };
-    run(client, server);
+fn faults_are_errors_of_input_and_output() {
+    let refused =
+        ClientCodec::new().encode(frontend::Message::Query("\0".into()), &mut BytesMut::new());
+    assert_eq!(refused.unwrap_err().kind(), io::ErrorKind::InvalidInput);
+    let broken = b"\0\0\0\x09\0\x03\0\0\0!\0\0\0\x04";
+    let fault =
+        decoded(&mut ServerCodec::default(), broken, 4).expect_err("no client sends the tag");
+    assert_eq!(fault.kind(), io::ErrorKind::InvalidData);
+    assert_eq!(fault.to_string(), "unknown message type: 33");
+    assert!(decoded(&mut ServerCodec::new(), &broken[..6], 4).is_err(), "a message is cut off");
 }
 
 #[test]
 fn room_is_made_as_the_bytes_come() {
-    use bytes::BytesMut;
     let mut stream = BytesMut::from(&b"d\x7f\xff\xff\xff"[..]);
     assert_eq!(ClientCodec::new().decode(&mut stream).expect("no fault"), None);
     assert!(stream.capacity() < 1 << 22);
