@@ -12,19 +12,6 @@ pub(crate) fn refused(words: &'static str) -> io::Error {
     io::Error::new(io::ErrorKind::InvalidInput, words)
 }
 
-/// The tag and the length of the message at the front of a stream, where all of both is there.
-#[inline]
-pub(crate) fn head(stream: &[u8]) -> io::Result<Option<(u8, i32)>> {
-    let (tag, len) = match *stream {
-        [tag, a, b, c, d, ..] => (tag, i32::from_be_bytes([a, b, c, d])),
-        _ => return Ok(None),
-    };
-    if len < 4 {
-        return Err(refused("message length is below 4"));
-    }
-    Ok(Some((tag, len)))
-}
-
 /// Tests that a body ends where what was read of it does.
 #[inline]
 pub(crate) fn ends(body: &[u8], end: usize) -> io::Result<()> {

@@ -23,75 +23,22 @@ pub use status::{
     ReadyForQueryBody,
 };
 
-use crate::lacking::{self, HEAD};
+pub use original::message::backend::{
+    Header, AUTHENTICATION_TAG, BACKEND_KEY_DATA_TAG, BIND_COMPLETE_TAG, CLOSE_COMPLETE_TAG,
+    COMMAND_COMPLETE_TAG, COPY_DATA_TAG, COPY_DONE_TAG, COPY_IN_RESPONSE_TAG,
+    COPY_OUT_RESPONSE_TAG, DATA_ROW_TAG, EMPTY_QUERY_RESPONSE_TAG, ERROR_RESPONSE_TAG,
+    NOTICE_RESPONSE_TAG, NOTIFICATION_RESPONSE_TAG, NO_DATA_TAG, PARAMETER_DESCRIPTION_TAG,
+    PARAMETER_STATUS_TAG, PARSE_COMPLETE_TAG, PORTAL_SUSPENDED_TAG, READY_FOR_QUERY_TAG,
+    ROW_DESCRIPTION_TAG,
+};
+
+use crate::lacking::HEAD;
 use bytes::{Buf, BytesMut};
 use pgmsg::{Decoder, Next};
 use std::io;
 
 /// The most room that is made at once for a message that isn't whole: a server can announce 2 GiB.
 const MOST_GROWTH: usize = 1 << 20;
-
-macro_rules! tags {
-    ($($name:ident = $kind:ident $tag:literal,)*) => {
-        $(
-            #[doc = concat!("The tag of ", stringify!($kind), ".")]
-            pub const $name: u8 = $tag;
-        )*
-    };
-}
-
-tags! {
-    AUTHENTICATION_TAG = Authentication b'R',
-    BACKEND_KEY_DATA_TAG = BackendKeyData b'K',
-    BIND_COMPLETE_TAG = BindComplete b'2',
-    CLOSE_COMPLETE_TAG = CloseComplete b'3',
-    COMMAND_COMPLETE_TAG = CommandComplete b'C',
-    COPY_DATA_TAG = CopyData b'd',
-    COPY_DONE_TAG = CopyDone b'c',
-    COPY_IN_RESPONSE_TAG = CopyInResponse b'G',
-    COPY_OUT_RESPONSE_TAG = CopyOutResponse b'H',
-    DATA_ROW_TAG = DataRow b'D',
-    EMPTY_QUERY_RESPONSE_TAG = EmptyQueryResponse b'I',
-    ERROR_RESPONSE_TAG = ErrorResponse b'E',
-    NO_DATA_TAG = NoData b'n',
-    NOTICE_RESPONSE_TAG = NoticeResponse b'N',
-    NOTIFICATION_RESPONSE_TAG = NotificationResponse b'A',
-    PARAMETER_DESCRIPTION_TAG = ParameterDescription b't',
-    PARAMETER_STATUS_TAG = ParameterStatus b'S',
-    PARSE_COMPLETE_TAG = ParseComplete b'1',
-    PORTAL_SUSPENDED_TAG = PortalSuspended b's',
-    READY_FOR_QUERY_TAG = ReadyForQuery b'Z',
-    ROW_DESCRIPTION_TAG = RowDescription b'T',
-}
-
-/// The tag and the length of a message, which may be there before the rest of it.
-#[derive(Clone, Copy, Debug)]
-pub struct Header {
-    tag: u8,
-    len: i32,
-}
-
-#[allow(clippy::len_without_is_empty)]
-impl Header {
-    /// The header at the front of a stream, or `None` where not all of it is there.
-    #[inline]
-    pub fn parse(buf: &[u8]) -> io::Result<Option<Header>> {
-        let head = lacking::head(buf)?;
-        Ok(head.map(|(tag, len)| Header { tag, len }))
-    }
-
-    /// The tag of the message.
-    #[inline]
-    pub fn tag(self) -> u8 {
-        self.tag
-    }
-
-    /// The length of the message without its tag.
-    #[inline]
-    pub fn len(self) -> i32 {
-        self.len
-    }
-}
 
 /// A message from the server.
 #[allow(missing_docs)]

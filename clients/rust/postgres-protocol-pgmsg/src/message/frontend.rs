@@ -3,8 +3,9 @@
 mod bind;
 mod copy;
 
-pub use bind::{bind, BindError};
+pub use bind::bind;
 pub use copy::{copy_done, copy_fail, CopyData};
+pub use original::message::frontend::BindError;
 
 use crate::lacking::refused;
 use crate::Oid;

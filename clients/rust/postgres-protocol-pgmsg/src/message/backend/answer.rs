@@ -1,6 +1,7 @@
 //! A message by its tag.
 
 use super::*;
+use crate::lacking::refused;
 use bytes::Bytes;
 use pgmsg::backend;
 
@@ -77,7 +78,7 @@ fn read(tag: u8, body: Bytes) -> io::Result<Message> {
             backend::Message::EmptyQueryResponse => Message::EmptyQueryResponse,
             backend::Message::NoData => Message::NoData,
             backend::Message::PortalSuspended => Message::PortalSuspended,
-            _ => return Err(lacking::refused("message of a kind that isn't known")),
+            _ => return Err(refused("message of a kind that isn't known")),
         },
     })
 }

@@ -2,6 +2,7 @@
 
 use crate::IsNull;
 use bytes::BytesMut;
+use original::message::frontend::BindError;
 use pgmsg::{frontend, Format, Refusal, Values};
 use std::cell::Cell;
 use std::error::Error;
@@ -9,29 +10,6 @@ use std::io;
 
 /// The most bytes of values whose allocation is kept for the next Bind.
 const KEPT: usize = 1 << 16;
-
-/// Why a Bind is refused.
-#[derive(Debug)]
-pub enum BindError {
-    /// A value can't be written.
-    Conversion(Box<dyn Error + Sync + Send>),
-    /// The message is refused.
-    Serialization(io::Error),
-}
-
-impl From<Box<dyn Error + Sync + Send>> for BindError {
-    #[inline]
-    fn from(error: Box<dyn Error + Sync + Send>) -> BindError {
-        BindError::Conversion(error)
-    }
-}
-
-impl From<io::Error> for BindError {
-    #[inline]
-    fn from(error: io::Error) -> BindError {
-        BindError::Serialization(error)
-    }
-}
 
 /// What a Bind is made of, before it is one. Its allocations are used again.
 #[derive(Default)]
