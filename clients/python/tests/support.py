@@ -9,3 +9,8 @@ TOP = pathlib.Path(__file__).resolve().parent.parent
 sys.path.append(str(TOP))
 
 HEADER = TOP.parent / "c" / "include" / "pg_message.h"
+
+
+def tagged(tag, body):
+    """A message with this tag and body."""
+    return bytes([tag]) + (len(body) + 4).to_bytes(4, "big") + body

@@ -3,7 +3,7 @@
 import random
 import unittest
 
-import support  # noqa: F401
+from support import tagged
 import samples
 from pgmsg import *
 from pgmsg.tags import BACKEND, FRONTEND
@@ -22,11 +22,6 @@ def changed(chance, body):
         if made:
             made[chance.randrange(len(made))] = chance.choice([0, 1, 4, 0x7F, 0x80, 0xC3, 0xFF, chance.randrange(256)])
     return bytes(made[: chance.randrange(len(made) + 1)] if chance.randrange(2) else made)
-
-
-def tagged(tag, body):
-    """A message with this tag and body."""
-    return bytes([tag]) + (len(body) + 4).to_bytes(4, "big") + body
 
 
 class TestHostile(unittest.TestCase):

@@ -54,6 +54,7 @@ class TestLogin(unittest.TestCase):
         login = Login("ann", "secret")
         self.assertIsNone(login.answer(AuthenticationOk()))
         self.assertEqual(login.answer(AuthenticationCleartextPassword()), PasswordMessage("secret"))
+        # A server's SELECT 'md5' || md5(md5('secret' || 'ann') || 'abcd').
         self.assertEqual(
             login.answer(AuthenticationMD5Password(b"abcd")), PasswordMessage("md5b74835331d7e1d325026d95f00dd69c5"))
 

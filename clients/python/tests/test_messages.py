@@ -186,11 +186,6 @@ class TestParts(unittest.TestCase):
         data = bytes(range(256)) * 4096
         self.assertEqual(CopyData(data).write(), b"d" + (len(data) + 4).to_bytes(4, "big") + data)
 
-    def test_md5(self):
-        # A server's SELECT 'md5' || md5(md5('secret' || 'ann') || 'abcd').
-        self.assertEqual(
-            PasswordMessage.md5("ann", "secret", b"abcd"), PasswordMessage("md5b74835331d7e1d325026d95f00dd69c5"))
-
 
 class TestRefused(unittest.TestCase):
     def test_each(self):

@@ -1,6 +1,5 @@
 """Streams of either side, cut anywhere."""
 
-import random
 import unittest
 
 import support  # noqa: F401
@@ -9,7 +8,9 @@ from pgmsg import *
 
 SERVER = [message for message, _ in samples.OF_BOTH + samples.OF_SERVER]
 
-CLIENT = [SSLRequest(), samples.FIRST[0][0], *(message for message, _ in samples.OF_BOTH + samples.OF_CLIENT)]
+FIRST = [SSLRequest(), GSSENCRequest(), CancelRequest(1, b"abcd"), StartupMessage({"user": "ann"})]
+
+CLIENT = [*FIRST, *(message for message, _ in samples.OF_BOTH + samples.OF_CLIENT)]
 
 SIDES = [(ClientStream, SERVER), (ServerStream, CLIENT)]
 
@@ -39,15 +40,6 @@ class TestStreams(unittest.TestCase):
                 found, rest = fed(side, whole[:at])
                 self.assertEqual(found, messages[: len(found)])
                 self.assertEqual(write(*found) + rest, whole[:at])
-
-    def test_random_streams_in_random_pieces(self):
-        chance = random.Random(1)
-        for _ in range(100):
-            messages = chance.choices(SERVER, k=20)
-            whole = write(*messages)
-            cuts = sorted(chance.choices(range(len(whole)), k=chance.randrange(20)))
-            pieces = [whole[start:end] for start, end in zip([0, *cuts], [*cuts, len(whole)])]
-            self.assertEqual(fed(ClientStream, *pieces), (messages, b""))
 
     def test_fed_while_it_is_read(self):
         stream, found = ClientStream(), []
@@ -149,12 +141,6 @@ class TestServerStream(unittest.TestCase):
             self.assertEqual(stream.send(asked), asked.write())
             stream.feed(answer.write())
             self.assertEqual(list(stream), [answer])
-
-    def test_first_messages(self):
-        stream = ServerStream()
-        stream.feed(write(SSLRequest(), GSSENCRequest(), CancelRequest(1, b"abcd"), StartupMessage({}), Sync()))
-        self.assertEqual(
-            list(stream), [SSLRequest(), GSSENCRequest(), CancelRequest(1, b"abcd"), StartupMessage({}), Sync()])
 
 
 if __name__ == "__main__":
