@@ -206,15 +206,6 @@ mod tests {
     }
 
     #[test]
-    fn each_refusal_has_one_number() {
-        for &((number, words), refusal) in KNOWN {
-            assert_eq!(Refusal::from_number(number as isize), refusal);
-            assert_eq!(refusal.number(), i64::from(number));
-            assert_eq!(refusal.to_string(), words);
-        }
-    }
-
-    #[test]
     fn errors_of_input_and_output_say_what_is_wrong() {
         let error = io::Error::from(Refusal::OutOfMemory);
         assert_eq!(error.kind(), io::ErrorKind::OutOfMemory);

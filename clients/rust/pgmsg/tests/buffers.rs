@@ -1,6 +1,6 @@
 //! What messages are appended to, and values that are spelled into a buffer.
 
-use pgmsg::frontend::{copy_head, Bind, Message};
+use pgmsg::frontend::{copy_head, Message};
 use pgmsg::{Refusal, Value, Values};
 
 #[test]
@@ -46,20 +46,6 @@ fn a_buffer_of_the_crate_bytes() {
         expected.drain(..sent.len());
     }
     assert_eq!(out, expected);
-}
-
-#[test]
-fn values_of_each_length() {
-    for length in 0..20 {
-        let bytes: Vec<u8> = (1..=length).collect();
-        let values = [Value::new(&bytes), Value::new(&bytes)];
-        let bind = Bind { values: (&values).into(), ..Bind::default() };
-        let mut out = Vec::new();
-        bind.write(&mut out).expect("it has no fault");
-        let value = [&[0, 0, 0, length][..], &bytes].concat();
-        let head = [b'B', 0, 0, 0, 20 + 2 * length, 0, 0, 0, 0, 0, 2];
-        assert_eq!(out, [&head[..], &value, &value, b"\0\0"].concat());
-    }
 }
 
 #[test]

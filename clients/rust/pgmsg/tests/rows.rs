@@ -75,8 +75,6 @@ fn broken_rows() {
     assert_eq!(fault_of(cells(b"")), (Refusal::Short, 0));
     assert_eq!(fault_of(cells(b"\0\x01\0\0\0")), (Refusal::Short, 2));
     assert_eq!(fault_of(cells(b"\0\x01\0\0\0\x02a")), (Refusal::Short, 6));
-    let fault = cells(b"\0\x01\0\0\0\x02a").expect_err("a byte is missing");
-    assert_eq!(fault.to_string(), "expected 2 bytes at offset 6, got 1");
 }
 
 #[test]

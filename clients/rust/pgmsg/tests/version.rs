@@ -1,47 +1,21 @@
 //! The version of the library that is linked. `clients/test` links one of another version, too, which no
 //! call gets through to.
 
-use pgmsg::relay::{self, Relay, Wanted};
-use pgmsg::{backend, frontend, Decoder, Refusal};
+use pgmsg::frontend::{copy_head, Message};
+use pgmsg::{backend, Decoder};
 use std::ffi::CStr;
 use std::panic::catch_unwind;
 
 /// A call by its name. It answers whether what it did is right.
 type Call = (&'static str, fn() -> bool);
 
-/// A call of each form.
+/// One of each way to a call of the library: `ask`, `list`, `put`, and the head of a COPY's data.
 const CALLS: &[Call] = &[
-    ("decoder of a server", || Decoder::of_server().next(b"").is_ok()),
-    ("decoder of a client", || Decoder::of_client().next(b"").is_ok()),
-    ("places_in", || backend::places_in(b"", &mut []).is_err()),
-    ("row", || backend::RowIndex::new().read(b"").is_err()),
-    ("end", || backend::end(b'Z', b"").is_err()),
-    ("rows_affected", || backend::rows_affected(b"") == 0),
-    ("DataRow", || reads(b'D')),
-    ("RowDescription", || reads(b'T')),
-    ("ErrorResponse", || !reads(b'E')),
-    ("Bind", || frontend::Bind::read(b"").is_err()),
-    ("Parse", || frontend::Parse::read(b"").is_err()),
-    ("check_frames", || relay::check_frames(b"", false).is_ok()),
-    ("relay", || passes(b"Z")),
-    ("copy_head", || frontend::copy_head(0).is_ok()),
-    ("Sync", || writes(|out| frontend::Message::Sync.write(out))),
-    ("NoData", || writes(|out| backend::Message::NoData.write(out))),
+    ("a decoder", || Decoder::of_server().next(b"").is_ok()),
+    ("fields", || backend::Fields::read(b"").is_ok()),
+    ("Sync", || Message::Sync.write(&mut Vec::new()).is_ok()),
+    ("copy_head", || copy_head(0).is_ok()),
 ];
-
-/// Whether a message of a server is refused without a body.
-fn reads(tag: u8) -> bool {
-    backend::Message::read_body(Some(tag), b"").is_err()
-}
-
-fn writes(write: fn(&mut Vec<u8>) -> Result<(), Refusal>) -> bool {
-    write(&mut Vec::new()).is_ok()
-}
-
-fn passes(mut piece: &[u8]) -> bool {
-    let mut relay = Relay::of_server(100, Wanted::ALL);
-    relay.next(&mut piece).is_ok()
-}
 
 /// The version of the library that is linked.
 fn linked() -> String {
