@@ -4,6 +4,8 @@
 mod ours;
 mod theirs;
 
+use bytes::BytesMut;
+use pgmsg::backend::RowIndex;
 use std::hint::black_box;
 use std::time::Duration;
 
@@ -95,32 +97,26 @@ fn rows(count: usize, cells: usize) -> Vec<u8> {
     stream
 }
 
-fn query_of(values: usize, length: usize) -> Query {
-    Query {
+fn main() {
+    println!("| case | pgmsg, ns | postgres-protocol, ns | quotient |\n|---|---|---|---|");
+    let (mut out, mut index, mut buffer) = (Vec::new(), RowIndex::new(), BytesMut::new());
+    for cells in [5, 50] {
+        let (name, stream) = (format!("row of {cells} cells"), rows(200, cells));
+        let ours = || ours::read(&stream, &mut out, &mut index);
+        compare(&name, 200, ours, || theirs::read(&stream));
+    }
+    let query = |values, length| Query {
         statement: "s17",
         query: "x".repeat(86),
         types: vec![25; 8],
         values: vec![vec![b'v'; length]; values],
+    };
+    let parse = query(0, 0);
+    let ours = || ours::parse(&parse, &mut out);
+    compare("Parse of 8 types", 1, ours, || theirs::parse(&parse, &mut buffer));
+    for (name, bind) in [("8 values", query(8, 8)), ("2 values of 4 KiB", query(2, 4096))] {
+        let name = format!("Bind of {name}, Execute and Sync");
+        let ours = || ours::run(&bind, &mut out);
+        compare(&name, 1, ours, || theirs::run(&bind, &mut buffer));
     }
-}
-
-fn main() {
-    println!("| case | pgmsg, ns | postgres-protocol, ns | quotient |\n|---|---|---|---|");
-    for cells in [5, 50] {
-        let stream = rows(200, cells);
-        let name = format!("row of {cells} cells");
-        let mut reader = ours::Reader::default();
-        compare(&name, 200, || reader.read(&stream), || theirs::read(&stream));
-    }
-    let (mut writer, mut other) = (ours::Writer::default(), theirs::Writer::default());
-    let short = query_of(8, 8);
-    compare("Parse of 8 types", 1, || writer.parse(&short), || other.parse(&short));
-    compare("Bind of 8 values, Execute and Sync", 1, || writer.run(&short), || other.run(&short));
-    let long = query_of(2, 4096);
-    compare(
-        "Bind of 2 values of 4 KiB, Execute and Sync",
-        1,
-        || writer.run(&long),
-        || other.run(&long),
-    );
 }

@@ -23,39 +23,24 @@ pub fn read(stream: &[u8]) -> usize {
     sum
 }
 
-/// Writes messages into an emptied buffer.
-#[derive(Default)]
-pub struct Writer {
-    buffer: BytesMut,
+/// Writes a Parse into an emptied buffer: how many bytes it has.
+pub fn parse(query: &Query, buffer: &mut BytesMut) -> usize {
+    buffer.clear();
+    let types = query.types.iter().copied();
+    frontend::parse(query.statement, &query.query, types, buffer).expect("a Parse");
+    buffer.len()
 }
 
-impl Writer {
-    /// A Parse: how many bytes it has.
-    pub fn parse(&mut self, query: &Query) -> usize {
-        self.buffer.clear();
-        let types = query.types.iter().copied();
-        frontend::parse(query.statement, &query.query, types, &mut self.buffer).expect("a Parse");
-        self.buffer.len()
-    }
-
-    /// A Bind of the unnamed portal, an Execute of it and a Sync: how many bytes they have.
-    pub fn run(&mut self, query: &Query) -> usize {
-        self.buffer.clear();
-        let bound = frontend::bind(
-            "",
-            query.statement,
-            [1],
-            &query.values,
-            |value, buffer| {
-                buffer.put_slice(value);
-                Ok(IsNull::No)
-            },
-            [1],
-            &mut self.buffer,
-        );
-        assert!(bound.is_ok());
-        frontend::execute("", 0, &mut self.buffer).expect("an Execute");
-        frontend::sync(&mut self.buffer);
-        self.buffer.len()
-    }
+/// Writes a Bind of the unnamed portal, an Execute of it and a Sync: how many bytes they have.
+pub fn run(query: &Query, buffer: &mut BytesMut) -> usize {
+    buffer.clear();
+    let put = |value: &Vec<u8>, buffer: &mut BytesMut| {
+        buffer.put_slice(value);
+        Ok(IsNull::No)
+    };
+    let bound = frontend::bind("", query.statement, [1], &query.values, put, [1], buffer);
+    assert!(bound.is_ok());
+    frontend::execute("", 0, buffer).expect("an Execute");
+    frontend::sync(buffer);
+    buffer.len()
 }
