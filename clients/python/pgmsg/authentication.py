@@ -15,13 +15,17 @@ from .message import BackendMessage, Buffer, Text, by, fill, octets
 METHOD_LENGTH, SALT_LENGTH = 4, 4
 
 
-class Authentication(BackendMessage):
+class Authentication(BackendMessage, tag="R"):
     """What the server asks for, of any method: `read` gives a message of the method's class."""
 
     __slots__ = ()
 
-    TAG: ClassVar[int] = ord("R")
     METHOD: ClassVar[int | None] = None
+
+    def __init_subclass__(cls, method: int | None = None, tag: str | None = None) -> None:
+        super().__init_subclass__(tag)
+        if method is not None:
+            cls.METHOD = method
 
     @classmethod
     def _read(cls, body: bytes) -> Self:
@@ -47,31 +51,24 @@ class Authentication(BackendMessage):
 
 
 @dataclass(frozen=True, slots=True)
-class AuthenticationOk(Authentication):
+class AuthenticationOk(Authentication, method=0):
     """The client is who it says."""
 
-    METHOD: ClassVar[int] = 0
-
 
 @dataclass(frozen=True, slots=True)
-class AuthenticationKerberosV5(Authentication):
+class AuthenticationKerberosV5(Authentication, method=2):
     """Asks for Kerberos V5, as servers before version 9.3 do."""
 
-    METHOD: ClassVar[int] = 2
-
 
 @dataclass(frozen=True, slots=True)
-class AuthenticationCleartextPassword(Authentication):
+class AuthenticationCleartextPassword(Authentication, method=3):
     """Asks for a password in clear."""
-
-    METHOD: ClassVar[int] = 3
 
 
 @dataclass(frozen=True, slots=True, init=False)
-class AuthenticationMD5Password(Authentication):
+class AuthenticationMD5Password(Authentication, method=5):
     """Asks for a password as an MD5 digest with a salt of 4 bytes."""
 
-    METHOD: ClassVar[int] = 5
     salt: bytes
 
     def __init__(self, salt: Buffer) -> None:
@@ -88,24 +85,19 @@ class AuthenticationMD5Password(Authentication):
 
 
 @dataclass(frozen=True, slots=True)
-class AuthenticationGSS(Authentication):
+class AuthenticationGSS(Authentication, method=7):
     """Asks for an exchange of GSSAPI."""
-
-    METHOD: ClassVar[int] = 7
 
 
 @dataclass(frozen=True, slots=True)
-class AuthenticationSSPI(Authentication):
+class AuthenticationSSPI(Authentication, method=9):
     """Asks for an exchange of SSPI."""
-
-    METHOD: ClassVar[int] = 9
 
 
 @dataclass(frozen=True, slots=True, init=False)
-class AuthenticationSASL(Authentication):
+class AuthenticationSASL(Authentication, method=10):
     """Asks for an exchange of SASL by one of these mechanisms, the best first."""
 
-    METHOD: ClassVar[int] = 10
     mechanisms: tuple[bytes, ...]
 
     def __init__(self, mechanisms: Iterable[Text]) -> None:
@@ -140,10 +132,8 @@ class AuthenticationWithData(Authentication):
 
 
 @dataclass(frozen=True, slots=True, init=False)
-class AuthenticationGSSContinue(AuthenticationWithData):
+class AuthenticationGSSContinue(AuthenticationWithData, method=8):
     """The next data of an exchange of GSSAPI or SSPI."""
-
-    METHOD: ClassVar[int] = 8
 
 
 class Challenge(NamedTuple):
@@ -155,10 +145,8 @@ class Challenge(NamedTuple):
 
 
 @dataclass(frozen=True, slots=True, init=False)
-class AuthenticationSASLContinue(AuthenticationWithData):
+class AuthenticationSASLContinue(AuthenticationWithData, method=11):
     """The next data of an exchange of SASL."""
-
-    METHOD: ClassVar[int] = 11
 
     def challenge(self) -> Challenge:
         """The data as a challenge of SCRAM."""
@@ -172,10 +160,8 @@ class AuthenticationSASLContinue(AuthenticationWithData):
 
 
 @dataclass(frozen=True, slots=True, init=False)
-class AuthenticationSASLFinal(AuthenticationWithData):
+class AuthenticationSASLFinal(AuthenticationWithData, method=12):
     """The last data of an exchange of SASL."""
-
-    METHOD: ClassVar[int] = 12
 
     def verifier(self) -> bytes:
         """What proves in SCRAM that the server knows the password."""

@@ -4,7 +4,7 @@ from __future__ import annotations
 
 from collections.abc import Iterable
 from dataclasses import dataclass
-from typing import ClassVar, Self
+from typing import Self
 
 from ._calls import listed, put, read, read_text, sized
 from ._library import ffi, lib
@@ -13,10 +13,9 @@ from .message import AsText, BackendMessage, FrontendMessage, Text, WithoutBody,
 
 
 @dataclass(frozen=True, slots=True, init=False)
-class CopyData(FrontendMessage, BackendMessage):
+class CopyData(FrontendMessage, BackendMessage, tag="d"):
     """A part of the data of a COPY, which need not end where a row ends."""
 
-    TAG: ClassVar[int] = ord("d")
     data: bytes
     data_text = AsText("data")
 
@@ -32,17 +31,14 @@ class CopyData(FrontendMessage, BackendMessage):
 
 
 @dataclass(frozen=True, slots=True)
-class CopyDone(WithoutBody, FrontendMessage, BackendMessage):
+class CopyDone(WithoutBody, FrontendMessage, BackendMessage, tag="c"):
     """Ends the data of a COPY."""
-
-    TAG: ClassVar[int] = ord("c")
 
 
 @dataclass(frozen=True, slots=True, init=False)
-class CopyFail(FrontendMessage):
+class CopyFail(FrontendMessage, tag="f"):
     """Fails a COPY, and says why."""
 
-    TAG: ClassVar[int] = ord("f")
     reason: bytes
     reason_text = AsText("reason")
 
@@ -79,24 +75,18 @@ class CopyResponse(BackendMessage):
 
 
 @dataclass(frozen=True, slots=True, init=False)
-class CopyInResponse(CopyResponse):
+class CopyInResponse(CopyResponse, tag="G"):
     """Waits for the data of a COPY."""
 
-    TAG: ClassVar[int] = ord("G")
-
 
 @dataclass(frozen=True, slots=True, init=False)
-class CopyOutResponse(CopyResponse):
+class CopyOutResponse(CopyResponse, tag="H"):
     """Announces the data of a COPY."""
 
-    TAG: ClassVar[int] = ord("H")
-
 
 @dataclass(frozen=True, slots=True, init=False)
-class CopyBothResponse(CopyResponse):
+class CopyBothResponse(CopyResponse, tag="W"):
     """Begins a COPY both ways, as in replication."""
-
-    TAG: ClassVar[int] = ord("W")
 
 
 def copy_head(length: int) -> bytes:

@@ -33,6 +33,11 @@ class Message:
 
     TAG: ClassVar[int | None] = None
 
+    def __init_subclass__(cls, tag: str | None = None) -> None:
+        # A class that `dataclass` makes anew for its slots has the tag of the first one.
+        if tag is not None:
+            cls.TAG = ord(tag)
+
     @classmethod
     def read(cls, frame: Frame) -> Self:
         """The message of this class that was received. What breaks the protocol is a Fault; its offset is in the body."""
@@ -54,11 +59,15 @@ class BackendMessage(Message):
 
     __slots__ = ()
 
+    TAG: ClassVar[int]
+
 
 class FrontendMessage(Message):
     """A message from a client."""
 
     __slots__ = ()
+
+    TAG: ClassVar[int]
 
 
 class WithoutBody(Message):

@@ -5,7 +5,7 @@ from __future__ import annotations
 import enum
 from collections.abc import Iterable, Mapping
 from dataclasses import dataclass
-from typing import ClassVar, Self, TypeAlias
+from typing import Self, TypeAlias
 
 from ._calls import listed, part, put, read
 from ._library import ffi, lib
@@ -74,14 +74,10 @@ class WithFields(BackendMessage):
 
 
 @dataclass(frozen=True, slots=True, init=False)
-class ErrorResponse(WithFields):
+class ErrorResponse(WithFields, tag="E"):
     """Ends a command by an error."""
-
-    TAG: ClassVar[int] = ord("E")
 
 
 @dataclass(frozen=True, slots=True, init=False)
-class NoticeResponse(WithFields):
+class NoticeResponse(WithFields, tag="N"):
     """Says something beside the answers."""
-
-    TAG: ClassVar[int] = ord("N")

@@ -20,6 +20,7 @@ class FirstMessage(FrontendMessage):
 
     __slots__ = ()
 
+    TAG: ClassVar[None] = None  # type: ignore[assignment]
     KIND: ClassVar[int | None] = None
 
     @classmethod

@@ -4,19 +4,17 @@ from __future__ import annotations
 
 import hashlib
 from dataclasses import dataclass, field
-from typing import ClassVar, Self
+from typing import Self
 
 from ._calls import found, part, put, read_text, sized
 from ._library import lib
 from .message import AsText, Buffer, FrontendMessage, Text, fill, octets, optional_octets
 
 
-class AuthenticationResponse(FrontendMessage):
+class AuthenticationResponse(FrontendMessage, tag="p"):
     """An answer to an authentication."""
 
     __slots__ = ()
-
-    TAG: ClassVar[int] = ord("p")
 
 
 @dataclass(frozen=True, slots=True, init=False)

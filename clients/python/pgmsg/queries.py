@@ -15,31 +15,24 @@ from .message import AsText, FrontendMessage, Text, WithoutBody, fill, number, n
 
 
 @dataclass(frozen=True, slots=True)
-class Flush(WithoutBody, FrontendMessage):
+class Flush(WithoutBody, FrontendMessage, tag="H"):
     """Asks for the answers that the server still has to send."""
 
-    TAG: ClassVar[int] = ord("H")
-
 
 @dataclass(frozen=True, slots=True)
-class Sync(WithoutBody, FrontendMessage):
+class Sync(WithoutBody, FrontendMessage, tag="S"):
     """Ends a run of messages: the server answers that it is ready."""
 
-    TAG: ClassVar[int] = ord("S")
-
 
 @dataclass(frozen=True, slots=True)
-class Terminate(WithoutBody, FrontendMessage):
+class Terminate(WithoutBody, FrontendMessage, tag="X"):
     """Ends the session."""
-
-    TAG: ClassVar[int] = ord("X")
 
 
 @dataclass(frozen=True, slots=True, init=False)
-class Query(FrontendMessage):
+class Query(FrontendMessage, tag="Q"):
     """Runs the statements of a text."""
 
-    TAG: ClassVar[int] = ord("Q")
     query: bytes
     query_text = AsText("query")
 
@@ -55,13 +48,12 @@ class Query(FrontendMessage):
 
 
 @dataclass(frozen=True, slots=True, init=False)
-class Parse(FrontendMessage):
+class Parse(FrontendMessage, tag="P"):
     """Prepares a statement, the unnamed one where its name is empty.
 
     `types` are the object ids of its parameters' types; the server infers those that are 0 or missing.
     """
 
-    TAG: ClassVar[int] = ord("P")
     query: bytes
     statement: bytes
     types: tuple[int, ...]
@@ -83,13 +75,12 @@ class Parse(FrontendMessage):
 
 
 @dataclass(frozen=True, slots=True, init=False)
-class Bind(FrontendMessage):
+class Bind(FrontendMessage, tag="B"):
     """Makes a portal of a prepared statement and the values of its parameters, None for NULL.
 
     Formats are 0 for text and 1 for binary: none where all are text, one for all, or one each.
     """
 
-    TAG: ClassVar[int] = ord("B")
     values: tuple[bytes | None, ...]
     statement: bytes
     portal: bytes
@@ -146,29 +137,26 @@ class OfTarget(FrontendMessage):
 
 
 @dataclass(frozen=True, slots=True, init=False)
-class Describe(OfTarget):
+class Describe(OfTarget, tag="D"):
     """Asks what a statement or a portal takes and gives."""
 
-    TAG: ClassVar[int] = ord("D")
     PUT = lib.pgmsg_put_describe
 
 
 @dataclass(frozen=True, slots=True, init=False)
-class Close(OfTarget):
+class Close(OfTarget, tag="C"):
     """Closes a statement or a portal."""
 
-    TAG: ClassVar[int] = ord("C")
     PUT = lib.pgmsg_put_close
 
 
 @dataclass(frozen=True, slots=True, init=False)
-class Execute(FrontendMessage):
+class Execute(FrontendMessage, tag="E"):
     """Runs a portal, up to `limit` rows.
 
     0 is for all of them; a server takes a number from 1 << 31 on for all of them too.
     """
 
-    TAG: ClassVar[int] = ord("E")
     portal: bytes
     limit: int
     portal_text = AsText("portal")
@@ -186,10 +174,9 @@ class Execute(FrontendMessage):
 
 
 @dataclass(frozen=True, slots=True, init=False)
-class FunctionCall(FrontendMessage):
+class FunctionCall(FrontendMessage, tag="F"):
     """Calls a function by its object id, with arguments and formats as a Bind has them."""
 
-    TAG: ClassVar[int] = ord("F")
     object_id: int
     arguments: tuple[bytes | None, ...]
     formats: tuple[int, ...]

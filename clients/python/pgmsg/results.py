@@ -4,7 +4,7 @@ from __future__ import annotations
 
 from collections.abc import Iterable
 from dataclasses import dataclass
-from typing import Any, ClassVar, Self
+from typing import Any, Self
 
 from . import _fast
 from ._calls import found, listed, part, put, read, sized
@@ -40,10 +40,9 @@ class Column:
 
 
 @dataclass(frozen=True, slots=True, init=False)
-class RowDescription(BackendMessage):
+class RowDescription(BackendMessage, tag="T"):
     """The columns of a result."""
 
-    TAG: ClassVar[int] = ord("T")
     columns: tuple[Column, ...]
 
     def __init__(self, columns: Iterable[Column]) -> None:
@@ -66,10 +65,9 @@ class RowDescription(BackendMessage):
 
 
 @dataclass(frozen=True, slots=True, init=False)
-class DataRow(BackendMessage):
+class DataRow(BackendMessage, tag="D"):
     """A row, None for NULL. `Stream.rows` reads many at once."""
 
-    TAG: ClassVar[int] = ord("D")
     values: tuple[bytes | None, ...]
 
     def __init__(self, values: Iterable[Text | None]) -> None:
@@ -86,10 +84,9 @@ class DataRow(BackendMessage):
 
 
 @dataclass(frozen=True, slots=True, init=False)
-class CommandComplete(BackendMessage):
+class CommandComplete(BackendMessage, tag="C"):
     """Ends a command, by its tag, such as `INSERT 0 1`."""
 
-    TAG: ClassVar[int] = ord("C")
     command: bytes
     command_text = AsText("command")
 
@@ -116,52 +113,39 @@ def command_in(body: bytes) -> Any:
 
 
 @dataclass(frozen=True, slots=True)
-class EmptyQueryResponse(WithoutBody, BackendMessage):
+class EmptyQueryResponse(WithoutBody, BackendMessage, tag="I"):
     """Answers a query without a statement."""
 
-    TAG: ClassVar[int] = ord("I")
-
 
 @dataclass(frozen=True, slots=True)
-class ParseComplete(WithoutBody, BackendMessage):
+class ParseComplete(WithoutBody, BackendMessage, tag="1"):
     """Answers a Parse that succeeded."""
 
-    TAG: ClassVar[int] = ord("1")
-
 
 @dataclass(frozen=True, slots=True)
-class BindComplete(WithoutBody, BackendMessage):
+class BindComplete(WithoutBody, BackendMessage, tag="2"):
     """Answers a Bind that succeeded."""
 
-    TAG: ClassVar[int] = ord("2")
-
 
 @dataclass(frozen=True, slots=True)
-class CloseComplete(WithoutBody, BackendMessage):
+class CloseComplete(WithoutBody, BackendMessage, tag="3"):
     """Answers a Close."""
 
-    TAG: ClassVar[int] = ord("3")
-
 
 @dataclass(frozen=True, slots=True)
-class PortalSuspended(WithoutBody, BackendMessage):
+class PortalSuspended(WithoutBody, BackendMessage, tag="s"):
     """Ends an Execute at its limit, where rows are left."""
 
-    TAG: ClassVar[int] = ord("s")
-
 
 @dataclass(frozen=True, slots=True)
-class NoData(WithoutBody, BackendMessage):
+class NoData(WithoutBody, BackendMessage, tag="n"):
     """Describes a statement or a portal that gives no rows."""
-
-    TAG: ClassVar[int] = ord("n")
 
 
 @dataclass(frozen=True, slots=True, init=False)
-class ParameterDescription(BackendMessage):
+class ParameterDescription(BackendMessage, tag="t"):
     """The object ids of the types of a statement's parameters."""
 
-    TAG: ClassVar[int] = ord("t")
     types: tuple[int, ...]
 
     def __init__(self, types: Iterable[int]) -> None:
@@ -177,10 +161,9 @@ class ParameterDescription(BackendMessage):
 
 
 @dataclass(frozen=True, slots=True, init=False)
-class FunctionCallResponse(BackendMessage):
+class FunctionCallResponse(BackendMessage, tag="V"):
     """The result of a function that was called, None for NULL."""
 
-    TAG: ClassVar[int] = ord("V")
     value: bytes | None
 
     def __init__(self, value: Text | None) -> None:

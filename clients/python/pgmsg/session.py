@@ -5,7 +5,7 @@ from __future__ import annotations
 import enum
 from collections.abc import Iterable
 from dataclasses import dataclass, field
-from typing import ClassVar, Self
+from typing import Self
 
 from ._calls import found, listed, part, put, read, sized, texts_of
 from ._library import ffi, lib
@@ -13,10 +13,9 @@ from .message import AsText, BackendMessage, Buffer, Text, fill, number, octets
 
 
 @dataclass(frozen=True, slots=True, init=False)
-class BackendKeyData(BackendMessage):
+class BackendKeyData(BackendMessage, tag="K"):
     """What a request to cancel has to name, with a key of 4 bytes, and of up to 256 from protocol 3.2 on."""
 
-    TAG: ClassVar[int] = ord("K")
     process_id: int
     secret_key: bytes = field(repr=False)
 
@@ -33,10 +32,9 @@ class BackendKeyData(BackendMessage):
 
 
 @dataclass(frozen=True, slots=True, init=False)
-class NegotiateProtocolVersion(BackendMessage):
+class NegotiateProtocolVersion(BackendMessage, tag="v"):
     """The newest minor version of the protocol's version 3 that the server speaks, and which options it doesn't know."""
 
-    TAG: ClassVar[int] = ord("v")
     minor: int
     options: tuple[bytes, ...]
 
@@ -57,10 +55,9 @@ class NegotiateProtocolVersion(BackendMessage):
 
 
 @dataclass(frozen=True, slots=True, init=False)
-class ParameterStatus(BackendMessage):
+class ParameterStatus(BackendMessage, tag="S"):
     """A setting and its value, at the start of a session and when it changes."""
 
-    TAG: ClassVar[int] = ord("S")
     name: bytes
     value: bytes
     name_text = AsText("name")
@@ -87,10 +84,9 @@ class TransactionStatus(enum.Enum):
 
 
 @dataclass(frozen=True, slots=True, init=False)
-class ReadyForQuery(BackendMessage):
+class ReadyForQuery(BackendMessage, tag="Z"):
     """The server is ready for the next query."""
 
-    TAG: ClassVar[int] = ord("Z")
     status: TransactionStatus
 
     def __init__(self, status: TransactionStatus = TransactionStatus.IDLE) -> None:
@@ -105,10 +101,9 @@ class ReadyForQuery(BackendMessage):
 
 
 @dataclass(frozen=True, slots=True, init=False)
-class NotificationResponse(BackendMessage):
+class NotificationResponse(BackendMessage, tag="A"):
     """What another session notified of: its process, the channel and what was said."""
 
-    TAG: ClassVar[int] = ord("A")
     process_id: int
     channel: bytes
     payload: bytes
