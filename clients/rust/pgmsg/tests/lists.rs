@@ -1,6 +1,6 @@
 //! Lists of each length, in both directions.
 
-use pgmsg::backend::{self, Column, CopyResponse, Field, RowIndex};
+use pgmsg::backend::{self, Authentication, Column, CopyResponse, Field, RowIndex};
 use pgmsg::frontend::{self, Bind, FunctionCall, Parse, Setting, Startup};
 use pgmsg::{Format, List, Value};
 
@@ -20,81 +20,69 @@ fn values(texts: &[String]) -> List<'_, Value<'_>> {
     texts.iter().enumerate().map(value).collect()
 }
 
-/// Asserts that a server's message is read as it was written.
-fn assert_read_of_server(message: backend::Message<'_>) -> Vec<u8> {
-    let mut out = Vec::new();
-    message.write(&mut out).expect("it can be written");
-    let read = backend::Message::read_body(message.tag(), &out[5..]);
-    assert_eq!(read.as_ref(), Ok(&message));
-    out
-}
-
-/// Asserts that a client's message is read as it was written.
-fn assert_read_of_client(message: frontend::Message<'_>) {
-    let mut out = Vec::new();
-    message.write(&mut out).expect("it can be written");
-    let head = if message.tag().is_some() { 5 } else { 4 };
-    let read = frontend::Message::read_body(message.tag(), &out[head..]);
-    assert_eq!(read.as_ref(), Ok(&message));
+/// Asserts that messages of a side are read as they were written.
+macro_rules! assert_read {
+    ($side:ident: $($name:ident($parts:expr);)+) => {
+        $(
+            let (message, mut out) = ($side::Message::$name($parts), Vec::new());
+            message.write(&mut out).expect("it can be written");
+            let body = &out[4 + usize::from(message.tag().is_some())..];
+            let read = $side::Message::read_body(message.tag(), body);
+            assert_eq!(read.as_ref(), Ok(&message));
+        )+
+    };
 }
 
 #[test]
-fn values_of_rows_and_of_parameters() {
+fn lists_of_a_server() {
+    for length in lengths() {
+        let texts = texts(length);
+        let columns = texts.iter().zip(1..).map(|(name, id)| Column::new(name, id));
+        let formats = (0..length.min(32767)).map(|number| Format(number as i16));
+        let fields = texts.iter().map(|text| Field { letter: b'M', value: text.into() });
+        assert_read! {
+            backend:
+            DataRow(values(&texts));
+            ParameterDescription((0..length as u32).map(|number| number << 8).collect());
+            RowDescription(columns.collect());
+            CopyOutResponse(CopyResponse { format: -1, columns: formats.collect() });
+            Authentication(Authentication::Sasl(texts.iter().map(|text| text.into()).collect()));
+            ErrorResponse(fields.collect());
+        }
+    }
+}
+
+#[test]
+fn lists_of_a_client() {
+    for length in lengths() {
+        let texts = texts(length);
+        let formats: List<'_, Format> = (0..length).map(|number| Format(number as i16)).collect();
+        let types = (0..length as u32).map(|number| number << 8).collect();
+        let settings = texts.iter().map(|text| Setting { name: text.into(), value: text.into() });
+        let bind = Bind {
+            formats: vec![Format::BINARY; length].into(),
+            values: values(&texts),
+            ..Bind::default()
+        };
+        assert_read! {
+            frontend:
+            Bind(Bind { result_formats: formats.clone(), ..bind });
+            FunctionCall(FunctionCall { object_id: u32::MAX, formats, arguments: values(&texts), ..FunctionCall::default() });
+            Parse(Parse { types, ..Parse::default() });
+            Startup(Startup { minor: 0, settings: settings.collect() });
+        }
+    }
+}
+
+#[test]
+fn rows_by_an_index() {
     let mut index = RowIndex::new();
     for length in lengths() {
-        let texts = texts(length);
-        let values = values(&texts);
-        let row = assert_read_of_server(backend::Message::DataRow(values.clone()));
+        let (texts, mut row) = (texts(length), Vec::new());
+        backend::Message::DataRow(values(&texts)).write(&mut row).expect("it can be written");
         let row = index.read(&row[5..]).expect("no fault");
-        assert!(row.iter().eq(values.iter().map(|value| value.bytes())));
+        assert!(row.iter().eq(values(&texts).iter().map(|value| value.bytes())));
         assert_eq!(row.get(length), None);
-        assert_read_of_client(frontend::Message::Bind(Bind {
-            formats: vec![Format::BINARY; length].into(),
-            values: values.clone(),
-            result_formats: (0..length).map(|number| Format(number as i16)).collect(),
-            ..Bind::default()
-        }));
-        assert_read_of_client(frontend::Message::FunctionCall(FunctionCall {
-            object_id: u32::MAX,
-            formats: [].into(),
-            arguments: values,
-            result_format: Format::TEXT,
-        }));
-    }
-}
-
-#[test]
-fn numbers_and_columns() {
-    for length in lengths() {
-        let types: List<'_, u32> = (0..length as u32).map(|number| number << 8).collect();
-        assert_read_of_server(backend::Message::ParameterDescription(types.clone()));
-        let parse = Parse { types, ..Parse::default() };
-        assert_read_of_client(frontend::Message::Parse(parse));
-        let names = texts(length);
-        let columns = names.iter().zip(1..).map(|(name, id)| Column::new(name, id));
-        assert_read_of_server(backend::Message::RowDescription(columns.collect()));
-        let columns = (0..length.min(32767)).map(|number| Format(number as i16)).collect();
-        let response = CopyResponse { format: -1, columns };
-        assert_read_of_server(backend::Message::CopyOutResponse(response));
-    }
-}
-
-#[test]
-fn texts_without_a_count() {
-    for length in (0..70).chain([500]) {
-        let texts = texts(length);
-        let names = texts.iter().map(|text| text.into());
-        let sasl = backend::Authentication::Sasl(names.collect());
-        assert_read_of_server(backend::Message::Authentication(sasl));
-        let fields = texts.iter().map(|text| Field { letter: b'M', value: text.into() });
-        assert_read_of_server(backend::Message::ErrorResponse(fields.collect()));
-        let settings = texts.iter().map(|text| Setting { name: text.into(), value: text.into() });
-        let startup = Startup { minor: 0, settings: settings.collect() };
-        for text in &texts {
-            assert_eq!(startup.settings.value(text), Some(text.into()));
-        }
-        assert_eq!(startup.settings.value("user"), None);
-        assert_read_of_client(frontend::Message::Startup(startup));
     }
 }
 
@@ -102,6 +90,7 @@ fn texts_without_a_count() {
 fn the_last_setting_of_a_name_holds() {
     let startup = Startup::new(&[("user", "ann"), ("options", ""), ("user", "bob")]);
     assert_eq!(startup.settings.value("user"), Some("bob".into()));
+    assert_eq!(startup.settings.value("database"), None);
     assert_eq!(startup.settings.into_vec().len(), 3);
 }
 
