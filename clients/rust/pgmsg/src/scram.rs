@@ -98,18 +98,10 @@ impl From<Error> for std::io::Error {
     }
 }
 
-/// The proof of who knows the password, or rather its key, for the messages of the exchange; and the server's
-/// signature of them.
-fn proof_and_signature<D: Digest>(
-    client_key: &Key,
-    server_key: &Key,
-    messages: &[u8],
-) -> (Key, Key) {
-    let mut proof = D::hmac(&D::hash(client_key), messages);
-    for (byte, key) in proof.iter_mut().zip(client_key) {
-        *byte ^= key;
-    }
-    (proof, D::hmac(server_key, messages))
+/// The bytes of two keys, each added to the other by exclusive or.
+fn xor(mut key: Key, other: &[u8]) -> Key {
+    key.iter_mut().zip(other).for_each(|(byte, other)| *byte ^= other);
+    key
 }
 
 /// Whether two keys are the same, in a time that doesn't depend on where they differ.

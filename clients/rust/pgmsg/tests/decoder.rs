@@ -32,12 +32,11 @@ fn read_pieces<'a>(pieces: impl Iterator<Item = &'a [u8]>) -> (Vec<(u64, String)
             rest.drain(..length);
         }
     }
-    assert_eq!(decoder.offset(), found.last().map_or(0, |_| decoder.offset()));
     (found, rest)
 }
 
 #[test]
-fn a_stream_that_is_cut_anywhere_has_the_same_messages() {
+fn a_stream_that_is_cut_or_ends_anywhere_has_the_messages_that_are_whole() {
     let (whole, rest) = read_pieces([STREAM].into_iter());
     assert_eq!((whole.len(), rest.len()), (8, 0));
     let starts = whole.iter().map(|(offset, _)| *offset as usize);
@@ -48,20 +47,12 @@ fn a_stream_that_is_cut_anywhere_has_the_same_messages() {
         let (first, second) = STREAM.split_at(at);
         let read = read_pieces([first, second].into_iter());
         assert_eq!(read, (whole.clone(), vec![]));
+        let count = STARTS[1..].iter().filter(|&&end| end <= at).count();
+        let read = read_pieces([first].into_iter());
+        assert_eq!(read, (whole[..count].to_vec(), STREAM[STARTS[count]..at].to_vec()));
     }
     for size in 1..STREAM.len() {
         assert_eq!(read_pieces(STREAM.chunks(size)), (whole.clone(), vec![]));
-    }
-}
-
-#[test]
-fn a_stream_that_ends_anywhere_has_the_messages_that_are_whole() {
-    let (whole, _) = read_pieces([STREAM].into_iter());
-    for at in 0..=STREAM.len() {
-        let (found, rest) = read_pieces([&STREAM[..at]].into_iter());
-        let count = STARTS[1..].iter().filter(|&&end| end <= at).count();
-        assert_eq!(found, whole[..count]);
-        assert_eq!(rest, STREAM[STARTS[count]..at]);
     }
 }
 

@@ -1,6 +1,6 @@
 //! The client's side.
 
-use super::{base64, covered, is_nonce, is_same, proof_and_signature, without_proof};
+use super::{base64, covered, is_nonce, is_same, without_proof, xor};
 use super::{Digest, Error, Key, SCRAM_SHA_256, SCRAM_SHA_256_PLUS};
 use crate::answer::{grow, items};
 use crate::backend::Authentication;
@@ -156,12 +156,12 @@ impl<'a, D: Digest> Client<'a, D> {
             return Err(Error::Nonce);
         }
         let salted = D::salted(self.password, &read.salt, read.iterations);
-        let keys = (D::hmac(&salted, b"Client Key"), D::hmac(&salted, b"Server Key"));
         let binding = self.binding.filter(|_| header == HEADERS[2]).unwrap_or_default();
         let answer = without_proof(header, binding, &read.nonce);
         let messages = covered(self.bare().as_bytes(), challenge, answer.as_bytes());
-        let (proof, signature) = proof_and_signature::<D>(&keys.0, &keys.1, &messages);
-        self.state = State::Signature(signature);
+        let key = D::hmac(&salted, b"Client Key");
+        let proof = xor(key, &D::hmac(&D::hash(&key), &messages));
+        self.state = State::Signature(D::hmac(&D::hmac(&salted, b"Server Key"), &messages));
         Ok(format!("{answer},p={}", base64::encode(&proof)).into())
     }
 

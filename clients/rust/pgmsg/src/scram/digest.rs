@@ -1,5 +1,7 @@
 //! The hash that an exchange is over.
 
+use super::xor;
+
 /// What SHA-256 gives of some bytes.
 pub type Key = [u8; 32];
 
@@ -18,9 +20,7 @@ pub trait Digest {
         let mut salted = last;
         for _ in 1..iterations {
             last = Self::hmac(password, &last);
-            for (byte, next) in salted.iter_mut().zip(last) {
-                *byte ^= next;
-            }
+            salted = xor(salted, &last);
         }
         salted
     }

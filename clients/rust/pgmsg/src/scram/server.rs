@@ -1,7 +1,7 @@
 //! The server's side.
 
 use super::client::read_verifier;
-use super::{base64, covered, is_nonce, is_same, proof_and_signature, without_proof};
+use super::{base64, covered, is_nonce, is_same, without_proof, xor};
 use super::{Digest, Error, Key};
 use alloc::format;
 use alloc::string::{String, ToString};
@@ -110,17 +110,12 @@ impl<'a, D: Digest> Server<'a, D> {
         let proof = proof.and_then(|rest| rest.strip_prefix(b",p=")).ok_or(Error::WrongProof)?;
         let proof = read_verifier(&[b"v=", proof].concat())?;
         let messages = covered(bare, challenge, due.as_bytes());
-        let mut client_key = D::hmac(&self.kept.stored_key, &messages);
-        for (byte, proof) in client_key.iter_mut().zip(&proof) {
-            *byte ^= proof;
-        }
-        if proof.len() != client_key.len() || !is_same(&self.kept.stored_key, &D::hash(&client_key))
-        {
+        let key = xor(D::hmac(&self.kept.stored_key, &messages), &proof);
+        if proof.len() != key.len() || !is_same(&self.kept.stored_key, &D::hash(&key)) {
             return Err(Error::WrongProof);
         }
+        let signature = D::hmac(&self.kept.server_key, &messages);
         self.state = State::Finished;
-        let (_, signature) =
-            proof_and_signature::<D>(&client_key, &self.kept.server_key, &messages);
         Ok(format!("v={}", base64::encode(&signature)).into())
     }
 }
