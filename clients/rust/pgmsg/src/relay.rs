@@ -173,7 +173,7 @@ impl Relay {
     ) -> Result<Option<Event<'a>>, Fault> {
         let (count, tag) = match front_of(&mut self.relay, &self.wanted, piece)? {
             Front::Short(needed) => {
-                hold(&mut self.held, piece)?;
+                add(&mut self.held, piece)?;
                 self.needed = needed;
                 *piece = &[];
                 return Ok(None);
@@ -219,7 +219,7 @@ impl Relay {
         loop {
             let missing = needed.saturating_sub(self.held.len());
             let (bytes, after) = rest.split_at(missing.min(rest.len()));
-            hold(&mut self.held, bytes)?;
+            add(&mut self.held, bytes)?;
             rest = after;
             if self.held.len() < needed {
                 return Ok((Front::Short(needed), rest));
@@ -251,9 +251,9 @@ impl fmt::Debug for Relay {
     }
 }
 
-/// Adds bytes to what is held, or leaves it as it was.
-fn hold(held: &mut Vec<u8>, bytes: &[u8]) -> Result<(), Refusal> {
-    held.try_reserve(bytes.len()).map_err(|_| Refusal::OutOfMemory)?;
-    held.extend_from_slice(bytes);
+/// Adds bytes to others, or leaves these as they were.
+fn add(to: &mut Vec<u8>, bytes: &[u8]) -> Result<(), Refusal> {
+    to.try_reserve(bytes.len()).map_err(|_| Refusal::OutOfMemory)?;
+    to.extend_from_slice(bytes);
     Ok(())
 }

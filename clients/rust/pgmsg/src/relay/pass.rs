@@ -1,7 +1,7 @@
 //! A piece of a stream that is passed on, with its user's answers.
 
-use super::{Answer, Event, Relay};
-use crate::error::{Fault, Refusal};
+use super::{add, Answer, Event, Relay};
+use crate::error::Fault;
 use crate::frame::Frame;
 use alloc::vec::Vec;
 
@@ -41,19 +41,12 @@ impl Relay {
             match event {
                 Event::Frame(frame) => {
                     for part in answer(frame)?.place(&frame)? {
-                        put(out, part)?;
+                        add(out, part)?;
                     }
                 }
-                Event::Part { bytes, .. } => put(out, bytes)?,
+                Event::Part { bytes, .. } => add(out, bytes)?,
             }
         }
         Ok(())
     }
-}
-
-/// Adds bytes to what goes out.
-fn put(out: &mut Vec<u8>, bytes: &[u8]) -> Result<(), Refusal> {
-    out.try_reserve(bytes.len()).map_err(|_| Refusal::OutOfMemory)?;
-    out.extend_from_slice(bytes);
-    Ok(())
 }
