@@ -83,7 +83,7 @@ kept_crates() {
             "$folder/cargo" --version
         done < <(rust_folders 1.63)
         ls -d "$registry"/*
-        cat tests/cargo.sh rust/*/Cargo.toml rust/tokio-postgres/{,end-to-end/,postgres-protocol/}Cargo.toml tape/{,*/}Cargo.toml
+        cat tests/cargo.sh rust/*/Cargo.toml rust/tokio-postgres/{,spoken/,postgres-protocol/}Cargo.toml tape/{,*/}Cargo.toml
     } | sha256sum | cut -c -16)"
 }
 

@@ -58,17 +58,14 @@ say_by_python() {
     done
 }
 
-# Each case of the program that times tokio-postgres.
+# The program on tokio-postgres.
 say_by_tokio_postgres() {
-    local case
     if [ -z "$on_original" ]; then
         echo "left out: what tokio-postgres says, which needs the packages$driver_lacks"
         return
     fi
-    for case in select-1 select-1000 insert insert-pipelined copy-in copy-out listen; do
-        try "$on_original/end-to-end" "$case" 2 "host=127.0.0.1 port=$said_port user=postgres"
-        expect "tokio-postgres speaks: $case" 0
-    done
+    PGPORT=$said_port try "$on_original/spoken"
+    expect 'tokio-postgres speaks' 0
 }
 
 # What psql and pgbench say at least.

@@ -25,9 +25,9 @@ build_on_original() {
         rust/tokio-postgres/prepare out/original
         try by_cargo out/original build --workspace --all-features --bins --tests
         expect 'programs on tokio-postgres' 0
-        # The driver's tests may build others of their names.
+        # The driver's tests may build another one of its name.
         mkdir -p out/on-original
-        cp out/cargo/debug/{end-to-end,spoken} out/on-original
+        cp out/cargo/debug/spoken out/on-original
         on_original=out/on-original
     fi
 }

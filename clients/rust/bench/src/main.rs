@@ -1,10 +1,12 @@
-//! Times pgmsg beside postgres-protocol, by turns in one process. It prints a row a case: the medians of 31
-//! rounds in nanoseconds a message, and their quotient.
+//! Times pgmsg and the crate with the interface of postgres-protocol on it beside postgres-protocol, by turns in
+//! one process. It prints a row a case: the medians of 31 rounds in nanoseconds a message, and the quotients of
+//! the first two.
 
+mod interface;
 mod ours;
-mod theirs;
 
 use bytes::BytesMut;
+use interface::{drop_in, original};
 use pgmsg::backend::RowIndex;
 use std::hint::black_box;
 use std::time::Duration;
@@ -66,21 +68,21 @@ fn median(mut all: Vec<f64>) -> f64 {
 }
 
 /// Takes turns, and prints the row of a case, of which a call has so many messages.
-fn compare(
-    name: &str,
-    messages: usize,
-    mut ours: impl FnMut() -> usize,
-    mut theirs: impl FnMut() -> usize,
-) {
-    assert_eq!(ours(), theirs(), "{name}: the two don't give the same");
-    let times = times_of(&mut ours).max(times_of(&mut theirs));
-    let (mut of_ours, mut of_theirs) = (Vec::new(), Vec::new());
+fn compare(name: &str, messages: u32, mut calls: [&mut dyn FnMut() -> usize; 3]) {
+    let given: Vec<_> = calls.iter_mut().map(|call| call()).collect();
+    assert!(given.iter().all(|it| *it == given[0]), "{name}: they don't give the same");
+    let times = calls.iter_mut().map(|call| times_of(call)).fold(1, u32::max);
+    let mut taken = [vec![], vec![], vec![]];
     for _ in 0..ROUNDS {
-        of_ours.push(time_of(&mut ours, times) / messages as f64);
-        of_theirs.push(time_of(&mut theirs, times) / messages as f64);
+        for (call, taken) in calls.iter_mut().zip(&mut taken) {
+            taken.push(time_of(call, times) / f64::from(messages));
+        }
     }
-    let (ours, theirs) = (median(of_ours), median(of_theirs));
-    println!("| {name} | {ours:.1} | {theirs:.1} | {:.2} |", ours / theirs);
+    let [ours, drop_in, theirs] = taken.map(median);
+    let (quotient, of_drop_in) = (ours / theirs, drop_in / theirs);
+    println!(
+        "| {name} | {ours:.1} | {drop_in:.1} | {theirs:.1} | {quotient:.2} | {of_drop_in:.2} |"
+    );
 }
 
 /// A stream of rows, each of so many cells of 8 bytes.
@@ -98,12 +100,20 @@ fn rows(count: usize, cells: usize) -> Vec<u8> {
 }
 
 fn main() {
-    println!("| case | pgmsg, ns | postgres-protocol, ns | quotient |\n|---|---|---|---|");
-    let (mut out, mut index, mut buffer) = (Vec::new(), RowIndex::new(), BytesMut::new());
+    println!(
+        "| case | pgmsg, ns | drop-in, ns | postgres-protocol, ns | quotient | of the drop-in |"
+    );
+    println!("|---|---|---|---|---|---|");
+    let (mut out, mut index) = (Vec::new(), RowIndex::new());
+    let (mut buffer, mut other) = (BytesMut::new(), BytesMut::new());
     for cells in [5, 50] {
-        let (name, stream) = (format!("row of {cells} cells"), rows(200, cells));
-        let ours = || ours::read(&stream, &mut out, &mut index);
-        compare(&name, 200, ours, || theirs::read(&stream));
+        let stream = rows(200, cells);
+        let calls: [&mut dyn FnMut() -> usize; 3] = [
+            &mut || ours::read(&stream, &mut out, &mut index),
+            &mut || drop_in::read(&stream),
+            &mut || original::read(&stream),
+        ];
+        compare(&format!("row of {cells} cells"), 200, calls);
     }
     let query = |values, length| Query {
         statement: "s17",
@@ -112,11 +122,18 @@ fn main() {
         values: vec![vec![b'v'; length]; values],
     };
     let parse = query(0, 0);
-    let ours = || ours::parse(&parse, &mut out);
-    compare("Parse of 8 types", 1, ours, || theirs::parse(&parse, &mut buffer));
+    let calls: [&mut dyn FnMut() -> usize; 3] = [
+        &mut || ours::parse(&parse, &mut out),
+        &mut || drop_in::parse(&parse, &mut buffer),
+        &mut || original::parse(&parse, &mut other),
+    ];
+    compare("Parse of 8 types", 1, calls);
     for (name, bind) in [("8 values", query(8, 8)), ("2 values of 4 KiB", query(2, 4096))] {
-        let name = format!("Bind of {name}, Execute and Sync");
-        let ours = || ours::run(&bind, &mut out);
-        compare(&name, 1, ours, || theirs::run(&bind, &mut buffer));
+        let calls: [&mut dyn FnMut() -> usize; 3] = [
+            &mut || ours::run(&bind, &mut out),
+            &mut || drop_in::run(&bind, &mut buffer),
+            &mut || original::run(&bind, &mut other),
+        ];
+        compare(&format!("Bind of {name}, Execute and Sync"), 1, calls);
     }
 }
