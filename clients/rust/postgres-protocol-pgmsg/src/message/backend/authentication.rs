@@ -1,7 +1,7 @@
 //! What the server asks of a client that opens a session.
 
 use super::body::body;
-use super::items::list;
+use super::items::Items;
 use super::Message;
 use crate::getters::getters;
 use crate::lacking::{ends, ends_list, refused, text, text_len};
@@ -86,14 +86,12 @@ body! {
     /// The mechanisms of SASL that the server offers.
     AuthenticationSaslBody of METHOD, {
         /// The names of the mechanisms.
-        mechanisms(self) -> SaslMechanisms<'_> = SaslMechanisms::of(&self.0);
+        mechanisms(self) -> SaslMechanisms<'_> = Items::new(mechanisms(&self.0));
     }
 }
 
-list! {
-    /// The names of mechanisms of SASL.
-    SaslMechanisms: &'a str = mechanisms
-}
+/// The names of mechanisms of SASL.
+pub type SaslMechanisms<'a> = Items<'a, &'a str>;
 
 fn mechanisms(body: &[u8]) -> io::Result<Vec<&str>> {
     match Authentication::read(body)? {

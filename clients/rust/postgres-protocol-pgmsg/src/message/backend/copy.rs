@@ -1,7 +1,7 @@
 //! The data of a COPY, and how it is spelled.
 
 use super::body::body;
-use super::items::list;
+use super::items::Items;
 use crate::lacking::{ends, refused};
 use bytes::Bytes;
 use pgmsg::backend::CopyResponse;
@@ -35,7 +35,7 @@ macro_rules! response {
                 /// The format of the data: 0 for text, 1 for binary.
                 format(self) -> u8 = self.0.first().copied().unwrap_or_default();
                 /// The formats of the columns.
-                column_formats(self) -> ColumnFormats<'_> = ColumnFormats::of(&self.0);
+                column_formats(self) -> ColumnFormats<'_> = Items::new(column_formats(&self.0));
             }
         }
     };
@@ -51,10 +51,8 @@ response! {
     CopyOutResponseBody
 }
 
-list! {
-    /// The formats of columns.
-    ColumnFormats: u16 = column_formats
-}
+/// The formats of columns.
+pub type ColumnFormats<'a> = Items<'a, u16>;
 
 fn column_formats(body: &[u8]) -> io::Result<Vec<u16>> {
     let columns = CopyResponse::read(body)?.columns;

@@ -1,7 +1,7 @@
 //! The columns of a result, and the types of a statement's parameters.
 
 use super::body::body;
-use super::items::list;
+use super::items::Items;
 use crate::getters::getters;
 use crate::lacking::{ends, refused, text, text_len};
 use crate::Oid;
@@ -18,14 +18,12 @@ body! {
     /// The columns of a result.
     RowDescriptionBody of COUNT, {
         /// The columns.
-        fields(self) -> Fields<'_> = Fields::of(&self.0);
+        fields(self) -> Fields<'_> = Items::new(fields(&self.0));
     }
 }
 
-list! {
-    /// The columns of a result.
-    Fields: Field<'a> = fields
-}
+/// The columns of a result.
+pub type Fields<'a> = Items<'a, Field<'a>>;
 
 fn fields(body: &[u8]) -> io::Result<Vec<Field<'_>>> {
     let columns = match backend::Message::read_body(Some(b'T'), body)? {
@@ -70,14 +68,12 @@ body! {
     /// The types of a statement's parameters.
     ParameterDescriptionBody of COUNT, {
         /// The object ids of the types.
-        parameters(self) -> Parameters<'_> = Parameters::of(&self.0);
+        parameters(self) -> Parameters<'_> = Items::new(parameters(&self.0));
     }
 }
 
-list! {
-    /// The object ids of types.
-    Parameters: Oid = parameters
-}
+/// The object ids of types.
+pub type Parameters<'a> = Items<'a, Oid>;
 
 fn parameters(body: &[u8]) -> io::Result<Vec<Oid>> {
     let types = match backend::Message::read_body(Some(b't'), body)? {

@@ -1,7 +1,7 @@
 //! The fields of an error or a notice.
 
 use super::body::body;
-use super::items::list;
+use super::items::Items;
 use crate::getters::getters;
 use crate::lacking::{ends_list, text, text_len};
 use pgmsg::backend::Fields;
@@ -11,7 +11,7 @@ body! {
     /// An error.
     ErrorResponseBody of 0, {
         /// The fields.
-        fields(self) -> ErrorFields<'_> = ErrorFields::of(&self.0);
+        fields(self) -> ErrorFields<'_> = Items::new(error_fields(&self.0));
     }
 }
 
@@ -19,14 +19,12 @@ body! {
     /// A notice.
     NoticeResponseBody of 0, {
         /// The fields.
-        fields(self) -> ErrorFields<'_> = ErrorFields::of(&self.0);
+        fields(self) -> ErrorFields<'_> = Items::new(error_fields(&self.0));
     }
 }
 
-list! {
-    /// The fields of an error or a notice.
-    ErrorFields: ErrorField<'a> = error_fields
-}
+/// The fields of an error or a notice.
+pub type ErrorFields<'a> = Items<'a, ErrorField<'a>>;
 
 /// A field of an error or a notice.
 pub struct ErrorField<'a> {
