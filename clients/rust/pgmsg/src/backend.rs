@@ -95,7 +95,7 @@ messages! {
         /// A query without a statement succeeded.
         EmptyQueryResponse = b'I';
         /// An error.
-        ErrorResponse(fields: Fields<'a>) = b'E', Fields::read, fields::write_error;
+        ErrorResponse(fields: Fields<'a>) = b'E', Fields::read, fields::write(b'E', fields);
         /// The result of a function that was called.
         FunctionCallResponse(response: FunctionCallResponse<'a>) = b'V', FunctionCallResponse::read, FunctionCallResponse::write;
         /// The newest version of the protocol that the server speaks.
@@ -103,7 +103,7 @@ messages! {
         /// A statement or a portal has no rows to describe.
         NoData = b'n';
         /// A notice.
-        NoticeResponse(fields: Fields<'a>) = b'N', Fields::read, fields::write_notice;
+        NoticeResponse(fields: Fields<'a>) = b'N', Fields::read, fields::write(b'N', fields);
         /// A notification from another session.
         NotificationResponse(notification: NotificationResponse<'a>) = b'A', NotificationResponse::read, NotificationResponse::write;
         /// The object ids of the types of a statement's parameters.

@@ -11,6 +11,7 @@ macro_rules! messages {
     (@read $body:ident $name:ident $read:expr) => { Message::$name($read($body)?) };
     (@write $out:ident ($($parts:ident)?) $call:ident($($arguments:tt)*)) => { put!($out, $call($($arguments)*)) };
     (@write $out:ident ($parts:ident) $($write:ident)::+) => { $($write)::+($parts, $out) };
+    (@write $out:ident ($parts:ident) $($write:ident)::+($($arguments:tt)*)) => { $($write)::+($($arguments)*, $out) };
     (@write $out:ident $tag:literal) => { put!($out, pgmsg_put_no_body($tag)) };
     (@write $out:ident $tag:literal $($write:tt)+) => { messages!(@write $out $($write)+) };
     (

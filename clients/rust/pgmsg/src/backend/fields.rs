@@ -148,15 +148,8 @@ impl<'a> Fields<'a> {
     }
 }
 
-pub(super) fn write_error<B: Buffer>(fields: &[Field<'_>], out: &mut B) -> Result<(), Refusal> {
-    write(b'E', fields, out)
-}
-
-pub(super) fn write_notice<B: Buffer>(fields: &[Field<'_>], out: &mut B) -> Result<(), Refusal> {
-    write(b'N', fields, out)
-}
-
-fn write<B: Buffer>(tag: u8, fields: &[Field<'_>], out: &mut B) -> Result<(), Refusal> {
+/// Appends the message of a tag.
+pub(super) fn write<B: Buffer>(tag: u8, fields: &[Field<'_>], out: &mut B) -> Result<(), Refusal> {
     let fields: Vec<_> = fields.iter().map(text_of).collect();
     put!(out, pgmsg_put_notice(tag, [fields]))
 }
