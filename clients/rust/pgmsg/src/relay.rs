@@ -34,10 +34,11 @@ pub use event::Event;
 pub use wanted::Wanted;
 
 use crate::error::{Fault, Refusal};
+use crate::frame::Frame;
 use crate::sys;
 use alloc::vec::Vec;
 use core::fmt;
-use front::{front_of, Front};
+use front::{front_of, Front, Kind};
 
 /// Takes the bytes of one direction of a connection in pieces, and gives back what goes out.
 ///
@@ -171,20 +172,16 @@ impl Relay {
         &'a mut self,
         piece: &mut &'p [u8],
     ) -> Result<Option<Event<'a>>, Fault> {
-        let (count, tag) = match front_of(&mut self.relay, &self.wanted, piece)? {
-            Front::Short(needed) => {
-                add(&mut self.held, piece)?;
-                self.needed = needed;
-                *piece = &[];
-                return Ok(None);
-            }
-            Front::Whole(tag, count) => (count, Some(tag)),
-            Front::Part(count) => (count, None),
-        };
+        let Front { kind, count } = front_of(&mut self.relay, &self.wanted, piece)?;
+        if kind == Kind::Short {
+            add(&mut self.held, piece)?;
+            self.needed = count;
+            *piece = &[];
+            return Ok(None);
+        }
         let bytes = piece.get(..count).ok_or_else(|| Fault::unexpected(count))?;
         *piece = &piece[count..];
-        let offset = &mut self.offset;
-        Ok(Some(Event::new(&self.relay, tag, bytes, offset)))
+        Ok(event_of(&self.relay, kind, bytes, &mut self.offset))
     }
 
     /// Where the front of a message is held.
@@ -197,19 +194,13 @@ impl Relay {
         if joined.is_err() {
             self.held.truncate(before);
         }
-        let (tag, rest) = match joined? {
-            (Front::Short(needed), _) => {
-                self.needed = needed;
-                *piece = &[];
-                return Ok(None);
-            }
-            (Front::Whole(tag, _), rest) => (Some(tag), rest),
-            (Front::Part(_), rest) => (None, rest),
-        };
+        let (front, rest) = joined?;
         *piece = rest;
-        self.is_given = true;
-        let (held, offset) = (&self.held, &mut self.offset);
-        Ok(Some(Event::new(&self.relay, tag, held, offset)))
+        match front.kind {
+            Kind::Short => self.needed = front.count,
+            _ => self.is_given = true,
+        }
+        Ok(event_of(&self.relay, front.kind, &self.held, &mut self.offset))
     }
 
     /// Holds what is missing of the message at the front: first of its tag and its length, then of all of
@@ -222,20 +213,33 @@ impl Relay {
             add(&mut self.held, bytes)?;
             rest = after;
             if self.held.len() < needed {
-                return Ok((Front::Short(needed), rest));
+                return Ok((Front { kind: Kind::Short, count: needed }, rest));
             }
-            match front_of(&mut self.relay, &self.wanted, &self.held)? {
-                Front::Short(more) if more > needed => needed = more,
-                Front::Whole(tag, count) if count == needed => {
-                    return Ok((Front::Whole(tag, count), rest))
-                }
-                Front::Part(count) if count == needed => return Ok((Front::Part(count), rest)),
-                Front::Short(count) | Front::Whole(_, count) | Front::Part(count) => {
-                    return Err(Fault::unexpected(count))
-                }
+            let front = front_of(&mut self.relay, &self.wanted, &self.held)?;
+            match front.kind {
+                Kind::Short if front.count > needed => needed = front.count,
+                Kind::Whole(_) | Kind::Part if front.count == needed => return Ok((front, rest)),
+                _ => return Err(Fault::unexpected(front.count)),
             }
         }
     }
+}
+
+/// What is given of bytes that the library has found, or nothing where they are too few.
+#[inline]
+fn event_of<'a>(
+    relay: &sys::pgmsg_relay,
+    kind: Kind,
+    bytes: &'a [u8],
+    offset: &mut u64,
+) -> Option<Event<'a>> {
+    let event = match kind {
+        Kind::Short => return None,
+        Kind::Whole(tag) => Event::Frame(Frame { tag, bytes, offset: *offset }),
+        Kind::Part => Event::Part { bytes, left: relay.left },
+    };
+    *offset += bytes.len() as u64;
+    Some(event)
 }
 
 /// Shows how many bytes are held, and not the bytes, which may have a password.

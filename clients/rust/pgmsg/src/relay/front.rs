@@ -5,14 +5,20 @@ use crate::calls::ask;
 use crate::error::Fault;
 use crate::sys;
 
-/// What the library finds at the front of some bytes.
-pub(super) enum Front {
-    /// Too few bytes: it needs so many at least.
-    Short(usize),
-    /// A message, with its tag or none, of so many bytes.
-    Whole(Option<u8>, usize),
-    /// So many bytes that go out as they are.
-    Part(usize),
+/// What the library finds at the front of some bytes, and how many bytes that are, or are needed at least.
+pub(super) struct Front {
+    pub kind: Kind,
+    pub count: usize,
+}
+
+#[derive(PartialEq, Eq)]
+pub(super) enum Kind {
+    /// Too few bytes.
+    Short,
+    /// A message, with its tag or none.
+    Whole(Option<u8>),
+    /// Bytes that go out as they are.
+    Part,
 }
 
 /// What is at the front of some bytes, which the relay takes where it is whole or a part.
@@ -27,9 +33,10 @@ pub(super) fn front_of(
     // The call takes 256 flags, as many as there are.
     let flags = wanted.flags().as_ptr();
     let number = ask!(pgmsg_relay_next(relay, flags, [bytes], &mut passage))?;
-    Ok(match number {
-        0 => Front::Short(passage.length),
-        1 => Front::Whole(Some(passage.tag).filter(|_| !is_first), passage.length),
-        _ => Front::Part(passage.length),
-    })
+    let kind = match number {
+        0 => Kind::Short,
+        1 => Kind::Whole(Some(passage.tag).filter(|_| !is_first)),
+        _ => Kind::Part,
+    };
+    Ok(Front { kind, count: passage.length })
 }
