@@ -22,7 +22,8 @@ pub enum Answer {
     CopyIn,
     /// Lines of data.
     CopyOut(&'static [&'static str]),
-    Listen,
+    /// Nothing but the tag.
+    Done,
     Notify,
     /// A message.
     Failure(&'static str),
@@ -37,7 +38,7 @@ static TABLE: &[Canned] = &[
     ) },
     Canned { words: "FROM STDIN", tag: "COPY", answer: Answer::CopyIn },
     Canned { words: "TO STDOUT", tag: "COPY 3", answer: Answer::CopyOut(&["1\tred\n", "2\tgreen\n", "3\tblue\n"]) },
-    Canned { words: "LISTEN ", tag: "LISTEN", answer: Answer::Listen },
+    Canned { words: "LISTEN ", tag: "LISTEN", answer: Answer::Done },
     Canned { words: "NOTIFY ", tag: "NOTIFY", answer: Answer::Notify },
     Canned { words: "missing", tag: "42P01", answer: Answer::Failure("relation \"missing\" does not exist") },
     Canned { words: "SELECT 1", tag: "SELECT 1", answer: Answer::Rows(&[("?column?", 23)], &[&["1"]]) },

@@ -24,8 +24,6 @@ pub struct Session {
     pub out: Vec<u8>,
     statements: HashMap<Vec<u8>, &'static Canned>,
     portals: HashMap<Vec<u8>, &'static Canned>,
-    /// The channel that the client listens on.
-    channel: String,
     /// How many lines of a COPY came.
     lines: usize,
     /// Whether all is passed over up to a Sync, after an error.
@@ -102,25 +100,17 @@ impl Session {
             }
             _ => canned.finish(query, &mut self.out)?,
         }
-        if let Answer::Listen = canned.answer {
-            self.channel = query.trim_start_matches("LISTEN ").into();
-        }
         self.ready()
     }
 
-    /// Notifies the session of what it says itself, where it listens.
+    /// Notifies the session of what it says itself.
     fn notify(&mut self, words: &str) -> Result<()> {
         let (channel, payload) = words.split_once(", ").unwrap_or((words, ""));
-        if channel == self.channel {
-            let payload = payload.trim_matches('\'');
-            let notification = NotificationResponse {
-                process_id: PROCESS,
-                channel: channel.into(),
-                payload: payload.into(),
-            };
-            notification.write(&mut self.out)?;
-        }
-        Ok(())
+        self.say(Reply::NotificationResponse(NotificationResponse {
+            process_id: PROCESS,
+            channel: channel.into(),
+            payload: payload.trim_matches('\'').into(),
+        }))
     }
 
     /// Takes a message of the extended protocol.
