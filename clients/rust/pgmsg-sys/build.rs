@@ -1,8 +1,6 @@
-//! Finds `libpg_message`: in the folder that `PGMSG_LIB_DIR` names, else by `pkg-config`, else by
-//! building it, where this is the repository of the library and `rt` is there.
+//! Finds `libpg_message`: in the folder that `PGMSG_LIB_DIR` names, else by `pkg-config`.
 
 use std::env;
-use std::fs;
 use std::path::{Path, PathBuf};
 use std::process::{self, Command};
 
@@ -12,10 +10,9 @@ const VARIABLE: &str = "PGMSG_LIB_DIR";
 const VERSION: &str = "pg_message = 0.2.0";
 
 const WAYS: &str = "\
-there is no libpg_message. One of these helps:
+there is no libpg_message, which clients/library of its repository makes. One of these says where it is:
 - the variable PGMSG_LIB_DIR, which names the folder of libpg_message.a or libpg_message.so
-- pkg-config, where PKG_CONFIG_PATH has the folder of pg_message.pc
-- rt, with which this script builds the library in its repository";
+- pkg-config, where PKG_CONFIG_PATH has the folder of pg_message.pc";
 
 fn main() {
     for variable in [VARIABLE, "PKG_CONFIG", "PKG_CONFIG_PATH", "DOCS_RS"] {
@@ -34,13 +31,9 @@ fn main() {
 /// The folder of the library.
 fn folder() -> Result<PathBuf, String> {
     let named = env::var_os(VARIABLE).map(|folder| manifest().join(folder));
-    match named.or_else(installed) {
-        Some(folder) => {
-            println!("cargo:rerun-if-changed={}", folder.display());
-            Ok(folder)
-        }
-        None => built(),
-    }
+    let folder = named.or_else(installed).ok_or(WAYS)?;
+    println!("cargo:rerun-if-changed={}", folder.display());
+    Ok(folder)
 }
 
 /// Has cargo link the library of a folder.
@@ -66,39 +59,6 @@ fn installed() -> Option<PathBuf> {
     let said = Command::new(&program).args(["--variable=libdir", "pg_message"]).output();
     let folder = String::from_utf8(said.ok()?.stdout).ok()?;
     Some(PathBuf::from(folder.trim_end()))
-}
-
-/// The folder in which `clients/library` has made the library. It proves first what isn't proved
-/// yet, which takes minutes.
-fn built() -> Result<PathBuf, String> {
-    let top = manifest().join("../../..");
-    let script = top.join("clients/library");
-    let has_rt = Command::new("rt").arg("version").output().is_ok();
-    if !script.is_file() || !has_rt {
-        return Err(WAYS.into());
-    }
-    watch(&top);
-    let out = PathBuf::from(env::var_os("OUT_DIR").unwrap_or_default());
-    match Command::new(&script).arg(&out).status() {
-        Ok(status) if status.success() => Ok(out),
-        Ok(status) => Err(format!("{} failed: {status}", script.display())),
-        Err(why) => Err(format!("{}: {why}", script.display())),
-    }
-}
-
-/// Has cargo run this script again when a source of the library changes.
-fn watch(top: &Path) {
-    for file in ["clients/library", "clients/c/library", "crates.txt"] {
-        println!("cargo:rerun-if-changed={}", top.join(file).display());
-    }
-    let crates = fs::read_dir(top.join("crates")).into_iter().flatten();
-    for part in crates.flatten() {
-        for sources in ["src", "specs", "proofs"].map(|name| part.path().join(name)) {
-            if sources.is_dir() {
-                println!("cargo:rerun-if-changed={}", sources.display());
-            }
-        }
-    }
 }
 
 /// The folder of this crate. A relative path of the variable starts there.

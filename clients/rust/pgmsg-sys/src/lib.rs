@@ -30,8 +30,7 @@
 //! The build script takes, in this order,
 //!
 //! 1. the folder that the environment variable `PGMSG_LIB_DIR` names,
-//! 2. what `pkg-config` says of `pg_message`; the variable `PKG_CONFIG` may name another program,
-//! 3. in the repository of the library, what its `clients/library` makes, where `rt` is there.
+//! 2. what `pkg-config` says of `pg_message`; the variable `PKG_CONFIG` may name another program.
 //!
 //! It links the static library where the folder has one, else the shared one.
 

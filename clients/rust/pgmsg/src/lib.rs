@@ -38,8 +38,7 @@
 //! # Building
 //!
 //! The crate `pgmsg-sys`, which declares the calls of the library, finds it: in the folder that the
-//! environment variable `PGMSG_LIB_DIR` names, else by `pkg-config`, else by building it, where `rt`
-//! is there. It needs Rust 1.63.
+//! environment variable `PGMSG_LIB_DIR` names, else by `pkg-config`. It needs Rust 1.63.
 
 #![cfg_attr(not(feature = "std"), no_std)]
 #![warn(missing_docs)]
