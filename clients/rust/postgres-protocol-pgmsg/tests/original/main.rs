@@ -40,8 +40,8 @@ fn is_named(ours: &[String], theirs: &[String]) -> bool {
     let same = ours.iter().zip(theirs).take_while(|(ours, theirs)| ours == theirs).count();
     let is_refused = same + 1 == ours.len() && ours[same] == "refused";
     let other = theirs[same].split_once(' ').map_or("", |(_, message)| message);
-    let is_ready =
-        other.starts_with("Ready ") && !["Ready 73", "Ready 84", "Ready 69"].contains(&other);
+    let status = other.strip_prefix("ReadyForQuery ");
+    let is_ready = status.map_or(false, |status| !["(73,)", "(84,)", "(69,)"].contains(&status));
     let is_long = same > 0 && ours[same - 1] == "refused" && theirs[same].parse::<usize>().is_ok();
     is_refused && (is_ready || is_long)
 }

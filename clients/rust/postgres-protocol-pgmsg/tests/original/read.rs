@@ -1,5 +1,17 @@
 //! What each of the two crates reads of a stream, in words.
 
+/// Says a message in words, by a table of the parts of each.
+macro_rules! said {
+    (@ $kind:ident) => { stringify!($kind).to_string() };
+    (@ $kind:ident $($part:expr),+) => { format!("{} {:?}", stringify!($kind), ($($part,)+)) };
+    ($message:ident: $($kind:ident$(($it:ident): $($part:expr),+)?;)*) => {
+        match $message {
+            $(Message::$kind$(($it))? => said!(@ $kind $($($part),+)?),)*
+            _ => "another".to_string(),
+        }
+    };
+}
+
 /// Makes the readers of one of the two crates.
 macro_rules! reader {
     ($name:ident, $library:ident) => {
@@ -40,70 +52,39 @@ macro_rules! reader {
             }
 
             fn named(message: Message) -> String {
-                match message {
-                    Message::BindComplete => "BindComplete".into(),
-                    Message::CloseComplete => "CloseComplete".into(),
-                    Message::CopyDone => "CopyDone".into(),
-                    Message::EmptyQueryResponse => "EmptyQueryResponse".into(),
-                    Message::NoData => "NoData".into(),
-                    Message::ParseComplete => "ParseComplete".into(),
-                    Message::PortalSuspended => "PortalSuspended".into(),
-                    Message::BackendKeyData(it) => {
-                        format!("KeyData {} {}", it.process_id(), it.secret_key())
-                    }
-                    Message::CommandComplete(it) => format!("CommandComplete {}", words(it.tag())),
-                    Message::CopyData(it) => {
-                        format!("CopyData {:?} {:?}", it.data().to_vec(), it.into_bytes())
-                    }
-                    Message::CopyInResponse(it) => {
-                        format!("CopyIn {} {}", it.format(), formats(it.column_formats()))
-                    }
-                    Message::CopyOutResponse(it) => {
-                        format!("CopyOut {} {}", it.format(), formats(it.column_formats()))
-                    }
-                    Message::DataRow(it) => row(&it),
-                    Message::ErrorResponse(it) => format!("Error {}", fields(it.fields())),
-                    Message::NoticeResponse(it) => format!("Notice {}", fields(it.fields())),
-                    Message::NotificationResponse(it) => {
-                        format!(
-                            "Notification {} {} {}",
-                            it.process_id(),
-                            words(it.channel()),
-                            words(it.message())
-                        )
-                    }
-                    Message::ParameterDescription(it) => {
-                        format!("Parameters {}", words(it.parameters().collect::<Vec<_>>()))
-                    }
-                    Message::ParameterStatus(it) => {
-                        format!("ParameterStatus {} {}", words(it.name()), words(it.value()))
-                    }
-                    Message::ReadyForQuery(it) => format!("Ready {}", it.status()),
-                    Message::RowDescription(it) => format!("Columns {}", columns(it.fields())),
-                    authentication => asked(authentication),
-                }
-            }
-
-            fn asked(message: Message) -> String {
-                match message {
-                    Message::AuthenticationOk => "Ok".into(),
-                    Message::AuthenticationKerberosV5 => "Kerberos".into(),
-                    Message::AuthenticationCleartextPassword => "Cleartext".into(),
-                    Message::AuthenticationScmCredential => "Scm".into(),
-                    Message::AuthenticationGss => "Gss".into(),
-                    Message::AuthenticationSspi => "Sspi".into(),
-                    Message::AuthenticationMd5Password(it) => format!("Md5 {:?}", it.salt()),
-                    Message::AuthenticationGssContinue(it) => {
-                        format!("GssContinue {:?}", it.data())
-                    }
-                    Message::AuthenticationSasl(it) => {
-                        format!("Sasl {}", mechanisms(it.mechanisms()))
-                    }
-                    Message::AuthenticationSaslContinue(it) => {
-                        format!("SaslContinue {:?}", it.data())
-                    }
-                    Message::AuthenticationSaslFinal(it) => format!("SaslFinal {:?}", it.data()),
-                    _ => "another".into(),
+                said! {
+                    message:
+                    AuthenticationOk;
+                    AuthenticationKerberosV5;
+                    AuthenticationCleartextPassword;
+                    AuthenticationScmCredential;
+                    AuthenticationGss;
+                    AuthenticationSspi;
+                    AuthenticationMd5Password(it): it.salt();
+                    AuthenticationGssContinue(it): it.data();
+                    AuthenticationSasl(it): mechanisms(it.mechanisms());
+                    AuthenticationSaslContinue(it): it.data();
+                    AuthenticationSaslFinal(it): it.data();
+                    BackendKeyData(it): it.process_id(), it.secret_key();
+                    BindComplete;
+                    CloseComplete;
+                    CommandComplete(it): words(it.tag());
+                    CopyData(it): it.data().to_vec(), it.into_bytes();
+                    CopyDone;
+                    CopyInResponse(it): it.format(), formats(it.column_formats());
+                    CopyOutResponse(it): it.format(), formats(it.column_formats());
+                    DataRow(it): row(&it);
+                    EmptyQueryResponse;
+                    ErrorResponse(it): fields(it.fields());
+                    NoData;
+                    NoticeResponse(it): fields(it.fields());
+                    NotificationResponse(it): it.process_id(), words(it.channel()), words(it.message());
+                    ParameterDescription(it): words(it.parameters().collect::<Vec<_>>());
+                    ParameterStatus(it): words(it.name()), words(it.value());
+                    ParseComplete;
+                    PortalSuspended;
+                    ReadyForQuery(it): it.status();
+                    RowDescription(it): columns(it.fields());
                 }
             }
 
