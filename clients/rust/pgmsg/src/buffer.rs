@@ -8,8 +8,7 @@ use core::mem::MaybeUninit;
 /// The least room that is added to a vector at once, so that small messages need few allocations.
 const LEAST_GROWTH: usize = 1 << 10;
 
-/// What messages are appended to: a `Vec<u8>`, with the feature `bytes` also a `BytesMut`, or a
-/// `&mut` of one.
+/// What messages are appended to: a `Vec<u8>`, and with the feature `bytes` also a `BytesMut`.
 ///
 /// No other type can be one.
 pub trait Buffer: Room {}
@@ -104,33 +103,6 @@ impl Room for bytes::BytesMut {
     fn reserve(&mut self, length: usize) -> Result<(), Refusal> {
         self.reserve(length);
         Ok(())
-    }
-}
-
-impl<B: Room> Room for &mut B {
-    #[inline]
-    fn bytes(&self) -> &[u8] {
-        (**self).bytes()
-    }
-
-    #[inline]
-    fn truncate(&mut self, length: usize) {
-        (**self).truncate(length);
-    }
-
-    #[inline]
-    fn spare(&mut self) -> Spare<'_> {
-        (**self).spare()
-    }
-
-    #[inline]
-    unsafe fn extend(&mut self, length: usize) {
-        // SAFETY: what is asked for is the same.
-        unsafe { (**self).extend(length) }
-    }
-
-    fn reserve(&mut self, length: usize) -> Result<(), Refusal> {
-        (**self).reserve(length)
     }
 }
 

@@ -20,12 +20,10 @@ fn messages_follow_one_another_while_the_buffer_grows() {
 fn messages_are_appended_to_what_is_there() {
     let mut bytes = vec![b'x'; 3000];
     bytes.shrink_to_fit();
-    // A buffer that is lent is one, too.
-    let mut out = &mut bytes;
-    let refused = Message::Query("\0".into()).write(&mut out);
+    let refused = Message::Query("\0".into()).write(&mut bytes);
     assert_eq!(refused, Err(Refusal::TextHoldsNul));
-    assert_eq!(Message::Query("a".into()).write(&mut out), Ok(()));
-    assert_eq!(Message::Sync.write(out), Ok(()));
+    assert_eq!(Message::Query("a".into()).write(&mut bytes), Ok(()));
+    assert_eq!(Message::Sync.write(&mut bytes), Ok(()));
     assert_eq!(bytes[2999..], *b"xQ\0\0\0\x06a\0S\0\0\0\x04");
 }
 
