@@ -8,8 +8,6 @@ TOP = pathlib.Path(__file__).resolve().parent.parent
 # At the end: a package on PYTHONPATH comes first, such as that of a wheel.
 sys.path.append(str(TOP))
 
-HEADER = TOP.parent / "c" / "include" / "pg_message.h"
-
 
 def tagged(tag, body):
     """A message with this tag and body."""

@@ -9,7 +9,6 @@ import re
 import subprocess
 import sys
 import tempfile
-import tomllib
 import unittest
 from contextlib import redirect_stdout
 from unittest import mock
@@ -38,11 +37,6 @@ class TestHeader(unittest.TestCase):
         used = set(re.findall(r"\bpgmsg_(?:put|read|next|relay|check)_\w+", SOURCES))
         calls = {name for name in dir(lib) if name.startswith("pgmsg_") and name not in ("pgmsg_version", "pgmsg_strerror")}
         self.assertEqual(calls - used, set(LEFT_OUT))
-
-    def test_versions(self):
-        project = tomllib.loads((support.TOP / "pyproject.toml").read_text())["project"]
-        version = re.search(r'#define PGMSG_VERSION "(.*)"', support.HEADER.read_text())[1]
-        self.assertEqual({pgmsg.__version__, project["version"]}, {version})
 
 
 class TestPackage(unittest.TestCase):

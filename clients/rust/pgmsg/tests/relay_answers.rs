@@ -92,17 +92,6 @@ fn answers_to_messages_without_a_tag() {
 }
 
 #[test]
-fn whole_messages_are_checked() {
-    let [request, startup] = FIRSTS;
-    assert_eq!(check_frames(b"", true), Ok(true));
-    assert_eq!(check_frames(&[request, startup, ADDED].concat(), true), Ok(false));
-    for (bytes, is_first) in [(ADDED, true), (startup, false), (&startup[..17], true)] {
-        let fault = check_frames(bytes, is_first).expect_err("a fault");
-        assert_eq!(fault.refusal, Refusal::NotFrames);
-    }
-}
-
-#[test]
 fn an_error_of_the_user_is_that_of_the_call() {
     let mut relay = Relay::of_server(100, Wanted::ALL);
     let mut out = Vec::new();

@@ -2,7 +2,7 @@
 
 use pgmsg::backend::Authentication;
 use pgmsg::frontend::{Password, SaslInitialResponse};
-use pgmsg::scram::{Client, Credentials, Digest, Error, Server, Sha256};
+use pgmsg::scram::{Client, Credentials, Error, Server, Sha256};
 
 /// The messages of section 3 of RFC 7677.
 const FIRST: &[u8] = b"n,,n=user,r=rOprNGfwEbeRWgbNEkqO";
@@ -34,14 +34,6 @@ fn the_example_of_the_rfc() {
     assert!(!client.is_finished());
     assert_eq!(client.finish(LAST), Ok(()));
     assert!(client.is_finished() && server.is_finished());
-}
-
-/// The first test vector of RFC 7914's section 11 for PBKDF2 with HMAC-SHA-256, up to 32 bytes.
-#[test]
-fn salted_passwords() {
-    let due = b"\x55\xac\x04\x6e\x56\xe3\x08\x9f\xec\x16\x91\xc2\x25\x44\xb6\x05\
-        \xf9\x41\x85\x21\x6d\xde\x04\x65\xe6\x8b\x9d\x57\xc2\x0d\xac\xbc";
-    assert_eq!(&Sha256::salted(b"passwd", b"salt", 1), due);
 }
 
 #[test]
