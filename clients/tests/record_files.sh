@@ -18,7 +18,7 @@ are_closed() {
 
 # Reads a recording, or the bytes of a side of it, by the second reader.
 read_recording() {
-    python3 -B python/examples/read_recording.py "$@" 2> "$work/errors.read"
+    python3 -B examples/read_recording.py "$@" 2> "$work/errors.read"
 }
 
 # Tests that the second reader reads a recording, and keeps its lines in $work/records. How many it reads is added up.
