@@ -77,23 +77,16 @@ impl<'a> Authentication<'a> {
     /// Refused with [`TextHoldsNul`](Refusal::TextHoldsNul) where the name of a mechanism holds a NUL or is
     /// empty.
     pub fn write<B: Buffer>(&self, out: &mut B) -> Result<(), Refusal> {
-        match self {
-            Authentication::Ok | Authentication::CleartextPassword => self.put(b"", out),
-            Authentication::Md5Password(salt) => self.put(salt, out),
-            Authentication::Sasl(mechanisms) => write_mechanisms(mechanisms, out),
-            Authentication::SaslContinue(data) | Authentication::SaslFinal(data) => {
-                self.put(data.0, out)
-            }
-            Authentication::Other(method, content) => {
-                let body = [&method.to_be_bytes(), content.0].concat();
-                put!(out, pgmsg_put_frame(b'R', [body]))
-            }
-        }
-    }
-
-    /// Appends the message of the method with what follows it.
-    fn put<B: Buffer>(&self, content: &[u8], out: &mut B) -> Result<(), Refusal> {
-        put!(out, pgmsg_put_authentication(self.method(), [content]))
+        let content = match self {
+            Authentication::Ok | Authentication::CleartextPassword => b"",
+            Authentication::Md5Password(salt) => &salt[..],
+            Authentication::Sasl(mechanisms) => return write_mechanisms(mechanisms, out),
+            Authentication::SaslContinue(data)
+            | Authentication::SaslFinal(data)
+            | Authentication::Other(_, data) => data.0,
+        };
+        let body = [&self.method().to_be_bytes(), content].concat();
+        put!(out, pgmsg_put_frame(b'R', [body]))
     }
 
     /// Whether the request belongs to a secret: it carries data of an exchange.
