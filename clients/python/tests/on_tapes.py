@@ -16,13 +16,16 @@ from unittest import mock
 import support  # noqa: F401
 from pgmsg.testing import ReplayDiffers, TapeError, tape
 
-# Two tests, of which the second says what NUMBER has.
-OF_UNITTEST = """
-import os, subprocess, unittest
-from pgmsg.testing import TapeTestCase
+ASK = """
+import os, subprocess
 
 def ask(query):
     return subprocess.run(["psql", "-XqAtc", query], capture_output=True, text=True, check=True).stdout
+"""
+
+# Two tests, of which the second says what NUMBER has.
+OF_UNITTEST = ASK + """
+from pgmsg.testing import TapeTestCase
 
 class TestNumbers(TapeTestCase):
     def test_one(self):
@@ -32,12 +35,7 @@ class TestNumbers(TapeTestCase):
         self.assertEqual(ask("SELECT " + os.environ.get("NUMBER", "2")), "2\\n")
 """
 
-OF_PYTEST = """
-import os, subprocess
-
-def ask(query):
-    return subprocess.run(["psql", "-XqAtc", query], capture_output=True, text=True, check=True).stdout
-
+OF_PYTEST = ASK + """
 def test_one(pg_tape):
     assert os.environ["PGPORT"] == str(pg_tape.port)
     assert ask("SELECT 1") == "1\\n"
@@ -122,16 +120,11 @@ class TestTape(InFolder):
         with self.assertRaisesRegex(ReplayDiffers, "1 of 2 sessions are replayed"), tape(self.path, whole=True) as it:
             ask(it, "SELECT 1")
 
-    def test_a_recording_stays_where_the_block_fails(self):
+    def test_a_recording_stays_where_the_block_fails_or_no_server_is_reached(self):
         self.record("SELECT 1")
         before = self.path.read_bytes()
         with self.assertRaises(KeyError), tape(self.path, record=True) as it:
             raise KeyError(ask(it, "SELECT 2"))
-        self.assertEqual((self.path.read_bytes(), len(list(self.path.parent.iterdir()))), (before, 1))
-
-    def test_a_recording_stays_where_no_server_is_reached(self):
-        self.record("SELECT 1")
-        before = self.path.read_bytes()
         with mock.patch.dict(os.environ, NO_SERVER), self.assertRaisesRegex(TapeError, "no connection to 127.0.0.1 port 1"):
             self.record("SELECT 1")
         self.assertEqual((self.path.read_bytes(), len(list(self.path.parent.iterdir()))), (before, 1))
