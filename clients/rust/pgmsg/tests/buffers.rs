@@ -1,7 +1,7 @@
 //! What messages are appended to, and values that are spelled into a buffer.
 
 use pgmsg::frontend::{copy_head, Message};
-use pgmsg::{Refusal, Value, Values};
+use pgmsg::{Refusal, Values};
 
 #[test]
 fn messages_follow_one_another_while_the_buffer_grows() {
@@ -44,16 +44,6 @@ fn a_buffer_of_the_crate_bytes() {
         expected.drain(..sent.len());
     }
     assert_eq!(out, expected);
-}
-
-#[test]
-fn values_of_each_form() {
-    let values = [Value::new(b"\xff"), "a".into(), Some("").into(), Value::NULL];
-    let bytes = values.iter().map(|value| value.bytes());
-    assert!(bytes.eq([Some(&b"\xff"[..]), Some(b"a"), Some(b""), None]));
-    assert_eq!(Value::from(None::<&str>), Value::NULL);
-    assert_ne!(Value::new(b""), Value::NULL);
-    assert_eq!(format!("{values:?}"), r#"[b"\xff", b"a", b"", NULL]"#);
 }
 
 /// Adds a value that is a text, NULL, or can't be spelled.

@@ -4,19 +4,15 @@ mod common;
 
 use common::fault_of;
 use pgmsg::backend::*;
-use pgmsg::{Fault, Refusal};
+use pgmsg::Refusal;
 
-/// The cells of a row.
-fn cells(body: &[u8]) -> Result<Vec<Option<&[u8]>>, Fault> {
-    let mut reader = RowIndex::new();
-    reader.read(body).map(|row| row.iter().collect())
-}
+/// A row of a text, NULL and an empty text.
+const BODY: &[u8] = b"\0\x03\0\0\0\x02ab\xff\xff\xff\xff\0\0\0\0";
 
 #[test]
 fn rows() {
-    let body = b"\0\x03\0\0\0\x02ab\xff\xff\xff\xff\0\0\0\0";
     let mut reader = RowIndex::new();
-    let row = reader.read(body).expect("the row is complete");
+    let row = reader.read(BODY).expect("the row is complete");
     assert_eq!(row.len(), 3);
     assert!(!row.is_empty());
     assert!(row.iter().eq([Some(&b"ab"[..]), None, Some(b"")]));
@@ -34,25 +30,23 @@ fn rows() {
 
 #[test]
 fn places_of_cells() {
-    let body = b"\0\x03\0\0\0\x02ab\xff\xff\xff\xff\0\0\0\0";
     let mut reader = RowIndex::with_capacity(1);
-    let row = reader.read(body).expect("the row is complete");
+    let row = reader.read(BODY).expect("the row is complete");
     let ranges = row.places().iter().map(Cell::range);
     assert!(ranges.eq([Some(6..8), None, Some(16..16)]));
     assert!(row.places()[1].is_null() && !row.places()[2].is_null());
     let places = row.places().to_vec();
-    let values = places.iter().map(|place| place.value(body));
+    let values = places.iter().map(|place| place.value(BODY));
     assert!(values.eq(row));
     assert_eq!(places[0].value(b"too short"[..7].as_ref()), None);
 }
 
 #[test]
 fn places_in_an_array() {
-    let body = b"\0\x03\0\0\0\x02ab\xff\xff\xff\xff\0\0\0\0";
     for length in 0..5 {
         let mut room = vec![Cell::default(); length];
-        assert_eq!(places_in(body, &mut room), Ok(3));
-        let given = room.iter().map(|cell| cell.value(body));
+        assert_eq!(places_in(BODY, &mut room), Ok(3));
+        let given = room.iter().map(|cell| cell.value(BODY));
         assert!(given.eq([Some(&b"ab"[..]), None, Some(b""), Some(b"")].into_iter().take(length)));
     }
     let fault = places_in(b"\0\x01", &mut []).map(|_| ());
@@ -72,12 +66,14 @@ fn a_reader_is_used_again() {
 
 #[test]
 fn broken_rows() {
-    assert_eq!(fault_of(cells(b"")), (Refusal::Short, 0));
-    assert_eq!(fault_of(cells(b"\0\x01\0\0\0")), (Refusal::Short, 2));
-    assert_eq!(fault_of(cells(b"\0\x01\0\0\0\x02a")), (Refusal::Short, 6));
+    let read = |body| fault_of(RowIndex::new().read(body).map(drop));
+    assert_eq!(read(b"\0\x01\0\0\0"), (Refusal::Short, 2));
+    assert_eq!(read(b"\0\x01\0\0\0\x02a"), (Refusal::Short, 6));
 }
 
 #[test]
 fn a_cell_of_any_length_below_zero_is_null() {
-    assert_eq!(cells(b"\0\x01\x80\0\0\0"), Ok(vec![None]));
+    let mut reader = RowIndex::new();
+    let row = reader.read(b"\0\x01\x80\0\0\0").expect("the row is complete");
+    assert!(row.iter().eq([None]));
 }
