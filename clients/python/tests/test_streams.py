@@ -102,15 +102,6 @@ class TestFaults(unittest.TestCase):
                     stream.feed(bytes(96))
                     self.assertEqual(list(stream), [CopyData(bytes(96))])
 
-    def test_a_first_message(self):
-        for length, is_refused in [(MAX_FIRST_LENGTH, False), (MAX_FIRST_LENGTH + 1, True)]:
-            stream = ServerStream()
-            stream.feed(length.to_bytes(4, "big"))
-            if is_refused:
-                self.assertRaises(Fault, list, stream)
-            else:
-                self.assertEqual(list(stream), [])
-
     def test_a_tag_is_known_to_one_side(self):
         for side, front, rows in [(ClientStream, b"", samples.OF_SERVER + samples.OF_BOTH),
                                   (ServerStream, StartupMessage({}).write(), samples.OF_CLIENT + samples.OF_BOTH)]:

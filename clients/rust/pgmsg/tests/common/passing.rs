@@ -34,10 +34,7 @@ pub fn wanted(numbers: &mut Numbers) -> Wanted {
     match numbers.below(4) {
         0 => Wanted::ALL,
         1 => Wanted::NONE,
-        _ => {
-            let tags: Vec<u8> = (0..=u8::MAX).filter(|_| numbers.below(2) == 0).collect();
-            Wanted::tags(&tags)
-        }
+        _ => Wanted::tags(&numbers.bytes(100)),
     }
 }
 
