@@ -17,19 +17,12 @@ const CALLS: &[Call] = &[
     ("copy_head", || copy_head(0).is_ok()),
 ];
 
-/// A version, of a text that lasts and has a NUL.
-unsafe fn version_at(text: *const u8) -> String {
-    // SAFETY: as the caller says.
-    let version = unsafe { CStr::from_ptr(text.cast()) };
-    version.to_string_lossy().into()
-}
-
 #[test]
 fn no_call_gets_through_to_a_library_of_another_version() {
-    // SAFETY: the call takes nothing, and gives such a text.
-    let linked = unsafe { version_at(pgmsg_sys::pgmsg_version()) };
-    // SAFETY: it is such a text.
-    let declared = unsafe { version_at(pgmsg_sys::PGMSG_VERSION.as_ptr()) };
+    // SAFETY: the call takes nothing, and gives a text that lasts, with a NUL.
+    let linked = unsafe { CStr::from_ptr(pgmsg_sys::pgmsg_version().cast()) };
+    let declared = CStr::from_bytes_with_nul(pgmsg_sys::PGMSG_VERSION).expect("a NUL");
+    let (linked, declared) = (linked.to_string_lossy(), declared.to_string_lossy());
     for (name, call) in CALLS {
         match catch_unwind(call) {
             Ok(succeeds) => assert!(succeeds && linked == declared, "{name}"),
