@@ -130,7 +130,8 @@ test_tape() {
     local cargo_folder count inputs
     read -r cargo_folder _ < <(rust_folders 1.65)
     expect_format tape
-    try by_strict_cargo tape test --workspace -- --show-output
+    PG_RECORD=$(realpath "$programs/pg_record") PG_REPLAY=$(realpath "$programs/pg_replay") \
+        try by_strict_cargo tape test --workspace -- --show-output
     count=$(grep -o '[0-9]* passed' <<< "$output" | awk '{ count += $1 } END { print count }')
     expect "the crates of pg_record, without a warning: $count tests" 0
     inputs=$(sed -n 's/^\([0-9]*\) .* by the seed .*/\1/p' <<< "$output" | awk '{ count += $1 } END { print count + 0 }')

@@ -1,0 +1,161 @@
+//! Recordings of a server that answers each query with the query's own text, and replays of them.
+
+use std::io::{Read, Write};
+use std::net::{TcpListener, TcpStream};
+use std::path::PathBuf;
+use std::{env, fs, process, thread};
+
+use pgmsg_testing::{Error, Options, Tape};
+
+#[test]
+fn a_test_runs_without_the_server_on_what_was_recorded() {
+    let path = recorded("again", &["SELECT 1", "SELECT 2"]);
+    let tape = Options::new().replay(&path).unwrap();
+    assert!(!tape.is_recorded());
+    assert_eq!(ask(&tape, &["SELECT 1", "SELECT 2"]), ["SELECT 1", "SELECT 2"]);
+    assert_eq!(ask(&tape, &["SELECT 1", "SELECT 2"]), ["SELECT 1", "SELECT 2"]);
+    tape.finish().unwrap();
+}
+
+#[test]
+fn a_client_that_differs_fails_with_the_diff() {
+    let path = recorded("differs", &["SELECT 1"]);
+    let mut tape = Options::new().replay(&path).unwrap();
+    ask(&tape, &["SELECT 7"]);
+    assert!(tape.differences().contains("SELECT 7"));
+    let why = tape.finish().unwrap_err();
+    assert!(
+        matches!(&why, Error::Differs { said, .. } if said.contains("SELECT 1") && said.contains("SELECT 7")),
+        "{why}"
+    );
+}
+
+#[test]
+#[should_panic(expected = "SELECT 8")]
+fn a_tape_that_is_dropped_says_what_differed() {
+    let path = recorded("dropped", &["SELECT 1"]);
+    let tape = Options::new().replay(path).unwrap();
+    ask(&tape, &["SELECT 8"]);
+}
+
+#[test]
+fn of_a_whole_recording_each_session_is_taken() {
+    let path = recorded("whole", &["SELECT 1"]);
+    let tape = Options::new().whole().replay(&path).unwrap();
+    ask(&tape, &["SELECT 1"]);
+    tape.finish().unwrap();
+    let tape = Options::new().whole().replay(&path).unwrap();
+    assert!(matches!(tape.finish(), Err(Error::Differs { .. })));
+}
+
+#[test]
+fn a_recording_that_is_missing_or_no_recording_is_named() {
+    let path = folder("missing").join("none.tape");
+    let why = Options::new().replay(&path).unwrap_err();
+    assert!(
+        why.to_string().contains("none.tape") && why.to_string().contains("PG_TAPE=record"),
+        "{why}"
+    );
+    fs::write(&path, "no recording").unwrap();
+    let why = Options::new().replay(&path).unwrap_err();
+    assert!(matches!(why, Error::Failed { program: "pg_replay", .. }), "{why}");
+}
+
+#[test]
+fn options_of_pg_replay_are_passed_on() {
+    let path = recorded("options", &["SELECT 1"]);
+    let tape = Options::new().arguments(["--any-literal", "number"]).replay(path).unwrap();
+    assert_eq!(ask(&tape, &["SELECT 2"]), ["SELECT 1"]);
+    tape.finish().unwrap();
+}
+
+#[test]
+fn a_server_that_is_not_there_leaves_the_old_recording() {
+    let path = recorded("unreached", &["SELECT 1"]);
+    let old = fs::read(&path).unwrap();
+    let closed = TcpListener::bind("127.0.0.1:0").unwrap().local_addr().unwrap().port();
+    let tape = Options::new().server("127.0.0.1", closed).record(&path).unwrap();
+    let _ = TcpStream::connect((tape.host(), tape.port())).and_then(|mut it| it.read(&mut [0]));
+    assert!(matches!(tape.finish(), Err(Error::Failed { program: "pg_record", .. })));
+    assert_eq!(fs::read(&path).unwrap(), old);
+}
+
+/// A recording of one session with these queries.
+fn recorded(name: &str, queries: &[&str]) -> PathBuf {
+    let path = folder(name).join("its.tape");
+    let tape = Options::new().server("127.0.0.1", server()).record(&path).unwrap();
+    assert!(tape.is_recorded());
+    assert_eq!(ask(&tape, queries), queries);
+    tape.finish().unwrap();
+    path
+}
+
+fn folder(name: &str) -> PathBuf {
+    let folder = env::temp_dir().join(format!("pgmsg-testing-{}-{name}", process::id()));
+    fs::create_dir_all(&folder).unwrap();
+    folder
+}
+
+/// Starts a server, and returns its port.
+fn server() -> u16 {
+    let listener = TcpListener::bind("127.0.0.1:0").unwrap();
+    let port = listener.local_addr().unwrap().port();
+    thread::spawn(move || listener.incoming().for_each(|stream| answer(stream.unwrap())));
+    port
+}
+
+/// Answers a client until it leaves.
+fn answer(mut stream: TcpStream) {
+    let mut length = [0; 4];
+    stream.read_exact(&mut length).unwrap();
+    let mut startup = vec![0; u32::from_be_bytes(length) as usize - 4];
+    stream.read_exact(&mut startup).unwrap();
+    stream.write_all(b"R\0\0\0\x08\0\0\0\0Z\0\0\0\x05I").unwrap();
+    while let Some((b'Q', query)) = read_frame(&mut stream) {
+        let mut out = frame(b'C', &query);
+        out.extend(frame(b'Z', b"I"));
+        stream.write_all(&out).unwrap();
+    }
+}
+
+/// Logs in, asks queries, and returns the tags of the commands that answer them.
+fn ask(tape: &Tape, queries: &[&str]) -> Vec<String> {
+    let mut stream = TcpStream::connect((tape.host(), tape.port())).unwrap();
+    stream.write_all(b"\0\0\0\x12\0\x03\0\0user\0ann\0\0").unwrap();
+    until_ready(&mut stream);
+    let mut tags = Vec::new();
+    for query in queries {
+        stream.write_all(&frame(b'Q', format!("{query}\0").as_bytes())).unwrap();
+        tags.extend(until_ready(&mut stream));
+    }
+    stream.write_all(&frame(b'X', b"")).unwrap();
+    // The program closes the connection once it has taken all.
+    let _ = stream.read(&mut [0]);
+    tags
+}
+
+/// Reads up to ReadyForQuery or the end, and returns the command's tag where one comes.
+fn until_ready(stream: &mut TcpStream) -> Option<String> {
+    let mut command = None;
+    while let Some((tag, body)) = read_frame(stream) {
+        match tag {
+            b'C' => command = Some(String::from_utf8(body[..body.len() - 1].to_vec()).unwrap()),
+            b'Z' => break,
+            _ => {}
+        }
+    }
+    command
+}
+
+fn frame(tag: u8, body: &[u8]) -> Vec<u8> {
+    let length = (body.len() as u32 + 4).to_be_bytes();
+    [&[tag], &length[..], body].concat()
+}
+
+fn read_frame(stream: &mut TcpStream) -> Option<(u8, Vec<u8>)> {
+    let mut head = [0; 5];
+    stream.read_exact(&mut head).ok()?;
+    let mut body = vec![0; u32::from_be_bytes([head[1], head[2], head[3], head[4]]) as usize - 4];
+    stream.read_exact(&mut body).ok()?;
+    Some((head[0], body))
+}
