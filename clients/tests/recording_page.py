@@ -1,9 +1,9 @@
 """Checks the page of a recording against its export: that its data are the same messages, and, where a browser is there,
 what that shows of them.
 
-    recording_page.py PAGE LINES
+    recording_page.py PAGE LINES [FOLDER]
 
-Prints what it checked.
+Prints what it checked. A browser draws pictures of the page into the folder.
 """
 
 import html.parser
@@ -28,7 +28,10 @@ for (const key of ["x", "j", "ArrowDown", "Enter", "t"]) {
   document.activeElement.dispatchEvent(new KeyboardEvent("keydown", { key, bubbles: true }));
 }
 """
-FLAGS = ["--headless", "--no-sandbox", "--disable-gpu", "--window-size=1200,900", "--virtual-time-budget=20000", "--dump-dom"]
+FLAGS = ["--headless", "--no-sandbox", "--disable-gpu", "--window-size=1200,900", "--virtual-time-budget=20000"]
+
+# The pictures of a page: what comes after its address.
+PICTURES = {"messages.png": "", "slowest.png": "slowest&theme=dark"}
 
 
 class Page(html.parser.HTMLParser):
@@ -71,13 +74,26 @@ def check_data(page, lines):
         sys.exit("the data of the page are other messages than those of the export")
 
 
-def shown(browser, path, asked):
-    """The page as a browser has it."""
+def browse(browser, path, asked, flag):
+    """What a browser prints that opens the page."""
     with tempfile.TemporaryDirectory() as profile:
         address = f"{pathlib.Path(path).resolve().as_uri()}#{asked}"
-        words = [browser, *FLAGS, f"--user-data-dir={profile}", address]
-        run = subprocess.run(words, capture_output=True, text=True, timeout=120, check=True)
-    return Page(run.stdout)
+        words = [browser, *FLAGS, flag, f"--user-data-dir={profile}", address]
+        return subprocess.run(words, capture_output=True, text=True, timeout=120, check=True).stdout
+
+
+def shown(browser, path, asked):
+    """The page as a browser has it."""
+    return Page(browse(browser, path, asked, "--dump-dom"))
+
+
+def draw(browser, path, folder):
+    """Draws the pictures of a page."""
+    for name, asked in PICTURES.items():
+        picture = pathlib.Path(folder).resolve() / name
+        browse(browser, path, asked, f"--screenshot={picture}")
+        if picture.read_bytes()[:4] != b"\x89PNG":
+            sys.exit(f"{picture} is no picture")
 
 
 def check_keys(browser, path):
@@ -144,6 +160,8 @@ def main():
     if len(lines) < MANY:
         check_shown(browser, path, lines)
         check_keys(browser, path)
+    for folder in sys.argv[3:]:
+        draw(browser, path, folder)
     print(f"{len(lines)} messages are shown by {pathlib.Path(browser).name}, after {opened} ms")
 
 

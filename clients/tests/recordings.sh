@@ -210,7 +210,8 @@ test_tape_view() {
     for name in secret many; do
         try "$programs/pg_tape" view "$work/$name.tape" -o "$work/page.html"
         expect "view: a page is written, of $name" 0
-        try python3 -B tests/recording_page.py "$work/page.html" "$work/$name.jsonl"
+        mkdir -p "out/pictures/$name"
+        try python3 -B tests/recording_page.py "$work/page.html" "$work/$name.jsonl" "out/pictures/$name"
         expect "view: $output" 0
     done
 }
