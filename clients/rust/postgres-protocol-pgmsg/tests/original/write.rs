@@ -83,6 +83,7 @@ fn serialize(
 pub type Call = (&'static str, fn(&Arguments, &mut BytesMut) -> bool);
 
 /// Makes the calls of one of the two crates.
+#[rustfmt::skip]
 macro_rules! writer {
     ($name:ident, $library:ident) => {
         pub mod $name {
@@ -91,48 +92,25 @@ macro_rules! writer {
 
             pub const CALLS: [Call; 17] = [
                 ("bind", |it, out| {
-                    let (formats, results) =
-                        (it.formats.iter().copied(), it.result_formats.iter().copied());
-                    bind(&it.first, &it.second, formats, &it.values, serialize, results, out)
-                        .is_err()
+                    let (formats, results) = (it.formats.iter().copied(), it.result_formats.iter().copied());
+                    bind(&it.first, &it.second, formats, &it.values, serialize, results, out).is_err()
                 }),
-                ("cancel_request", |it, out| {
-                    cancel_request(it.numbers[0], it.numbers[1], out);
-                    false
-                }),
+                ("cancel_request", |it, out| { cancel_request(it.numbers[0], it.numbers[1], out); false }),
                 ("close", |it, out| close(it.variant, &it.first, out).is_err()),
-                ("CopyData", |it, out| {
-                    CopyData::new(&it.data[..]).map(|data| data.write(out)).is_err()
-                }),
-                ("copy_done", |_, out| {
-                    copy_done(out);
-                    false
-                }),
+                ("CopyData", |it, out| CopyData::new(&it.data[..]).map(|data| data.write(out)).is_err()),
+                ("copy_done", |_, out| { copy_done(out); false }),
                 ("copy_fail", |it, out| copy_fail(&it.first, out).is_err()),
                 ("describe", |it, out| describe(it.variant, &it.first, out).is_err()),
                 ("execute", |it, out| execute(&it.first, it.numbers[0], out).is_err()),
-                ("parse", |it, out| {
-                    parse(&it.first, &it.second, it.types.iter().copied(), out).is_err()
-                }),
+                ("parse", |it, out| parse(&it.first, &it.second, it.types.iter().copied(), out).is_err()),
                 ("password_message", |it, out| password_message(&it.data, out).is_err()),
                 ("query", |it, out| query(&it.first, out).is_err()),
-                ("sasl_initial_response", |it, out| {
-                    sasl_initial_response(&it.first, &it.data, out).is_err()
-                }),
+                ("sasl_initial_response", |it, out| sasl_initial_response(&it.first, &it.data, out).is_err()),
                 ("sasl_response", |it, out| sasl_response(&it.data, out).is_err()),
-                ("ssl_request", |_, out| {
-                    ssl_request(out);
-                    false
-                }),
+                ("ssl_request", |_, out| { ssl_request(out); false }),
                 ("startup_message", |it, out| startup_message(it.settings(), out).is_err()),
-                ("sync", |_, out| {
-                    sync(out);
-                    false
-                }),
-                ("terminate", |_, out| {
-                    terminate(out);
-                    false
-                }),
+                ("sync", |_, out| { sync(out); false }),
+                ("terminate", |_, out| { terminate(out); false }),
             ];
         }
     };
