@@ -149,15 +149,15 @@ impl<'a, D: Digest> Client<'a, D> {
             State::Challenge(header) => header,
             _ => return Err(Error::OutOfTurn),
         };
-        let read = Challenge::read(challenge)?;
-        let added = read.nonce.strip_prefix(self.nonce).unwrap_or_default();
+        let (iterations, salt, nonce) = read_challenge(challenge)?;
+        let added = nonce.strip_prefix(self.nonce).unwrap_or_default();
         let begins = challenge.starts_with(b"r=") && is_nonce(self.nonce.as_bytes());
-        if !begins || !is_nonce(added.as_bytes()) || read.iterations == 0 || read.salt.is_empty() {
+        if !begins || !is_nonce(added.as_bytes()) || iterations == 0 || salt.is_empty() {
             return Err(Error::Nonce);
         }
-        let salted = D::salted(self.password, &read.salt, read.iterations);
+        let salted = D::salted(self.password, &salt, iterations);
         let binding = self.binding.filter(|_| header == HEADERS[2]).unwrap_or_default();
-        let answer = without_proof(header, binding, &read.nonce);
+        let answer = without_proof(header, binding, &nonce);
         let messages = covered(self.bare().as_bytes(), challenge, answer.as_bytes());
         let key = D::hmac(&salted, b"Client Key");
         let proof = xor(key, &D::hmac(&D::hash(&key), &messages));
@@ -186,27 +186,19 @@ impl<D> fmt::Debug for Client<'_, D> {
     }
 }
 
-/// The challenge of a server.
-struct Challenge {
-    iterations: u32,
-    salt: Vec<u8>,
-    nonce: String,
-}
-
-impl Challenge {
-    fn read(data: &[u8]) -> Result<Challenge, Fault> {
-        let body = [&11u32.to_be_bytes(), data].concat();
-        let (mut salt, mut nonce) = (Vec::new(), Vec::new());
-        let mut read = sys::pgmsg_challenge::default();
-        // No part of a body is longer than the body.
-        grow(&mut salt, body.len())?;
-        grow(&mut nonce, body.len())?;
-        ask!(pgmsg_read_challenge([body], &mut read, mut [salt], mut [nonce]))?;
-        salt.truncate(read.salt_len);
-        nonce.truncate(read.nonce_len);
-        let nonce = String::from_utf8(nonce).map_err(|_| Fault::unexpected(read.nonce_len))?;
-        Ok(Challenge { iterations: read.iterations, salt, nonce })
-    }
+/// The iterations, the salt and the nonce of a server's challenge.
+fn read_challenge(data: &[u8]) -> Result<(u32, Vec<u8>, String), Fault> {
+    let body = [&11u32.to_be_bytes(), data].concat();
+    let (mut salt, mut nonce) = (Vec::new(), Vec::new());
+    let mut read = sys::pgmsg_challenge::default();
+    // No part of a body is longer than the body.
+    grow(&mut salt, body.len())?;
+    grow(&mut nonce, body.len())?;
+    ask!(pgmsg_read_challenge([body], &mut read, mut [salt], mut [nonce]))?;
+    salt.truncate(read.salt_len);
+    nonce.truncate(read.nonce_len);
+    let nonce = String::from_utf8(nonce).map_err(|_| Fault::unexpected(read.nonce_len))?;
+    Ok((read.iterations, salt, nonce))
 }
 
 /// The value `v` of a message, of base64, or nothing where there is none.

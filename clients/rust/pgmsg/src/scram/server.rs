@@ -4,7 +4,7 @@ use super::client::read_verifier;
 use super::{base64, covered, is_nonce, is_same, without_proof, xor};
 use super::{Digest, Error, Key};
 use alloc::format;
-use alloc::string::{String, ToString};
+use alloc::string::String;
 use alloc::vec::Vec;
 use core::fmt;
 use core::marker::PhantomData;
@@ -60,9 +60,8 @@ pub struct Server<'a, D> {
 enum State {
     /// The first message.
     First,
-    /// The proof, after messages that it covers: the header of the first one and the rest of it, the nonce of
-    /// both and the challenge.
-    Proof { header: String, bare: Vec<u8>, nonce: String, challenge: Vec<u8> },
+    /// The proof, after the rest of the answer, which is due, and for the messages that it covers.
+    Proof { due: String, messages: Vec<u8> },
     /// Nothing: the password was the client's.
     Finished,
 }
@@ -85,8 +84,8 @@ impl<'a, D: Digest> Server<'a, D> {
         }
         // A client that could bind the channel says so, and was not offered it.
         let header = ["n,,", "y,,"].into_iter().find(|header| first.starts_with(header.as_bytes()));
-        let header = header.ok_or(Error::WrongProof)?.to_string();
-        let bare = first[header.len()..].to_vec();
+        let header = header.ok_or(Error::WrongProof)?;
+        let bare = &first[header.len()..];
         let theirs = bare.split(|&byte| byte == b',').nth(1);
         let theirs = theirs.and_then(|it| it.strip_prefix(b"r=")).unwrap_or_default();
         if !bare.starts_with(b"n=") || !is_nonce(theirs) || !is_nonce(self.nonce.as_bytes()) {
@@ -95,26 +94,26 @@ impl<'a, D: Digest> Server<'a, D> {
         let nonce = String::from_utf8_lossy(theirs).into_owned() + self.nonce;
         let salt = base64::encode(&self.kept.salt);
         let challenge: Vec<u8> = format!("r={nonce},s={salt},i={}", self.kept.iterations).into();
-        self.state = State::Proof { header, bare, nonce, challenge: challenge.clone() };
+        let due = without_proof(header, b"", &nonce);
+        let messages = covered(bare, &challenge, due.as_bytes());
+        self.state = State::Proof { due, messages };
         Ok(challenge)
     }
 
     /// Tests the client's proof. What it gives shows the client that the server knows the password too.
     pub fn verify(&mut self, answer: &[u8]) -> Result<Vec<u8>, Error> {
-        let (header, bare, nonce, challenge) = match &self.state {
-            State::Proof { header, bare, nonce, challenge } => (header, bare, nonce, challenge),
+        let (due, messages) = match &self.state {
+            State::Proof { due, messages } => (due, messages),
             _ => return Err(Error::OutOfTurn),
         };
-        let due = without_proof(header, b"", nonce);
         let proof = answer.strip_prefix(due.as_bytes());
         let proof = proof.and_then(|rest| rest.strip_prefix(b",p=")).ok_or(Error::WrongProof)?;
         let proof = read_verifier(&[b"v=", proof].concat())?;
-        let messages = covered(bare, challenge, due.as_bytes());
-        let key = xor(D::hmac(&self.kept.stored_key, &messages), &proof);
+        let key = xor(D::hmac(&self.kept.stored_key, messages), &proof);
         if proof.len() != key.len() || !is_same(&self.kept.stored_key, &D::hash(&key)) {
             return Err(Error::WrongProof);
         }
-        let signature = D::hmac(&self.kept.server_key, &messages);
+        let signature = D::hmac(&self.kept.server_key, messages);
         self.state = State::Finished;
         Ok(format!("v={}", base64::encode(&signature)).into())
     }
