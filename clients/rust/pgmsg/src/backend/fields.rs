@@ -150,17 +150,14 @@ impl<'a> Fields<'a> {
 
 /// Appends the message of a tag.
 pub(super) fn write<B: Buffer>(tag: u8, fields: &[Field<'_>], out: &mut B) -> Result<(), Refusal> {
-    let fields: Vec<_> = fields.iter().map(text_of).collect();
-    put!(out, pgmsg_put_notice(tag, [fields]))
-}
-
-/// The field as the library takes it. It points to the text.
-fn text_of(field: &Field<'_>) -> sys::pgmsg_field_text {
-    sys::pgmsg_field_text {
+    // As the library takes them, which points to the texts.
+    let fields = fields.iter().map(|field| sys::pgmsg_field_text {
         letter: field.letter,
         text: field.value.as_ptr(),
         text_len: field.value.len(),
-    }
+    });
+    let fields: Vec<_> = fields.collect();
+    put!(out, pgmsg_put_notice(tag, [fields]))
 }
 
 table! {

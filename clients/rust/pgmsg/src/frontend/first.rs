@@ -67,18 +67,15 @@ impl<'a> Startup<'a> {
     /// server would read the rest of it as another setting, and where a name is empty, since the settings
     /// would end there.
     pub fn write<B: Buffer>(&self, out: &mut B) -> Result<(), Refusal> {
-        let settings: Vec<_> = self.settings.iter().map(setting_of).collect();
+        // As the library takes them, which points to the texts.
+        let settings = self.settings.iter().map(|setting| sys::pgmsg_setting {
+            name: setting.name.as_ptr(),
+            name_len: setting.name.len(),
+            value: setting.value.as_ptr(),
+            value_len: setting.value.len(),
+        });
+        let settings: Vec<_> = settings.collect();
         put!(out, pgmsg_put_startup(self.minor, [settings]))
-    }
-}
-
-/// The setting as the library takes it. It points to the texts.
-fn setting_of(setting: &Setting<'_>) -> sys::pgmsg_setting {
-    sys::pgmsg_setting {
-        name: setting.name.as_ptr(),
-        name_len: setting.name.len(),
-        value: setting.value.as_ptr(),
-        value_len: setting.value.len(),
     }
 }
 
