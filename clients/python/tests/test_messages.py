@@ -109,12 +109,6 @@ class TestEach(unittest.TestCase):
         for message, data in samples.ANSWERS:
             self.assertEqual(read_frontend(frame_of(message, data), type(message)), message)
 
-    def test_any_method_and_any_first_message(self):
-        for base, rows in [(Authentication, samples.OF_SERVER), (FirstMessage, samples.FIRST)]:
-            for message, data in rows:
-                if isinstance(message, base):
-                    self.assertEqual(base.read(frame_of(message, data)), message)
-
 
 class TestParts(unittest.TestCase):
     def test_texts(self):

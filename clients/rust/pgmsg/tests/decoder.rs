@@ -138,11 +138,9 @@ fn random_streams() {
             let offset = stream.len() - rest.len();
             match common::checked(rest, decoder.next(rest)) {
                 Some(Next::Frame(frame)) => {
-                    assert_eq!(
-                        (frame.bytes, frame.offset),
-                        (&rest[..frame.bytes.len()], offset as u64)
-                    );
-                    rest = &rest[frame.bytes.len()..];
+                    let (bytes, after) = rest.split_at(frame.bytes.len());
+                    assert_eq!((frame.bytes, frame.offset), (bytes, offset as u64));
+                    rest = after;
                 }
                 Some(Next::Incomplete { needed, .. }) => break assert!(rest.len() < needed),
                 None => break,

@@ -83,17 +83,14 @@ fn secrets_are_named_and_not_shown() {
 #[test]
 #[rustfmt::skip]
 fn answers_to_a_request_for_authentication() {
-    let written = |write: &dyn Fn(&mut Vec<u8>) -> Result<(), pgmsg::Refusal>| {
-        let mut out = Vec::new();
-        write(&mut out).expect("no refusal");
-        out
-    };
+    let mut out = Vec::new();
     let password = frontend::PasswordMessage(b"p\xff".into());
-    let out = written(&|out| password.write(out));
+    assert_eq!(password.write(&mut out), Ok(()));
     assert_eq!(out, b"p\0\0\0\x07p\xff\0");
     assert_eq!(frontend::Password(&out[5..]).password(), Ok(&b"p\xff"[..]));
+    out.clear();
     let digest = [0, 0x11, 0x22, 0x33, 0x44, 0x55, 0x66, 0x77, 0x88, 0x99, 0xaa, 0xbb, 0xcc, 0xdd, 0xee, 0xff];
-    let out = written(&|out| frontend::Md5Password(digest).write(out));
+    assert_eq!(frontend::Md5Password(digest).write(&mut out), Ok(()));
     assert_eq!(out, b"p\0\0\0\x28md500112233445566778899aabbccddeeff\0");
     let cases: [(&[u8], Option<&[u8]>); 3] = [
         (b"p\0\0\0\x0aX\0\xff\xff\xff\xff", None),
@@ -105,7 +102,9 @@ fn answers_to_a_request_for_authentication() {
             mechanism: "X".into(),
             response: response.map(Into::into),
         };
-        assert_eq!(written(&|out| initial.write(out)), bytes);
+        out.clear();
+        assert_eq!(initial.write(&mut out), Ok(()));
+        assert_eq!(out, bytes);
         assert_eq!(frontend::Password(&bytes[5..]).sasl_initial(), Ok(initial));
     }
 }
