@@ -3,7 +3,7 @@
 
 mod common;
 
-use common::{assert_within, checked, samples, Numbers};
+use common::{checked, samples, Numbers};
 use pgmsg::backend::{self, end, rows_affected, RowIndex, Severity};
 use pgmsg::frontend::{self, SaslInitialResponse};
 use pgmsg::Refusal;
@@ -12,10 +12,9 @@ use std::thread;
 /// The bodies of all messages of either side.
 fn bodies() -> Vec<&'static [u8]> {
     let of_server = samples::of_server().into_iter().map(|(bytes, _)| &bytes[5..]);
-    let of_client = samples::of_client().into_iter().map(|(bytes, message)| match message.tag() {
-        Some(_) => &bytes[5..],
-        None => &bytes[4..],
-    });
+    let of_client = samples::of_client().into_iter();
+    let of_client =
+        of_client.map(|(bytes, message)| &bytes[4 + usize::from(message.tag().is_some())..]);
     of_server.chain(of_client).collect()
 }
 
@@ -62,7 +61,9 @@ fn read_all(reader: &mut RowIndex, body: &[u8]) {
     }
     read_of_client(None, body);
     if let Some(row) = checked(body, reader.read(body)) {
-        row.iter().flatten().for_each(|value| assert_within(body, value));
+        let (outer, values) = (body.as_ptr_range(), row.iter().flatten());
+        let mut values = values.map(<[u8]>::as_ptr_range);
+        assert!(values.all(|value| outer.start <= value.start && value.end <= outer.end));
         let ranges = row.places().iter().map(|place| place.range());
         assert!(ranges.map(|range| Some(&body[range?])).eq(row));
     }

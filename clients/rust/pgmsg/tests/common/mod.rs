@@ -29,12 +29,6 @@ pub fn checked<T>(bytes: &[u8], result: Result<T, Fault>) -> Option<T> {
     None
 }
 
-/// Asserts that a part lies in the bytes that it was read of.
-pub fn assert_within(bytes: &[u8], part: &[u8]) {
-    let (outer, inner) = (bytes.as_ptr_range(), part.as_ptr_range());
-    assert!(outer.start <= inner.start && inner.end <= outer.end);
-}
-
 /// Numbers that are the same in each run (xorshift64).
 pub struct Numbers(u64);
 
