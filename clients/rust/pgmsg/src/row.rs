@@ -72,8 +72,7 @@ impl RowIndex {
     #[inline]
     pub fn read<'b>(&mut self, body: &'b [u8]) -> Result<Row<'b, '_>, Fault> {
         let cells = fill(&mut self.cells, |room| places_in(body, room))?;
-        // SAFETY: they are the places that the library gave of this body.
-        Ok(unsafe { Row::new(body, cells) })
+        Ok(Row { body, cells })
     }
 }
 
@@ -103,20 +102,12 @@ pub fn places_in(body: &[u8], room: &mut [Cell]) -> Result<usize, Fault> {
 #[derive(Clone, Copy)]
 pub struct Row<'b, 'r> {
     body: &'b [u8],
-    /// Each is NULL or lies in the body.
+    /// Each is NULL or lies in the body, as of those that the library gave of it: `version::check` has found that
+    /// it is the one which is declared.
     cells: &'r [Cell],
 }
 
 impl<'b, 'r> Row<'b, 'r> {
-    /// # Safety
-    ///
-    /// Each cell is NULL or lies in the body, as of those that the library gave of it: `version::check`
-    /// has found that it is the one which is declared.
-    #[inline]
-    pub(crate) unsafe fn new(body: &'b [u8], cells: &'r [Cell]) -> Row<'b, 'r> {
-        Row { body, cells }
-    }
-
     /// How many cells the row has.
     #[inline]
     pub fn len(&self) -> usize {
