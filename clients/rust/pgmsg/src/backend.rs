@@ -10,7 +10,6 @@ mod answers;
 mod authentication;
 mod columns;
 mod copy;
-mod end;
 mod fields;
 mod status;
 
@@ -19,7 +18,6 @@ pub use answers::{rows_affected, FunctionCallResponse, Other};
 pub use authentication::Authentication;
 pub use columns::Column;
 pub use copy::CopyResponse;
-pub use end::end;
 pub use fields::{Field, FieldKind, Fields, Severity};
 pub use status::{
     BackendKeyData, NegotiateProtocolVersion, NotificationResponse, ParameterStatus,
@@ -36,6 +34,24 @@ use crate::list::List;
 use crate::message::messages;
 use crate::value::Value;
 use answers::read_other;
+
+/// The offset after the last part of a body, by the tag of its message: `body.len()` where nothing
+/// follows the parts that the documentation lists.
+///
+/// A body is refused where a part can't be read or a list has no end. Texts are any bytes, and data
+/// of a SASL exchange isn't looked at.
+///
+/// ```
+/// # use pgmsg::backend::end;
+/// assert_eq!(end(b'Z', b"I")?, 1);
+/// assert_eq!(end(b'Z', b"I!")?, 1);
+/// assert!(end(b'E', b"VERROR\0").is_err());
+/// # Ok::<(), pgmsg::Fault>(())
+/// ```
+#[inline]
+pub fn end(tag: u8, body: &[u8]) -> Result<usize, Fault> {
+    ask!(pgmsg_read_end(tag, [body]))
+}
 
 messages! {
     /// A message from a server.

@@ -21,7 +21,6 @@ mod first;
 mod lists;
 mod password;
 mod prepared;
-mod text;
 
 pub use bind::{Bind, FunctionCall};
 pub use copy::copy_head;
@@ -31,13 +30,20 @@ pub use prepared::{Execute, Parse, Target};
 
 pub(crate) use copy::read as read_data;
 
+use crate::answer::part;
 use crate::buffer::Buffer;
 use crate::byte_str::ByteStr;
-use crate::calls::{ask, put};
+use crate::calls::{ask, put, read};
 use crate::error::{Fault, Refusal};
 use crate::frame::Frame;
 use crate::message::messages;
 use first::read_first;
+
+/// Reads a text without its NUL.
+#[inline]
+fn read_text(body: &[u8]) -> Result<ByteStr<'_>, Fault> {
+    part(body, read!(pgmsg_read_text([body]))?).map(ByteStr)
+}
 
 messages! {
     /// A message from a client.
@@ -86,7 +92,7 @@ messages! {
         /// The data of a COPY has ended.
         CopyDone = b'c';
         /// A COPY is given up, for this reason.
-        CopyFail(reason: ByteStr<'a>) = b'f', text::read, pgmsg_put_copy_fail([reason]);
+        CopyFail(reason: ByteStr<'a>) = b'f', read_text, pgmsg_put_copy_fail([reason]);
         /// A statement or a portal is described.
         Describe(target: Target<'a>) = b'D', Target::read, pgmsg_put_describe(target.kind(), [target.name()]);
         /// A portal is run.
@@ -101,7 +107,7 @@ messages! {
         /// GSSResponse, as the request says.
         Password(password: Password<'a>) = b'p', Password::read, Password::write;
         /// The statements of a text are run.
-        Query(query: ByteStr<'a>) = b'Q', text::read, pgmsg_put_query([query]);
+        Query(query: ByteStr<'a>) = b'Q', read_text, pgmsg_put_query([query]);
         /// A run of messages ends, which the server answers with ReadyForQuery.
         Sync = b'S';
         /// The session ends.

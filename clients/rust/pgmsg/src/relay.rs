@@ -24,13 +24,11 @@
 //! ```
 
 mod answer;
-mod event;
 mod front;
 mod pass;
 mod wanted;
 
 pub use answer::{check_frames, Answer};
-pub use event::Event;
 pub use wanted::Wanted;
 
 use crate::error::{Fault, Refusal};
@@ -39,6 +37,21 @@ use crate::sys;
 use alloc::vec::Vec;
 use core::fmt;
 use front::{front_of, Front, Kind};
+
+/// What comes of the bytes that a relay takes.
+#[derive(Clone, Copy, Debug, PartialEq, Eq)]
+#[non_exhaustive]
+pub enum Event<'a> {
+    /// A whole message. It goes out as it is, or what its user puts in its place.
+    Frame(Frame<'a>),
+    /// The next bytes of a message that is not wanted whole. They go out as they are.
+    Part {
+        /// The bytes.
+        bytes: &'a [u8],
+        /// How many bytes of the message are still to come.
+        left: usize,
+    },
+}
 
 /// Takes the bytes of one direction of a connection in pieces, and gives back what goes out.
 ///

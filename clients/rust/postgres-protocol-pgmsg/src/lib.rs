@@ -44,6 +44,11 @@
 
 mod getters;
 mod lacking;
-pub mod message;
+
+/// Messages between client and server.
+pub mod message {
+    pub mod backend;
+    pub mod frontend;
+}
 
 pub use original::{authentication, escape, password, types, IsNull, Lsn, Oid};

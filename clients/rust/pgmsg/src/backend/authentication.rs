@@ -1,6 +1,6 @@
 //! What the server asks of a client that opens a session.
 
-use super::end::end;
+use super::end;
 use super::status::texts_of;
 use crate::answer::part;
 use crate::buffer::Buffer;

@@ -1,6 +1,6 @@
 //! The answers to a request for authentication.
 
-use super::text;
+use super::read_text;
 use crate::answer::part;
 use crate::buffer::Buffer;
 use crate::byte_str::{ByteStr, Secret};
@@ -38,7 +38,7 @@ impl<'a> Password<'a> {
 
     /// The password of a PasswordMessage, in clear or its digest.
     pub fn password(self) -> Result<&'a [u8], Fault> {
-        text::read(self.0).map(|text| text.0)
+        read_text(self.0).map(|text| text.0)
     }
 
     /// What a SASLInitialResponse says.

@@ -1,4 +1,0 @@
-//! Messages between client and server.
-
-pub mod backend;
-pub mod frontend;
