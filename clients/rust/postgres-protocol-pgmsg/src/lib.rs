@@ -42,7 +42,6 @@
 #![forbid(unsafe_code)]
 #![warn(missing_docs)]
 
-mod getters;
 mod lacking;
 
 /// Messages between client and server.

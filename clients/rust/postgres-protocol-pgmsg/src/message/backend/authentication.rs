@@ -1,9 +1,8 @@
 //! What the server asks of a client that opens a session.
 
-use super::body::body;
+use super::body::{body, getters};
 use super::items::Items;
 use super::Message;
-use crate::getters::getters;
 use crate::lacking::{ends, ends_list, refused, text, text_len};
 use bytes::Bytes;
 use pgmsg::backend::Authentication;

@@ -1,4 +1,17 @@
-//! Bodies that are kept as they came, and read when they are asked.
+//! Bodies that are kept as they came, and methods that read them when they are asked.
+
+/// Makes methods that give a part of a message, each of an expression.
+macro_rules! getters {
+    ($($(#[$doc:meta])* $name:ident($self:ident) -> $type:ty = $value:expr;)*) => {
+        $(
+            $(#[$doc])*
+            #[inline]
+            pub fn $name(&$self) -> $type {
+                $value
+            }
+        )*
+    };
+}
 
 /// Makes a body of so many bytes at least, with getters of what it holds.
 macro_rules! body {
@@ -13,9 +26,9 @@ macro_rules! body {
                 Ok($name(body))
             }
 
-            crate::getters::getters! { $($getters)* }
+            $crate::message::backend::body::getters! { $($getters)* }
         }
     };
 }
 
-pub(super) use body;
+pub(super) use {body, getters};

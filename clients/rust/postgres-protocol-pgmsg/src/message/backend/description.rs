@@ -1,8 +1,7 @@
 //! The columns of a result, and the types of a statement's parameters.
 
-use super::body::body;
+use super::body::{body, getters};
 use super::items::Items;
-use crate::getters::getters;
 use crate::lacking::{ends, refused, text, text_len};
 use crate::Oid;
 use pgmsg::backend::{self, Column};

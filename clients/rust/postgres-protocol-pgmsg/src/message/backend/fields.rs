@@ -1,8 +1,7 @@
 //! The fields of an error or a notice.
 
-use super::body::body;
+use super::body::{body, getters};
 use super::items::Items;
-use crate::getters::getters;
 use crate::lacking::{ends_list, text, text_len};
 use pgmsg::backend::Fields;
 use std::io;

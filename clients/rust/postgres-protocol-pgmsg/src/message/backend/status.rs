@@ -1,6 +1,6 @@
 //! What a session and a command report of themselves.
 
-use crate::getters::getters;
+use super::body::getters;
 use crate::lacking::{ends, refused, text, text_len};
 use bytes::{Buf, Bytes};
 use pgmsg::backend::{
