@@ -1,6 +1,7 @@
 //! Requests for encryption that the server answers.
 
-use crate::session::{Link, NoLink, Session};
+use crate::pass::{Begin, Link};
+use crate::session::{NoLink, Session};
 use net::{front, Front, OpenError, Stream};
 use tokio::io::{AsyncReadExt, AsyncWriteExt};
 
@@ -26,12 +27,12 @@ pub async fn link(session: &mut Session<'_>, mut client: Stream) -> Result<Link,
             Some(server) => server,
             None => session.connect().await?,
         };
-        let (is_encrypted, from_server) = match front {
+        let (begin, from_server) = match front {
             Front::SslRequest(length) | Front::GssEncRequest(length) => {
                 let request: Vec<u8> = from_client.drain(..length).collect();
                 match ask(&mut client, &mut server, &request).await? {
-                    Answer::Yes => (true, Vec::new()),
-                    Answer::Other(bytes) => (false, bytes),
+                    Answer::Yes => (Begin::Encrypted, Vec::new()),
+                    Answer::Other(bytes) => (Begin::First, bytes),
                     Answer::No => {
                         connected = Some(server);
                         continue;
@@ -40,11 +41,11 @@ pub async fn link(session: &mut Session<'_>, mut client: Stream) -> Result<Link,
             }
             Front::Message(first, _) => {
                 session.count(&first);
-                (false, Vec::new())
+                (Begin::First, Vec::new())
             }
-            _ => (true, Vec::new()),
+            _ => (Begin::Encrypted, Vec::new()),
         };
-        return Ok(Link { client, server, from_client, from_server, is_encrypted });
+        return Ok(Link { client, server, from_client, from_server, begin });
     }
 }
 

@@ -53,12 +53,19 @@ enum Front {
 }
 
 impl Framer {
+    /// Follows a direction from its first byte on.
+    #[cfg(test)]
     pub fn new(side: Side, leaves_out: bool, wants_mechanisms: bool) -> Framer {
+        Framer::of(decoder_of(side), side, leaves_out, wants_mechanisms)
+    }
+
+    /// Follows a direction by what cuts it from there on.
+    pub fn of(decoder: Decoder, side: Side, leaves_out: bool, wants_mechanisms: bool) -> Framer {
         Framer {
             side,
             leaves_out,
             wants_mechanisms,
-            decoder: decoder_of(side),
+            decoder,
             left: 0,
             is_hidden: false,
             is_broken: false,

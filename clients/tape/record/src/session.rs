@@ -1,31 +1,16 @@
 //! A client's connection, and the one to the server that it is passed on to.
 
-use crate::direction::Direction;
 use crate::encryption;
-use crate::framer::Framer;
+use crate::pass::{pass, Begin, Link};
 use crate::proxy::Proxy;
 use crate::tape::Over;
 use net::{FirstMessage, OpenError, Opened, Status, Stream};
-use recording::{Kind, Side};
+use recording::Side;
 use std::time::Duration;
-use tokio::io::{split, AsyncRead, AsyncReadExt};
-use tokio::sync::OnceCell;
-use tokio::time::{timeout, timeout_at, Instant};
+use tokio::time::{timeout_at, Instant};
 
 /// How long a client's first message and the connection to the server may take.
 pub const OPENING: Duration = Duration::from_secs(60);
-/// How long a client may take to hang up after the server did.
-const CLOSING: Duration = Duration::from_secs(2);
-
-/// Both connections, and what came of them that hasn't passed.
-pub struct Link {
-    pub client: Stream,
-    pub server: Stream,
-    pub from_client: Vec<u8>,
-    pub from_server: Vec<u8>,
-    /// What passes is encrypted, and isn't read.
-    pub is_encrypted: bool,
-}
 
 /// Why a session ends before anything passes.
 pub enum NoLink {
@@ -77,10 +62,12 @@ impl<'p> Session<'p> {
     /// Serves the client until both sides have ended.
     pub async fn serve(mut self, client: Stream) {
         let (status, first_end) = match self.link(client).await {
-            Ok(link) => match self.pass(link).await {
-                Ok(()) => (Status::Ok, None),
-                Err(Over) => return,
-            },
+            Ok(link) => {
+                match pass(&self.proxy.tape, self.number, self.proxy.leaves_out, link).await {
+                    Ok(()) => (Status::Ok, None),
+                    Err(Over) => return,
+                }
+            }
             Err(NoLink::Over) => return,
             Err(NoLink::Gone) => (Status::Ok, None),
             Err(NoLink::Refused(words, status)) => {
@@ -93,7 +80,7 @@ impl<'p> Session<'p> {
             }
         };
         if let Some(side) = first_end.filter(|_| self.number > 0) {
-            if self.close(side).await.is_err() {
+            if self.proxy.tape.close_connection(self.number, side).await.is_err() {
                 return;
             }
         }
@@ -120,7 +107,7 @@ impl<'p> Session<'p> {
             client: stream,
             from_client: bytes,
             from_server: Vec::new(),
-            is_encrypted: false,
+            begin: Begin::First,
         })
     }
 
@@ -140,70 +127,4 @@ impl<'p> Session<'p> {
             Ok(Ok(server)) => Ok(server),
         }
     }
-
-    /// Passes both ways in one task, until the server has ended and its last words are passed on.
-    async fn pass(&self, link: Link) -> Result<(), Over> {
-        let first_end = OnceCell::new();
-        let drops_binding = drops_binding(&link);
-        if link.is_encrypted {
-            self.proxy.tape.take(self.number, &[(Kind::Encrypted, &[])]).await?;
-        }
-        let direction = |side| Direction {
-            tape: &self.proxy.tape,
-            connection: self.number,
-            side,
-            first_end: &first_end,
-            framer: (!link.is_encrypted)
-                .then(|| Framer::new(side, self.proxy.leaves_out, drops_binding)),
-            drops_binding,
-        };
-        let (mut up, mut down) = (direction(Side::Client), direction(Side::Server));
-        let (mut client_in, mut client_out) = split(link.client);
-        let (mut server_in, mut server_out) = split(link.server);
-        {
-            let up = up.pass(&mut client_in, &mut server_out, &link.from_client);
-            let down = down.pass(&mut server_in, &mut client_out, &link.from_server);
-            until_second(up, down).await?;
-        }
-        self.close(first_end.get().copied().unwrap_or(Side::Server)).await?;
-        // A socket that is closed before it is read to its end may take back what was written to it.
-        let _ = timeout(CLOSING, discard(&mut client_in)).await;
-        Ok(())
-    }
-
-    async fn close(&self, first: Side) -> Result<(), Over> {
-        let content = [Kind::Bytes(first).letter()];
-        self.proxy.tape.take(self.number, &[(Kind::Closed, &content)]).await
-    }
-}
-
-/// Whether mechanisms with channel binding can't be offered: they bind to the server's certificate, and the client would
-/// see another one or none.
-fn drops_binding(link: &Link) -> bool {
-    let (theirs, ours) = (link.server.peer_certificate(), link.client.own_certificate());
-    theirs.is_some() && theirs != ours
-}
-
-/// Waits for the second of two, beside which the first goes on while it can.
-async fn until_second(
-    first: impl std::future::Future<Output = Result<(), Over>>,
-    second: impl std::future::Future<Output = Result<(), Over>>,
-) -> Result<(), Over> {
-    tokio::pin!(first, second);
-    let mut has_ended = false;
-    loop {
-        tokio::select! {
-            ended = &mut second => return ended,
-            ended = &mut first, if !has_ended => {
-                ended?;
-                has_ended = true;
-            }
-        }
-    }
-}
-
-/// Reads until the end what nobody gets.
-async fn discard(from: &mut (impl AsyncRead + Unpin)) {
-    let mut room = [0; 1024];
-    while matches!(from.read(&mut room).await, Ok(count) if count > 0) {}
 }

@@ -3,7 +3,7 @@
 use crate::output::Output;
 use crate::printer::Printer;
 use net::{let_others, Failure, Sayer, Status};
-use recording::{Kind, Lost};
+use recording::{Kind, Lost, Side};
 use std::path::{Path, PathBuf};
 use std::sync::atomic::{AtomicBool, Ordering};
 use std::sync::{Mutex, MutexGuard, PoisonError};
@@ -104,6 +104,12 @@ impl Tape {
         // What comes for several sessions at the same time is written at once.
         let_others().await;
         self.judge(file, file.tape.write(end))
+    }
+
+    /// Takes the end of a connection, of which a side closed it first.
+    pub async fn close_connection(&self, connection: u32, first: Side) -> Result<(), Over> {
+        let content = [Kind::Bytes(first).letter()];
+        self.take(connection, &[(Kind::Closed, &content)]).await
     }
 
     /// The file, while something can be recorded.
