@@ -4,6 +4,7 @@
 mod form;
 mod options;
 mod pool;
+mod renewal;
 mod report;
 mod rules;
 mod serve;
@@ -13,8 +14,9 @@ mod tape;
 #[cfg(test)]
 mod mutants;
 
-use net::{Bound, Failure, Sayer, Status, Workers};
+use net::{Bound, Failure, Listener, Sayer, Status, Workers};
 use options::Options;
+use renewal::Renewal;
 use serve::{Settings, Shared};
 use session::Login;
 use std::path::Path;
@@ -22,9 +24,13 @@ use std::process::ExitCode;
 use std::sync::Arc;
 use std::time::Duration;
 use tokio::runtime::Builder;
+use tokio::sync::mpsc;
 
 /// How long tasks may take to end.
 const SHUTTING_DOWN: Duration = Duration::from_secs(1);
+
+/// What tells that all ends, and how.
+type Ends = mpsc::Receiver<Result<(), Failure>>;
 
 /// The password in a file: its first line.
 fn login(path: &Path) -> Result<Login, Failure> {
@@ -36,34 +42,62 @@ fn login(path: &Path) -> Result<Login, Failure> {
     Login::new(password).map_err(|why| unread(&why))
 }
 
-fn settings(options: &Options) -> Result<Settings, Failure> {
-    Ok(Settings {
+/// What all sessions have, and what tells that all ends. A recording that is to be made is begun.
+async fn begin(options: &Options, tell: &Sayer) -> Result<(Shared, Ends, Vec<Listener>), Failure> {
+    let rules = Arc::new(options.rules()?);
+    let (end, ends) = mpsc::channel(1);
+    let fails = end.clone();
+    let fails = move |failure| drop(fails.try_send(Err(failure)));
+    let renewal = Renewal::begin(options, tell, fails).await?;
+    let path = renewal.as_ref().map_or(&*options.file, Renewal::replayed);
+    let tape = tape::load(path, &rules, options.speed, &|words| tell.say(words))?;
+    if tape.connections.is_empty() && renewal.is_none() {
+        let words = format!("{} has no session that can be replayed", options.file.display());
+        return Err(Failure::new(Status::Damaged, words));
+    }
+    let settings = Settings {
         keeps_times: options.speed,
         patience: options.patience(),
         again: options.again,
         any_order: options.any_order,
         goes_on: options.go_on,
         login: options.scram.as_deref().map(login).transpose()?,
-    })
+        renewal,
+        end,
+    };
+    options.check_paths()?;
+    let says = |words| tell.say_plain(words);
+    let Bound { listeners, tls } = options.listening.bind(options.listen_port, says).await?;
+    Ok((Shared::new(tape, rules, tell.clone(), tls, settings), ends, listeners))
 }
 
-/// Serves until it is over, or a signal comes. Answers the status.
-async fn run(options: &Options, tell: Sayer, workers: &Arc<Workers>) -> Result<Status, Failure> {
-    let rules = Arc::new(options.rules()?);
-    let tape = tape::load(&options.file, &rules, options.speed, &|words| tell.say(words))?;
-    let settings = settings(options)?;
-    options.check_paths()?;
-    let Bound { listeners, tls } =
-        options.listening.bind(options.listen_port, |words| tell.say_plain(words)).await?;
-    let (shared, ends) = Shared::new(tape, rules, tell, tls, settings);
+/// Serves until it is over, or a signal comes. Answers the status, and what all sessions have.
+async fn run(
+    options: &Options,
+    tell: &Sayer,
+    workers: &Arc<Workers>,
+) -> Result<(Status, Arc<Shared>), Failure> {
+    let (shared, ends, listeners) = begin(options, tell).await?;
     let shared = Arc::new(shared);
-    tokio::select! {
-        end = serve::serve(shared.clone(), listeners, workers, ends) => Ok(serve::ended(&shared, end)),
+    let status = tokio::select! {
+        end = serve::serve(shared.clone(), listeners, workers, ends) => serve::ended(&shared, end),
         status = net::ended() => {
             serve::ended(&shared, Ok(()));
-            status.map_err(|why| Failure::new(Status::Local, why.to_string()))
+            status.map_err(|why| Failure::new(Status::Local, why.to_string()))?
         }
+    };
+    Ok((status, shared))
+}
+
+/// Puts what was recorded into the recording, once no session goes on.
+fn renew(shared: &Shared, options: &Options, tell: &Sayer) -> Result<(), Failure> {
+    if let Some(renewal) = &shared.renewal {
+        let left = shared.pool().left();
+        let count = renewal.end(&left)?;
+        let path = options.file.display();
+        tell.say(format!("{count} sessions are new in {path}, and {} gone", left.len()));
     }
+    Ok(())
 }
 
 /// The same with the threads that serve clients; another one accepts them.
@@ -71,13 +105,15 @@ fn serve_all(options: &Options, tell: &Sayer) -> Result<Status, Failure> {
     let local = |why| Failure::new(Status::Local, format!("no thread can be begun: {why}"));
     let workers = Arc::new(options.listening.workers().map_err(local)?);
     let runtime = Builder::new_current_thread().enable_all().build().map_err(local)?;
-    let status = runtime.block_on(run(options, tell.clone(), &workers));
+    let served = runtime.block_on(run(options, tell, &workers));
     // The sockets are taken away with what listens on them.
     runtime.shutdown_timeout(SHUTTING_DOWN);
     if let Ok(workers) = Arc::try_unwrap(workers) {
         workers.end();
     }
-    status
+    let (status, shared) = served?;
+    renew(&shared, options, tell)?;
+    Ok(status)
 }
 
 fn main() -> ExitCode {

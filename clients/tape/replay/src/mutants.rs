@@ -57,9 +57,9 @@ fn anything_that_is_recorded_or_said_is_taken() {
             mutants.took(1);
             continue;
         };
-        mutants.took(tape.script.len());
+        mutants.took(tape.script.len().max(1));
         let tape = Arc::new(tape);
-        let mut pool = Pool::new(tape.clone(), true, true);
+        let mut pool = Pool::new(tape.clone(), true, true, false);
         for _ in 0..40 {
             say(&mut mutants, &tape, &mut pool);
         }

@@ -3,7 +3,7 @@
 use crate::form::LiteralKind;
 use crate::rules::Rules;
 use clap::Parser;
-use net::{Address, Failure, Listening, Status};
+use net::{Address, Failure, Listening, ServerOptions, Status};
 use std::path::PathBuf;
 use std::time::Duration;
 
@@ -24,7 +24,7 @@ pub const USAGE: &str = "usage: pg_replay [OPTION..] FILE [LISTEN_PORT]";
 ///
 /// Messages up to a mebibyte are compared so; longer ones have to be as recorded.
 #[derive(Parser, Debug)]
-#[command(name = "pg_replay", version, override_usage = FORM)]
+#[command(name = "pg_replay", version, override_usage = FORM, disable_help_flag = true)]
 pub struct Options {
     /// The recording
     pub file: PathBuf,
@@ -66,6 +66,26 @@ pub struct Options {
     /// Serves the recording again when all of it is replayed
     #[arg(long)]
     pub again: bool,
+    /// Passes on to the server at HOST and PORT what isn't recorded, and records it: FILE has it when a signal ends the program,
+    /// in the place of what was recorded of a session that went on otherwise. FILE may be missing
+    #[arg(long, conflicts_with_all = ["record_all", "scram"])]
+    record_missing: bool,
+    /// The same with all that clients say, as if nothing were recorded
+    #[arg(long, conflicts_with = "scram")]
+    record_all: bool,
+    #[command(flatten)]
+    pub server: ServerOptions,
+    /// Print this
+    #[arg(long, action = clap::ArgAction::Help)]
+    help: Option<bool>,
+}
+
+/// What is recorded in a replay.
+#[derive(Clone, Copy, Debug, PartialEq, Eq)]
+pub enum Recorded {
+    Nothing,
+    Missing,
+    All,
 }
 
 /// What is wrong, and the form of the arguments.
@@ -84,6 +104,15 @@ impl Options {
         match options.listening.listen.is_empty() && options.listen_port.is_none() {
             true => Err((Status::Usage, format!("{USAGE}\n"))),
             false => Ok(options),
+        }
+    }
+
+    /// What is recorded.
+    pub fn recorded(&self) -> Recorded {
+        match (self.record_missing, self.record_all) {
+            (false, false) => Recorded::Nothing,
+            (true, _) => Recorded::Missing,
+            _ => Recorded::All,
         }
     }
 

@@ -1,6 +1,7 @@
 //! Serving a recording to the clients that connect.
 
 use crate::pool::Pool;
+use crate::renewal::Renewal;
 use crate::report::{Allowed, Report, Side};
 use crate::rules::Rules;
 use crate::session::{greet, Login};
@@ -36,6 +37,8 @@ pub struct Shared {
     pub goes_on: bool,
     pub tls: Option<ServerTls>,
     pub login: Option<Login>,
+    /// What is recorded beside.
+    pub renewal: Option<Renewal>,
     is_different: AtomicBool,
     /// Clients whose Startup hasn't come, the oldest first.
     openings: Mutex<VecDeque<Opening>>,
@@ -53,6 +56,9 @@ pub struct Settings {
     pub any_order: bool,
     pub goes_on: bool,
     pub login: Option<Login>,
+    pub renewal: Option<Renewal>,
+    /// What tells that all ends, and how.
+    pub end: mpsc::Sender<Result<(), Failure>>,
 }
 
 impl Shared {
@@ -62,11 +68,11 @@ impl Shared {
         tell: Sayer,
         tls: Option<ServerTls>,
         settings: Settings,
-    ) -> (Shared, mpsc::Receiver<Result<(), Failure>>) {
-        let (end, ends) = mpsc::channel(1);
-        let tape = Arc::new(tape);
-        let shared = Shared {
-            pool: Mutex::new(Pool::new(tape.clone(), settings.again, settings.any_order)),
+    ) -> Shared {
+        let (tape, gives_back) = (Arc::new(tape), settings.renewal.is_some());
+        let pool = Pool::new(tape.clone(), settings.again, settings.any_order, gives_back);
+        Shared {
+            pool: Mutex::new(pool),
             tape,
             rules,
             stirred: Notify::new(),
@@ -78,11 +84,11 @@ impl Shared {
             goes_on: settings.goes_on,
             tls,
             login: settings.login,
+            renewal: settings.renewal,
             is_different: AtomicBool::new(false),
             openings: Mutex::new(VecDeque::new()),
-            end,
-        };
-        (shared, ends)
+            end: settings.end,
+        }
     }
 
     pub fn pool(&self) -> MutexGuard<'_, Pool> {
@@ -124,7 +130,8 @@ impl Shared {
         let is_done = {
             let mut pool = self.pool();
             pool.leave(seat, is_replayed);
-            pool.is_done()
+            // More may come that isn't recorded.
+            pool.is_done() && self.renewal.is_none()
         };
         let is_cut = !is_replayed && !self.goes_on;
         match ended.map_err(|why| why.downcast::<Failure>()) {
@@ -218,12 +225,12 @@ async fn accept(
             }
         };
         match listener.accept().await {
-            Ok((stream, _)) => {
+            Ok((stream, peer)) => {
                 let (session, has_to_go) = (shared.clone(), shared.note_opening());
                 workers.spawn(async move {
                     let _place = place;
                     if let Ok(stream) = stream.watch() {
-                        greet(&session, stream, has_to_go).await;
+                        greet(&session, stream, peer, has_to_go).await;
                     }
                 });
             }

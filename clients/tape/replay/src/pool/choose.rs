@@ -1,6 +1,6 @@
 //! Taking another turn in the place of one that has begun: as long as all that was said and heard of both is the same.
 
-use super::Pool;
+use super::{Pool, Seat};
 use crate::tape::{Changed, What};
 
 impl Pool {
@@ -120,7 +120,7 @@ impl Pool {
     /// Exchanges two turns, of which another client may have the second. That one goes on at the same message.
     fn change(&mut self, id: usize, own: usize, other: usize) {
         let holder = self.holders.insert(other, id);
-        self.seat(id).turn = Some(other);
+        self.seat(id).take_instead(own, other);
         let Some(holder) = holder else {
             self.holders.remove(&own);
             self.uses[own] -= 1;
@@ -131,7 +131,17 @@ impl Pool {
         let count = self.passed(other, self.seats[&holder].at);
         let place = self.place_after(own, count).unwrap_or(0);
         let seat = self.seat(holder);
-        seat.turn = Some(own);
+        seat.take_instead(other, own);
         seat.at = place;
+    }
+}
+
+impl Seat {
+    /// Takes another turn in the place of the one that it is in.
+    fn take_instead(&mut self, own: usize, other: usize) {
+        self.turn = Some(other);
+        if let Some(last) = self.taken.last_mut().filter(|it| **it == own) {
+            *last = other;
+        }
     }
 }

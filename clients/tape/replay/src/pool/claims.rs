@@ -70,6 +70,7 @@ impl Pool {
                 number: self.tape.script.number(recorded.startup),
                 cancels: 0,
                 begun: self.caused,
+                taken: Vec::new(),
             },
         );
         id
@@ -88,5 +89,21 @@ impl Pool {
         }
         self.done += 1;
         self.replayed += usize::from(is_replayed);
+    }
+
+    /// Ends a session that goes on with a server: others may take what it took.
+    pub fn give_back(&mut self, id: usize) {
+        let Some(seat) = self.seats.remove(&id) else {
+            return;
+        };
+        for turn in seat.taken {
+            self.uses[turn] = self.uses[turn].saturating_sub(1);
+            if self.holders.get(&turn) == Some(&id) {
+                self.holders.remove(&turn);
+            }
+        }
+        let connection = &mut self.connections[seat.home];
+        connection.is_held = false;
+        connection.is_left = true;
     }
 }

@@ -1,6 +1,7 @@
 //! What is replayed of a recording, and what is left.
 
 use super::Pool;
+use std::collections::HashSet;
 
 impl Pool {
     /// Whether as many clients came and are gone as were recorded.
@@ -27,5 +28,14 @@ impl Pool {
     pub fn connection_of(&self, said: usize) -> u32 {
         let place = self.tape.connections.partition_point(|it| it.startup <= said);
         self.tape.connections[place.max(1) - 1].number
+    }
+
+    /// The numbers of connections whose clients all went on with a server, and of which no other client took a part.
+    pub fn left(&self) -> HashSet<u32> {
+        let all = self.tape.connections.iter().zip(&self.connections);
+        let left = all.filter(|(recorded, it)| {
+            it.is_left && it.rounds == 0 && recorded.turns.clone().all(|turn| self.uses[turn] == 0)
+        });
+        left.map(|(recorded, _)| recorded.number).collect()
     }
 }

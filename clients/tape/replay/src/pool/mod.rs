@@ -31,6 +31,8 @@ struct Seat {
     cancels: u32,
     /// How many causes there were when it began.
     begun: u64,
+    /// The turns that it took, where it may give them back.
+    taken: Vec<usize>,
 }
 
 #[derive(Clone, Debug, Default)]
@@ -38,11 +40,14 @@ struct ConnectionState {
     is_held: bool,
     /// How many clients had it and are gone.
     rounds: usize,
+    /// A client that had it went on otherwise, with a server.
+    is_left: bool,
 }
 
 pub struct Pool {
     tape: Arc<Tape>,
     again: bool,
+    gives_back: bool,
     /// How often each turn was taken.
     uses: Vec<u32>,
     /// The sessions that are in a turn, by its number.
@@ -102,7 +107,8 @@ pub struct Expected {
 
 impl Pool {
     /// With `again`, what was replayed is replayed again, and then `any_order` needs no round to be over.
-    pub fn new(tape: Arc<Tape>, again: bool, any_order: bool) -> Pool {
+    /// With `gives_back`, a session that goes on with a server leaves what it took to others.
+    pub fn new(tape: Arc<Tape>, again: bool, any_order: bool, gives_back: bool) -> Pool {
         let firsts = tape.turns.iter().enumerate().filter_map(|(number, turn)| {
             let first = turn.said().find(|it| !tape.is_free(*it))?;
             match tape.script.what(first) {
@@ -123,6 +129,7 @@ impl Pool {
         Pool {
             preparing,
             again,
+            gives_back,
             uses: vec![0; tape.turns.len()],
             holders: HashMap::new(),
             connections: vec![ConnectionState::default(); tape.connections.len()],
@@ -265,9 +272,13 @@ impl Pool {
     fn hold(&mut self, id: usize, turn: usize, at: usize) {
         self.uses[turn] += 1;
         self.holders.insert(turn, id);
+        let gives_back = self.gives_back;
         let seat = self.seat(id);
         seat.turn = Some(turn);
         seat.at = at;
+        if gives_back {
+            seat.taken.push(turn);
+        }
     }
 
     /// Goes on after a message that fits.

@@ -1,12 +1,14 @@
 //! A client that connects, up to its session.
 
-use super::{linger, say, Session};
-use crate::form::Former;
+use super::passing::pass_all;
+use super::{linger, say, Session, Taping};
+use crate::form::{Former, UNRECORDED};
 use crate::pool::Claim;
 use crate::report::{fatal, Allowed, Report, Side};
 use crate::serve::Shared;
 use anyhow::Result;
 use net::{open, FirstMessage, Stream};
+use pg_record::Over;
 use pgmsg::backend::{Authentication, Message};
 use pgmsg::frontend;
 use std::time::{Duration, Instant};
@@ -22,6 +24,8 @@ const TAKING_PAUSE: Duration = Duration::from_millis(5);
 
 /// A client that has said its Startup, and its password where it was asked for one.
 struct Guest {
+    /// Its address.
+    peer: String,
     stream: Stream,
     /// From its length on.
     startup: Vec<u8>,
@@ -30,9 +34,14 @@ struct Guest {
 }
 
 /// Serves a client that has connected. It has to go where others wait and it doesn't open a session.
-pub async fn greet(shared: &Shared, stream: Stream, has_to_go: oneshot::Receiver<()>) {
+pub async fn greet(
+    shared: &Shared,
+    stream: Stream,
+    peer: String,
+    has_to_go: oneshot::Receiver<()>,
+) {
     let guest = tokio::select! {
-        guest = timeout(OPENING_PATIENCE, receive(shared, stream)) => guest,
+        guest = timeout(OPENING_PATIENCE, receive(shared, stream, peer)) => guest,
         _ = has_to_go => return,
     };
     match guest {
@@ -44,7 +53,7 @@ pub async fn greet(shared: &Shared, stream: Stream, has_to_go: oneshot::Receiver
 }
 
 /// Takes the first message. `None` where it is none of a session, or the client hangs up.
-async fn receive(shared: &Shared, stream: Stream) -> Result<Option<Guest>> {
+async fn receive(shared: &Shared, stream: Stream, peer: String) -> Result<Option<Guest>> {
     let Some(mut opened) = open(stream, shared.tls.as_ref()).await? else {
         return Ok(None);
     };
@@ -57,6 +66,8 @@ async fn receive(shared: &Shared, stream: Stream) -> Result<Option<Guest>> {
     {
         if shared.pool().cancel(cancel.process_id) {
             shared.stirred.notify_waiters();
+        } else if let Some(renewal) = &shared.renewal {
+            let _ = pass_all(shared, renewal, &peer, opened.stream, opened.bytes).await;
         }
         return Ok(None);
     }
@@ -69,7 +80,7 @@ async fn receive(shared: &Shared, stream: Stream) -> Result<Option<Guest>> {
             }
         };
     }
-    Ok(Some(Guest { stream: opened.stream, startup: opened.bytes, rest }))
+    Ok(Some(Guest { peer, stream: opened.stream, startup: opened.bytes, rest }))
 }
 
 /// Ends a login as a server does.
@@ -80,38 +91,67 @@ async fn refuse(stream: &mut Stream) {
 }
 
 /// Gives a client a recorded connection, and serves it.
-async fn seat(shared: &Shared, mut guest: Guest) {
-    let form = shared
-        .tape
-        .forms
-        .find(Former::new(shared.rules.clone()).message(None, &guest.startup[4..]));
+async fn seat(shared: &Shared, guest: Guest) {
+    let former = &mut Former::new(shared.rules.clone());
+    let form = shared.tape.forms.find(former.message(None, &guest.startup[4..]));
     match claim(shared, form).await {
         Claim::Seat(seat, connection) => {
-            let ended = match shared.tape.connections[connection].is_left_at_password {
-                true => Ok(ask_in_vain(&mut guest).await.is_ok()),
-                false => {
-                    let startup = shared.tape.connections[connection].startup;
-                    Session::new(shared, seat).serve(guest.stream, startup, guest.rest).await
-                }
-            };
+            let ended = serve(shared, guest, seat, connection).await;
             shared.leave(seat, ended);
         }
-        Claim::Differs(connection) => {
-            let recorded = match connection {
-                Some(connection) => Side::startup(&shared.tape, connection),
-                None => Side::Words("no connection that isn't replayed".to_owned()),
-            };
-            let number = connection.map(|it| shared.tape.connections[it].number);
-            let received = Side::Startup(guest.startup);
-            let allowed = Allowed { rules: &shared.rules, statement: None };
-            let report = Report::new((number, 1), &allowed, &recorded, &received, None);
-            shared.tell_difference(&report);
-            let _ = guest.stream.write_all(&report.error()).await;
-            let _ = guest.stream.flush().await;
-            linger(&mut guest.stream).await;
-            shared.fail(connection);
-        }
+        Claim::Differs(connection) => match pass_on(shared, guest).await {
+            Ok(()) => {}
+            Err(guest) => differ(shared, guest, connection).await,
+        },
     }
+}
+
+/// Serves a client that has a seat and a recorded connection.
+async fn serve(shared: &Shared, mut guest: Guest, seat: usize, connection: usize) -> Result<bool> {
+    let recorded = &shared.tape.connections[connection];
+    if recorded.is_left_at_password {
+        return Ok(ask_in_vain(&mut guest).await.is_ok());
+    }
+    let Guest { peer, stream, startup, rest } = guest;
+    let taping = match &shared.renewal {
+        None => None,
+        Some(renewal) => match Taping::begin(renewal, &peer, &startup).await {
+            Ok(taping) => Some(taping),
+            // Why nothing is recorded any more is told already.
+            Err(Over) => return Ok(false),
+        },
+    };
+    Session::new(shared, seat, taping).serve(stream, recorded.startup, rest).await
+}
+
+/// Passes a client on to the server where none of its session is recorded; gives it back where there is no server.
+async fn pass_on(shared: &Shared, guest: Guest) -> Result<(), Guest> {
+    let Some(renewal) = &shared.renewal else {
+        return Err(guest);
+    };
+    let Guest { peer, stream, startup, rest } = guest;
+    let said = [&startup[..], &rest].concat();
+    match pass_all(shared, renewal, &peer, stream, said).await {
+        Ok(()) => Ok(()),
+        Err(stream) => Err(Guest { peer, stream, startup, rest }),
+    }
+}
+
+/// Ends a client whose Startup isn't that of the connection which it would get.
+async fn differ(shared: &Shared, mut guest: Guest, connection: Option<usize>) {
+    let recorded = match connection {
+        Some(connection) => Side::startup(&shared.tape, connection),
+        None => Side::Words("no connection that isn't replayed".to_owned()),
+    };
+    let number = connection.map(|it| shared.tape.connections[it].number);
+    let received = Side::Startup(guest.startup);
+    let allowed = Allowed { rules: &shared.rules, statement: None };
+    let report = Report::new((number, 1), &allowed, &recorded, &received, None);
+    shared.tell_difference(&report);
+    let _ = guest.stream.write_all(&report.error()).await;
+    let _ = guest.stream.flush().await;
+    linger(&mut guest.stream).await;
+    shared.fail(connection);
 }
 
 /// Waits a while for a connection that another client has, which may be about to leave.
@@ -121,6 +161,8 @@ async fn claim(shared: &Shared, form: u32) -> Claim {
         let claim = shared.pool().claim(form);
         let may_fit = match claim {
             Claim::Seat(..) => false,
+            // What a server answers has to wait for no recorded connection.
+            Claim::Differs(_) if shared.renewal.is_some() && form == UNRECORDED => false,
             Claim::Differs(first) => first.is_none() || shared.any_order,
         };
         if !(may_fit

@@ -3,10 +3,13 @@
 mod greeting;
 mod login;
 mod outgoing;
+mod passing;
 mod take;
+mod taping;
 
 pub use greeting::greet;
 pub use login::Login;
+pub use taping::Taping;
 
 use crate::form::Former;
 use crate::report::{Allowed, Parting, Report, Side};
@@ -32,6 +35,8 @@ enum State {
     Serving,
     /// What is to be sent is sent, and nothing more is taken.
     Ending,
+    /// The client said what isn't recorded, and goes on with the server where there is one.
+    Missing,
 }
 
 /// A message or data that are compared as bytes.
@@ -56,7 +61,11 @@ pub struct Session<'s> {
     /// Where a long message isn't over, how many bytes of it came.
     long: usize,
     run: Option<Run>,
-    out: Outgoing,
+    out: Outgoing<'s>,
+    /// The difference where something is missing.
+    missing: Option<Report>,
+    /// The client says no more.
+    is_leaving: bool,
     /// Messages of the standby's state are left out.
     is_both: bool,
     /// All since the last ReadyForQuery was answered by the rules.
@@ -73,7 +82,8 @@ pub struct Session<'s> {
 }
 
 impl<'s> Session<'s> {
-    pub fn new(shared: &'s Shared, seat: usize) -> Session<'s> {
+    /// The session of a client that has a seat, which may be recorded too.
+    pub fn new(shared: &'s Shared, seat: usize, taping: Option<Taping<'s>>) -> Session<'s> {
         Session {
             shared,
             seat,
@@ -83,7 +93,9 @@ impl<'s> Session<'s> {
             cutter: Cutter::of_client(),
             long: 0,
             run: None,
-            out: Outgoing::new(shared.keeps_times),
+            out: Outgoing::new(shared.keeps_times, taping),
+            missing: None,
+            is_leaving: false,
             is_both: false,
             is_ignoring: false,
             is_in_transaction: false,
@@ -104,11 +116,19 @@ impl<'s> Session<'s> {
     ) -> Result<bool> {
         self.out.add(&self.shared.tape, startup, self.heard_at);
         self.end_without_turns();
+        self.note(&bytes).await;
         let ends = self.talk(&mut stream, bytes).await;
+        if self.state == State::Missing && ends.is_ok() {
+            let Some(left) = self.pass_on(stream).await else {
+                return Ok(true);
+            };
+            stream = left;
+        }
         if self.state == State::Ending && ends.is_ok() {
             let _ = timeout(PATIENCE_WITH_ERROR, self.send_rest(&mut stream)).await;
             linger(&mut stream).await;
         }
+        self.end_taping().await;
         ends.map(|()| !self.has_failed)
     }
 
@@ -136,7 +156,7 @@ impl<'s> Session<'s> {
             let stirred = self.shared.stirred.notified();
             self.take(&bytes).map_err(|why| self.changed(&why))?;
             bytes.clear();
-            if self.state == State::Ending {
+            if self.state != State::Serving {
                 return Ok(());
             }
             let waits = match self.out.send(self.shared, self.seat, stream, self.holds).await {
@@ -178,12 +198,14 @@ impl<'s> Session<'s> {
             }
         };
         self.heard_at = Instant::now();
+        self.note(bytes).await;
         matches!(read, Ok(count) if count > 0)
     }
 
     /// Ends a session whose client leaves out what it had sent at once.
     fn check_patience(&mut self, patience: Option<Instant>) {
         if patience.map_or(false, |it| Instant::now() >= it) {
+            self.is_leaving = true;
             self.differ(Side::Words("nothing, for too long".to_owned()));
         }
     }
@@ -209,7 +231,17 @@ impl<'s> Session<'s> {
             (Some(expected.connection), expected.number),
         );
         let report = Report::new(place, &allowed, recorded, received, part);
-        shared.tell_difference(&report);
+        if self.out.taping.is_some() && !self.is_leaving {
+            self.missing = Some(report);
+            self.state = State::Missing;
+        } else {
+            self.fail(&report);
+        }
+    }
+
+    /// Ends the session by a difference.
+    fn fail(&mut self, report: &Report) {
+        self.shared.tell_difference(report);
         self.out.add_made(report.error());
         self.has_failed = true;
         self.state = State::Ending;

@@ -1,8 +1,10 @@
 //! What is to be sent to a client, and what it waits for.
 
+use super::taping::Taping;
 use crate::serve::Shared;
 use crate::tape::{Changed, Tape, Wait, Window};
 use net::Stream;
+use pg_record::Over;
 use std::collections::VecDeque;
 use std::time::{Duration, Instant};
 use tokio::io::AsyncWriteExt;
@@ -21,13 +23,15 @@ enum Item {
 }
 
 #[derive(Default)]
-pub struct Outgoing {
+pub struct Outgoing<'s> {
     items: VecDeque<Item>,
     /// What another client's message causes that hasn't come.
     late: Vec<usize>,
     keeps_times: bool,
     together: Vec<u8>,
     window: Window,
+    /// Where the session is recorded too.
+    pub taping: Option<Taping<'s>>,
 }
 
 /// What is left to wait for once all is sent that could be.
@@ -56,6 +60,12 @@ impl From<std::io::Error> for Unsent {
     }
 }
 
+impl From<Over> for Unsent {
+    fn from(_: Over) -> Unsent {
+        Unsent::Broken
+    }
+}
+
 /// Whether an item can be sent.
 enum Gate {
     Open,
@@ -63,9 +73,9 @@ enum Gate {
     Others,
 }
 
-impl Outgoing {
-    pub fn new(keeps_times: bool) -> Outgoing {
-        Outgoing { keeps_times, ..Outgoing::default() }
+impl<'s> Outgoing<'s> {
+    pub fn new(keeps_times: bool, taping: Option<Taping<'s>>) -> Outgoing<'s> {
+        Outgoing { keeps_times, taping, ..Outgoing::default() }
     }
 
     /// Adds what was heard of a recorded message that the client has said at a time.
@@ -174,11 +184,11 @@ impl Outgoing {
             Item::Made(bytes) => bytes,
         };
         if self.together.len() + bytes.len() > TOGETHER {
-            flush(&mut self.together, stream).await?;
+            flush(&mut self.together, &mut self.taping, stream).await?;
         }
         match bytes.len() <= TOGETHER {
             true => self.together.extend_from_slice(bytes),
-            false => stream.write_all(bytes).await?,
+            false => write(bytes, &mut self.taping, stream).await?,
         }
         Ok(())
     }
@@ -186,7 +196,7 @@ impl Outgoing {
     /// Sends what is together. What comes next is read from the recording again.
     async fn flush(&mut self, stream: &mut Stream) -> Result<(), Unsent> {
         self.window.clear();
-        flush(&mut self.together, stream).await
+        flush(&mut self.together, &mut self.taping, stream).await
     }
 
     /// Sends all that is left, whatever it waits for but other clients.
@@ -198,11 +208,27 @@ impl Outgoing {
     }
 }
 
-async fn flush(together: &mut Vec<u8>, stream: &mut Stream) -> Result<(), Unsent> {
+async fn flush(
+    together: &mut Vec<u8>,
+    taping: &mut Option<Taping<'_>>,
+    stream: &mut Stream,
+) -> Result<(), Unsent> {
     if !together.is_empty() {
-        stream.write_all(together).await?;
+        write(together, taping, stream).await?;
         together.clear();
         stream.flush().await?;
     }
     Ok(())
+}
+
+/// Sends bytes once they are recorded.
+async fn write(
+    bytes: &[u8],
+    taping: &mut Option<Taping<'_>>,
+    stream: &mut Stream,
+) -> Result<(), Unsent> {
+    if let Some(taping) = taping {
+        taping.hear(bytes).await?;
+    }
+    Ok(stream.write_all(bytes).await?)
 }

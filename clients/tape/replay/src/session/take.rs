@@ -205,7 +205,10 @@ impl Session<'_> {
         }
         let expected = self.shared.pool().expected(self.seat);
         match expected.said.filter(|_| expected.is_sure) {
-            Some(_) => self.differ(Side::message(message)),
+            Some(_) => {
+                self.is_leaving = true;
+                self.differ(Side::message(message));
+            }
             None => self.state = State::Ending,
         }
         Ok(())
@@ -219,6 +222,7 @@ impl Session<'_> {
         if self.state == State::Ending {
             return Ok(());
         }
+        self.is_leaving = true;
         let expected = self.shared.pool().expected(self.seat);
         let is_owing = expected.said.is_some() && expected.is_sure;
         if is_owing || expected.ending == Ending::Terminate || self.cutter.is_within() {

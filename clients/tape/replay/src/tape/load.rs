@@ -88,14 +88,7 @@ pub fn load(
             loading.encrypted
         ));
     }
-    let tape = loading.finish(path, file).ok_or_else(uncounted)?;
-    match tape.connections.is_empty() {
-        true => Err(Failure::new(
-            Status::Damaged,
-            format!("{} has no session that can be replayed", path.display()),
-        )),
-        false => Ok(tape),
-    }
+    loading.finish(path, file).ok_or_else(uncounted)
 }
 
 /// The words of an error of the system without its number.

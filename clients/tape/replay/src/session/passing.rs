@@ -1,0 +1,76 @@
+//! Going on with a server where a client says what isn't recorded.
+
+use super::Session;
+use crate::renewal::Renewal;
+use crate::serve::Shared;
+use net::Stream;
+use pg_record::{pass, Begin, Link};
+use recording::Side;
+
+impl Session<'_> {
+    /// Records what the client said, where the session is recorded. Where that can't be done any more all ends.
+    pub(super) async fn note(&mut self, bytes: &[u8]) {
+        if let Some(taping) = &mut self.out.taping {
+            let _ = taping.say(bytes).await;
+        }
+    }
+
+    /// Passes the session on to the server from the exchange at hand on. Gives the client back where that can't be done, which
+    /// is a difference then.
+    pub(super) async fn pass_on(&mut self, client: Stream) -> Option<Stream> {
+        let (shared, number) = (self.shared, self.out.taping.as_ref()?.number);
+        let (Some(renewal), Some(report)) = (&shared.renewal, self.missing.take()) else {
+            return Some(client);
+        };
+        let caught = match &self.out.taping {
+            Some(taping) => taping.catch_up().await,
+            None => return Some(client),
+        };
+        match caught {
+            Ok((server, from_server, from_client)) => {
+                shared.pool().give_back(self.seat);
+                renewal.keep(number);
+                let link = Link { client, server, from_client, from_server, begin: Begin::Open };
+                // Why nothing can pass any more is told already.
+                let _ = pass(&renewal.tape, number, true, link).await;
+                None
+            }
+            Err(why) => {
+                shared.tell.say(format!("what isn't recorded can't be passed on: {why:#}"));
+                self.fail(&report);
+                Some(client)
+            }
+        }
+    }
+
+    /// Ends the recording of a session that was replayed, which nobody needs.
+    pub(super) async fn end_taping(&mut self) {
+        if let Some(taping) = self.out.taping.take() {
+            let _ = taping.end(Side::Client).await;
+        }
+    }
+}
+
+/// Passes a whole session on to the server, whose client has said these bytes. Gives the client back where there is no server.
+pub async fn pass_all(
+    shared: &Shared,
+    renewal: &Renewal,
+    peer: &str,
+    client: Stream,
+    from_client: Vec<u8>,
+) -> Result<(), Stream> {
+    let server = match renewal.connect().await {
+        Ok(server) => server,
+        Err(why) => {
+            shared.tell.say(format!("what isn't recorded can't be passed on: {why:#}"));
+            return Err(client);
+        }
+    };
+    if let Ok(number) = renewal.tape.open(peer).await {
+        renewal.keep(number);
+        let from_server = Vec::new();
+        let link = Link { client, server, from_client, from_server, begin: Begin::First };
+        let _ = pass(&renewal.tape, number, true, link).await;
+    }
+    Ok(())
+}
