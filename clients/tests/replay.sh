@@ -266,6 +266,7 @@ test_replay() {
     test_replay_real
     test_replay_random
     test_replay_replication
+    test_replay_missing
     end_slow_openings
     echo "replay: $((passed - passed_before)) tests in $((SECONDS - begun)) s"
 }

@@ -108,6 +108,11 @@ fn usual_host(port: u16) -> String {
 }
 
 impl ServerOptions {
+    /// Whether a host or a port is named.
+    pub fn is_given(&self) -> bool {
+        self.host.is_some() || self.port.is_some()
+    }
+
     /// The address that is asked for, or the usual one.
     pub fn address(&self) -> Result<Address, Failure> {
         let port = self.port.clone().or_else(|| variable("PGPORT"));

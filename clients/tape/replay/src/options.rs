@@ -101,9 +101,11 @@ impl Options {
             true => (Status::Usage, with_usage(&why.to_string())),
             false => (Status::Ok, why.to_string()),
         })?;
-        match options.listening.listen.is_empty() && options.listen_port.is_none() {
-            true => Err((Status::Usage, format!("{USAGE}\n"))),
-            false => Ok(options),
+        let listens = options.listen_port.is_some() || !options.listening.listen.is_empty();
+        let has_use = options.recorded() != Recorded::Nothing || !options.server.is_given();
+        match listens && has_use {
+            true => Ok(options),
+            false => Err((Status::Usage, format!("{USAGE}\n"))),
         }
     }
 

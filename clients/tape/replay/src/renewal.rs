@@ -80,15 +80,9 @@ impl Renewal {
         self.new.lock().unwrap_or_else(PoisonError::into_inner).insert(number);
     }
 
-    /// Gives what was recorded of a connection of this run to a function, record by record.
-    pub fn each_of(&self, number: u32, mut take: impl FnMut(Kind, &[u8])) -> Result<(), Damage> {
-        let mut reader = Reader::new(BufReader::with_capacity(ROOM, File::open(&self.run)?))?;
-        while let Some(record) = reader.read()? {
-            if record.connection == number {
-                take(record.kind, record.content);
-            }
-        }
-        Ok(())
+    /// What is recorded of this run.
+    pub fn recorded(&self) -> Result<Reader<BufReader<File>>, Damage> {
+        Reader::new(BufReader::with_capacity(ROOM, File::open(&self.run)?))
     }
 
     /// Puts the new sessions into the recording, without old ones that they take the place of. Answers how many are new.

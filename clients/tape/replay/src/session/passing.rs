@@ -22,7 +22,7 @@ impl Session<'_> {
         let (Some(renewal), Some(report)) = (&shared.renewal, self.missing.take()) else {
             return Some(client);
         };
-        let caught = match &self.out.taping {
+        let caught = match &mut self.out.taping {
             Some(taping) => taping.catch_up().await,
             None => return Some(client),
         };

@@ -11,8 +11,10 @@ use std::time::Duration;
 use tokio::io::{split, AsyncReadExt, AsyncWriteExt};
 use tokio::time::timeout;
 
-/// Of an exchange that is longer, what follows isn't passed on.
+/// So many bytes of what the client said are held.
 const PENDING_MOST: usize = 1 << 20;
+/// After more messages of an answer no session is passed on.
+const HEARD_MOST: usize = 10_000;
 /// How long a server may take for what was said before.
 const PATIENCE: Duration = Duration::from_secs(60);
 
@@ -21,13 +23,17 @@ pub struct Taping<'s> {
     renewal: &'s Renewal,
     /// Of the connection in this run.
     pub number: u32,
-    /// What the client said of exchanges of which it heard nothing. It isn't recorded yet.
+    /// What the client said since it heard something. It isn't recorded yet.
     pending: Vec<u8>,
     server: Cutter,
-    /// How many ReadyForQuery the client heard.
+    /// How many ReadyForQuery the client heard, and the tags of the messages that it heard after the last one.
     readies: usize,
-    /// All that is recorded of the client was answered up to a ReadyForQuery.
-    is_between: bool,
+    heard: Vec<u8>,
+}
+
+/// Whether a message of the server answers a message of the client.
+fn is_answer(tag: u8) -> bool {
+    !matches!(tag, b'N' | b'S' | b'A')
 }
 
 impl<'s> Taping<'s> {
@@ -39,17 +45,16 @@ impl<'s> Taping<'s> {
     ) -> Result<Taping<'s>, Over> {
         let number = renewal.tape.open(peer).await?;
         let (pending, server) = (startup.to_vec(), Cutter::of_server());
-        Ok(Taping { renewal, number, pending, server, readies: 0, is_between: false })
+        Ok(Taping { renewal, number, pending, server, readies: 0, heard: Vec::new() })
     }
 
     /// Takes what the client says.
     pub async fn say(&mut self, bytes: &[u8]) -> Result<(), Over> {
         self.pending.extend_from_slice(bytes);
-        if self.pending.len() > PENDING_MOST {
-            self.is_between = false;
-            self.record_pending().await?;
+        match self.pending.len() > PENDING_MOST {
+            true => self.record_pending().await,
+            false => Ok(()),
         }
-        Ok(())
     }
 
     /// Takes what the client is about to hear.
@@ -61,11 +66,12 @@ impl<'s> Taping<'s> {
             match cut {
                 Cut::Whole([b'Z', ..]) => {
                     self.readies += 1;
-                    self.is_between = true;
+                    self.heard.clear();
                 }
-                // They belong to no exchange.
-                Cut::Whole([b'N' | b'S' | b'A', ..]) => {}
-                _ => self.is_between = false,
+                Cut::Whole(&[tag, ..]) if is_answer(tag) && self.heard.len() <= HEARD_MOST => {
+                    self.heard.push(tag)
+                }
+                _ => {}
             }
         }
         Ok(())
@@ -89,49 +95,78 @@ impl<'s> Taping<'s> {
         self.renewal.tape.close_connection(self.number, first).await
     }
 
-    /// Connects to the server, and says to it what the client said before the exchange at hand. Answers the connection, what
-    /// the server said after its answers, and what the client said of the exchange.
-    pub async fn catch_up(&self) -> Result<(Stream, Vec<u8>, Vec<u8>)> {
-        ensure!(self.is_between, "the client has heard a part of the answer already");
+    /// Connects to the server, and says to it what the client said up to what it heard last. Answers the connection, what the
+    /// server said after that, and what the client said.
+    pub async fn catch_up(&mut self) -> Result<(Stream, Vec<u8>, Vec<u8>)> {
+        ensure!(
+            self.heard.len() <= HEARD_MOST,
+            "the client has heard too much of the answer already"
+        );
         let mut server = self.renewal.connect().await?;
-        let mut said = Vec::new();
-        self.renewal.each_of(self.number, |kind, content| {
-            if kind == Kind::Bytes(Side::Client) {
-                said.extend_from_slice(content);
-            }
-        })?;
         let rest = {
             let (mut from, mut to) = split(&mut server);
-            let say = async { Ok(to.write_all(&said).await?) };
-            let both = async { tokio::try_join!(say, listen(&mut from, self.readies)) };
+            let heard = Heard { readies: self.readies, tags: &self.heard };
+            let both = async { tokio::try_join!(self.say_again(&mut to), heard.listen(&mut from)) };
             timeout(PATIENCE, both).await??.1
         };
-        Ok((server, rest, self.pending.clone()))
+        Ok((server, rest, std::mem::take(&mut self.pending)))
+    }
+
+    /// Says what is recorded of the client.
+    async fn say_again(&self, to: &mut (impl AsyncWriteExt + Unpin)) -> Result<()> {
+        let mut recorded = self.renewal.recorded()?;
+        while let Some(record) = recorded.read()? {
+            if record.connection == self.number && record.kind == Kind::Bytes(Side::Client) {
+                to.write_all(record.content).await?;
+            }
+        }
+        Ok(())
     }
 }
 
-/// Reads so many answers, each up to its ReadyForQuery, and gives what came after them.
-async fn listen(from: &mut (impl AsyncReadExt + Unpin), mut readies: usize) -> Result<Vec<u8>> {
-    let (mut decoder, mut held) = (Decoder::of_server(), Vec::new());
-    loop {
-        let mut at = 0;
-        while readies > 0 {
-            let frame = match decoder.next(&held[at..])? {
-                Next::Frame(frame) => frame,
-                Next::Incomplete { .. } => break,
-            };
-            at += frame.bytes.len();
-            match frame.tag {
-                Some(b'Z') => readies -= 1,
-                Some(b'R') => check_open(frame.body())?,
-                _ => {}
+/// What a client has heard.
+struct Heard<'t> {
+    readies: usize,
+    tags: &'t [u8],
+}
+
+impl Heard<'_> {
+    /// Reads as much of another server, and gives what came after it.
+    async fn listen(mut self, from: &mut (impl AsyncReadExt + Unpin)) -> Result<Vec<u8>> {
+        let (mut decoder, mut held) = (Decoder::of_server(), Vec::new());
+        loop {
+            let mut at = 0;
+            while self.readies > 0 || !self.tags.is_empty() {
+                match decoder.next(&held[at..])? {
+                    Next::Frame(frame) => {
+                        at += frame.bytes.len();
+                        self.pass(frame.tag.unwrap_or_default(), frame.body())?;
+                    }
+                    Next::Incomplete { .. } => break,
+                }
             }
+            held.drain(..at);
+            if self.readies == 0 && self.tags.is_empty() {
+                return Ok(held);
+            }
+            ensure!(from.read_buf(&mut held).await? > 0, "the server ends the session");
         }
-        held.drain(..at);
-        if readies == 0 {
-            return Ok(held);
+    }
+
+    /// Passes over a message.
+    fn pass(&mut self, tag: u8, body: &[u8]) -> Result<()> {
+        if tag == b'R' {
+            check_open(body)?;
         }
-        ensure!(from.read_buf(&mut held).await? > 0, "the server ends the session");
+        match self.tags.split_first() {
+            _ if tag == b'Z' && self.readies > 0 => self.readies -= 1,
+            Some((first, rest)) if self.readies == 0 && is_answer(tag) => {
+                ensure!(*first == tag, "the server answers otherwise than it did");
+                self.tags = rest;
+            }
+            _ => {}
+        }
+        Ok(())
     }
 }
 
