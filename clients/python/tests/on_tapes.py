@@ -129,6 +129,25 @@ class TestTape(InFolder):
             self.record("SELECT 1")
         self.assertEqual((self.path.read_bytes(), len(list(self.path.parent.iterdir()))), (before, 1))
 
+    def test_only_what_is_not_recorded_is_recorded(self):
+        with tape(self.path, missing=True) as it:
+            self.assertEqual([ask(it, "SELECT 1"), ask(it, "SELECT 2", "SELECT 3")], ["1\n", "2\n3\n"])
+        with tape(self.path, missing=True) as it:
+            self.assertEqual([ask(it, "SELECT 1"), ask(it, "SELECT 2", "SELECT 4"), ask(it, "SELECT 5")], ["1\n", "2\n4\n", "5\n"])
+            self.assertEqual(it.differences(), "")
+        with mock.patch.dict(os.environ, NO_SERVER), tape(self.path, whole=True) as it:
+            self.assertEqual([ask(it, "SELECT 1"), ask(it, "SELECT 2", "SELECT 4"), ask(it, "SELECT 5")], ["1\n", "2\n4\n", "5\n"])
+        self.assertEqual([file.name for file in self.path.parent.iterdir()], ["numbers.tape"])
+
+    def test_nothing_more_is_recorded_where_no_server_is_reached(self):
+        self.record("SELECT 2")
+        before = self.path.read_bytes()
+        with mock.patch.dict(os.environ, NO_SERVER), self.assertRaises(ReplayDiffers) as failed, \
+                tape(self.path, missing=True) as it:
+            ask(it, "SELECT 3")
+        self.assertIn(DIFF, str(failed.exception))
+        self.assertEqual((self.path.read_bytes(), len(list(self.path.parent.iterdir()))), (before, 1))
+
     def test_what_is_missing(self):
         with self.assertRaisesRegex(TapeError, f"^no recording {self.path}$"), tape(self.path):
             pass
@@ -157,6 +176,8 @@ class TestUnittest(InFolder):
         status, words = self.run_suite(OF_UNITTEST, *arguments, NUMBER="3", **NO_SERVER)
         self.assertEqual(status, 1)
         self.assertIn(DIFF, words)
+        self.assertEqual(self.run_suite(OF_UNITTEST, *arguments, NUMBER="1 + 1", PG_TAPE="missing")[0], 0)
+        self.assertEqual(self.run_suite(OF_UNITTEST, *arguments, NUMBER="1 + 1", **NO_SERVER)[0], 0)
 
 
 @unittest.skipUnless(importlib.util.find_spec("pytest"), "no pytest (apt-get install python3-pytest)")
@@ -172,6 +193,11 @@ class TestPytest(InFolder):
         self.assertTrue((self.folder / "tapes" / "test_numbers.tape").exists())
         self.assertEqual(self.run_pytest("--pg-whole", **NO_SERVER)[0], 0)
         self.assertEqual(self.run_pytest("-k", "two", **NO_SERVER)[0], 0)
+
+    def test_only_a_new_test_is_recorded(self):
+        self.assertEqual(self.run_pytest("--pg-record-missing", "-k", "one")[0], 0)
+        self.assertEqual(self.run_pytest("--pg-record-missing")[0], 0)
+        self.assertEqual(self.run_pytest("--pg-whole", **NO_SERVER)[0], 0)
 
     def test_a_difference(self):
         self.assertEqual(self.run_pytest("--pg-record")[0], 0)

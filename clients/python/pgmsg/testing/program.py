@@ -55,6 +55,11 @@ class Program:
     def __exit__(self, kind: type[BaseException] | None, error: BaseException | None, trace: TracebackType | None) -> None:
         self._close()
 
+    @property
+    def process_id(self) -> int:
+        """The number of the process."""
+        return self._process.pid
+
     def said(self) -> list[str]:
         """The lines that the program has written so far, without the one that names the port."""
         before, _, after = self._lines()

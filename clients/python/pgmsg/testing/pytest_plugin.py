@@ -18,6 +18,9 @@ def pytest_addoption(parser: pytest.Parser) -> None:
         "--pg-record", action="store_true",
         help="record the modules that use pg_tape anew, by pg_record in front of the server that PGHOST and PGPORT name")
     group.addoption(
+        "--pg-record-missing", action="store_true",
+        help="replay the modules that use pg_tape, and record what isn't recorded, by that server")
+    group.addoption(
         "--pg-whole", action="store_true",
         help="fail where the tests of a module don't take each session of its recording once")
 
@@ -29,13 +32,15 @@ def pg_tape(request: pytest.FixtureRequest) -> Iterator[Tape]:
     `pg_tape_options` of the module has more options of pg_replay.
     """
     is_recorded = bool(request.config.getoption("pg_record"))
+    is_renewed = bool(request.config.getoption("pg_record_missing"))
     path = request.path.parent / "tapes" / f"{request.path.stem}.tape"
     options = getattr(request.module, "pg_tape_options", ())
     try:
-        if not is_recorded:
+        if not is_recorded and not is_renewed:
             check_recorded(path, f"pytest --pg-record {request.path}")
         whole = bool(request.config.getoption("pg_whole"))
-        with tape(path, record=is_recorded, options=options, whole=whole) as it, it.in_environment():
+        how = tape(path, record=is_recorded, missing=is_renewed, options=options, whole=whole)
+        with how as it, it.in_environment():
             yield it
     except (TapeError, ReplayDiffers) as error:
         pytest.fail(str(error), pytrace=False)

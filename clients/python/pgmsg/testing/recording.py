@@ -3,6 +3,7 @@
 from __future__ import annotations
 
 import os
+import shutil
 import time
 from collections.abc import Iterator, Sequence
 from contextlib import AbstractContextManager, contextmanager
@@ -11,6 +12,9 @@ from pathlib import Path
 from unittest import mock
 
 from .program import PATIENCE, Program, TapeError
+
+# The status of a program that was told to end.
+ENDED = 143
 
 # How many seconds pg_replay may take to end after the last session of the recording.
 LAST_END = 2.0
@@ -48,17 +52,25 @@ class Tape:
 
 
 def tape(
-        path: str | os.PathLike[str], *, record: bool = False, server: tuple[str, int] | None = None,
-        options: Sequence[str] = (), whole: bool = False) -> AbstractContextManager[Tape]:
-    """Replays a recording until the block ends, or makes it anew by a server.
+        path: str | os.PathLike[str], *, record: bool = False, missing: bool = False,
+        server: tuple[str, int] | None = None, options: Sequence[str] = (),
+        whole: bool = False) -> AbstractContextManager[Tape]:
+    """Replays a recording until the block ends, or makes it anew by a server, or only what is `missing` in it.
 
     A client that differs fails the block by `ReplayDiffers`, or by a note to the block's own exception. Clients may take
     the sessions in any order and repeat them, and need not take all; with `whole` each session has to be taken once.
-    `options` are more options of pg_replay. `server` is the host and the port for pg_record, where those of PGHOST and
+    `options` are more options of pg_replay. `server` is the host and the port of the server, where those of PGHOST and
     PGPORT aren't meant. A new recording takes the place of an old one when the block ends without an exception and the
     server was reached.
     """
-    return _record(Path(path), server) if record else _replay(Path(path), options, whole)
+    if record:
+        return _record(Path(path), server)
+    return _renew(Path(path), server, options) if missing else _replay(Path(path), options, whole)
+
+
+def _address(server: tuple[str, int] | None) -> list[str]:
+    """The options that name the server."""
+    return [] if server is None else ["-h", server[0], "-p", str(server[1])]
 
 
 @contextmanager
@@ -66,9 +78,8 @@ def _record(path: Path, server: tuple[str, int] | None) -> Iterator[Tape]:
     new = path.with_name(path.name + ".new")
     path.parent.mkdir(parents=True, exist_ok=True)
     new.unlink(missing_ok=True)
-    address = [] if server is None else ["-h", server[0], "-p", str(server[1])]
     try:
-        with Program("pg_record", *address, "-o", str(new)) as program:
+        with Program("pg_record", *_address(server), "-o", str(new)) as program:
             yield Tape(path, "127.0.0.1", program.port, True, program)
             _await_quiet(new)
             # It has words only for what it couldn't pass on or record.
@@ -84,6 +95,30 @@ def _await_quiet(path: Path) -> None:
     end, size = time.monotonic() + PATIENCE, -1
     while time.monotonic() < end and path.exists() and size != (size := path.stat().st_size):
         time.sleep(0.2)
+
+
+@contextmanager
+def _renew(path: Path, server: tuple[str, int] | None, options: Sequence[str]) -> Iterator[Tape]:
+    new = path.with_name(path.name + ".new")
+    path.parent.mkdir(parents=True, exist_ok=True)
+    new.unlink(missing_ok=True)
+    if path.exists():
+        shutil.copy(path, new)
+    order = ["--record-missing", "--any-order", "--again", "--go-on"]
+    try:
+        with Program("pg_replay", *order, *options, *_address(server), str(new)) as program:
+            it = Tape(path, "127.0.0.1", program.port, False, program)
+            yield it
+            _await_quiet(new.with_name(f"{new.name}.{program.process_id}"))
+            if it.differences():
+                raise ReplayDiffers("\n".join(program.said()))
+            # The recording is written once the program is told to end.
+            if program.has_ended() or program.end() != ENDED:
+                raise program.failed("failed:")
+        if new.exists():
+            new.replace(path)
+    finally:
+        new.unlink(missing_ok=True)
 
 
 @contextmanager

@@ -23,7 +23,7 @@ class TapeTestCase(unittest.TestCase):
     """Tests that run on a recording: tapes/MODULE.CLASS.tape beside their module.
 
     PGHOST and PGPORT lead to it while the tests of the class run. With the variable PG_TAPE=record the tests run with the
-    server that these named before, and are recorded anew. It mixes with other classes of tests, which come after it.
+    server that these named before, and are recorded anew; with PG_TAPE=missing only what isn't recorded is. It mixes with other classes of tests, which come after it.
     """
 
     tape: ClassVar[Tape]
@@ -33,12 +33,13 @@ class TapeTestCase(unittest.TestCase):
 
     @classmethod
     def setUpClass(cls) -> None:
-        is_recorded = os.environ.get("PG_TAPE") == "record"
+        asked = os.environ.get("PG_TAPE")
         module = Path(sys.modules[cls.__module__].__file__ or "")
         path = module.parent / "tapes" / f"{module.stem}.{cls.__name__}.tape"
-        if not is_recorded:
+        if asked not in ("record", "missing"):
             check_recorded(path, f"PG_TAPE=record python3 -m unittest {module.stem}.{cls.__name__}")
-        cls.tape = cls.enterClassContext(
-            tape(path, record=is_recorded, options=cls.tape_options, whole=cls.tape_whole))
+        cls.tape = cls.enterClassContext(tape(
+            path, record=asked == "record", missing=asked == "missing", options=cls.tape_options,
+            whole=cls.tape_whole))
         cls.enterClassContext(cls.tape.in_environment())
         super().setUpClass()
