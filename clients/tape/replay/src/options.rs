@@ -66,8 +66,10 @@ pub struct Options {
     /// Serves the recording again when all of it is replayed
     #[arg(long)]
     pub again: bool,
-    /// Passes on to the server at HOST and PORT what isn't recorded, and records it: FILE has it when a signal ends the program,
-    /// in the place of what was recorded of a session that went on otherwise. FILE may be missing
+    /// Passes on to the server at HOST and PORT what isn't recorded, and records it. A session that goes on otherwise than the
+    /// recorded one goes on with the server, which hears first what the client said before; it takes the place of that one.
+    /// FILE, which may be missing, has the new sessions when a signal ends the program. Where there is no server a difference
+    /// is one
     #[arg(long, conflicts_with_all = ["record_all", "scram"])]
     record_missing: bool,
     /// The same with all that clients say, as if nothing were recorded
