@@ -23,7 +23,8 @@ class TapeTestCase(unittest.TestCase):
     """Tests that run on a recording: tapes/MODULE.CLASS.tape beside their module.
 
     PGHOST and PGPORT lead to it while the tests of the class run. With the variable PG_TAPE=record the tests run with the
-    server that these named before, and are recorded anew; with PG_TAPE=missing only what isn't recorded is. It mixes with other classes of tests, which come after it.
+    server that these named before, and are recorded anew; with PG_TAPE=missing only what isn't recorded is. It mixes with
+    other classes of tests, which come after it.
     """
 
     tape: ClassVar[Tape]

@@ -9,8 +9,8 @@
 //! # }
 //! ```
 //!
-//! With the variable `PG_TAPE=record` a test makes its recording anew, with the server that PGHOST and PGPORT name. The
-//! programs are those that the variables PG_RECORD and PG_REPLAY name, else those of the PATH.
+//! With the variable `PG_TAPE=record` a test makes its recording anew, with the server that PGHOST and PGPORT name, and with
+//! `PG_TAPE=missing` only what isn't in it. The programs are those that the variables PG_RECORD and PG_REPLAY name, else those of the PATH.
 #![forbid(unsafe_code)]
 
 mod error;

@@ -54,6 +54,11 @@ impl Program {
         self.port
     }
 
+    /// The number of the process.
+    pub fn process_id(&self) -> u32 {
+        self.child.id()
+    }
+
     /// The lines that the program has written so far, without the one that names the port.
     pub fn said(&mut self) -> String {
         self.said.extend(self.lines.try_iter());

@@ -13,6 +13,9 @@ use crate::Error;
 /// How long pg_replay may take to end after the last session of the recording.
 const LAST_END: Duration = Duration::from_secs(2);
 
+/// The status of pg_replay where it was told to end.
+const TOLD_TO_END: i32 = 143;
+
 /// How tests run on a recording.
 #[derive(Debug, Clone, Default)]
 pub struct Options {
@@ -48,10 +51,11 @@ impl Options {
         self
     }
 
-    /// Replays a recording, or with the variable `PG_TAPE=record` makes it anew.
+    /// Replays a recording. With the variable `PG_TAPE=record` makes it anew, and with `PG_TAPE=missing` what isn't in it.
     pub fn open(self, path: impl AsRef<Path>) -> Result<Tape, Error> {
         match env::var_os("PG_TAPE") {
             Some(word) if word == "record" => self.record(path),
+            Some(word) if word == "missing" => self.renew(path),
             _ => self.replay(path),
         }
     }
@@ -62,37 +66,46 @@ impl Options {
         if !path.exists() {
             return Err(Error::NoRecording(path));
         }
-        let order: &[&str] = if self.is_whole { &[] } else { &["--any-order", "--again"] };
-        let mut arguments: Vec<OsString> = order.iter().map(Into::into).collect();
+        let order = if self.is_whole { &[][..] } else { &["--any-order", "--again"] };
+        let mut arguments = words(order);
         arguments.push("--go-on".into());
         arguments.extend(self.arguments);
         arguments.push(path.clone().into());
-        let program = Program::start("pg_replay", &arguments)?;
-        Ok(Tape {
-            path,
-            program,
-            work: Work::Replay { is_whole: self.is_whole },
-            is_finished: false,
-        })
+        let work = Work::Replay { is_whole: self.is_whole };
+        Tape::start("pg_replay", &arguments, path, work)
+    }
+
+    /// Replays a recording, and records by the server what isn't in it, or all where there is no recording yet. The new
+    /// recording takes the place of the old one once the tape is finished.
+    pub fn renew(self, path: impl AsRef<Path>) -> Result<Tape, Error> {
+        let path = path.as_ref().to_owned();
+        let new = cleared(&path)?;
+        if path.exists() {
+            fs::copy(&path, &new)?;
+        }
+        let mut arguments = words(&["--record-missing", "--any-order", "--again", "--go-on"]);
+        arguments.extend(self.address());
+        arguments.extend(self.arguments);
+        arguments.push(new.into());
+        Tape::start("pg_replay", &arguments, path, Work::Renew)
     }
 
     /// Makes a recording anew. It takes the place of an old one once the tape is finished.
     pub fn record(self, path: impl AsRef<Path>) -> Result<Tape, Error> {
         let path = path.as_ref().to_owned();
-        let new = new_path(&path);
-        if let Some(folder) = path.parent() {
-            fs::create_dir_all(folder)?;
-        }
-        if new.exists() {
-            fs::remove_file(&new)?;
-        }
-        let mut arguments: Vec<OsString> = Vec::new();
-        if let Some((host, port)) = self.server {
-            arguments.extend(["-h".into(), host.into(), "-p".into(), port.to_string().into()]);
-        }
+        let new = cleared(&path)?;
+        let mut arguments: Vec<OsString> = self.address().collect();
         arguments.extend(["-o".into(), new.into()]);
-        let program = Program::start("pg_record", &arguments)?;
-        Ok(Tape { path, program, work: Work::Record, is_finished: false })
+        Tape::start("pg_record", &arguments, path, Work::Record)
+    }
+
+    /// The words that name the server.
+    fn address(&self) -> impl Iterator<Item = OsString> {
+        let named = self
+            .server
+            .clone()
+            .map(|(host, port)| ["-h".into(), host.into(), "-p".into(), port.to_string().into()]);
+        named.into_iter().flatten()
     }
 }
 
@@ -111,10 +124,21 @@ pub struct Tape {
 #[derive(Debug, Clone, Copy, PartialEq, Eq)]
 enum Work {
     Record,
+    Renew,
     Replay { is_whole: bool },
 }
 
 impl Tape {
+    fn start(
+        name: &'static str,
+        arguments: &[OsString],
+        path: PathBuf,
+        work: Work,
+    ) -> Result<Tape, Error> {
+        let program = Program::start(name, arguments)?;
+        Ok(Tape { path, program, work, is_finished: false })
+    }
+
     /// The host that clients connect to.
     pub fn host(&self) -> &'static str {
         "127.0.0.1"
@@ -148,6 +172,7 @@ impl Tape {
         self.is_finished = true;
         match self.work {
             Work::Record => self.close_recording(),
+            Work::Renew => self.close_renewal(),
             Work::Replay { is_whole } => self.close_replay(is_whole),
         }
     }
@@ -160,6 +185,24 @@ impl Tape {
             return Ok(());
         }
         Err(Error::Differs { path: self.path.clone(), said: self.program.said() })
+    }
+
+    fn close_renewal(&mut self) -> Result<(), Error> {
+        let new = new_path(&self.path);
+        await_quiet(&with_end(&new, &format!(".{}", self.program.process_id())));
+        let differs = !self.program.differences().is_empty();
+        // The recording is written once the program is told to end.
+        let status = self.program.end()?;
+        if differs {
+            return Err(Error::Differs { path: self.path.clone(), said: self.program.said() });
+        }
+        if status.code() != Some(TOLD_TO_END) {
+            return Err(self.program.failed(format!("ended with {status}")));
+        }
+        if new.exists() {
+            fs::rename(new, &self.path)?;
+        }
+        Ok(())
     }
 
     fn close_recording(&mut self) -> Result<(), Error> {
@@ -181,7 +224,7 @@ impl Drop for Tape {
         if self.is_finished {
             return;
         }
-        if thread::panicking() && self.is_recorded() {
+        if thread::panicking() && !matches!(self.work, Work::Replay { .. }) {
             // A test that failed leaves the old recording.
             let _ = fs::remove_file(new_path(&self.path));
         } else if let Err(why) = self.close() {
@@ -194,10 +237,31 @@ impl Drop for Tape {
     }
 }
 
+/// Words of a program.
+fn words(all: &[&str]) -> Vec<OsString> {
+    all.iter().map(Into::into).collect()
+}
+
 /// Where a recording is made, beside the one whose place it takes.
 fn new_path(path: &Path) -> PathBuf {
+    with_end(path, ".new")
+}
+
+/// The same, where nothing is any more.
+fn cleared(path: &Path) -> Result<PathBuf, Error> {
+    let new = new_path(path);
+    if let Some(folder) = path.parent() {
+        fs::create_dir_all(folder)?;
+    }
+    if new.exists() {
+        fs::remove_file(&new)?;
+    }
+    Ok(new)
+}
+
+fn with_end(path: &Path, end: &str) -> PathBuf {
     let mut name = path.as_os_str().to_owned();
-    name.push(".new");
+    name.push(end);
     name.into()
 }
 

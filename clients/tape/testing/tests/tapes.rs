@@ -49,8 +49,24 @@ fn of_a_whole_recording_each_session_is_taken() {
 }
 
 #[test]
+fn only_what_is_missing_is_recorded() {
+    let path = folder("missing").join("its.tape");
+    for sessions in [&[["SELECT 1"]][..], &[["SELECT 1"], ["SELECT 2"]]] {
+        let tape = Options::new().server("127.0.0.1", server()).renew(&path).unwrap();
+        for queries in sessions {
+            assert_eq!(ask(&tape, queries), queries);
+        }
+        tape.finish().unwrap();
+    }
+    let tape = Options::new().whole().replay(&path).unwrap();
+    assert_eq!(ask(&tape, &["SELECT 1"]), ["SELECT 1"]);
+    assert_eq!(ask(&tape, &["SELECT 2"]), ["SELECT 2"]);
+    tape.finish().unwrap();
+}
+
+#[test]
 fn a_recording_that_is_missing_or_no_recording_is_named() {
-    let path = folder("missing").join("none.tape");
+    let path = folder("none").join("none.tape");
     let why = Options::new().replay(&path).unwrap_err();
     assert!(
         why.to_string().contains("none.tape") && why.to_string().contains("PG_TAPE=record"),
