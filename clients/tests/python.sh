@@ -177,7 +177,8 @@ test_python_tapes() {
         echo "left out: the fixture for pytest, which $builder lacks (apt-get install python3-pytest)"
     fi
     PATH=$bin:$PATH PG_RECORD=$PWD/$programs/pg_record PG_REPLAY=$PWD/$programs/pg_replay \
-        test_python_units 'tests on recordings' "$work/package" -p on_tapes.py
+        try run_python "$work/package" -m unittest discover -s tests -p python_tapes.py
+    expect "python, tests on recordings: $(grep -o 'Ran [0-9]* tests' <<< "$errors")" 0 OK
 }
 
 # What an example says before the words of an error.

@@ -13,7 +13,6 @@ import tempfile
 import unittest
 from unittest import mock
 
-import support  # noqa: F401
 from pgmsg.testing import ReplayDiffers, TapeError, tape
 
 ASK = """
