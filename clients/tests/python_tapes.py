@@ -1,7 +1,6 @@
-"""pgmsg.testing, by psql and a server.
+"""Tests of pgmsg.testing, by psql and a server.
 
-The variables of libpq have to name a server, and PG_RECORD and PG_REPLAY the programs, as clients/tests/python.sh does it:
-so no `test_` begins the name of this file.
+The variables of libpq have to name a server, and PG_RECORD and PG_REPLAY the programs, as python.sh sets them.
 """
 
 import importlib.util
