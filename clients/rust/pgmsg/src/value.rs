@@ -1,4 +1,4 @@
-//! The values of parameters and rows.
+//! The values of parameters and rows, and their formats.
 
 use crate::byte_str::ByteStr;
 use crate::sys;
@@ -93,4 +93,23 @@ impl fmt::Debug for Value<'_> {
             None => f.write_str("NULL"),
         }
     }
+}
+
+/// How a value is spelled, by its code: the protocol defines 0 for text and 1 for the binary form of its
+/// type, and reserves the others.
+///
+/// ```
+/// use pgmsg::Format;
+///
+/// assert_eq!((Format::default(), Format(1)), (Format::TEXT, Format::BINARY));
+/// ```
+#[derive(Clone, Copy, Debug, Default, PartialEq, Eq, Hash)]
+#[repr(transparent)]
+pub struct Format(pub i16);
+
+impl Format {
+    /// As text.
+    pub const TEXT: Format = Format(0);
+    /// In the binary form of its type.
+    pub const BINARY: Format = Format(1);
 }

@@ -1,4 +1,10 @@
-//! How a program ends.
+//! How a program ends, and the signals that it takes.
+
+use std::io;
+use tokio::signal::unix::{signal, Signal, SignalKind};
+
+/// The number of SIGXFSZ, which comes where a file is longer than it may be.
+const FILE_SIZE: i32 = 25;
 
 /// The exit statuses. A second Ctrl-C ends a program by the signal itself, which a shell shows as 130 too.
 #[derive(Clone, Copy, Debug, PartialEq, Eq)]
@@ -39,4 +45,19 @@ impl Failure {
     pub fn new(status: Status, words: impl Into<String>) -> Failure {
         Failure { status, words: words.into() }
     }
+}
+
+/// Waits for Ctrl-C or SIGTERM, and gives the status that they end in.
+pub async fn ended() -> io::Result<Status> {
+    let (mut interrupt, mut terminate) =
+        (signal(SignalKind::interrupt())?, signal(SignalKind::terminate())?);
+    Ok(tokio::select! {
+        _ = interrupt.recv() => Status::Interrupted,
+        _ = terminate.recv() => Status::Terminated,
+    })
+}
+
+/// Has a file that is too long be a failed write, and no reason to be killed.
+pub fn ignore_file_size() -> io::Result<Signal> {
+    signal(SignalKind::from_raw(FILE_SIZE))
 }

@@ -22,7 +22,6 @@ mod line;
 mod merge;
 #[cfg(test)]
 mod mutants;
-mod numbers;
 mod options;
 mod output;
 mod parse;

@@ -4,7 +4,7 @@ use crate::bar::Bar;
 use crate::choice::{Choice, Choices};
 use crate::failure::{Failure, Result, Status};
 use crate::input::Tape;
-use crate::numbers::Numbers;
+use crate::merge::Numbers;
 use crate::output::Output;
 use recording::Copy;
 use std::path::Path;

@@ -5,9 +5,9 @@ use crate::buffer::Buffer;
 use crate::byte_str::ByteStr;
 use crate::calls::{ask, put};
 use crate::error::{Fault, Refusal};
-use crate::format::Format;
 use crate::list::List;
 use crate::sys;
+use crate::value::Format;
 use alloc::vec::Vec;
 
 /// A column of a result.

@@ -3,9 +3,9 @@
 use crate::answer::items;
 use crate::calls::ask;
 use crate::error::Fault;
-use crate::format::Format;
 use crate::list::List;
 use crate::sys;
+use crate::value::Format;
 use core::slice;
 
 /// How the data of a COPY is spelled.

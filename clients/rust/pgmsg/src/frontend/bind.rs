@@ -6,11 +6,10 @@ use crate::buffer::Buffer;
 use crate::byte_str::ByteStr;
 use crate::calls::{ask, put};
 use crate::error::{Fault, Refusal};
-use crate::format::Format;
 use crate::list::List;
 use crate::row::read_values;
 use crate::sys;
-use crate::value::Value;
+use crate::value::{Format, Value};
 use core::slice;
 
 /// A portal that is made of a prepared statement and the values of its parameters.

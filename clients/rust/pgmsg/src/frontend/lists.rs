@@ -2,9 +2,9 @@
 
 use crate::calls::call;
 use crate::error::{Fault, Refusal};
-use crate::format::Format;
 use crate::list::List;
 use crate::sys;
+use crate::value::Format;
 use alloc::vec::Vec;
 
 /// The codes of the formats of a list in a body.

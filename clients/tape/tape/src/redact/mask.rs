@@ -1,6 +1,7 @@
-//! What stands in the place of a secret: as long, and of the same type.
+//! What stands in the place of a secret: as long, and of the same type; and the places of a message where it does.
 
 use pgmsg::Format;
+use std::ops::Range;
 
 /// Object ids of types whose binary form is text.
 const TEXTS: [u32; 8] = [18, 19, 25, 114, 142, 1042, 1043, 705];
@@ -284,5 +285,30 @@ mod tests {
             json(&mut json_like);
             assert_eq!(masked(Mask::Text, bytes).len(), bytes.len());
         }
+    }
+}
+
+/// Places in bytes, named by parts that are borrowed of these.
+pub struct Places {
+    start: usize,
+    len: usize,
+    all: Vec<(Range<usize>, Mask)>,
+}
+
+impl Places {
+    pub fn new(bytes: &[u8]) -> Places {
+        Places { start: bytes.as_ptr() as usize, len: bytes.len(), all: Vec::new() }
+    }
+
+    /// Has a part of the bytes masked.
+    pub fn add(&mut self, part: &[u8], mask: Mask) {
+        let at = (part.as_ptr() as usize).wrapping_sub(self.start);
+        if !part.is_empty() && at < self.len && part.len() <= self.len - at {
+            self.all.push((at..at + part.len(), mask));
+        }
+    }
+
+    pub fn all(self) -> Vec<(Range<usize>, Mask)> {
+        self.all
     }
 }

@@ -4,7 +4,6 @@
 
 mod columns;
 mod mask;
-mod places;
 mod rules;
 mod sql;
 mod values;
@@ -17,8 +16,7 @@ use crate::item::{Item, Message, What};
 use crate::joiner::{Joiner, Spot, Unjoined};
 use crate::output::Output;
 use columns::Sessions;
-use mask::Mask;
-use places::Places;
+use mask::{Mask, Places};
 use recording::{Kind, Side};
 use rules::Rules;
 use std::borrow::Cow;

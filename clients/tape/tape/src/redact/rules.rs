@@ -1,7 +1,6 @@
 //! What is taken out of a recording: the table `redact` of a file of rules, which has those of a replay too.
 
-use super::mask::Mask;
-use super::places::Places;
+use super::mask::{Mask, Places};
 use crate::failure::{Failure, Result, Status};
 use regex::bytes::Regex;
 use serde::Deserialize;

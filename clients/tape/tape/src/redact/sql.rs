@@ -1,7 +1,6 @@
 //! The literals of SQL, and the secrets that stand in them without a rule.
 
-use super::mask::Mask;
-use super::places::Places;
+use super::mask::{Mask, Places};
 use once_cell::sync::Lazy;
 use regex::bytes::Regex;
 use std::ops::Range;

@@ -1,8 +1,7 @@
 //! What is masked in a message.
 
 use super::columns::{format_of, Session};
-use super::mask::Mask;
-use super::places::Places;
+use super::mask::{Mask, Places};
 use super::rules::Rules;
 use super::sql;
 use pgmsg::backend::{self, Authentication};
