@@ -1,6 +1,5 @@
 -- Values as a C program passes them, and the messages that have them.
 use Rattle.std.specs.Prelude.{ℕ, List, Option, Some, None, map, if◌then◌else◌, ◌≡◌, ◌≢◌, ℤ}
-use Rattle.std.specs.Borrow.{Bor}
 use Rattle.pg_format.specs.Messages as page
 use Rattle.pg_c.specs.declared.put.prepared.PgmsgValue.{PgmsgValue}
 use Rattle.pg_send.specs.Message as message
@@ -31,9 +30,9 @@ abbrev pub execute_of : List ℕ → ℕ → Message
 execute_of portal limit = message.RawExecute (record { portal = portal; limit = limit })
 
 -- a Bind of what the caller passes is put
-abbrev pub PutsBind : Bor (List ℕ) → Bor (List ℕ) → Bor (List ℕ) → Bor (List PgmsgValue) → Bor (List ℕ) → List ℕ → List ℕ → ℤ → Type 0
+abbrev pub PutsBind : List ℕ → List ℕ → List ℕ → List PgmsgValue → List ℕ → List ℕ → List ℕ → ℤ → Type 0
 PutsBind portal statement formats values result_formats old new result =
-    PutsMessage (message.RawBind (bind_of portal.now statement.now formats.now values.now result_formats.now)) old new result
+    PutsMessage (message.RawBind (bind_of portal statement formats values result_formats)) old new result
 
 -- a FunctionCall of what the caller passes is put
 abbrev pub PutsCall : ℕ → List ℕ → List PgmsgValue → ℕ → List ℕ → List ℕ → ℤ → Type 0

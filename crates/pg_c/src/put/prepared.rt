@@ -59,7 +59,7 @@ pub extern "C" fn pgmsg_put_bind(
     result_formats: &[u16],
     out: &mut [u8],
 ) -> isize
-    ensures { PutsBind portal statement formats values result_formats out.old out.new result }
+    ensures { PutsBind portal.now statement.now formats.now values.now result_formats.now out.old out.new result }
 {
     let bind = RawBind {
         portal,
