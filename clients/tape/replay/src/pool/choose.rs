@@ -13,11 +13,12 @@ impl Pool {
         };
         let count = self.passed(turn, at);
         for other in self.like(turn, count) {
-            let Some(place) = self.place_after(other, count) else {
+            let place = self.place_after(other, count).and_then(|it| self.find(other, it, form));
+            // What was said and heard is read only where the next message is the one.
+            let Some(place) = place.filter(|_| self.can_change(id, other, count)) else {
                 continue;
             };
-            let place = self.find(other, place, form).filter(|_| self.can_change(id, other, count));
-            if let (Some(place), true) = (place, self.is_alike(turn, other, count)?) {
+            if self.is_alike(turn, other, count)? {
                 self.change(id, turn, other);
                 self.seat(id).at = place;
                 return Ok(true);
