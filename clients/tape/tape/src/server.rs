@@ -72,22 +72,13 @@ impl<'a> Server<'a> {
             Message::CopyBothResponse(it) => Server::CopyBothResponse(copy_of(it)),
             Message::DataRow(it) => Server::DataRow(Row { values: values(it) }),
             Message::EmptyQueryResponse => Server::EmptyQueryResponse(Empty {}),
-            Message::ErrorResponse(it) => {
-                Server::ErrorResponse(Response { fields: Report::of(it)? })
-            }
-            Message::FunctionCallResponse(it) => {
-                Server::FunctionCallResponse(FunctionResult { value: it.0.bytes().map(Text::from) })
-            }
+            Message::ErrorResponse(it) => Server::ErrorResponse(response_of(it)?),
+            Message::FunctionCallResponse(it) => Server::FunctionCallResponse(result_of(it)),
             Message::NegotiateProtocolVersion(it) => {
-                Server::NegotiateProtocolVersion(Negotiation {
-                    minor: it.minor,
-                    options: it.options.iter().map(|it| text(*it)).collect(),
-                })
+                Server::NegotiateProtocolVersion(negotiation_of(it))
             }
             Message::NoData => Server::NoData(Empty {}),
-            Message::NoticeResponse(it) => {
-                Server::NoticeResponse(Response { fields: Report::of(it)? })
-            }
+            Message::NoticeResponse(it) => Server::NoticeResponse(response_of(it)?),
             Message::NotificationResponse(it) => Server::NotificationResponse(notification_of(it)),
             Message::ParameterDescription(it) => {
                 Server::ParameterDescription(Types { types: it.to_vec() })
@@ -188,6 +179,19 @@ fn authentication<'t>(it: &'t Server<'_>) -> Authentication<'t> {
 
 fn key_of<'a>(it: &backend::BackendKeyData<'a>) -> Key<'a> {
     Key { process_id: it.process_id, secret_key: it.secret_key.0.into() }
+}
+
+fn response_of<'a>(it: &backend::Fields<'a>) -> Option<Response<'a>> {
+    Some(Response { fields: Report::of(it)? })
+}
+
+fn result_of<'a>(it: &backend::FunctionCallResponse<'a>) -> FunctionResult<'a> {
+    FunctionResult { value: it.0.bytes().map(Text::from) }
+}
+
+fn negotiation_of<'a>(it: &backend::NegotiateProtocolVersion<'a>) -> Negotiation<'a> {
+    let options = it.options.iter().map(|it| text(*it));
+    Negotiation { minor: it.minor, options: options.collect() }
 }
 
 fn notification_of<'a>(it: &backend::NotificationResponse<'a>) -> Notification<'a> {

@@ -6,6 +6,7 @@ use super::cutter::{Cut, Cutter};
 use super::{Piece, HEAD};
 use pgmsg::backend::{BackendKeyData, FieldKind, Fields, NotificationResponse};
 use std::collections::HashMap;
+use std::ops::Range;
 
 /// The states of errors that come after a time.
 const TIMED: [&[u8]; 6] = [b"57014", b"55P03", b"57P05", b"25P03", b"25P04", b"57P01"];
@@ -16,52 +17,56 @@ impl Building {
     /// Takes what the server said. `cancelled` has the last request to cancel for each process.
     pub fn take_server(&mut self, bytes: Bytes<'_>, cancelled: &HashMap<u32, u64>) {
         self.has_heard = true;
-        let (mut rest, mut open) = (bytes.content, None);
-        let piece = |from: usize, to: usize| {
-            (Piece::of(&bytes.content[from..to], bytes.at + from as u64), bytes.time)
-        };
+        let (mut rest, all) = (bytes.content, bytes.content.len());
+        let mut taking = Taking { bytes, open: None, cancelled };
         let mut server = std::mem::replace(&mut self.server, Cutter::of_server());
         loop {
-            let begin = bytes.content.len() - rest.len();
-            let cut = match server.cut(&mut rest) {
-                Ok(Some(cut)) => cut,
+            let begin = all - rest.len();
+            let cut = server.cut(&mut rest);
+            let end = all - rest.len();
+            match cut {
+                Ok(Some(Cut::Whole(message))) => self.take_whole(&mut taking, message, begin..end),
+                Ok(Some(Cut::Part(part, left))) => {
+                    self.take_part(&mut taking, part[0], begin..end, left == 0)
+                }
                 Ok(None) => {
-                    let rest =
-                        (begin < bytes.content.len()).then(|| piece(begin, bytes.content.len()));
-                    self.pending.extend(rest);
+                    self.pending.extend((begin < all).then(|| taking.piece(begin..all)));
                     break;
                 }
                 Err(_) => {
-                    self.close(open.take(), &piece);
-                    self.hear_broken(piece(begin, bytes.content.len()));
+                    self.close(&mut taking);
+                    self.hear_broken(taking.piece(begin..all));
                     break;
-                }
-            };
-            let end = bytes.content.len() - rest.len();
-            match cut {
-                Cut::Whole(message) => {
-                    let place = self.place(message[0], &message[HEAD..], bytes.time, cancelled);
-                    let is_rest = !self.pending.is_empty();
-                    if is_rest || !extends(&mut open, place, begin, end) {
-                        self.close(open.take(), &piece);
-                        self.hear(place);
-                        open = place.map(|it| (if is_rest { rest_of(it) } else { it }, begin, end));
-                    }
-                }
-                Cut::Part(part, left) => {
-                    self.close(open.take(), &piece);
-                    let tag = *self.long_tag.get_or_insert(part[0]);
-                    self.pending.push(piece(begin, end));
-                    if left == 0 {
-                        self.long_tag = None;
-                        let place = self.place(tag, &[], bytes.time, cancelled);
-                        self.hear(place);
-                    }
                 }
             }
         }
-        self.close(open, &piece);
+        self.close(&mut taking);
         self.server = server;
+    }
+
+    /// Takes a message, or the rest of one, at a place of a record.
+    fn take_whole(&mut self, taking: &mut Taking<'_>, message: &[u8], range: Range<usize>) {
+        let (time, cancelled) = (taking.bytes.time, taking.cancelled);
+        let place = self.place(message[0], &message[HEAD..], time, cancelled);
+        let is_rest = !self.pending.is_empty();
+        if is_rest || !extends(&mut taking.open, place, range.start, range.end) {
+            self.close(taking);
+            self.hear(place);
+            let place = place.map(|it| if is_rest { rest_of(it) } else { it });
+            taking.open = place.map(|it| (it, range.start, range.end));
+        }
+    }
+
+    /// Takes a part of a long message, which the first byte of its first part is the tag of.
+    fn take_part(&mut self, taking: &mut Taking<'_>, tag: u8, range: Range<usize>, is_last: bool) {
+        self.close(taking);
+        let tag = *self.long_tag.get_or_insert(tag);
+        self.pending.push(taking.piece(range));
+        if is_last {
+            self.long_tag = None;
+            let place = self.place(tag, &[], taking.bytes.time, taking.cancelled);
+            self.hear(place);
+        }
     }
 
     /// Adds what is no message as it came, to what is heard of the last one.
@@ -72,10 +77,10 @@ impl Building {
     }
 
     /// Adds bytes that belong together.
-    fn close(&mut self, open: Option<Open>, piece: &impl Fn(usize, usize) -> (Piece, u64)) {
-        if let Some((place, begin, end)) = open {
+    fn close(&mut self, taking: &mut Taking<'_>) {
+        if let Some((place, begin, end)) = taking.open.take() {
             let before = std::mem::take(&mut self.pending);
-            self.pending.push(piece(begin, end));
+            self.pending.push(taking.piece(begin..end));
             self.hear(Some(place));
             self.pending = before;
         }
@@ -188,6 +193,22 @@ impl Building {
             }
             _ => Wait::No,
         }
+    }
+}
+
+/// A record of the server that is taken.
+struct Taking<'b> {
+    bytes: Bytes<'b>,
+    open: Option<Open>,
+    /// The last request to cancel for each process.
+    cancelled: &'b HashMap<u32, u64>,
+}
+
+impl Taking<'_> {
+    /// A part of it, and its time.
+    fn piece(&self, range: Range<usize>) -> (Piece, u64) {
+        let at = self.bytes.at + range.start as u64;
+        (Piece::of(&self.bytes.content[range], at), self.bytes.time)
     }
 }
 

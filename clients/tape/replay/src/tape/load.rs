@@ -52,41 +52,24 @@ pub fn load(
         damage => Failure::new(Status::Damaged, damage.about(path)),
     };
     let uncounted = || {
-        Failure::new(
-            Status::Local,
-            format!("{} has more messages than can be counted", path.display()),
-        )
+        let words = format!("{} has more messages than can be counted", path.display());
+        Failure::new(Status::Local, words)
     };
     let length = file.metadata().map_or(0, |it| it.len());
     let mut reader = Reader::new(BufReader::with_capacity(1 << 18, &file)).map_err(damaged)?;
-    let mut loading = Loading {
-        rules: rules.clone(),
-        forms: Forms::with_capacity((length / BYTES_A_FORM).min(FORMS_AT_FIRST) as usize),
-        open: HashMap::new(),
-        over: Vec::new(),
-        encrypted: 0,
-        cancelled: HashMap::new(),
-        times: keeps_times.then(Vec::new),
-    };
-    let mut end = recording::HEAD as u64;
+    let mut loading = Loading::new(rules, length, keeps_times);
     while let Some(record) = reader.read().map_err(damaged)? {
-        end = record.content_at + record.content.len() as u64 + 4;
         if !loading.take(&record) {
             return Err(uncounted());
         }
     }
+    let (path_shown, count) = (path.display(), loading.encrypted);
     if reader.is_cut() {
-        tell(format!(
-            "{} ends within a record: it is read up to its last whole one, to offset {end}",
-            path.display()
-        ));
+        let at = reader.at();
+        tell(format!("{path_shown} ends within a record: it is read up to its last whole one, to offset {at}"));
     }
-    if loading.encrypted > 0 {
-        tell(format!(
-            "{}: {} connections are encrypted, and left out",
-            path.display(),
-            loading.encrypted
-        ));
+    if count > 0 {
+        tell(format!("{path_shown}: {count} connections are encrypted, and left out"));
     }
     loading.finish(path, file).ok_or_else(uncounted)
 }
@@ -98,6 +81,19 @@ pub fn plain(why: &std::io::Error) -> String {
 }
 
 impl Loading {
+    /// Of a file of so many bytes.
+    fn new(rules: &Arc<Rules>, length: u64, keeps_times: bool) -> Loading {
+        Loading {
+            rules: rules.clone(),
+            forms: Forms::with_capacity((length / BYTES_A_FORM).min(FORMS_AT_FIRST) as usize),
+            open: HashMap::new(),
+            over: Vec::new(),
+            encrypted: 0,
+            cancelled: HashMap::new(),
+            times: keeps_times.then(Vec::new),
+        }
+    }
+
     /// Takes a record. Answers false where its connection has more than can be counted.
     fn take(&mut self, record: &recording::Record<'_>) -> bool {
         let number = record.connection;
