@@ -3,52 +3,12 @@
 use crate::form::LiteralKind;
 use anyhow::{Context, Result};
 use regex::bytes::Regex;
-use serde::Deserialize;
+use rules::File;
 use std::borrow::Cow;
 use std::collections::HashSet;
 use std::path::Path;
 
-/// A file of rules, in TOML.
-#[derive(Deserialize, Default)]
-#[serde(deny_unknown_fields, default)]
-struct File {
-    replace: Vec<Replace>,
-    parameter: Vec<Parameter>,
-    ignore: Vec<Ignore>,
-    settings: Settings,
-    /// What pg_tape takes out of recordings, by the same file.
-    #[serde(rename = "redact")]
-    _redact: Option<toml::Value>,
-}
-
-#[derive(Deserialize)]
-#[serde(deny_unknown_fields)]
-struct Replace {
-    pattern: String,
-    with: String,
-}
-
-#[derive(Deserialize)]
-#[serde(deny_unknown_fields)]
-struct Parameter {
-    statement: String,
-    positions: Vec<usize>,
-}
-
-#[derive(Deserialize)]
-#[serde(deny_unknown_fields)]
-struct Ignore {
-    statement: String,
-    /// What a client hears of a statement that isn't recorded.
-    command: String,
-}
-
-#[derive(Deserialize, Default)]
-#[serde(deny_unknown_fields, default)]
-struct Settings {
-    ignore: Vec<String>,
-}
-
+/// What may differ.
 #[derive(Default)]
 pub struct Rules {
     replaced: Vec<(Regex, String)>,
@@ -76,7 +36,7 @@ impl Rules {
     }
 
     fn parse(text: &str) -> Result<Rules> {
-        let file: File = toml::from_str(text)?;
+        let file = File::parse(text)?;
         Ok(Rules {
             replaced: each(file.replace, |it| Ok((regex(&it.pattern)?, it.with)))?,
             parameters: each(file.parameter, |it| Ok((regex(&it.statement)?, it.positions)))?,

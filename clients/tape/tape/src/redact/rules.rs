@@ -3,54 +3,8 @@
 use super::mask::{Mask, Places};
 use crate::failure::{Failure, Result, Status};
 use regex::bytes::Regex;
-use serde::Deserialize;
+use rules::{File, Pattern};
 use std::path::Path;
-use toml::Value;
-
-/// A file of rules, in TOML. Those of a replay are passed over.
-#[derive(Deserialize, Default)]
-#[serde(deny_unknown_fields, default)]
-struct File {
-    redact: Redact,
-    #[serde(rename = "replace")]
-    _replace: Option<Value>,
-    #[serde(rename = "parameter")]
-    _parameter: Option<Value>,
-    #[serde(rename = "ignore")]
-    _ignore: Option<Value>,
-    #[serde(rename = "settings")]
-    _settings: Option<Value>,
-}
-
-#[derive(Deserialize, Default)]
-#[serde(deny_unknown_fields, default)]
-struct Redact {
-    column: Vec<Column>,
-    parameter: Vec<Parameter>,
-    statement: Vec<Pattern>,
-    text: Vec<Pattern>,
-}
-
-/// The values of a column of results.
-#[derive(Deserialize)]
-#[serde(deny_unknown_fields)]
-struct Column {
-    name: String,
-}
-
-/// The values of parameters of statements that a pattern matches, by their positions from 1 on.
-#[derive(Deserialize)]
-#[serde(deny_unknown_fields)]
-struct Parameter {
-    statement: String,
-    positions: Vec<usize>,
-}
-
-#[derive(Deserialize)]
-#[serde(deny_unknown_fields)]
-struct Pattern {
-    pattern: String,
-}
 
 /// A rule, and whether it matched something.
 struct Rule<T> {
@@ -94,7 +48,7 @@ impl Rules {
     }
 
     pub fn parse(text: &str) -> std::result::Result<Rules, String> {
-        let File { redact, .. } = toml::from_str(text).map_err(|why| why.to_string())?;
+        let File { redact, .. } = File::parse(text).map_err(|why| why.to_string())?;
         let pattern = |table: &'static str| {
             move |it: Pattern| {
                 Ok(Rule::new(
