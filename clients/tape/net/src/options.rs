@@ -27,7 +27,7 @@ pub struct Listening {
     /// The key of that certificate
     #[arg(long, value_name = "FILE", requires = "cert")]
     pub key: Option<PathBuf>,
-    /// Serve with at most so many threads, not with twice as many as there are processors. A client has a thread of its own
+    /// Serve with so many threads, not with twice as many as there are processors. A client has a thread of its own
     /// while there are no more clients than that
     #[arg(long, value_name = "N", value_parser = clap::value_parser!(u64).range(1..=THREADS_MOST))]
     pub threads: Option<u64>,

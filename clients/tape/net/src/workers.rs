@@ -3,7 +3,7 @@
 use std::future::{poll_fn, Future};
 use std::io;
 use std::mem;
-use std::sync::{Arc, Mutex, PoisonError};
+use std::sync::Arc;
 use std::task::Poll;
 use std::thread::{self, JoinHandle};
 use std::time::{Duration, Instant};
@@ -14,11 +14,10 @@ use tokio::sync::oneshot;
 const PATIENCE: Duration = Duration::from_secs(1);
 const PAUSE: Duration = Duration::from_millis(1);
 
-/// Threads with a runtime each, which are begun as there are sessions for them. A session stays on the thread that it began
-/// on, so that no thread wakes another one or takes its tasks while messages pass.
+/// Threads with a runtime each. A session stays on the thread that it began on, so that no thread wakes another one or takes
+/// its tasks while messages pass.
 pub struct Workers {
-    most: usize,
-    all: Mutex<Vec<Worker>>,
+    all: Vec<Worker>,
 }
 
 struct Worker {
@@ -47,24 +46,20 @@ impl Worker {
 }
 
 impl Workers {
-    /// At most so many threads, of which the first is begun.
-    pub fn new(most: usize) -> io::Result<Workers> {
-        Ok(Workers { most, all: Mutex::new(vec![Worker::new()?]) })
+    /// Begins so many threads.
+    pub fn new(count: usize) -> io::Result<Workers> {
+        let all = (0..count).map(|_| Worker::new()).collect::<io::Result<_>>()?;
+        Ok(Workers { all })
     }
 
-    /// How many threads there may be.
-    pub fn most(&self) -> usize {
-        self.most
+    /// How many threads there are.
+    pub fn count(&self) -> usize {
+        self.all.len()
     }
 
-    /// Runs a session on a thread without one, else on that with the fewest.
+    /// Runs a session on the thread that has the fewest.
     pub fn spawn(&self, session: impl Future<Output = ()> + Send + 'static) {
-        let mut all = self.all.lock().unwrap_or_else(PoisonError::into_inner);
-        if all.len() < self.most && all.iter().all(|it| it.load() > 0) {
-            // Where there can be no more threads, those that are there do.
-            all.extend(Worker::new());
-        }
-        if let Some(worker) = all.iter().min_by_key(|it| it.load()) {
+        if let Some(worker) = self.all.iter().min_by_key(|it| it.load()) {
             let place = worker.place.clone();
             worker.runtime.spawn(async move {
                 session.await;
@@ -76,9 +71,8 @@ impl Workers {
     /// Ends all sessions, and waits a while until the threads have. One that waits for a pipe which nobody reads ends with the
     /// process.
     pub fn end(self) {
-        let all = self.all.into_inner().unwrap_or_else(PoisonError::into_inner);
         let (ends, threads): (Vec<_>, Vec<_>) =
-            all.into_iter().map(|it| (it.end, it.thread)).unzip();
+            self.all.into_iter().map(|it| (it.end, it.thread)).unzip();
         drop(ends);
         let late = Instant::now() + PATIENCE;
         while threads.iter().any(|it| !it.is_finished()) && Instant::now() < late {

@@ -41,7 +41,7 @@ pub fn serve(arguments: &Arguments, says: &Sayer) -> Result<Status, Failure> {
             let (single, first) = mpsc::unbounded_channel();
             let single = arguments.is_single.then_some(single);
             let Bound { listeners, tls } = bound;
-            let threads = workers.most();
+            let threads = workers.count();
             let proxy = proxy_of(arguments, says, tape, upstream, tls, threads, single);
             let accepting = |listener| own.spawn(proxy.clone().accept(listener, workers.clone()));
             let accepting = listeners.into_iter().map(accepting).collect();
