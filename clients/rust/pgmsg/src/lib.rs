@@ -34,6 +34,7 @@
 //! - `std`, a default, makes errors those of `std`; without it the crate needs `alloc` alone.
 //! - `bytes` makes a `BytesMut` something that messages are appended to.
 //! - `codec` has codecs of `tokio_util` for both sides.
+//! - `sha2` has a hash for [`scram`], by the crates sha2 and hmac.
 //!
 //! # Building
 //!
