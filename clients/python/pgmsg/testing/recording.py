@@ -131,6 +131,8 @@ def _replay(path: Path, options: Sequence[str], whole: bool) -> Iterator[Tape]:
         try:
             yield it
         except Exception as error:
+            # What the program reports may come after what it answers.
+            program.end()
             if words := it.differences():
                 error.add_note(words)
             raise
