@@ -3,6 +3,7 @@
 use std::io::{Read, Write};
 use std::net::{TcpListener, TcpStream};
 use std::path::PathBuf;
+use std::time::Duration;
 use std::{env, fs, process, thread};
 
 use pgmsg_testing::{Error, Options, Tape};
@@ -22,6 +23,10 @@ fn a_client_that_differs_fails_with_the_diff() {
     let path = recorded("differs", &["SELECT 1"]);
     let mut tape = Options::new().replay(&path).unwrap();
     ask(&tape, &["SELECT 7"]);
+    // The report may come after the answer.
+    while tape.differences().is_empty() {
+        thread::sleep(Duration::from_millis(10));
+    }
     assert!(tape.differences().contains("SELECT 7"));
     let why = tape.finish().unwrap_err();
     assert!(
