@@ -1,29 +1,45 @@
-"""Checks exported lines against the schema of a recording, up to 30 of each kind and shape:
+"""Checks exported lines against the schema of a recording, up to 30 of each kind and shape; or changes them one way after
+the other, and checks that pg_tape names the fault with its line:
 
-    recording_lines.py SCHEMA LINES
+    recording_lines.py schema SCHEMA LINES
+    recording_lines.py faults PG_TAPE LINES TAPE
 
-Prints how many lines and kinds it checked. Ends with 3 where there is no jsonschema.
+TAPE is a file that may be written. Prints how many lines and kinds, or how many changes, it checked. Ends with 3 where there
+is no jsonschema.
 """
 
 import collections
 import json
+import pathlib
+import random
+import subprocess
 import sys
 
 MOST = 30
 
+CHANGES = {
+    "a field is missing": lambda line: {name: line[name] for name in list(line)[:-1]},
+    "a field more": lambda line: {**line, "more": 1},
+    "another kind": lambda line: {**line, "kind": "Nonsense"},
+    "a number as text": lambda line: {**line, "connection": "one"},
+    "no object": lambda line: [line],
+    "another side": lambda line: {**line, "side": "nobody"},
+}
 
-def main():
+
+def check_schema(schema, lines):
+    """Holds lines against a schema."""
     try:
         import jsonschema
     except ImportError:
         sys.exit(3)
-    with open(sys.argv[1], encoding="utf-8") as file:
+    with open(schema, encoding="utf-8") as file:
         schema = json.load(file)
     jsonschema.Draft202012Validator.check_schema(schema)
     validator = jsonschema.Draft202012Validator(schema)
     seen = collections.Counter()
-    with open(sys.argv[2], encoding="utf-8") as lines:
-        for text in lines:
+    with open(lines, encoding="utf-8") as file:
+        for text in file:
             line = json.loads(text)
             kind = line.get("side"), line["kind"]
             seen[kind] += 1
@@ -35,5 +51,36 @@ def main():
     print(f"{sum(min(count, MOST) for count in seen.values())} lines of {len(seen)} kinds")
 
 
+def fault(program, lines, source, tape):
+    """What the program says of some lines, or nothing where it takes them."""
+    source.write_text("".join(lines), encoding="utf-8")
+    run = subprocess.run([program, "import", source, "-o", tape], capture_output=True, text=True, check=False)
+    if run.returncode not in (0, 10):
+        sys.exit(f"status {run.returncode}: {run.stderr}")
+    return run.stderr if run.returncode else None
+
+
+def check_faults(program, lines, tape):
+    """Has a program import changed lines."""
+    lines = pathlib.Path(lines).read_text(encoding="utf-8").splitlines(keepends=True)
+    source, count, generator = pathlib.Path(f"{tape}.jsonl"), 0, random.Random(3)
+    for name, change in CHANGES.items():
+        for at in generator.sample(range(1, len(lines)), 8):
+            changed = json.dumps(change(json.loads(lines[at]))) + "\n"
+            said = fault(program, [*lines[:at], changed, *lines[at + 1 :]], source, tape)
+            if said is None or f"line {at + 1}" not in said:
+                sys.exit(f"{name} in line {at + 1}: {said}")
+            count += 1
+    for at in generator.sample(range(1, len(lines) - 1), 8):
+        text = lines[at][: generator.randrange(1, len(lines[at]) - 1)]
+        said = fault(program, [*lines[:at], text], source, tape)
+        if said is None or f"line {at + 1}" not in said:
+            sys.exit(f"cut in line {at + 1}: {said}")
+        count += 1
+    if pathlib.Path(tape).exists():
+        sys.exit("a recording is written of broken lines")
+    print(f"{count} changes")
+
+
 if __name__ == "__main__":
-    main()
+    {"schema": check_schema, "faults": check_faults}[sys.argv[1]](*sys.argv[2:])

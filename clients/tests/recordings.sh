@@ -169,13 +169,13 @@ test_tape_exports() {
     expect 'import: messages of all kinds' 0
     same 'export: the same lines' "$("$programs/pg_tape" export "$work/kinds.tape" | cmp - tape/tape/kinds.jsonl)" ''
     cat "$work"/*.jsonl tape/tape/kinds.jsonl > "$work/lines"
-    try python3 -B tests/recording_lines.py tape/tape/recording.schema.json "$work/lines"
+    try python3 -B tests/recording_lines.py schema tape/tape/recording.schema.json "$work/lines"
     if [ "$status" = 3 ]; then
         echo 'left out: lines by their schema, since python3-jsonschema is not there'
     else
         expect "export: lines are those of the schema: $output" 0
     fi
-    try python3 -B tests/recording_faults.py "$programs/pg_tape" "$work/secret.jsonl" "$work/fault.tape"
+    try python3 -B tests/recording_lines.py faults "$programs/pg_tape" "$work/secret.jsonl" "$work/fault.tape"
     expect "import: faults are named: $output" 0
     try "$programs/pg_tape" export "$work/secret.jsonl"
     expect 'export: what is no recording' 10 'is no recording'

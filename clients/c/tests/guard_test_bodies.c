@@ -1,5 +1,5 @@
 /* Bodies at pages that can't be touched: each cut at each length, with each byte replaced in turn. */
-#include "guard_test_bodies.h"
+#include "guard_test.h"
 
 #include <stdio.h>
 #include <string.h>

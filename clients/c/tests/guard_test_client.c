@@ -1,5 +1,5 @@
 /* Messages from a client, at pages that can't be touched. */
-#include "guard_test_bodies.h"
+#include "guard_test.h"
 
 /* The greatest length of a first message that is taken here. */
 enum { LIMIT = 300 };

@@ -1,5 +1,5 @@
 /* Messages from the server, at pages that can't be touched. */
-#include "guard_test_bodies.h"
+#include "guard_test.h"
 
 /* Each call that reads, by a body and its length. */
 #define CALLS(CALL)                                                                                        \

@@ -1,5 +1,5 @@
 /* A stream that is passed on, at pages that can't be touched. */
-#include "guard_test_bodies.h"
+#include "guard_test.h"
 
 /* The greatest length of a message that is taken whole here. */
 enum { LIMIT = 300 };

@@ -4,7 +4,6 @@
 
 mod address;
 mod connect;
-mod descriptors;
 mod listen;
 mod open;
 mod options;
@@ -17,7 +16,6 @@ mod workers;
 
 pub use address::Address;
 pub use connect::Upstream;
-pub use descriptors::most_sessions;
 pub use listen::Listener;
 pub use open::{front, open, FirstMessage, Front, OpenError, Opened};
 pub use options::{Bound, Listening, ServerOptions};
@@ -26,4 +24,4 @@ pub use say::Sayer;
 pub use status::{ended, ignore_file_size, Failure, Status};
 pub use stream::{Accepted, Stream};
 pub use tls::ServerTls;
-pub use workers::{let_others, Workers};
+pub use workers::{let_others, most_sessions, Workers};

@@ -1,5 +1,6 @@
-//! Threads that serve clients.
+//! Threads that serve clients, and how many sessions they and the process can have.
 
+use rlimit::Resource;
 use std::future::{poll_fn, Future};
 use std::io;
 use std::mem;
@@ -13,6 +14,14 @@ use tokio::sync::oneshot;
 /// How long threads may take to end, and when it is looked again.
 const PATIENCE: Duration = Duration::from_secs(1);
 const PAUSE: Duration = Duration::from_millis(1);
+
+/// The most sessions at a time.
+const MOST_SESSIONS: u64 = 1000;
+/// The most descriptors that are of neither a session nor a thread.
+const OTHERS: u64 = 32;
+
+/// The descriptors of a thread with a runtime: what it waits for, what wakes it, and what tells it of signals.
+const OF_THREAD: u64 = 3;
 
 /// Threads with a runtime each. A session stays on the thread that it began on, so that no thread wakes another one or takes
 /// its tasks while messages pass.
@@ -93,4 +102,16 @@ pub async fn let_others() {
         }
     })
     .await;
+}
+
+/// How many sessions of so many descriptors each the process has descriptors for beside those of so many threads, after
+/// raising their limit where it may.
+pub fn most_sessions(descriptors: u64, threads: usize) -> usize {
+    let others = OTHERS + OF_THREAD * threads as u64;
+    let wanted = descriptors * MOST_SESSIONS + others;
+    let limit = rlimit::increase_nofile_limit(wanted)
+        .or_else(|_| Resource::NOFILE.get().map(|(soft, _)| soft))
+        .unwrap_or(wanted);
+    let most = limit.saturating_sub(others) / descriptors;
+    most.clamp(1, MOST_SESSIONS) as usize
 }
