@@ -62,7 +62,7 @@ static struct guarded texts, digests, codes, types, values, settings, names, fie
     CALL(notice, ("EN?"[in->n % 3], in->fields, in->n, out, out_len))                                               \
     CALL(notification, (number, in->text, in->n, in->text, in->n, out, out_len))
 
-#define WRITER(name, arguments)                                                            \
+#define WRITER(name, arguments)                                                              \
     static ptrdiff_t put_##name(const struct inputs *in, uint8_t *out, size_t out_len)      \
     {                                                                                        \
         uint32_t number = (uint32_t)(in->n * in->n * in->n * 7919);                          \
