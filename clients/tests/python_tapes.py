@@ -125,6 +125,8 @@ class TestTape(InFolder):
             raise KeyError(ask(it, "SELECT 2"))
         with mock.patch.dict(os.environ, NO_SERVER), self.assertRaisesRegex(TapeError, "no connection to 127.0.0.1 port 1"):
             self.record("SELECT 1")
+        with self.assertRaisesRegex(TapeError, "no client connected to 127.0.0.1 port"):
+            self.record()
         self.assertEqual((self.path.read_bytes(), len(list(self.path.parent.iterdir()))), (before, 1))
 
     def test_only_what_is_not_recorded_is_recorded(self):

@@ -179,6 +179,20 @@ test_missing_passwords() {
     expect 'missing: too late for a password' 11 'asks for a password'
 }
 
+# A database that is gone: the words of the server tell.
+test_missing_database() {
+    local tape=$work/missing-database.tape client=("$bin/psql" -X -q -A -t -d of_missing)
+    sql 'CREATE DATABASE of_missing'
+    start_missing missing "$tape"
+    await at_port "$replay_port" "${client[@]}" -c 'SELECT 1'
+    stop_replay
+    sql 'DROP DATABASE of_missing'
+    start_missing missing "$tape"
+    try at_port "$replay_port" "${client[@]}" -c 'SELECT 1' -c 'SELECT 2'
+    end_replay
+    expect 'missing: a database that is gone' 11 'ends the session: database "of_missing" does not exist'
+}
+
 test_missing_options() {
     local tape=$work/missing.tape
     try "$programs/pg_replay" --record-missing --record-all "$tape" 0
@@ -198,6 +212,7 @@ test_replay_missing() {
     test_missing_state
     test_missing_pgbench
     test_missing_passwords
+    test_missing_database
     test_missing_options
     echo "missing: $((passed - passed_before)) tests"
 }

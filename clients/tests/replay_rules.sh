@@ -46,7 +46,7 @@ allowed_by_its_rule() {
     record_words "$as_postgres" read "${@:5}" "$record" sync read terminate end
     replay_command "$work/words.tape" '' "${client[@]}" "$as_postgres" read "${@:5}" "$replay" sync read end
     expect "replay: $name, a difference" 11 "$diff"
-    sed '1,/^to let this differ:$/d; /^pg_replay: /,$d' <<< "$errors" > "$work/rules.toml"
+    sed '1,/^to let this differ, in a file for --rules:$/d; /^pg_replay: /,$d' <<< "$errors" > "$work/rules.toml"
     fits "$name, by the rule that it shows" "--rules $work/rules.toml" "$as_postgres" read "${@:5}" "$replay" sync read terminate end
 }
 

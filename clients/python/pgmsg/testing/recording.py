@@ -16,6 +16,9 @@ from .program import PATIENCE, Program, TapeError
 # The status of a program that was told to end.
 ENDED = 143
 
+# How long a recording of no session is, in bytes.
+HEAD = 24
+
 # How many seconds pg_replay may take to end after the last session of the recording.
 LAST_END = 2.0
 
@@ -85,6 +88,10 @@ def _record(path: Path, server: tuple[str, int] | None) -> Iterator[Tape]:
             # It has words only for what it couldn't pass on or record.
             if program.has_ended() or program.said_since():
                 raise program.failed("failed:")
+            if new.stat().st_size <= HEAD:
+                raise TapeError(
+                    f"no client connected to 127.0.0.1 port {program.port}, so nothing is recorded: "
+                    "is another address set, or was the connection opened before?")
         new.replace(path)
     finally:
         new.unlink(missing_ok=True)

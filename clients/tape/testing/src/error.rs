@@ -8,6 +8,9 @@ pub enum Error {
     /// There is no recording yet.
     #[error("no recording {0}: the test makes it with PG_TAPE=record and a server that PGHOST and PGPORT name")]
     NoRecording(PathBuf),
+    /// No client connected, so nothing is recorded.
+    #[error("no client connected to 127.0.0.1 port {0}: is another address set, or was the connection opened before?")]
+    NoClient(u16),
     /// A client said something else than the recording has, or less. The words are those of pg_replay, with its diff.
     #[error("a client differs from {path}:\n{said}")]
     Differs {

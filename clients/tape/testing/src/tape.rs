@@ -13,6 +13,9 @@ use crate::Error;
 /// How long pg_replay may take to end after the last session of the recording.
 const LAST_END: Duration = Duration::from_secs(2);
 
+/// How long a recording of no session is, in bytes.
+const HEAD: u64 = 24;
+
 /// The status of pg_replay where it was told to end.
 const TOLD_TO_END: i32 = 143;
 
@@ -215,6 +218,10 @@ impl Tape {
             return Err(failed);
         }
         self.program.end()?;
+        if fs::metadata(&new)?.len() <= HEAD {
+            fs::remove_file(&new)?;
+            return Err(Error::NoClient(self.port()));
+        }
         Ok(fs::rename(new, &self.path)?)
     }
 }

@@ -91,6 +91,15 @@ fn options_of_pg_replay_are_passed_on() {
 }
 
 #[test]
+fn a_run_without_a_client_leaves_the_old_recording() {
+    let path = recorded("alone", &["SELECT 1"]);
+    let old = fs::read(&path).unwrap();
+    let tape = Options::new().server("127.0.0.1", server()).record(&path).unwrap();
+    assert!(matches!(tape.finish(), Err(Error::NoClient(_))));
+    assert_eq!(fs::read(&path).unwrap(), old);
+}
+
+#[test]
 fn a_server_that_is_not_there_leaves_the_old_recording() {
     let path = recorded("unreached", &["SELECT 1"]);
     let old = fs::read(&path).unwrap();

@@ -143,7 +143,9 @@ impl Report {
         let part = part.or_else(|| parting(allowed, recorded, received));
         let part = part.map_or(String::new(), |it| format!(": {}", it.words(recorded, received)));
         let rule = rule::of(allowed, recorded, received);
-        let rule = rule.map_or(String::new(), |it| format!("\nto let this differ:\n{it}"));
+        let rule = rule.map_or(String::new(), |it| {
+            format!("\nto let this differ, in a file for --rules:\n{it}")
+        });
         Report {
             is_startup: number == 1,
             sentence: format!("message {number}{connection} isn't the recorded one{part}"),

@@ -88,18 +88,10 @@ fn near(text: &str, is_end: bool) -> &str {
     }
 }
 
-/// The narrowest pattern of a few that two texts have.
+/// The narrowest pattern of a few that two texts have. None fits all texts: a rule by it would compare nothing.
 fn like(one: &str, other: &str) -> Option<&'static str> {
-    let patterns = [
-        r"\d+",
-        r"[0-9a-f]+",
-        r"\w+",
-        r"[0-9a-f-]+",
-        r"[\d :.+TZ-]+",
-        r"[^' ]*",
-        r"[^']*",
-        r"(?s:.*)",
-    ];
+    let patterns =
+        [r"\d+", r"[0-9a-f]+", r"\w+", r"[0-9a-f-]+", r"[\d :.+TZ-]+", r"[^' ]*", r"[^']*"];
     let fits = |text: &str, pattern: &str| {
         Regex::new(&format!("^(?:{pattern})$")).map_or(false, |it| it.is_match(text.as_bytes()))
     };

@@ -5,7 +5,8 @@ use crate::tape::{Cut, Cutter};
 use anyhow::{bail, ensure, Result};
 use net::Stream;
 use pg_record::Over;
-use pgmsg::{Decoder, Next};
+use pgmsg::backend::{FieldKind, Message};
+use pgmsg::{Decoder, Frame, Next};
 use recording::{Kind, Side, MOST};
 use std::time::Duration;
 use tokio::io::{split, AsyncReadExt, AsyncWriteExt};
@@ -105,19 +106,22 @@ impl<'s> Taping<'s> {
         let mut server = self.renewal.connect().await?;
         let rest = {
             let (mut from, mut to) = split(&mut server);
-            let heard = Heard { readies: self.readies, tags: &self.heard };
+            let heard = Heard { readies: self.readies, tags: &self.heard, error: String::new() };
             let both = async { tokio::try_join!(self.say_again(&mut to), heard.listen(&mut from)) };
             timeout(PATIENCE, both).await??.1
         };
         Ok((server, rest, std::mem::take(&mut self.pending)))
     }
 
-    /// Says what is recorded of the client.
+    /// Says what is recorded of the client, while the server listens: why it left, it says itself.
     async fn say_again(&self, to: &mut (impl AsyncWriteExt + Unpin)) -> Result<()> {
         let mut recorded = self.renewal.recorded()?;
         while let Some(record) = recorded.read()? {
-            if record.connection == self.number && record.kind == Kind::Bytes(Side::Client) {
-                to.write_all(record.content).await?;
+            if record.connection == self.number
+                && record.kind == Kind::Bytes(Side::Client)
+                && to.write_all(record.content).await.is_err()
+            {
+                break;
             }
         }
         Ok(())
@@ -128,6 +132,8 @@ impl<'s> Taping<'s> {
 struct Heard<'t> {
     readies: usize,
     tags: &'t [u8],
+    /// The last error of the server.
+    error: String,
 }
 
 impl Heard<'_> {
@@ -140,7 +146,7 @@ impl Heard<'_> {
                 match decoder.next(&held[at..])? {
                     Next::Frame(frame) => {
                         at += frame.bytes.len();
-                        self.pass(frame.tag.unwrap_or_default(), frame.body())?;
+                        self.pass(&frame)?;
                     }
                     Next::Incomplete { .. } => break,
                 }
@@ -149,14 +155,20 @@ impl Heard<'_> {
             if self.readies == 0 && self.tags.is_empty() {
                 return Ok(held);
             }
-            ensure!(from.read_buf(&mut held).await? > 0, "the server ends the session");
+            let is_there = from.read_buf(&mut held).await.unwrap_or(0) > 0;
+            ensure!(is_there, "the server ends the session{}", self.error);
         }
     }
 
     /// Passes over a message.
-    fn pass(&mut self, tag: u8, body: &[u8]) -> Result<()> {
+    fn pass(&mut self, frame: &Frame<'_>) -> Result<()> {
+        let tag = frame.tag.unwrap_or_default();
         if tag == b'R' {
-            check_open(body)?;
+            check_open(frame.body())?;
+        }
+        if let Ok(Message::ErrorResponse(fields)) = Message::read(frame) {
+            let why = fields.value(FieldKind::Message).unwrap_or_default();
+            self.error = format!(": {}", why.to_str_lossy());
         }
         match self.tags.split_first() {
             _ if tag == b'Z' && self.readies > 0 => self.readies -= 1,
