@@ -50,7 +50,7 @@ name = "no_such_column"
 TOML
 }
 
-secrets='ann\.lee|bob\.fox|1971-03-21|1980-05-06|123456|654321|Secret-In|Another-S|Third-One|4111111|SCRAM-SHA-256\$[0-9]*:[+/]*[A-WYZa-wyz]'
+secrets='ann\.lee|bob\.fox|1971-03-21|1980-05-06|123456|654321|Secret-In|Another-S|Third-One|4111111|SCRAM-SHA-256\$[0-9]*:[0-9+/]*[A-WYZa-wyz]'
 
 # Secrets that rules name, and those that are found without one.
 test_tape_redact() {
