@@ -94,8 +94,8 @@ class TestReadme(unittest.TestCase):
         self.assertEqual(output.getvalue(), "('5', None, '')\n")
         sent = b"".join(call.args[0] for call in connection.sendall.call_args_list)
         self.assertEqual(sent, pgmsg.write(
-            pgmsg.StartupMessage({"user": "ann", "database": "shop"}), pgmsg.PasswordMessage("secret"),
-            pgmsg.Query("TABLE people"), pgmsg.Terminate()))
+            pgmsg.StartupMessage({"user": "ann", "database": "shop", "client_encoding": "UTF8"}),
+            pgmsg.PasswordMessage("secret"), pgmsg.Query("TABLE people"), pgmsg.Terminate()))
 
     def test_the_examples_are_short(self):
         for name in ("read_table.py", "read_table_asyncio.py"):
