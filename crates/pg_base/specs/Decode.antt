@@ -12,3 +12,11 @@ abbrev pub Decodes : {A V : Type 0} → (List ℕ → V → Type 0) → (List �
 Decodes Means IsFault NeedsNoMemory shown reading body (Ok value) = Means body (shown value)
 Decodes Means IsFault NeedsNoMemory shown reading body (Err (Protocol format fault)) = (format ≡ reading) × IsFault body fault
 Decodes Means IsFault NeedsNoMemory shown reading body (Err OutOfMemory) = ¬ NeedsNoMemory body
+
+-- a body means one value
+abbrev pub MeansOne : {V : Type 0} → (List ℕ → V → Type 0) → Type 0
+MeansOne {V} Means = (body : List ℕ) (v w : V) → Means body v → Means body w → v ≡ w
+
+-- a body with a value has no fault
+abbrev pub NeverBoth : {V : Type 0} → (List ℕ → V → Type 0) → (List ℕ → ProtocolFault → Type 0) → Type 0
+NeverBoth {V} Means IsFault = (body : List ℕ) (v : V) (fault : ProtocolFault) → Means body v → IsFault body fault → ⊥

@@ -1,14 +1,17 @@
 -- Whole numbers in messages, highest byte first. Documentation: "Message Data Types", Intn.
 use Rattle.std.specs.Prelude.{ℕ, ◌+◌, ◌*◌, ◌/◌, ◌%◌, ◌^◌, List, [], ◌∷◌, length, map, ℤ, pos, ◌-ℤ◌, nat_lt, if◌then◌else◌}
-use Rattle.std.specs.Int.{w16, w32, to_be_bytes}
+use Rattle.std.specs.Int.{w16, w32, w64, to_be_bytes}
 use Rattle.pg_base.specs.declared.io.Oid.{Oid}
 
--- a number as two bytes, and as four
+-- a number as two bytes, as four, and as eight
 abbrev pub be16 : ℕ → List ℕ
 be16 n = to_be_bytes w16 n
 
 abbrev pub be32 : ℕ → List ℕ
 be32 n = to_be_bytes w32 n
+
+abbrev pub be64 : ℕ → List ℕ
+be64 n = to_be_bytes w64 n
 
 -- the decimal digits of a number below 100, two also of one below 10
 abbrev pub two_digits : ℕ → List ℕ

@@ -3,7 +3,7 @@ use Rattle.std.specs.Prelude.{◌≡◌, ℕ, ◌-◌, ◌^◌, ◌<◌, min, Li
 use Rattle.std.specs.Option.{option_or}
 use Rattle.pg_base.specs.declared.error.ProtocolFault.{ProtocolFault}
 use Rattle.pg_base.specs.Naming.{Naming, IsNamingInRange, with_nul}
-use Rattle.pg_base.specs.Numbers.{be16, be32}
+use Rattle.pg_base.specs.Numbers.{be16, be32, be64}
 
 -- a count or a sum, or the greatest that a `usize` holds where it is more
 abbrev pub saturated : ℕ → ℕ
@@ -23,12 +23,15 @@ bytes text = record { text = text; fault = None; IsInRange = Unit {0} }
 abbrev pub byte : ℕ → PartLaw
 byte b = bytes (b ∷ [])
 
--- numbers of two bytes and of four
+-- numbers of two bytes, of four and of eight
 abbrev pub number16 : ℕ → PartLaw
 number16 n = record { text = be16 n; fault = None; IsInRange = n < 2 ^ 16 }
 
 abbrev pub number32 : ℕ → PartLaw
 number32 n = record { text = be32 n; fault = None; IsInRange = n < 2 ^ 32 }
+
+abbrev pub number64 : ℕ → PartLaw
+number64 n = record { text = be64 n; fault = None; IsInRange = n < 2 ^ 64 }
 
 -- a name and a NUL
 abbrev pub name : Naming → PartLaw

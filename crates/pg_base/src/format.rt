@@ -58,6 +58,8 @@ pub enum BackendMessageFormat {
 
 impl BackendMessageFormat {
     /// The kind of message that a tag opens. Refused with `UnknownMessageType` where none has it.
+    // Inlined, so that the answer isn't copied on its way.
+    #[inline(always)]
     pub fn try_from_u8(tag: u8) -> Result<Self, Error>
         ensures known { IfOk result (λ format. backend_tag format ≡ tag) }
         ensures unknown { OnErr result (¬ IsBackendTag tag) }

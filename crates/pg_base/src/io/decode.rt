@@ -1,8 +1,8 @@
 //! What is read from a body.
 
-ghost use Rattle.std.specs.Prelude.{◌≡◌, ◌≤◌, ℕ, List, None, length};
+ghost use Rattle.std.specs.Prelude.{◌≤◌, ℕ, List, None, length};
 ghost use Rattle.pg_base.specs.declared.error.ProtocolFault.{ProtocolFault};
-ghost use Rattle.pg_base.specs.Decode.{Decodes};
+ghost use Rattle.pg_base.specs.Decode.{Decodes, MeansOne, NeverBoth};
 
 use crate::error::Error;
 use crate::io::MAX_BODY;
@@ -29,7 +29,7 @@ pub trait ProtocolDecode: Sized {
         ensures { Decodes Means IsFault NeedsNoMemory shown None buf result };
 
     /// A body means one value.
-    ghost one_value: { (body : List ℕ) (v w : Shown) → Means body v → Means body w → v ≡ w };
+    ghost one_value: { MeansOne Means };
     /// A body with a value has no fault.
-    ghost never_both: { (body : List ℕ) (v : Shown) (fault : ProtocolFault) → Means body v → IsFault body fault → ⊥ };
+    ghost never_both: { NeverBoth Means IsFault };
 }

@@ -20,7 +20,7 @@ pub use decode::ProtocolDecode;
 pub use encode::ProtocolEncode;
 pub use id::{DisplayId, PortalId, StatementId};
 pub use name::{Ended, Name};
-pub use numbers::{bytes_at, i8_at, i16_at, i32_at, u16_at, u32_at};
+pub use numbers::{bytes_at, i8_at, i16_at, i32_at, i64_at, u8_at, u16_at, u32_at, u64_at};
 pub use sink::{Cursor, Sink, Text, write_text};
 pub use tagged::{HEADER, Tagged, checked_len};
 

@@ -24,6 +24,15 @@ pub fn bytes_at(body: &[u8], at: usize, needed: usize) -> Result<&[u8], Protocol
     Ok(&rest[..needed])
 }
 
+/// The byte at an offset within a body, or `Short`.
+pub fn u8_at(body: &[u8], at: usize) -> Result<u8, ProtocolFault>
+    requires { at ≤ length body.now }
+    ensures found { IfOk result (λ n. Number 1 (drop at body.now) n (drop (at + 1) body.now)) }
+    ensures short { IfErr result (IsShort body.now at 1) }
+{
+    Ok(bytes_at(body, at, 1)?[0])
+}
+
 /// The number of two bytes at an offset within a body, or `Short`.
 pub fn u16_at(body: &[u8], at: usize) -> Result<u16, ProtocolFault>
     requires { at ≤ length body.now }
@@ -40,6 +49,15 @@ pub fn u32_at(body: &[u8], at: usize) -> Result<u32, ProtocolFault>
     ensures short { IfErr result (IsShort body.now at 4) }
 {
     Ok(BigEndian::read_u32(bytes_at(body, at, 4)?))
+}
+
+/// The number of eight bytes at an offset within a body, or `Short`.
+pub fn u64_at(body: &[u8], at: usize) -> Result<u64, ProtocolFault>
+    requires { at ≤ length body.now }
+    ensures found { IfOk result (λ n. Number 8 (drop at body.now) n (drop (at + 8) body.now)) }
+    ensures short { IfErr result (IsShort body.now at 8) }
+{
+    Ok(BigEndian::read_u64(bytes_at(body, at, 8)?))
 }
 
 /// The signed number of one byte at an offset within a body, or `Short`.
@@ -67,4 +85,13 @@ pub fn i32_at(body: &[u8], at: usize) -> Result<i32, ProtocolFault>
     ensures short { IfErr result (IsShort body.now at 4) }
 {
     Ok(BigEndian::read_i32(bytes_at(body, at, 4)?))
+}
+
+/// The signed number of eight bytes at an offset within a body, or `Short`.
+pub fn i64_at(body: &[u8], at: usize) -> Result<i64, ProtocolFault>
+    requires { at ≤ length body.now }
+    ensures found { IfOk result (λ z. Signed 8 (drop at body.now) z (drop (at + 8) body.now)) }
+    ensures short { IfErr result (IsShort body.now at 8) }
+{
+    Ok(BigEndian::read_i64(bytes_at(body, at, 8)?))
 }

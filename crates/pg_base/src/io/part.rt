@@ -213,6 +213,31 @@ impl Part for Number32 {
     }
 }
 
+/// A number of eight bytes.
+#[derive(Clone, Copy)]
+pub struct Number64(pub u64);
+
+impl Part for Number64 {
+    ghost use Rattle.pg_base.specs.Part.{number64};
+
+    ghost part = { λ it. number64 it.0 };
+
+    #[inline(always)]
+    fn len(&self) -> usize {
+        8
+    }
+
+    #[inline(always)]
+    fn fault(&self) -> Option<ProtocolFault> {
+        None
+    }
+
+    #[inline(always)]
+    fn put<S: Sink>(&self, sink: &mut S) {
+        sink.put_u64(self.0);
+    }
+}
+
 /// Bytes as they are.
 #[derive(Clone, Copy)]
 pub struct Slice<'a>(pub &'a [u8]);

@@ -3,7 +3,7 @@
 ghost use Rattle.std.specs.Prelude.{◌≡◌, ℕ, ◌+◌, ◌^◌, ◌<◌, ◌≤◌, List, [], ◌∷◌, ◌++◌, length, take, Option, None, Some, vec_capacity};
 ghost use Rattle.std.specs.Borrow.{GName};
 ghost use Rattle.pg_base.specs.Cutting.{max_length};
-ghost use Rattle.pg_base.specs.Numbers.{be16, be32};
+ghost use Rattle.pg_base.specs.Numbers.{be16, be32, be64};
 ghost use Rattle.pg_base.specs.Sink.{IsGiven, HasRoom};
 ghost use Rattle.pg_base.specs.Text.{ended};
 
@@ -62,6 +62,18 @@ pub trait Sink {
         self.put_u8(lowest);
     }
 
+    /// Adds a number as eight bytes, highest byte first.
+    #[inline(always)]
+    final fn put_u64(&mut self, number: u64)
+        requires { length (written self.old) + 8 ≤ capacity self.old }
+        ensures written { written self.new ≡ written self.old ++ be64 number }
+        ensures capacity { capacity self.old ≤ capacity self.new }
+        ensures loan { loan self.new ≡ loan self.old }
+        ensures range { number < 2 ^ 64 }
+    {
+        self.put_slice(&number.to_be_bytes());
+    }
+
     /// Adds a tag, and the length field of a body of `len` bytes. Both are written at once.
     #[inline(always)]
     final fn put_head(&mut self, tag: u8, len: usize)
@@ -71,8 +83,10 @@ pub trait Sink {
         ensures capacity { capacity self.old ≤ capacity self.new }
         ensures loan { loan self.new ≡ loan self.old }
     {
-        let [highest, higher, lower, lowest] = (len as u32 + 4).to_be_bytes();
-        self.put_slice(&[tag, highest, higher, lower, lowest]);
+        // The number is one store, not four.
+        let mut head = [tag, 0, 0, 0, 0];
+        head[1..].copy_from_slice(&(len as u32 + 4).to_be_bytes());
+        self.put_slice(&head);
     }
 
     /// Adds a text and a NUL.
