@@ -8,6 +8,7 @@ pub mod Nullable
 pub mod Numbers
 pub mod Parts
 pub mod Places
+pub mod Replication
 pub mod Sequences
 pub mod Takes
 pub mod Tests

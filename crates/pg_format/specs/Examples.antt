@@ -1,6 +1,6 @@
 -- Examples of messages, worked by hand after the documentation's "Message Formats": the bytes of a body beside the
 -- value that they mean, or beside the fault that they have.
-use Rattle.std.specs.Prelude.{◌≡◌, ℕ, pos, negsuc, List, [], ◌∷◌, ◌++◌, codes, replicate, Option, Some, None}
+use Rattle.std.specs.Prelude.{◌≡◌, ℕ, pos, negsuc, true, false, List, [], ◌∷◌, ◌++◌, codes, replicate, Option, Some, None}
 use Rattle.pg_base.specs.declared.error.ProtocolFault.{ProtocolFault}
 use Rattle.pg_base.specs.declared.error.ProtocolFault.TheVariants.{BadKeyLength, BodyTooLong, MissingNul, UnknownSeverity, ValueLength}
 use Rattle.pg_base.specs.declared.format.BackendMessageFormat.{BackendMessageFormat}
@@ -8,6 +8,7 @@ use Rattle.pg_base.specs.declared.format.FrontendMessageFormat.{FrontendMessageF
 use Rattle.pg_format.specs.Format.{Format, Means, IsFaultOf}
 use Rattle.pg_format.specs.Notices.{Field}
 use Rattle.pg_format.specs.Messages.{from_server, from_client, BackendKey, Bind, Cancel, Column, CopyResponse, Execute, First, FunctionCall, Negotiation, Notification, Parse, SaslInitial, Setting, Targeted, opening, cancelling}
+use Rattle.pg_format.specs.Replication.{XLogData, PrimaryKeepalive, StandbyStatusUpdate, HotStandbyFeedback, NewArchive}
 use Rattle.pg_format.specs.Tables.{Authentication, ok, cleartext_password, md5_password, sasl, sasl_continue, sasl_final, statement, portal}
 
 -- the bytes of a body, and the value that they mean
@@ -322,3 +323,44 @@ cancel_by_257_bytes = record {
   bytes = 4 ∷ 210 ∷ 22 ∷ 46 ∷ 0 ∷ 0 ∷ 1 ∷ 0 ∷ replicate 257 7;
   fault = BadKeyLength 257;
 }
+
+-- ---- replication: what follows the letter
+
+abbrev pub piece_of_a_log : Example XLogData
+piece_of_a_log = record {
+  bytes = 0 ∷ 0 ∷ 0 ∷ 0 ∷ 1 ∷ 0 ∷ 0 ∷ 40 ∷ 0 ∷ 0 ∷ 0 ∷ 0 ∷ 1 ∷ 0 ∷ 0 ∷ 96 ∷ 0 ∷ 0 ∷ 0 ∷ 0 ∷ 0 ∷ 0 ∷ 1 ∷ 2 ∷ 7 ∷ 0 ∷ 9 ∷ [];
+  value = record { start = 16777256; end = 16777312; clock = pos 258; content = 7 ∷ 0 ∷ 9 ∷ [] };
+}
+
+-- a clock a microsecond before the year 2000
+abbrev pub keepalive_that_asks : Example PrimaryKeepalive
+keepalive_that_asks = record {
+  bytes = 0 ∷ 0 ∷ 0 ∷ 0 ∷ 1 ∷ 0 ∷ 0 ∷ 96 ∷ 255 ∷ 255 ∷ 255 ∷ 255 ∷ 255 ∷ 255 ∷ 255 ∷ 255 ∷ 1 ∷ [];
+  value = record { end = 16777312; clock = negsuc 0; wants_reply = true };
+}
+
+abbrev pub update_of_three_positions : Example StandbyStatusUpdate
+update_of_three_positions = record {
+  bytes =
+      0 ∷ 0 ∷ 0 ∷ 0 ∷ 0 ∷ 0 ∷ 0 ∷ 3 ∷ 0 ∷ 0 ∷ 0 ∷ 0 ∷ 0 ∷ 0 ∷ 0 ∷ 2 ∷ 0 ∷ 0 ∷ 0 ∷ 0 ∷ 0 ∷ 0 ∷ 0 ∷ 1 ∷ 0 ∷ 0 ∷ 0 ∷ 0 ∷ 0 ∷ 0 ∷ 1
+      ∷ 2 ∷ 0 ∷ [];
+  value = record { written = 3; flushed = 2; applied = 1; clock = pos 258; wants_reply = false };
+}
+
+abbrev pub feedback_of_two_transactions : Example HotStandbyFeedback
+feedback_of_two_transactions = record {
+  bytes = 0 ∷ 0 ∷ 0 ∷ 0 ∷ 0 ∷ 0 ∷ 1 ∷ 2 ∷ 0 ∷ 0 ∷ 2 ∷ 227 ∷ 0 ∷ 0 ∷ 0 ∷ 4 ∷ 0 ∷ 0 ∷ 2 ∷ 226 ∷ 0 ∷ 0 ∷ 0 ∷ 5 ∷ [];
+  value = record { clock = pos 258; xmin = 739; xmin_epoch = 4; catalog_xmin = 738; catalog_xmin_epoch = 5 };
+}
+
+abbrev pub archive_of_a_tablespace : Example NewArchive
+archive_of_a_tablespace = record {
+  bytes = codes "16385.tar" ++ 0 ∷ codes "/ts" ++ 0 ∷ [];
+  value = record { name = codes "16385.tar"; location = codes "/ts" };
+}
+
+abbrev pub progress_of_258_bytes : Example ℕ
+progress_of_258_bytes = record { bytes = 0 ∷ 0 ∷ 0 ∷ 0 ∷ 0 ∷ 0 ∷ 1 ∷ 2 ∷ []; value = 258 }
+
+abbrev pub progress_and_a_byte : FaultExample
+progress_and_a_byte = record { bytes = 0 ∷ 0 ∷ 0 ∷ 0 ∷ 0 ∷ 0 ∷ 1 ∷ 2 ∷ 7 ∷ []; fault = BodyTooLong 8 }

@@ -14,6 +14,10 @@ pub record Reading : Type 0 where
   pub at : ℕ
   pub left : ℕ
 
+-- the offset is within the body, which is no longer than one can be
+abbrev pub IsOffsetIn : List ℕ → ℕ → Type 0
+IsOffsetIn body at = (at ≤ length body) × (length body ≤ max_body)
+
 -- these are left; and this fault is
 abbrev pub AreLeft : {A : Type 0} → Format A → Reading → List A → Type 0
 AreLeft g reading items = (rest : List ℕ) × (times reading.left g).Reads (drop reading.at reading.body) items rest

@@ -1,5 +1,6 @@
 pub mod EndedTexts
 pub mod Examples
+pub mod Field
 pub mod Format
 pub mod Items
 pub mod Keyed
@@ -7,5 +8,6 @@ pub mod Lawful
 pub mod Messages
 pub mod Notices
 pub mod Received
+pub mod Replication
 pub mod Sasl
 pub mod Tables

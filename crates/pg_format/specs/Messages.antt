@@ -1,6 +1,6 @@
 -- Every message of both directions, in the order of the documentation's "Message Formats": (B) is sent by
 -- the server, (F) by the client. A format is of the body, which follows the tag and the length.
-use Rattle.std.specs.Prelude.{◌≡◌, ◌≢◌, ℕ, ◌+◌, ◌-◌, ◌*◌, ◌==◌, ◌&&◌, ℤ, pos, negsuc, Bool, List, [], ◌∷◌, length, Option, Some, None, IsUtf8, nat_le, nat_lt, if◌then◌else◌}
+use Rattle.std.specs.Prelude.{◌≢◌, ℕ, ◌+◌, ◌-◌, ◌*◌, ◌==◌, ◌&&◌, ℤ, pos, negsuc, Bool, List, [], ◌∷◌, length, Option, Some, None, IsUtf8, nat_le, nat_lt, if◌then◌else◌}
 use Rattle.pg_base.specs.declared.format.BackendMessageFormat.{BackendMessageFormat}
 use Rattle.pg_base.specs.declared.format.BackendMessageFormat.TheVariants as backend
 use Rattle.pg_base.specs.declared.format.FrontendMessageFormat.{FrontendMessageFormat}

@@ -25,15 +25,13 @@ pub struct Items<'a> {
 }
 
 impl<'a> Model for Items<'a> {
-    ghost use Rattle.std.specs.Prelude.{◌≤◌, length};
-    ghost use Rattle.pg_format.specs.Items.{Reading};
-    ghost use Rattle.pg_format.specs.Received.{max_body};
+    ghost use Rattle.pg_format.specs.Items.{Reading, IsOffsetIn};
 
     ghost Value = { Reading };
 
     ghost view = { λ items. record { body = items.body.now; at = items.at; left = items.left } };
 
-    ghost invariant = { λ items. (items.at ≤ length items.body.now) × (length items.body.now ≤ max_body) };
+    ghost invariant = { λ items. IsOffsetIn items.body.now items.at };
 }
 
 impl<'a> Items<'a> {

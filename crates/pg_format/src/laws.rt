@@ -5,10 +5,13 @@ pub mod examples;
 ghost use Rattle.pg_base.specs.declared.format.BackendMessageFormat.{BackendMessageFormat};
 ghost use Rattle.pg_base.specs.declared.format.FrontendMessageFormat.{FrontendMessageFormat};
 ghost use Rattle.pg_format.specs.Format.{Lawful, Canonical, Total};
+ghost use Rattle.pg_format.specs.Replication.{in_copy_data};
+ghost use Rattle.pg_format.specs.declared.replication.ReplicationKind.{ReplicationKind};
 ghost use Rattle.pg_format.specs.Messages.{from_server, from_client, backend_key, first_message, function_call_response, negotiate_protocol_version, sasl_initial_response};
 
 /// A body from a server means one value or has one fault, never both and never neither; and what is
 /// written of a value is read as it.
+#[tactic(auto, using(crate::proofs::FormatLaws::Kinds::lawful_server, crate::proofs::FormatLaws::Kinds::total_server))]
 pub fn messages_from_a_server()
     ensures lawful { (kind : BackendMessageFormat) → Lawful (from_server kind).format }
     ensures total { (kind : BackendMessageFormat) → Total (from_server kind).format }
@@ -25,6 +28,7 @@ pub fn other_messages_from_a_server()
 {}
 
 /// The same of a body from a client, in which each value has one spelling.
+#[tactic(auto, using(crate::proofs::FormatLaws::Kinds::lawful_client, crate::proofs::FormatLaws::Kinds::canonical_client, crate::proofs::FormatLaws::Kinds::total_client))]
 pub fn messages_from_a_client()
     ensures lawful { (kind : FrontendMessageFormat) → Lawful (from_client kind).format }
     ensures canonical { (kind : FrontendMessageFormat) → Canonical (from_client kind).format }
@@ -32,6 +36,7 @@ pub fn messages_from_a_client()
 {}
 
 /// The same of a SASLInitialResponse, whose kind is that of all passwords.
+#[tactic(auto, using(crate::proofs::FormatLaws::FromClient::lawful_sasl_initial_response, crate::proofs::FormatLaws::FromClient::canonical_sasl_initial_response, crate::proofs::FormatLaws::FromClient::total_sasl_initial_response))]
 pub fn sasl_initial_responses()
     ensures lawful { Lawful sasl_initial_response }
     ensures canonical { Canonical sasl_initial_response }
@@ -39,7 +44,15 @@ pub fn sasl_initial_responses()
 {}
 
 /// The same of a message without a tag.
+#[tactic(auto, using(crate::proofs::FormatLaws::FromClient::lawful_first_message, crate::proofs::FormatLaws::FromClient::total_first_message))]
 pub fn messages_without_a_tag()
     ensures lawful { Lawful first_message }
     ensures total { Total first_message }
+{}
+
+/// The same of what follows the letter in the data of a CopyData, while a connection replicates.
+#[tactic(auto, using(crate::proofs::FormatLaws::Replication::lawful_in_copy_data, crate::proofs::FormatLaws::Replication::total_in_copy_data))]
+pub fn messages_of_replication()
+    ensures lawful { (kind : ReplicationKind) → Lawful (in_copy_data kind).format }
+    ensures total { (kind : ReplicationKind) → Total (in_copy_data kind).format }
 {}

@@ -4,10 +4,13 @@
 #![tactic(auto)]
 
 mod copy;
+pub mod field;
 pub mod items;
 pub mod laws;
 mod received;
+mod replication;
 pub mod text;
 pub mod value;
 
 pub use received::{BackendMessage, ReceivedMessage};
+pub use replication::ReplicationKind;

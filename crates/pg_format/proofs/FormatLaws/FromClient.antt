@@ -6,7 +6,7 @@ use Rattle.pg_base.specs.Reading.{BeginsWith, Text}
 use Rattle.pg_base.specs.declared.error.ProtocolFault.TheVariants.{UnknownMessageType, UnknownCode}
 use Rattle.pg_format.specs.Format.{Lawful, Canonical, Total, IsRead, IsBroken}
 use Rattle.pg_format.specs.Format.Lists.{until_zero}
-use Rattle.pg_format.specs.Messages.{format_codes, bind, empty, Target, statement, portal, target_of, target_letter, targeted, execute, function_call, parse, text, sasl_initial_response, sasl_response, setting, opening, cancelling, tls, gssapi, is_version_3, settings_of, cancelled, asks_tls, asks_gssapi, by_code, with_code, first_message}
+use Rattle.pg_format.specs.Messages.{format_codes, bind, empty, Target, statement, portal, target_of, target_letter, targeted, execute, function_call, parse, text, sasl_initial_response, sasl_response, setting, opening, cancelling, tls, gssapi, settings_of, cancelled, asks_tls, asks_gssapi, by_code, with_code, first_message}
 use Rattle.pg_format.proofs.FormatLaws.Parts.{lawful_until_nul, canonical_until_nul, total_until_nul, lawful_unsigned, canonical_unsigned, total_unsigned, lawful_remaining, canonical_remaining, lawful_one_of, canonical_one_of, total_one_of, lawful_success, canonical_success, total_success, lawful_fail_before, total_fail_before}
 use Rattle.pg_format.proofs.FormatLaws.Sequences.{◌l⨾◌, ◌c⨾◌, ◌t⨾◌, lawful_dep_pair, total_dep_pair, lawful_record_of, canonical_record_of, total_record_of, lawful_mapped, total_mapped, lawful_case_of, total_case_of, lawful_choose, total_choose}
 use Rattle.pg_format.proofs.FormatLaws.Tests.{lawful_only, Takes}

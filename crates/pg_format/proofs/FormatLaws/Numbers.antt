@@ -8,21 +8,31 @@ use Rattle.pg_base.specs.Numbers.{num, int}
 use Rattle.pg_format.specs.Format.{AreBytes}
 use Rattle.pg_format.specs.Format.Parts.{complement, FitsSigned}
 
+-- the widths of the numbers that have one spelling by a law
+abbrev pub IsNarrow : ℕ → Type 0
+IsNarrow zero = ⊥
+IsNarrow (suc zero) = Unit {0}
+IsNarrow (suc (suc zero)) = Unit {0}
+IsNarrow (suc (suc (suc zero))) = ⊥
+IsNarrow (suc (suc (suc (suc zero)))) = Unit {0}
+IsNarrow (suc (suc (suc (suc (suc n))))) = ⊥
+
+-- the widths of all numbers
 abbrev pub IsWidth : ℕ → Type 0
 IsWidth zero = ⊥
 IsWidth (suc zero) = Unit {0}
 IsWidth (suc (suc zero)) = Unit {0}
 IsWidth (suc (suc (suc zero))) = ⊥
 IsWidth (suc (suc (suc (suc zero)))) = Unit {0}
-IsWidth (suc (suc (suc (suc (suc n))))) = ⊥
+IsWidth (suc (suc (suc (suc (suc zero))))) = ⊥
+IsWidth (suc (suc (suc (suc (suc (suc zero)))))) = ⊥
+IsWidth (suc (suc (suc (suc (suc (suc (suc zero))))))) = ⊥
+IsWidth (suc (suc (suc (suc (suc (suc (suc (suc zero)))))))) = Unit {0}
+IsWidth (suc (suc (suc (suc (suc (suc (suc (suc (suc n))))))))) = ⊥
 
-pub bytes_wide : (width : ℕ) → IsWidth width → (n : ℕ) → length (bytes_high_first width n) ≡ width
-bytes_wide zero w n = absurd w
-bytes_wide (suc zero) w n = refl
-bytes_wide (suc (suc zero)) w n = refl
-bytes_wide (suc (suc (suc zero))) w n = absurd w
-bytes_wide (suc (suc (suc (suc zero)))) w n = refl
-bytes_wide (suc (suc (suc (suc (suc k))))) w n = absurd w
+pub bytes_wide : (width n : ℕ) → length (bytes_high_first width n) ≡ width
+bytes_wide zero n = refl
+bytes_wide (suc k) n = ap suc (bytes_wide k n)
 
 -- the bytes of a number spell it
 pub num_of_bytes : (width : ℕ) → IsWidth width → (n : ℕ) → n < 256 ^ width → n ≡ num (bytes_high_first width n)
@@ -31,10 +41,14 @@ num_of_bytes (suc zero) w n h = omega (arith, h)
 num_of_bytes (suc (suc zero)) w n h = omega (arith, h)
 num_of_bytes (suc (suc (suc zero))) w n h = absurd w
 num_of_bytes (suc (suc (suc (suc zero)))) w n h = omega (arith, h)
-num_of_bytes (suc (suc (suc (suc (suc k))))) w n h = absurd w
+num_of_bytes (suc (suc (suc (suc (suc zero))))) w n h = absurd w
+num_of_bytes (suc (suc (suc (suc (suc (suc zero)))))) w n h = absurd w
+num_of_bytes (suc (suc (suc (suc (suc (suc (suc zero))))))) w n h = absurd w
+num_of_bytes (suc (suc (suc (suc (suc (suc (suc (suc zero)))))))) w n h = omega (arith, h)
+num_of_bytes (suc (suc (suc (suc (suc (suc (suc (suc (suc k))))))))) w n h = absurd w
 
 -- bytes are those of the number that they spell
-pub bytes_of_num : (width : ℕ) → IsWidth width → (bytes : List ℕ) → length bytes ≡ width → AreBytes bytes → (bytes ≡ bytes_high_first width (num bytes)) × (num bytes < 256 ^ width)
+pub bytes_of_num : (width : ℕ) → IsNarrow width → (bytes : List ℕ) → length bytes ≡ width → AreBytes bytes → (bytes ≡ bytes_high_first width (num bytes)) × (num bytes < 256 ^ width)
 bytes_of_num zero w bytes len h = absurd w
 bytes_of_num (suc zero) w [] len h = absurd (omega (arith, len))
 bytes_of_num (suc zero) w (a ∷ []) len h =
@@ -63,9 +77,9 @@ bytes_of_num (suc (suc (suc (suc zero)))) w (a ∷ b ∷ c ∷ d ∷ []) len h =
 bytes_of_num (suc (suc (suc (suc zero)))) w (a ∷ b ∷ c ∷ d ∷ e ∷ bs) len h = absurd (omega (arith, len))
 bytes_of_num (suc (suc (suc (suc (suc k))))) w bytes len h = absurd w
 
-pub complement_wide : (width : ℕ) → IsWidth width → (z : ℤ) → length (complement width z) ≡ width
-complement_wide width w (pos n) = bytes_wide width w n
-complement_wide width w (negsuc n) = bytes_wide width w (256 ^ width - suc n)
+pub complement_wide : (width : ℕ) (z : ℤ) → length (complement width z) ≡ width
+complement_wide width (pos n) = bytes_wide width n
+complement_wide width (negsuc n) = bytes_wide width (256 ^ width - suc n)
 
 -- the first byte says the sign
 int_low : (b : ℕ) (bs : List ℕ) (n : ℕ) → b < 128 → n ≡ num (b ∷ bs) → int (b ∷ bs) ≡ pos n
@@ -87,7 +101,15 @@ int_of_complement (suc (suc (suc (suc zero)))) w (pos n) h =
 int_of_complement (suc (suc (suc (suc zero)))) w (negsuc n) h =
     let m = 4294967296 - suc n in
     sym (int_high (m / 16777216 % 256) (m / 65536 % 256 ∷ m / 256 % 256 ∷ m % 256 ∷ []) n (omega (arith, h)) (omega (arith, h)))
-int_of_complement (suc (suc (suc (suc (suc k))))) w z h = absurd w
+int_of_complement (suc (suc (suc (suc (suc zero))))) w z h = absurd w
+int_of_complement (suc (suc (suc (suc (suc (suc zero)))))) w z h = absurd w
+int_of_complement (suc (suc (suc (suc (suc (suc (suc zero))))))) w z h = absurd w
+int_of_complement (suc (suc (suc (suc (suc (suc (suc (suc zero)))))))) w (pos n) h =
+    sym (int_low (n / 72057594037927936 % 256) (n / 281474976710656 % 256 ∷ n / 1099511627776 % 256 ∷ n / 4294967296 % 256 ∷ n / 16777216 % 256 ∷ n / 65536 % 256 ∷ n / 256 % 256 ∷ n % 256 ∷ []) n (omega (arith, h)) (omega (arith, h)))
+int_of_complement (suc (suc (suc (suc (suc (suc (suc (suc zero)))))))) w (negsuc n) h =
+    let m = 18446744073709551616 - suc n in
+    sym (int_high (m / 72057594037927936 % 256) (m / 281474976710656 % 256 ∷ m / 1099511627776 % 256 ∷ m / 4294967296 % 256 ∷ m / 16777216 % 256 ∷ m / 65536 % 256 ∷ m / 256 % 256 ∷ m % 256 ∷ []) n (omega (arith, h)) (omega (arith, h)))
+int_of_complement (suc (suc (suc (suc (suc (suc (suc (suc (suc k))))))))) w z h = absurd w
 
 -- the signed number that bytes spell
 pub record Spelled (width : ℕ) (bytes : List ℕ) : Type 0 where
@@ -111,7 +133,7 @@ by_sign width b bs len small low high =
           }
     ]
 
-pub spelled : (width : ℕ) → IsWidth width → (bytes : List ℕ) → length bytes ≡ width → AreBytes bytes → Spelled width bytes
+pub spelled : (width : ℕ) → IsNarrow width → (bytes : List ℕ) → length bytes ≡ width → AreBytes bytes → Spelled width bytes
 spelled zero w bytes len h = absurd w
 spelled (suc zero) w [] len h = absurd (omega (arith, len))
 spelled (suc zero) w (a ∷ []) len h = by_sign 1 a [] len (bytes_of_num 1 w (a ∷ []) len h).1 (λ lt. omega (arith, lt, h.0)) (λ le. omega (arith, le, h.0))

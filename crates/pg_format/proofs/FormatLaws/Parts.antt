@@ -11,7 +11,7 @@ use Rattle.pg_base.proofs.CuttingLemmas.{parts_at}
 use Rattle.pg_base.proofs.ReadingLemmas.{one_number, one_signed, one_text, no_text, number_fits, signed_fits}
 use Rattle.pg_format.specs.Format.{Lawful, Canonical, Total, IsRead, IsBroken, AreBytes}
 use Rattle.pg_format.specs.Format.Parts.{offset, Lacks, UnknownLetter, complement, until_nul, unsigned, signed, bytes_of, remaining, one_of, success, fail_before}
-use Rattle.pg_format.proofs.FormatLaws.Numbers.{IsWidth, bytes_wide, num_of_bytes, bytes_of_num, complement_wide, int_of_complement, spelled}
+use Rattle.pg_format.proofs.FormatLaws.Numbers.{IsWidth, IsNarrow, bytes_wide, num_of_bytes, bytes_of_num, complement_wide, int_of_complement, spelled}
 pub use Rattle.pg_format.specs.Lawful.{lawful_remaining}
 
 after : (front rest : List ℕ) → AreBytes (front ++ rest) → AreBytes rest
@@ -97,10 +97,10 @@ lawful_unsigned width w = record {
   one_value = λ bytes x y a b p q. one_number width bytes a b x y p q;
   one_fault = one_lack width;
   never_both = λ len bytes rest a f p q. omega (arith, q.few, number_fits width bytes a rest p);
-  written = λ n rest fits. record { spelled = bytes_high_first width n; wide = bytes_wide width w n; is = num_of_bytes width w n fits; parts = refl };
+  written = λ n rest fits. record { spelled = bytes_high_first width n; wide = bytes_wide width n; is = num_of_bytes width w n fits; parts = refl };
 }
 
-pub canonical_unsigned : (width : ℕ) → IsWidth width → Canonical (unsigned width)
+pub canonical_unsigned : (width : ℕ) → IsNarrow width → Canonical (unsigned width)
 canonical_unsigned width w = record {
   same = λ bytes rest n h p.
       let s = bytes_of_num width w p.spelled p.wide (are_bytes_before bytes p.spelled rest p.parts h) in
@@ -124,10 +124,10 @@ lawful_signed width w = record {
   one_value = λ bytes x y a b p q. one_signed width bytes a b x y p q;
   one_fault = one_lack width;
   never_both = λ len bytes rest a f p q. omega (arith, q.few, signed_fits width bytes a rest p);
-  written = λ z rest fits. record { spelled = complement width z; wide = complement_wide width w z; is = int_of_complement width w z fits; parts = refl };
+  written = λ z rest fits. record { spelled = complement width z; wide = complement_wide width z; is = int_of_complement width w z fits; parts = refl };
 }
 
-pub canonical_signed : (width : ℕ) → IsWidth width → Canonical (signed width)
+pub canonical_signed : (width : ℕ) → IsNarrow width → Canonical (signed width)
 canonical_signed width w = record {
   same = λ bytes rest z h p.
       let front = are_bytes_before bytes p.spelled rest p.parts h in

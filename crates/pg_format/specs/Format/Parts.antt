@@ -61,6 +61,9 @@ be_u16 = unsigned 2
 abbrev pub be_u32 : Format ℕ
 be_u32 = unsigned 4
 
+abbrev pub be_u64 : Format ℕ
+be_u64 = unsigned 8
+
 abbrev pub be_i8 : Format ℤ
 be_i8 = signed 1
 
@@ -69,6 +72,9 @@ be_i16 = signed 2
 
 abbrev pub be_i32 : Format ℤ
 be_i32 = signed 4
+
+abbrev pub be_i64 : Format ℤ
+be_i64 = signed 8
 
 -- Byten: so many bytes as they are. `bytes_of 2` of 7, 8 is 7, 8.
 abbrev pub bytes_of : ℕ → Format (List ℕ)

@@ -1,7 +1,7 @@
 -- Values that stand between two offsets of a body.
-use Rattle.std.specs.Prelude.{◌≡◌, ℕ, ◌+◌, ◌≤◌, List, length, drop, Option, Result, IfOk, IfSome}
+use Rattle.std.specs.Prelude.{◌≡◌, ℕ, ◌+◌, ◌≤◌, List, length, drop, Option, Result, Ok, Err, IfOk, IfSome}
 use Rattle.pg_base.specs.declared.error.ProtocolFault.{ProtocolFault}
-use Rattle.pg_format.specs.Format.{Format}
+use Rattle.pg_format.specs.Format.{Format, Means}
 
 -- a value is read from one offset to another
 pub record IsReadAt {A : Type 0} (g : Format A) (body : List ℕ) (at : ℕ) (a : A) (end : ℕ) : Type 0 where
@@ -33,3 +33,8 @@ ReadsFrom g shown body at result = IfOk result (λ found. g.Reads (drop at body)
 abbrev pub EndsAfterNul : {I : Type 0} → (I → List ℕ) → List ℕ → ℕ → Result (I × ℕ) ProtocolFault → Type 0
 EndsAfterNul shown body at result =
     IfOk result (λ found. (found.1 ≡ at + length (shown found.0) + 1) × (found.1 ≤ length body))
+
+-- what a body has from an offset on means a value; or has a fault
+abbrev pub ReadsAfter : {I A : Type 0} → Format A → (I → A) → List ℕ → ℕ → Result I ProtocolFault → Type 0
+ReadsAfter g shown body at (Ok value) = Means g (drop at body) (shown value)
+ReadsAfter g shown body at (Err fault) = BreaksAt g body at fault

@@ -10,6 +10,9 @@ ghost use Rattle.pg_format.specs.Examples.{IsExample, IsFaultExample, IsServerEx
 ghost use Rattle.pg_format.specs.Examples.{request_for_nothing, request_for_a_password, request_for_md5, request_for_sasl, challenge_of_sasl, end_of_sasl, column_of_a_table, column_of_no_table, copy_of_two_columns, copy_of_no_columns, row_of_three_values, key_of_four_bytes, tag_of_an_insert, three_bytes, error_of_three_fields, notice_of_three_fields, news_of_jobs, two_types, setting_of_the_time_zone, two_unknown_options, key_of_five_bytes, bind_of_three_values, statement_s, portal_p, portal_without_a_name, portal_with_a_limit, call_with_an_argument, statement_with_a_type, text_of_a_query, text_of_a_failure, mechanism_with_data, mechanism_without_data, mechanism_with_a_bad_length, startup_of_ann, startup_and_a_byte, startup_without_a_value, cancel_by_four_bytes, cancel_by_256_bytes, cancel_by_three_bytes, cancel_by_257_bytes, severity_inf};
 ghost use Rattle.pg_format.specs.Format.{Means, IsFaultOf};
 ghost use Rattle.pg_format.specs.Messages.{from_server, from_client, backend_key, function_call_response, negotiate_protocol_version, text, sasl_initial_response, sasl_response, first_message, opening, tls, gssapi};
+ghost use Rattle.pg_format.specs.Examples.{piece_of_a_log, keepalive_that_asks, update_of_three_positions, feedback_of_two_transactions, archive_of_a_tablespace, progress_of_258_bytes, progress_and_a_byte};
+ghost use Rattle.pg_format.specs.Replication.{standby_status_update, hot_standby_feedback, progress, in_copy_data, replication_letter};
+ghost use Rattle.pg_format.specs.declared.replication.ReplicationKind.TheVariants as kinds;
 ghost use Rattle.pg_format.specs.Tables.{ok, cleartext_password, md5_password, sasl, sasl_continue, sasl_final, method_number, idle, transaction, error};
 
 /// The six methods of authentication, by their numbers.
@@ -139,4 +142,26 @@ pub fn examples_of_no_body()
 pub fn examples_of_writing()
     ensures cleartext_written { IsWrittenExample backend.Authentication request_for_a_password }
     ensures md5_written { IsWrittenExample backend.Authentication request_for_md5 }
+{}
+
+/// The messages of replication by their letters: `w`, `k`, `r` and `h` of a log, `n`, `m`, `d` and `p` of a backup; bytes
+/// after one are a fault.
+pub fn examples_of_replication()
+    ensures xlog_data { IsExample (in_copy_data kinds.XLogData).format piece_of_a_log }
+    ensures keepalive { IsExample (in_copy_data kinds.PrimaryKeepalive).format keepalive_that_asks }
+    ensures status_update { IsExample standby_status_update update_of_three_positions }
+    ensures feedback { IsExample hot_standby_feedback feedback_of_two_transactions }
+    ensures new_archive { IsExample (in_copy_data kinds.NewArchive).format archive_of_a_tablespace }
+    ensures manifest { Means (in_copy_data kinds.Manifest).format [] tt }
+    ensures backup_data { IsExample (in_copy_data kinds.BackupData).format three_bytes }
+    ensures progress { IsExample (in_copy_data kinds.Progress).format progress_of_258_bytes }
+    ensures progress_and_more { IsFaultExample progress progress_and_a_byte }
+    ensures xlog_data_is_w { replication_letter kinds.XLogData ≡ 119 }
+    ensures keepalive_is_k { replication_letter kinds.PrimaryKeepalive ≡ 107 }
+    ensures status_update_is_r { replication_letter kinds.StandbyStatusUpdate ≡ 114 }
+    ensures feedback_is_h { replication_letter kinds.HotStandbyFeedback ≡ 104 }
+    ensures new_archive_is_n { replication_letter kinds.NewArchive ≡ 110 }
+    ensures manifest_is_m { replication_letter kinds.Manifest ≡ 109 }
+    ensures backup_data_is_d { replication_letter kinds.BackupData ≡ 100 }
+    ensures progress_is_p { replication_letter kinds.Progress ≡ 112 }
 {}
