@@ -14,12 +14,9 @@ use Rattle.pg_format.specs.Format.Lists.{AreInOrder}
 use Rattle.pg_format.specs.Format.Tests.{only}
 use Rattle.pg_format.specs.Messages as page
 use Rattle.pg_format.specs.Sasl.{first_message_fault, final_message_fault}
-use Rattle.pg_format.proofs.FormatLaws.Parts.{lawful_remaining}
-use Rattle.pg_format.proofs.FormatLaws.Sequences.{lawful_viewed}
-use Rattle.pg_format.proofs.FormatLaws.Tests.{lawful_checked}
 use Rattle.pg_format.proofs.FormatLaws.Whole.{meaning_or_fault}
 use Rattle.pg_receive.specs.Authentication.Mechanisms.{BeginsWithName, AreMechanisms, mechanisms_in}
-use Rattle.pg_receive.specs.Authentication.SaslContinue.{ContinueValue, challenge_in, challenges, ChallengeNeedsNoMemory}
+use Rattle.pg_receive.specs.Authentication.SaslContinue.{ContinueValue, challenge_in, challenges, lawful_challenges, ChallengeNeedsNoMemory}
 use Rattle.pg_receive.specs.Authentication.Shown.{continue_shown, authentication_shown}
 use Rattle.pg_receive.specs.Authentication.SaslFinal.{verifier_in, verifiers, VerifierNeedsNoMemory}
 use Rattle.pg_receive.specs.Authentication.{sasl_continue, sasl_final, value_of, requests, RequestNeedsNoMemory}
@@ -32,7 +29,7 @@ pub challenge_breaks : (bytes : List ℕ) (fault : ProtocolFault) → first_mess
 challenge_breaks bytes fault is = inr (record { value = bytes; rest = []; reads = (refl, refl); is = is })
 
 pub challenge_copied : (bytes : List ℕ) (v : ContinueValue) → Means challenges bytes v → ¬ ChallengeNeedsNoMemory bytes
-challenge_copied bytes v means broken = meaning_or_fault (lawful_viewed challenge_in (lawful_checked first_message_fault lawful_remaining)) bytes v broken.0 means broken.1
+challenge_copied bytes v means broken = meaning_or_fault lawful_challenges bytes v broken.0 means broken.1
 
 pub verifier_means : (bytes v : List ℕ) → final_message_fault bytes ≡ None → v ≡ verifier_in bytes → Means verifiers bytes v
 verifier_means bytes v clean is = (bytes, ((refl, refl), clean), is)

@@ -15,6 +15,8 @@ use Rattle.pg_format.specs.Messages.{notice}
 use Rattle.pg_format.specs.Notices.{Field, severity_letter, localized_letter, message_letter, code_letter, read_part, field_fault}
 use Rattle.pg_receive.specs.declared.message.response.severity.PgSeverity.{PgSeverity}
 use Rattle.pg_receive.specs.declared.message.response.severity.PgSeverity.TheVariants.{Log}
+use Rattle.pg_receive.specs.Response.Fields.{fields_in}
+use Rattle.pg_receive.specs.Response.Places.{Place, bytes_in}
 use Rattle.pg_receive.specs.Response.Severity.{severity_of_word}
 
 -- all fields, and what is read of them
@@ -35,6 +37,15 @@ notice_of fields part = record {
   severity = severity_of part;
   message = last plain [] message_letter part;
   code = last plain [] code_letter part;
+}
+
+-- the fields of a body, a severity, and the message and the code at these places
+abbrev pub notice_in : List ℕ → PgSeverity → Place → Place → NoticeValue
+notice_in body severity message code = record {
+  fields = fields_in body;
+  severity = severity;
+  message = bytes_in body message;
+  code = bytes_in body code;
 }
 
 -- the fields of a body, and what is read of them

@@ -50,6 +50,7 @@ pub fn columns_fit_in_their_body()
 
 /// The mechanisms of some bytes are the one list of which each name begins what the names before it
 /// leave, and after which no name follows. They are at most half as many as the bytes.
+#[tactic(auto, using(crate::proofs::AuthenticationMechanismsLemmas::are_mechanisms, crate::proofs::AuthenticationMechanismsLemmas::one_mechanisms, crate::proofs::AuthenticationMechanismsLemmas::half_mechanisms))]
 pub fn mechanisms_are_in_order()
     ensures are { (bytes : List ℕ) → AreMechanisms bytes (mechanisms_in bytes) }
     ensures only { HoldsOnlyOf AreMechanisms mechanisms_in }
@@ -58,6 +59,7 @@ pub fn mechanisms_are_in_order()
 
 /// The items of SASL data are the one list of pieces without a comma that joined by commas are the
 /// data.
+#[tactic(auto, using(crate::proofs::AuthenticationSaslItemsLemmas::are_items, crate::proofs::AuthenticationSaslItemsLemmas::one_items))]
 pub fn sasl_items_are_between_commas()
     ensures are { (bytes : List ℕ) → AreItems bytes (items_in bytes) }
     ensures only { HoldsOnlyOf AreItems items_in }

@@ -1,12 +1,15 @@
 -- The challenge of a server in a SASL exchange. Documentation: "Message Formats",
 -- AuthenticationSASLContinue (B), and "SCRAM-SHA-256 Authentication".
 use Rattle.std.specs.Prelude.{◌≡◌, ℕ, List, [], ◌∷◌, None, length, unwrap_or}
-use Rattle.pg_format.specs.Format.{Format, IsBroken}
+use Rattle.pg_format.specs.Format.{Format, Lawful, IsBroken}
 use Rattle.pg_format.specs.Format.Parts.{remaining}
 use Rattle.pg_format.specs.Format.Sequences.{viewed}
 use Rattle.pg_format.specs.Format.Tests.{checked}
 use Rattle.pg_format.specs.Keyed.{plain, last}
 use Rattle.pg_format.specs.Sasl.{salt_key, nonce_key, items_in, keyed, first_message_fault, item_fault}
+use Rattle.pg_format.proofs.FormatLaws.Parts.{lawful_remaining}
+use Rattle.pg_format.proofs.FormatLaws.Sequences.{lawful_viewed}
+use Rattle.pg_format.proofs.FormatLaws.Tests.{lawful_checked}
 use Rattle.pg_receive.specs.declared.message.authentication.sasl_continue.Challenge.{Challenge}
 use Rattle.pg_receive.specs.Decimal.{leading_decimal}
 use Rattle.pg_receive.specs.Authentication.SaslItems.{base64_value}
@@ -44,6 +47,9 @@ challenge_in bytes = record {
 -- what the data of an AuthenticationSASLContinue says
 abbrev pub challenges : Format ContinueValue
 challenges = viewed challenge_in (checked first_message_fault remaining)
+
+pub lawful_challenges : Lawful challenges
+lawful_challenges = lawful_viewed challenge_in (lawful_checked first_message_fault lawful_remaining)
 
 -- data with a fault is refused before a part of it is copied
 abbrev pub ChallengeNeedsNoMemory : List ℕ → Type 0

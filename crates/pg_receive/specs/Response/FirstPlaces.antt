@@ -5,7 +5,7 @@ use Rattle.pg_format.specs.Notices.{Field, severity_letter, localized_letter, me
 use Rattle.pg_receive.specs.declared.message.response.letters.FirstPlaces.{FirstPlaces}
 use Rattle.pg_receive.specs.Response.Fields.{fields_in, first_value}
 use Rattle.pg_receive.specs.Response.Letters.{detail_letter, hint_letter, position_letter, internal_position_letter, internal_query_letter, where_letter, schema_letter, table_letter, column_letter, data_type_letter, constraint_letter, file_letter, line_letter, routine_letter}
-use Rattle.pg_receive.specs.Response.Places.{Place, bytes_in}
+use Rattle.pg_receive.specs.Response.Places.{Place, IsPlaceIn, bytes_in}
 
 -- the letters, each in its slot
 abbrev pub known_letters : List ℕ
@@ -30,6 +30,14 @@ pub record IsFirst (body : List ℕ) (left : List Field) (letter start end : ℕ
 abbrev pub AreFirst : List ℕ → List Field → List ℕ → List ℕ → Type 0
 AreFirst body left starts ends =
     (slot : ℕ) → slot < 18 → IsFirst body left (slice_index known_letters slot) (slice_index starts slot) (slice_index ends slot)
+
+-- the same when all fields are read
+abbrev pub AreAllFirst : List ℕ → FirstPlaces → Type 0
+AreAllFirst body firsts = AreFirst body [] firsts.starts firsts.ends
+
+-- where a message and a code are, and the first field of each letter
+abbrev pub ArePlacesIn : List ℕ → Place → Place → FirstPlaces → Type 0
+ArePlacesIn body message code firsts = IsPlaceIn body message × IsPlaceIn body code × AreAllFirst body firsts
 
 -- where the old places are those of first fields while a field at this place is left to read, the new places
 -- are so once that field is read

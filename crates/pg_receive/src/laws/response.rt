@@ -21,6 +21,7 @@ pub use values::{
 
 /// The fields of a body are the one list of which each field begins what the fields before it leave,
 /// and after which no field follows. They are at most half as many as the bytes.
+#[tactic(auto, using(crate::proofs::ResponseFieldsLemmas::are_fields, crate::proofs::ResponseFieldsLemmas::one_fields, crate::proofs::ResponseFieldsLemmas::half_fields))]
 pub fn fields_are_in_order()
     ensures are { (body : List ℕ) → AreFields body (fields_in body) }
     ensures only { HoldsOnlyOf AreFields fields_in }

@@ -104,6 +104,8 @@ impl BackendMessage for DataRow {
 
     ghost NeedsNoMemory = { RowNeedsNoMemory };
 
+    // Inlined, so that neither the body nor the ends are copied on their way.
+    #[inline(always)]
     fn decode_body(alloc: Global, buf: Bytes) -> Result<Self, Error> {
         let ends = ends_of(alloc, buf.as_slice())?;
         Ok(DataRow { storage: buf, ends })

@@ -28,12 +28,13 @@ pub struct Notification {
 }
 
 impl Model for Notification {
-    ghost use Rattle.std.specs.Prelude.{◌+◌, ◌<◌, length, take, drop};
+    ghost use Rattle.std.specs.Prelude.{◌<◌, length};
     ghost use Rattle.pg_format.specs.Messages.{Notification};
+    ghost use Rattle.pg_receive.specs.Notification.{notification_in};
 
     ghost Value = { Notification };
 
-    ghost view = { λ n. record { process_id = n.process_id; channel = take n.channel_len n.texts; payload = drop (n.channel_len + 1) n.texts } };
+    ghost view = { λ n. notification_in n.process_id n.texts n.channel_len };
 
     ghost invariant = { λ n. n.channel_len < length n.texts };
 }

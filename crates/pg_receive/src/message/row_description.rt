@@ -111,7 +111,7 @@ impl OwnFields {
 impl<'a> Keeper<'a, FieldRef<'a>> for OwnFields {
     ghost use Rattle.pg_receive.specs.RowDescription.{AreOwned, HasRoomFor};
 
-    ghost keeps = { λ now body first columns at. AreOwned now.lacks_memory now.fields.items columns };
+    ghost keeps = { λ now _ _ columns _. AreOwned now.lacks_memory now.fields.items columns };
 
     ghost has_room = { λ now more. HasRoomFor now.lacks_memory now.fields more };
 

@@ -39,6 +39,7 @@ impl<'a> Model for Base64Bytes<'a> {
 
 impl<'a> Base64Bytes<'a> {
     /// No bytes.
+    #[tactic(auto, using(crate::proofs::AuthenticationBase64BytesLemmas::none_in_nothing))]
     pub(crate) fn empty() -> Base64Bytes<'a>
         ensures { result ≡ [] }
     {
@@ -72,6 +73,7 @@ impl<'a> Base64Bytes<'a> {
     }
 
     /// Copies them into a room that is as long as they are.
+    #[tactic(auto, using(crate::proofs::AuthenticationBase64BytesLemmas::copied))]
     pub fn copy_to(&self, out: &mut [u8])
         requires { length out.old ≡ length self.now }
         ensures { out.new ≡ self.now }

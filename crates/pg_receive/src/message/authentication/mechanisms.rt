@@ -39,6 +39,7 @@ impl<'a> Iterator for SaslMechanisms<'a> {
 
     ghost remaining = { item_count (λ names. names) };
 
+    #[tactic(auto, using(crate::proofs::AuthenticationMechanismsLemmas::mechanisms_at))]
     fn next(&mut self) -> Option<&'a str> {
         let (name, rest) = split_name(self.rest)?;
         self.rest = rest;
@@ -48,6 +49,7 @@ impl<'a> Iterator for SaslMechanisms<'a> {
 
 /// The name of a mechanism at the front of some bytes, and what follows its NUL. Nothing where the list
 /// ends: at an empty name, one that is not UTF-8, or one without a NUL.
+#[tactic(auto, using(crate::proofs::AuthenticationMechanismsLemmas::no_mechanisms_clean, crate::proofs::AuthenticationMechanismsLemmas::no_mechanisms_text, crate::proofs::AuthenticationMechanismsLemmas::not_a_name, crate::proofs::AuthenticationMechanismsLemmas::empty_is_no_name))]
 pub fn split_name(bytes: &[u8]) -> Option<(&str, &[u8])>
     ensures found { IfSome result (λ name. BeginsWithName bytes.now name.0.now name.1.now) }
     ensures none { IfNone result (mechanisms_in bytes.now ≡ []) }

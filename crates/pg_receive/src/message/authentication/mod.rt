@@ -133,6 +133,7 @@ impl BackendMessage for Authentication {
     ghost lawful = { lawful_viewed value_of lawful_authentication };
 }
 
+#[tactic(auto, using(pg_base::proofs::NumbersLemmas::wide_enough))]
 fn md5_password_of(body: &[u8]) -> Result<AuthenticationMd5Password, ProtocolFault>
     requires { 4 ≤ length body.now }
     ensures salt { IfOk result (λ password. IsReadAt (bytes_of 4) body.now 4 password.salt 8) }

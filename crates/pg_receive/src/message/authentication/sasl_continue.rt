@@ -1,13 +1,10 @@
 //! The challenge of a server in a SASL exchange.
 
 ghost use Rattle.std.specs.Prelude.{◌≡◌, Some, OnOk, IfErr};
-ghost use Rattle.pg_format.specs.Sasl.{item_fault, salt_key, first_message_fault};
-ghost use Rattle.pg_receive.specs.Authentication.SaslContinue.{ContinueValue, challenge_in, challenges, ChallengeNeedsNoMemory, TakesItem};
+ghost use Rattle.pg_format.specs.Sasl.{item_fault, salt_key};
+ghost use Rattle.pg_receive.specs.Authentication.SaslContinue.{ContinueValue, challenges, lawful_challenges, ChallengeNeedsNoMemory, TakesItem};
 ghost use Rattle.pg_format.specs.Format.{Means, IsFaultOf, ReadsAs};
 ghost use Rattle.pg_format.proofs.FormatLaws.Whole.{one_meaning, meaning_or_fault};
-ghost use Rattle.pg_format.proofs.FormatLaws.Parts.{lawful_remaining};
-ghost use Rattle.pg_format.proofs.FormatLaws.Sequences.{lawful_viewed};
-ghost use Rattle.pg_format.proofs.FormatLaws.Tests.{lawful_checked};
 ghost use Rattle.pg_receive.specs.Authentication.Shown.{continue_shown, continue_borrowed};
 ghost use Rattle.pg_format.specs.Received.{DecodesBody};
 
@@ -57,12 +54,13 @@ impl ProtocolDecode for AuthenticationSaslContinue {
         decode_challenge(alloc, buf.as_slice())
     }
 
-    ghost one_value = { one_meaning (lawful_viewed challenge_in (lawful_checked first_message_fault lawful_remaining)) };
+    ghost one_value = { one_meaning lawful_challenges };
 
-    ghost never_both = { meaning_or_fault (lawful_viewed challenge_in (lawful_checked first_message_fault lawful_remaining)) };
+    ghost never_both = { meaning_or_fault lawful_challenges };
 }
 
 /// The challenge that SASL data is.
+#[tactic(auto, using(std::proofs::lemmas::Result::err_from_is_err_and, crate::proofs::AuthenticationLemmas::challenge_copied))]
 pub(crate) fn decode_challenge(
     alloc: Global,
     body: &[u8],

@@ -3,11 +3,7 @@
 ghost use Rattle.std.specs.Prelude.{ℕ, List};
 ghost use Rattle.pg_format.specs.Format.{Means, IsFaultOf, ReadsAs};
 ghost use Rattle.pg_format.proofs.FormatLaws.Whole.{one_meaning, meaning_or_fault};
-ghost use Rattle.pg_format.proofs.FormatLaws.Parts.{lawful_remaining};
-ghost use Rattle.pg_format.proofs.FormatLaws.Sequences.{lawful_viewed};
-ghost use Rattle.pg_format.proofs.FormatLaws.Tests.{lawful_checked};
-ghost use Rattle.pg_format.specs.Sasl.{final_message_fault};
-ghost use Rattle.pg_receive.specs.Authentication.SaslFinal.{verifier_in, verifiers, VerifierNeedsNoMemory};
+ghost use Rattle.pg_receive.specs.Authentication.SaslFinal.{verifiers, lawful_verifiers, VerifierNeedsNoMemory};
 ghost use Rattle.pg_receive.specs.Authentication.Shown.{final_shown};
 ghost use Rattle.pg_format.specs.Received.{DecodesBody};
 
@@ -45,9 +41,9 @@ impl ProtocolDecode for AuthenticationSaslFinal {
         Ok(AuthenticationSaslFinal { verifier })
     }
 
-    ghost one_value = { one_meaning (lawful_viewed verifier_in (lawful_checked final_message_fault lawful_remaining)) };
+    ghost one_value = { one_meaning lawful_verifiers };
 
-    ghost never_both = { meaning_or_fault (lawful_viewed verifier_in (lawful_checked final_message_fault lawful_remaining)) };
+    ghost never_both = { meaning_or_fault lawful_verifiers };
 }
 
 /// The verifier in the server-final-message that SASL data is.

@@ -1,8 +1,8 @@
 //! The ends of the cells of a row, kept in lists.
 
-ghost use Rattle.std.specs.Prelude.{◌+◌, ◌≤◌, map, option_copied, vec_len, vec_capacity};
+ghost use Rattle.std.specs.Prelude.{◌+◌, ◌≤◌, vec_len, vec_capacity};
 ghost use Rattle.smallvec.specs.SmallVec.{HasRoomFor};
-ghost use Rattle.pg_receive.specs.DataRow.CellEnd.{KeepsEnds};
+ghost use Rattle.pg_receive.specs.DataRow.CellEnd.{KeepsCells};
 
 use crate::message::data_row::cell::Cell;
 use crate::message::data_row::cell_end::CellEnd;
@@ -10,7 +10,7 @@ use pg_format::items::Keeper;
 use smallvec::SmallVec;
 
 impl<'a> Keeper<'a, Cell<'a>> for Vec<CellEnd> {
-    ghost keeps = { λ now body first cells at. KeepsEnds body first now.items (map (λ cell. option_copied cell.0) cells) at };
+    ghost keeps = { λ now. KeepsCells now.items };
 
     ghost has_room = { λ now more. vec_len now + more ≤ vec_capacity now };
 
@@ -21,7 +21,7 @@ impl<'a> Keeper<'a, Cell<'a>> for Vec<CellEnd> {
 }
 
 impl<'a> Keeper<'a, Cell<'a>> for SmallVec<CellEnd, 8> {
-    ghost keeps = { λ now body first cells at. KeepsEnds body first now.items (map (λ cell. option_copied cell.0) cells) at };
+    ghost keeps = { λ now. KeepsCells now.items };
 
     ghost has_room = { HasRoomFor };
 

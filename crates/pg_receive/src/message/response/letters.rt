@@ -1,10 +1,10 @@
 //! The letters of fields, and where the first field of each is in a body. Documentation: "Error and
 //! Notice Message Fields".
 
-ghost use Rattle.std.specs.Prelude.{◌≡◌, ◌≤◌, ◌<◌, ℕ, List, [], option_copied, IfSome, IfNone};
+ghost use Rattle.std.specs.Prelude.{◌≡◌, ◌≤◌, ◌<◌, ℕ, List, option_copied, IfSome, IfNone};
 ghost use Rattle.pg_base.specs.Reading.{HoldsNo};
 ghost use Rattle.pg_receive.specs.Response.Fields.{fields_in, first_value};
-ghost use Rattle.pg_receive.specs.Response.FirstPlaces.{AreFirst, IsSlotOf, KeepsField, known_letters};
+ghost use Rattle.pg_receive.specs.Response.FirstPlaces.{AreFirst, AreAllFirst, IsSlotOf, KeepsField, known_letters};
 
 use crate::message::parts::Fields;
 use pg_base::io::MAX_BODY;
@@ -104,7 +104,7 @@ impl FirstPlaces {
     /// The value of the first field of a letter, in the body that these are places of.
     #[inline(always)]
     pub(crate) fn value_in<'a>(&self, body: &'a [u8], wanted: u8) -> Option<&'a [u8]>
-        requires { AreFirst body.now [] self.now.starts self.now.ends }
+        requires { AreAllFirst body.now self.now }
         ensures { option_copied result ≡ first_value wanted (fields_in body.now) }
     {
         let Some(slot) = slot_of(wanted) else {

@@ -4,12 +4,12 @@ pub(crate) mod letters;
 mod read;
 mod severity;
 
-ghost use Rattle.std.specs.Prelude.{◌≡◌, ◌<◌, ◌≤◌, Err, [], length, option_copied};
+ghost use Rattle.std.specs.Prelude.{◌≡◌, ◌<◌, ◌≤◌, Err, length, option_copied};
 ghost use Rattle.pg_base.specs.declared.error.ProtocolFault.TheVariants.{BodyTooLong};
 ghost use Rattle.pg_base.specs.declared.format.BackendMessageFormat.TheVariants as formats;
-ghost use Rattle.pg_receive.specs.Response.FirstPlaces.{AreFirst};
-ghost use Rattle.pg_receive.specs.Response.Fields.{fields_in, first_value, first_text};
-ghost use Rattle.pg_receive.specs.Response.{NoticeValue, notices, severities};
+ghost use Rattle.pg_receive.specs.Response.FirstPlaces.{ArePlacesIn};
+ghost use Rattle.pg_receive.specs.Response.Fields.{first_value, first_text};
+ghost use Rattle.pg_receive.specs.Response.{NoticeValue, notice_in, notices, severities};
 ghost use Rattle.pg_format.specs.Format.{Means, IsFaultOf, ReadsAs};
 ghost use Rattle.pg_format.proofs.FormatLaws.FromServer.{lawful_notice};
 ghost use Rattle.pg_format.proofs.FormatLaws.Sequences.{lawful_viewed};
@@ -43,14 +43,9 @@ pub struct Notice {
 impl Model for Notice {
     ghost Value = { NoticeValue };
 
-    ghost view = { λ notice. record {
-      fields = fields_in notice.storage;
-      severity = notice.severity;
-      message = bytes_in notice.storage notice.message;
-      code = bytes_in notice.storage notice.code;
-    } };
+    ghost view = { λ notice. notice_in notice.storage notice.severity notice.message notice.code };
 
-    ghost invariant = { λ notice. IsPlaceIn notice.storage notice.message × IsPlaceIn notice.storage notice.code × AreFirst notice.storage [] notice.firsts.starts notice.firsts.ends };
+    ghost invariant = { λ it. ArePlacesIn it.storage it.message it.code it.firsts };
 }
 
 impl Notice {

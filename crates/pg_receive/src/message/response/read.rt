@@ -1,8 +1,8 @@
 //! The part of an error or a notice that is read when it is decoded.
 
-ghost use Rattle.std.specs.Prelude.{◌≡◌, ◌≤◌, true, false, [], length, IfOk, OnOk, IfErr};
+ghost use Rattle.std.specs.Prelude.{◌≡◌, ◌≤◌, true, false, length, IfOk, OnOk, IfErr};
 ghost use Rattle.std.specs.Str.{is_utf8};
-ghost use Rattle.pg_receive.specs.Response.FirstPlaces.{AreFirst};
+ghost use Rattle.pg_receive.specs.Response.FirstPlaces.{AreAllFirst};
 ghost use Rattle.std.specs.Option.{option_or, unwrap_or};
 ghost use Rattle.pg_receive.specs.declared.message.response.severity.PgSeverity.TheVariants.{Log};
 ghost use Rattle.pg_base.specs.declared.error.ProtocolFault.TheVariants.{NoticeNotUtf8};
@@ -86,7 +86,7 @@ pub(crate) fn read(body: &[u8]) -> Result<(ReadPart, FirstPlaces), ProtocolFault
     requires { length body.now ≤ MAX_BODY }
     ensures within { IfOk result (λ read. HasPlacesIn body.now read.0) }
     ensures reads { IfOk result (λ read. IsReadOf body.now read.0) }
-    ensures firsts { IfOk result (λ read. AreFirst body.now [] read.1.starts read.1.ends) }
+    ensures firsts { IfOk result (λ read. AreAllFirst body.now read.1) }
     ensures fault { IfErr result (IsFaultOf notices body.now) }
 {
     let mut part = ReadPart {
