@@ -1,5 +1,5 @@
--- What a reader part by part takes for a message, and what the page means by the message.
-use Rattle.std.proofs.Common.{◌≡◌, ◌↔◌, ℕ, ◌^◌, ◌<◌, Bool, true, false, pos, List, [], ◌∷◌, ◌++◌, length, Some, None, refl, sym, ap, ◌∙◌, arith, append_assoc}
+-- What a reader part by part takes for a message, and what the page means by the message: the lemmas of some kinds.
+use Rattle.std.proofs.Common.{◌≡◌, ℕ, ◌^◌, ◌<◌, Bool, true, false, pos, List, [], ◌∷◌, ◌++◌, length, Some, refl, sym, ap, ◌∙◌, arith}
 use Rattle.std.specs.List.{flat_map}
 use Rattle.std.proofs.lemmas.List.{append-nil}
 use Rattle.pg_base.specs.Id.{name, statement_prefix, portal_prefix}
@@ -9,38 +9,30 @@ use Rattle.pg_base.specs.Text.{ended}
 use Rattle.pg_format.specs.Format.{Format, Lawful, Canonical, AreBytes, Means}
 use Rattle.pg_format.specs.Format.Nullable.{value}
 use Rattle.pg_format.specs.Messages as page
-use Rattle.pg_format.proofs.FormatLaws.Parts.{are_bytes_after, canonical_until_nul, canonical_unsigned, canonical_remaining}
+use Rattle.pg_format.proofs.FormatLaws.Parts.{are_bytes_after, canonical_until_nul, canonical_unsigned}
 use Rattle.pg_format.proofs.FormatLaws.Lists.{lawful_times, canonical_times, canonical_counted_least}
 use Rattle.pg_format.proofs.FormatLaws.Nullable.{lawful_value, canonical_value}
-use Rattle.pg_format.proofs.FormatLaws.FromClient as client
-use Rattle.pg_format.proofs.FormatLaws.Kinds.{canonical_client}
 use Rattle.pg_send.specs.Bind.{BindFields, bind_body, IsBindInRange, ReadsBind}
 use Rattle.pg_send.specs.Counted.{counted16}
 use Rattle.pg_send.specs.Execute.{ExecuteFields, execute_value, ReadsExecute}
-use Rattle.pg_send.specs.Message as message
-use Rattle.pg_send.specs.Message.{Message, law_of, kind_of, body, fault, IsInRange, CanRoundTrip, Reads}
-use Rattle.pg_send.specs.Page.{IsWritten, line, MeantByBind, Meant}
+use Rattle.pg_send.specs.Page.{IsWritten, MeantByBind}
 use Rattle.pg_send.specs.Parse.{ParseFields, parse_value, parse_body, IsParseInRange, ReadsParse}
 use Rattle.pg_send.specs.Password.{md5_value, ReadsMd5}
 use Rattle.pg_send.specs.SaslInitialResponse.{SaslInitialFields, mechanism, sasl_initial_value, sasl_initial_body, ReadsMechanism, ReadsSaslInitial}
 use Rattle.pg_send.specs.Target.{Target, Statement, Portal, target_value, ReadsTarget}
 use Rattle.pg_send.proofs.BindLemmas.{read_bind, same_front}
-use Rattle.pg_send.proofs.ExecuteLemmas.{read_execute}
-use Rattle.pg_send.proofs.MessageLemmas.{reads_itself}
 use Rattle.pg_send.proofs.PagePartsLemmas.{text_of_id, counted_read, values_read, values_fit, values_of}
 use Rattle.pg_send.proofs.ParseLemmas.{read_parse}
-use Rattle.pg_send.proofs.PasswordLemmas.{read_md5, hex_is, hex_holds_no_0}
+use Rattle.pg_send.proofs.PasswordLemmas.{hex_is, hex_holds_no_0}
 use Rattle.pg_send.proofs.SaslInitialResponseLemmas.{read_sasl_initial}
-use Rattle.pg_send.proofs.TargetLemmas.{read_target}
-use Rattle.pg_send.proofs.ValuesLemmas.{itself}
 
 -- ---- a Bind
 
 one_written : {A : Type 0} {g : Format A} → Lawful g → (bytes : List ℕ) (v w : A) → IsWritten g bytes v → IsWritten g bytes w → v ≡ w
 one_written lawful bytes v w p q = (lawful.one_value (bytes ++ []) [] [] v w (rw p.is (lawful.written v [] p.fits)) (rw q.is (lawful.written w [] q.fits))).0
 
-one_bind : (b : BindFields) (v w : page.Bind) → MeantByBind b v → MeantByBind b w → v ≡ w
-one_bind b v w p q =
+pub one_meant_bind : (b : BindFields) (v w : page.Bind) → MeantByBind b v → MeantByBind b w → v ≡ w
+one_meant_bind b v w p q =
     let values = one_written (lawful_times lawful_value b.num_params) b.params v.values w.values p.values q.values in
     let portals = p.portal ∙ sym q.portal in
     let statements = p.statement ∙ sym q.statement in
@@ -51,7 +43,7 @@ one_bind b v w p q =
 after_read : {A : Type 0} {g : Format A} → Canonical g → (bytes : List ℕ) (v : A) (rest : List ℕ) → AreBytes bytes → g.Reads bytes v rest → AreBytes rest
 after_read {g = g} cg bytes v rest h p = are_bytes_after bytes (g.Writes v) rest (cg.same bytes rest v h p) h
 
-bind_means : (bytes : List ℕ) (b : BindFields) → AreBytes bytes → ReadsBind bytes b → (v : page.Bind) × MeantByBind b v × Means page.bind bytes v
+pub bind_means : (bytes : List ℕ) (b : BindFields) → AreBytes bytes → ReadsBind bytes b → (v : page.Bind) × MeantByBind b v × Means page.bind bytes v
 bind_means bytes b h p =
     let vs = values_read b.num_params p.after_count p.after_params p.values in
     let portal = text_of_id portal_prefix bytes p.portal_name p.after_portal b.portal p.first p.portal in
@@ -93,31 +85,27 @@ bind_means bytes b h p =
       ),
     )
 
-regroup : (p s c n v d : List ℕ) → p ++ s ++ c ++ n ++ v ++ d ≡ p ++ (s ++ (c ++ ((n ++ v) ++ d)))
-regroup p s c n v d =
-    ap (λ (l : List ℕ). l ++ d) (append_assoc (p ++ s ++ c) n v) ∙ append_assoc (p ++ s ++ c) (n ++ v) d ∙ append_assoc (p ++ s) c ((n ++ v) ++ d) ∙ append_assoc p s (c ++ ((n ++ v) ++ d))
-
 pub bind_written : (b : BindFields) (v : page.Bind) → MeantByBind b v → bind_body b ≡ page.bind.Writes v
 bind_written b v p =
     let count : b.num_params ≡ length v.values = sym p.values.fits.0 in
     λ i. ended (sym p.portal i) ++ (ended (sym p.statement i) ++ (counted16 (sym p.formats i) ++ ((be16 (count i) ++ p.values.is i) ++ counted16 (sym p.result_formats i))))
 
-bind_reads : (b : BindFields) (v : page.Bind) → MeantByBind b v → page.bind.Fits v [] → IsBindInRange b → ReadsBind (bind_body b) b
+pub bind_reads : (b : BindFields) (v : page.Bind) → MeantByBind b v → page.bind.Fits v [] → IsBindInRange b → ReadsBind (bind_body b) b
 bind_reads b v p fits r =
     let few : length b.formats < 2 ^ 16 = omega (arith, fits.0.1.1.0.0.0, ap length p.formats) in
     let few_results : length b.result_formats < 2 ^ 16 = omega (arith, fits.0.1.1.1.1.0.0, ap length p.result_formats) in
     read_bind b r few few_results (values_of b.num_params b.params v.values p.values)
 
--- ---- the others
+-- ---- other kinds
 
-target_means : (bytes : List ℕ) (target : Target) → ReadsTarget bytes target → Means page.targeted bytes (target_value target)
+pub target_means : (bytes : List ℕ) (target : Target) → ReadsTarget bytes target → Means page.targeted bytes (target_value target)
 target_means bytes (Statement id) p = (record { mid = p.after; first = (83, p.begins, refl); second = text_of_id statement_prefix p.after p.name [] id p.text p.is }, refl)
 target_means bytes (Portal id) p = (record { mid = p.after; first = (80, p.begins, refl); second = text_of_id portal_prefix p.after p.name [] id p.text p.is }, refl)
 
-execute_means : (bytes : List ℕ) (e : ExecuteFields) → ReadsExecute bytes e → Means page.execute bytes (execute_value e)
+pub execute_means : (bytes : List ℕ) (e : ExecuteFields) → ReadsExecute bytes e → Means page.execute bytes (execute_value e)
 execute_means bytes e p = (record { mid = p.after_name; first = text_of_id portal_prefix bytes p.name p.after_name e.portal p.first p.portal; second = p.limit }, refl)
 
-parse_means : (bytes : List ℕ) (s : ParseFields) → ReadsParse bytes s → Means page.parse bytes (parse_value s)
+pub parse_means : (bytes : List ℕ) (s : ParseFields) → ReadsParse bytes s → Means page.parse bytes (parse_value s)
 parse_means bytes s p = (
   record {
     mid = p.after_name;
@@ -131,7 +119,7 @@ mechanism_is : (text : List ℕ) (plus : Bool) → ReadsMechanism text plus → 
 mechanism_is text true p = p
 mechanism_is text false p = p
 
-sasl_initial_means : (bytes : List ℕ) (s : SaslInitialFields) → ReadsSaslInitial bytes s → Means page.sasl_initial_response bytes (sasl_initial_value s)
+pub sasl_initial_means : (bytes : List ℕ) (s : SaslInitialFields) → ReadsSaslInitial bytes s → Means page.sasl_initial_response bytes (sasl_initial_value s)
 sasl_initial_means bytes s p = (
   record {
     mid = p.after_name;
@@ -141,7 +129,7 @@ sasl_initial_means bytes s p = (
   refl,
 )
 
-md5_means : (bytes digest : List ℕ) → ReadsMd5 bytes digest → Means page.text bytes (md5_value digest)
+pub md5_means : (bytes digest : List ℕ) → ReadsMd5 bytes digest → Means page.text bytes (md5_value digest)
 md5_means bytes digest p = (
   record {
     clean = ((λ e. omega (arith, e)), ((λ e. omega (arith, e)), ((λ e. omega (arith, e)), rw (hex_is p.digits digest p.spelled) at (hex_holds_no_0 p.digits digest p.spelled))));
@@ -150,91 +138,11 @@ md5_means bytes digest p = (
   refl,
 )
 
-text_reads : (text v : List ℕ) → v ≡ text → page.text.Fits v [] → Text (ended text) text []
+pub text_reads : (text v : List ℕ) → v ≡ text → page.text.Fits v [] → Text (ended text) text []
 text_reads text v p fits = record { clean = rw p at fits.0; parts = refl }
 
-parse_reads : (s : ParseFields) → page.parse.Fits (parse_value s) [] → IsParseInRange s → ReadsParse (parse_body s) s
+pub parse_reads : (s : ParseFields) → page.parse.Fits (parse_value s) [] → IsParseInRange s → ReadsParse (parse_body s) s
 parse_reads s fits r = read_parse s r (fits.0.1.1.0.0) fits.0.1.0
 
-sasl_initial_reads : (s : SaslInitialFields) → page.sasl_initial_response.Fits (sasl_initial_value s) [] → ReadsSaslInitial (sasl_initial_body s) s
+pub sasl_initial_reads : (s : SaslInitialFields) → page.sasl_initial_response.Fits (sasl_initial_value s) [] → ReadsSaslInitial (sasl_initial_body s) s
 sasl_initial_reads s fits = read_sasl_initial s (omega (arith, fits.0.1.0.0))
-
--- ---- a line a message
-
-pub one : (m : Message) (v w : (line m).Value) → Meant m v → Meant m w → v ≡ w
-one (message.Bind b) v w p q = one_bind b v w p q
-one m v w p q = p ∙ sym q
-
-pub means : (m : Message) (bytes : List ℕ) → AreBytes bytes → (law_of m).Reads bytes → (v : (line m).Value) × Meant m v × Means (line m).format bytes v
-means (message.Bind b) bytes h p = bind_means bytes b h p
-means (message.CleartextPassword text) bytes h p = (text, refl, (p, refl))
-means (message.Close target) bytes h p = (target_value target, refl, target_means bytes target p)
-means (message.CopyData sent) bytes h p = (sent, refl, (sym p, refl))
-means message.CopyDone bytes h p = (tt, refl, ((refl, sym p), refl))
-means (message.CopyFail text) bytes h p = (text, refl, (p, refl))
-means (message.Describe target) bytes h p = (target_value target, refl, target_means bytes target p)
-means (message.Execute e) bytes h p = (execute_value e, refl, execute_means bytes e p)
-means message.Flush bytes h p = (tt, refl, ((refl, sym p), refl))
-means (message.FunctionCall f) bytes h p = (f, refl, p)
-means (message.Md5Password digest) bytes h p = (md5_value digest, refl, md5_means bytes digest p)
-means (message.Parse s) bytes h p = (parse_value s, refl, parse_means bytes s p)
-means (message.Query text) bytes h p = (text, refl, (p, refl))
-means (message.RawBind b) bytes h p = (b, refl, p)
-means (message.RawClose target) bytes h p = (target, refl, p)
-means (message.RawDescribe target) bytes h p = (target, refl, p)
-means (message.RawExecute e) bytes h p = (e, refl, p)
-means (message.RawParse s) bytes h p = (s, refl, p)
-means (message.SaslInitial s) bytes h p = (s, refl, p)
-means (message.SaslInitialResponse s) bytes h p = (sasl_initial_value s, refl, sasl_initial_means bytes s p)
-means (message.SaslResponse sent) bytes h p = (sent, refl, (sym p, refl))
-means message.Sync bytes h p = (tt, refl, ((refl, sym p), refl))
-means message.Terminate bytes h p = (tt, refl, ((refl, sym p), refl))
-
-canonical : (m : Message) → Canonical (line m).format
-canonical (message.CleartextPassword text) = client.canonical_text
-canonical (message.Md5Password digest) = client.canonical_text
-canonical (message.SaslInitial s) = client.canonical_sasl_initial_response
-canonical (message.SaslInitialResponse s) = client.canonical_sasl_initial_response
-canonical (message.SaslResponse bytes) = canonical_remaining
-canonical m = canonical_client (law_of m).format
-
--- the body is what is written of what is meant
-is_written : (m : Message) (v : (line m).Value) → Meant m v → body m ≡ (line m).format.Writes v
-is_written (message.Bind b) v p = bind_written b v p
-is_written m v p = ap (line m).format.Writes (sym p)
-
--- and is read where that fits
-reads : (m : Message) (v : (line m).Value) → Meant m v → (line m).format.Fits v [] → IsInRange m → (law_of m).Reads (body m)
-reads (message.Bind b) v p fits r = bind_reads b v p fits r
-reads (message.CleartextPassword text) v p fits r = text_reads text v p fits
-reads (message.Close target) v p fits r = read_target target r
-reads (message.CopyFail text) v p fits r = text_reads text v p fits
-reads (message.Describe target) v p fits r = read_target target r
-reads (message.Execute e) v p fits r = read_execute e r
-reads (message.FunctionCall f) v p fits r = itself client.lawful_function_call f (rw p at fits)
-reads (message.Md5Password digest) v p fits r = read_md5 digest r
-reads (message.Parse s) v p fits r = parse_reads s (rw p at fits) r
-reads (message.Query text) v p fits r = text_reads text v p fits
-reads (message.RawBind b) v p fits r = itself client.lawful_bind b (rw p at fits)
-reads (message.RawClose target) v p fits r = itself client.lawful_targeted target (rw p at fits)
-reads (message.RawDescribe target) v p fits r = itself client.lawful_targeted target (rw p at fits)
-reads (message.RawExecute e) v p fits r = itself client.lawful_execute e (rw p at fits)
-reads (message.RawParse s) v p fits r = itself client.lawful_parse s (rw p at fits)
-reads (message.SaslInitial s) v p fits r = itself client.lawful_sasl_initial_response s (rw p at fits)
-reads (message.SaslInitialResponse s) v p fits r = sasl_initial_reads s (rw p at fits)
-reads m v p fits r = refl
-
-pub written : (m : Message) → fault m ≡ None → IsInRange m → CanRoundTrip m → AreBytes (body m) → (v : (line m).Value) × Meant m v × IsWritten (line m).format (body m) v
-written m f r k h =
-    let p = means m (body m) h (reads_itself m f r k) in
-    let c = canonical m in
-    (p.0, p.1, record { is = c.same (body m) [] p.0 h p.2 ∙ append-nil ((line m).format.Writes p.0); fits = c.fits (body m) [] p.0 h p.2 })
-
-read_back : (m : Message) (bytes : List ℕ) → IsInRange m → AreBytes bytes → (v : (line m).Value) → Meant m v → Means (line m).format bytes v → (law_of m).Reads bytes
-read_back m bytes r h v p q =
-    let c = canonical m in
-    let same : bytes ≡ body m = c.same bytes [] v h q ∙ append-nil ((line m).format.Writes v) ∙ sym (is_written m v p) in
-    rw same (reads m v p (c.fits bytes [] v h q) r)
-
-pub read : (m : Message) (bytes : List ℕ) → IsInRange m → AreBytes bytes → Reads (kind_of m) bytes m ↔ ((v : (line m).Value) × Meant m v × Means (line m).format bytes v)
-read m bytes r h = ((λ p. means m bytes h p.1), (λ p. (refl, read_back m bytes r h p.0 p.1 p.2)))

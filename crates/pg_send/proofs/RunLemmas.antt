@@ -11,15 +11,12 @@ use Rattle.pg_base.specs.Encode.{IsAnswer}
 use Rattle.pg_format.specs.Format.{AreBytes, Means}
 use Rattle.pg_format.proofs.FormatLaws.Parts.{are_bytes_before, are_bytes_after}
 use Rattle.pg_send.specs.FrontendMessage.{EncodesMessage}
-use Rattle.pg_send.specs.Message.{Message, law_of, tag, body, hint, fault, text, IsInRange, CanRoundTrip, RoundTrips}
-use Rattle.pg_send.specs.Page.{line, Meant}
-use Rattle.pg_send.proofs.PageLemmas.{means}
+use Rattle.pg_send.specs.Message.{Message, law_of, line, Meant, tag, body, hint, fault, text, IsInRange, CanRoundTrip, RoundTrips, message_of, messages_of}
 use Rattle.pg_send.specs.Run.{IsAnswerOf, IsStrictAnswer, EachRoundTrips, Answer, added, added_by, accepted, run_room, EncodesOne, EncodesRun, AreAnswers, AllRoundTrip, NoneRanOut, RanOutWhereShort, IsMeantByTag, IsMeantIfItCan, AreFrames, AreReadByTag}
 use Rattle.pg_send.specs.declared.message.tagged.TaggedMessage.{TaggedMessage}
-use Rattle.pg_send.specs.TaggedMessage.{message_of, messages_of}
 use Rattle.pg_base.proofs.TaggedLemmas.{len_fits}
 use Rattle.pg_send.proofs.FrontendMessageLemmas.{accepted_fits}
-use Rattle.pg_send.proofs.MessageLemmas.{hint_covers, round_trips_if_ok}
+use Rattle.pg_send.proofs.MessageLemmas.{hint_covers, means, round_trips_if_ok}
 
 -- memory ran out for a message only where there was less room than its hint and five
 abbrev pub RanOutIfShort : ℕ → ℕ → Message → Answer → Type 0

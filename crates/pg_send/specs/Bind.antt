@@ -12,8 +12,7 @@ use Rattle.pg_base.specs.Reading.{Text, StatementName, PortalName, Number, Count
 use Rattle.pg_send.specs.declared.message.bind.Bind.{Bind}
 use Rattle.pg_send.specs.Counted.{too_many, counted16}
 use Rattle.pg_base.specs.Part.{saturated}
-use Rattle.pg_send.specs.FrontendMessage.{Law}
-use Rattle.pg_send.specs.Kind as kinds
+use Rattle.pg_send.specs.FrontendMessage.{Law, plain}
 
 -- the formats are their codes, and the values of the parameters are as the caller spelled them
 pub record BindFields : Type 0 where
@@ -68,8 +67,8 @@ pub record ReadsBind (body : List ℕ) (b : BindFields) : Type 0 where
 -- parameters that are not as many values as it says aren't read back
 abbrev pub bind_law : BindFields → Law
 bind_law b = record {
-  kind = kinds.Bind;
   format = formats.Bind;
+  form = plain;
   body = bind_body b;
   count_fault = bind_count_fault b;
   room_for = saturated;

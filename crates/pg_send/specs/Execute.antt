@@ -6,8 +6,7 @@ use Rattle.pg_base.specs.Reading.{Text, PortalName, Number}
 use Rattle.pg_format.specs.Messages as page
 use Rattle.pg_send.specs.declared.message.execute.Execute.{Execute}
 use Rattle.pg_base.specs.Part.{saturated}
-use Rattle.pg_send.specs.FrontendMessage.{Law}
-use Rattle.pg_send.specs.Kind as kinds
+use Rattle.pg_send.specs.FrontendMessage.{Law, plain}
 
 pub record ExecuteFields : Type 0 where
   pub portal : ℕ
@@ -36,8 +35,8 @@ pub record ReadsExecute (body : List ℕ) (e : ExecuteFields) : Type 0 where
 
 abbrev pub execute_law : ExecuteFields → Law
 execute_law e = record {
-  kind = kinds.Execute;
   format = formats.Execute;
+  form = plain;
   body = execute_body e;
   count_fault = None;
   room_for = saturated;

@@ -1,6 +1,6 @@
 -- What defines a message to the server, the limits on one, and its frame. Documentation: "Messaging
 -- Overview" and "Message Formats".
-use Rattle.std.specs.Prelude.{◌≡◌, ℕ, ◌+◌, List, length, Option, Some, None, Result, Ok, Err, MatchOption, Vec, IfErr}
+use Rattle.std.specs.Prelude.{◌≡◌, ℕ, ◌+◌, ◌≤◌, List, length, Option, Some, None, Result, Ok, Err, MatchOption, Vec, IfErr}
 use Rattle.std.specs.declared.alloc.Global.{Global}
 use Rattle.pg_base.specs.declared.error.ProtocolFault.{ProtocolFault}
 use Rattle.pg_base.specs.declared.error.Error.{Error}
@@ -12,7 +12,6 @@ use Rattle.pg_base.specs.Format.{frontend_tag}
 use Rattle.pg_base.specs.Part.{PartLaw, saturated}
 use Rattle.pg_base.specs.Tagged as tagged
 use Rattle.pg_base.specs.Tagged.{first_fault}
-use Rattle.pg_send.specs.Kind.{Kind}
 use Rattle.pg_base.specs.declared.error.ProtocolFault.TheVariants.{TextHoldsNul}
 
 -- the length of a body within the limits
@@ -20,13 +19,24 @@ abbrev pub checked_len : Option ProtocolFault → ℕ → Result ℕ Error
 checked_len None len = Ok len
 checked_len (Some fault) len = Err (Protocol None fault)
 
--- all that is said of a message: its kind and the format whose tag opens it; its body; the first limit
+-- how a reader takes a body apart, where the messages of one tag have several forms: one whose names are
+-- texts and not numbers, and each of the passwords and the answers of SASL
+pub data Form : Type 0 where
+  plain : Form
+  raw : Form
+  cleartext : Form
+  md5 : Form
+  sasl_initial : Form
+  any_sasl_initial : Form
+  sasl_response : Form
+
+-- all that is said of a message: the format whose tag opens it, and its form; its body; the first limit
 -- on counts that it breaks; the room that is reserved for a body of so many bytes; that its numbers
 -- are in the ranges of their types; which bytes a reader takes apart into it; what it needs so that
 -- a reader gets it back; and the fault of one that lacks that, of a kind that can lack it
 pub record Law : Type 1 where
-  pub kind : Kind
   pub format : FrontendMessageFormat
+  pub form : Form
   pub body : List ℕ
   pub count_fault : Option ProtocolFault
   pub room_for : ℕ → ℕ
@@ -50,6 +60,10 @@ fault law = first_fault law.count_fault (length law.body)
 -- how much room is reserved for the body
 abbrev pub hint : Law → ℕ
 hint law = law.room_for (length law.body)
+
+-- within the limits that room holds the body
+abbrev pub ReservesEnough : Law → Type 0
+ReservesEnough law = fault law ≡ None → length law.body ≤ hint law
 
 -- the whole message on the stream
 abbrev pub text : Law → List ℕ

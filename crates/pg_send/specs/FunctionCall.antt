@@ -9,8 +9,7 @@ use Rattle.pg_format.specs.Messages as page
 use Rattle.pg_send.specs.declared.message.function_call.FunctionCall.{FunctionCall}
 use Rattle.pg_send.specs.Counted.{too_many}
 use Rattle.pg_base.specs.Part.{saturated}
-use Rattle.pg_send.specs.FrontendMessage.{Law}
-use Rattle.pg_send.specs.Kind as kinds
+use Rattle.pg_send.specs.FrontendMessage.{Law, plain}
 
 -- it may have more formats than it can count, or more arguments
 abbrev pub function_call_count_fault : page.FunctionCall → Option ProtocolFault
@@ -29,8 +28,8 @@ pub record IsFunctionCallInRange (f : page.FunctionCall) : Type 0 where
 -- a reader takes it apart by the page
 abbrev pub function_call_law : page.FunctionCall → Law
 function_call_law f = record {
-  kind = kinds.FunctionCall;
   format = formats.FunctionCall;
+  form = plain;
   body = function_call_body f;
   count_fault = function_call_count_fault f;
   room_for = saturated;

@@ -7,7 +7,6 @@ pub mod Execute
 pub mod FrontendMessage
 pub mod FunctionCall
 pub mod GssEncRequest
-pub mod Kind
 pub mod Message
 pub mod Page
 pub mod Parse
@@ -22,7 +21,6 @@ pub mod SaslInitialResponse
 pub mod Shapes
 pub mod SslRequest
 pub mod Startup
-pub mod TaggedMessage
 pub mod TaggedVisitor
 pub mod Target
 pub mod Untagged

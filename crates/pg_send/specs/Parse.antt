@@ -10,8 +10,7 @@ use Rattle.pg_format.specs.Messages as page
 use Rattle.pg_send.specs.declared.message.parse.Parse.{Parse}
 use Rattle.pg_send.specs.Counted.{too_many}
 use Rattle.pg_base.specs.Part.{saturated}
-use Rattle.pg_send.specs.FrontendMessage.{Law}
-use Rattle.pg_send.specs.Kind as kinds
+use Rattle.pg_send.specs.FrontendMessage.{Law, plain}
 
 pub record ParseFields : Type 0 where
   pub statement : ℕ
@@ -48,8 +47,8 @@ pub record ReadsParse (body : List ℕ) (p : ParseFields) : Type 0 where
 -- a query that holds a NUL isn't read back
 abbrev pub parse_law : ParseFields → Law
 parse_law p = record {
-  kind = kinds.Parse;
   format = formats.Parse;
+  form = plain;
   body = parse_body p;
   count_fault = parse_count_fault p;
   room_for = saturated;

@@ -5,8 +5,7 @@ use Rattle.hex.specs.Hex.{encode_lower}
 use Rattle.pg_base.specs.declared.format.FrontendMessageFormat.TheVariants as formats
 use Rattle.pg_format.specs.Messages as page
 use Rattle.pg_base.specs.Part.{saturated}
-use Rattle.pg_send.specs.FrontendMessage.{Law}
-use Rattle.pg_send.specs.Kind as kinds
+use Rattle.pg_send.specs.FrontendMessage.{Law, cleartext, md5}
 use Rattle.pg_send.specs.Shapes.{text_law}
 pub mod Laws
 
@@ -63,13 +62,13 @@ pub record ReadsMd5 (body digest : List ℕ) : Type 0 where
 
 -- in clear: the room that is reserved doesn't tell the length
 abbrev pub cleartext_law : List ℕ → Law
-cleartext_law text = text_law kinds.CleartextPassword formats.PasswordPolymorphic power_over text
+cleartext_law text = text_law formats.PasswordPolymorphic cleartext power_over text
 
 -- as a digest
 abbrev pub md5_law : List ℕ → Law
 md5_law digest = record {
-  kind = kinds.Md5Password;
   format = formats.PasswordPolymorphic;
+  form = md5;
   body = md5_body digest;
   count_fault = None;
   room_for = saturated;

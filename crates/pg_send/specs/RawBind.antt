@@ -10,8 +10,7 @@ use Rattle.pg_format.specs.Messages as page
 use Rattle.pg_send.specs.declared.message.raw_bind.RawBind.{RawBind}
 use Rattle.pg_send.specs.Counted.{too_many}
 use Rattle.pg_base.specs.Part.{saturated}
-use Rattle.pg_send.specs.FrontendMessage.{Law}
-use Rattle.pg_send.specs.Kind as kinds
+use Rattle.pg_send.specs.FrontendMessage.{Law, raw}
 
 -- it may have more formats than it can count, first of the parameters and then of the results, or more
 -- values
@@ -36,8 +35,8 @@ pub record CanBindRoundTrip (b : page.Bind) : Type 0 where
 -- a reader takes it apart by the page
 abbrev pub raw_bind_law : page.Bind → Law
 raw_bind_law b = record {
-  kind = kinds.RawBind;
   format = formats.Bind;
+  form = raw;
   body = raw_bind_body b;
   count_fault = raw_bind_count_fault b;
   room_for = saturated;

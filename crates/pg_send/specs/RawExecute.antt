@@ -7,8 +7,7 @@ use Rattle.pg_format.specs.Format.{Means}
 use Rattle.pg_format.specs.Messages as page
 use Rattle.pg_send.specs.declared.message.raw_execute.RawExecute.{RawExecute}
 use Rattle.pg_base.specs.Part.{saturated}
-use Rattle.pg_send.specs.FrontendMessage.{Law}
-use Rattle.pg_send.specs.Kind as kinds
+use Rattle.pg_send.specs.FrontendMessage.{Law, raw}
 
 -- the name and a NUL, and the limit
 abbrev pub raw_execute_body : page.Execute → List ℕ
@@ -17,8 +16,8 @@ raw_execute_body e = page.execute.Writes e
 -- a reader takes it apart by the page; a name that holds a NUL isn't read back
 abbrev pub raw_execute_law : page.Execute → Law
 raw_execute_law e = record {
-  kind = kinds.RawExecute;
   format = formats.Execute;
+  form = raw;
   body = raw_execute_body e;
   count_fault = None;
   room_for = saturated;

@@ -9,8 +9,7 @@ use Rattle.pg_format.specs.Messages as page
 use Rattle.pg_send.specs.declared.message.raw_parse.RawParse.{RawParse}
 use Rattle.pg_send.specs.Counted.{too_many}
 use Rattle.pg_base.specs.Part.{saturated}
-use Rattle.pg_send.specs.FrontendMessage.{Law}
-use Rattle.pg_send.specs.Kind as kinds
+use Rattle.pg_send.specs.FrontendMessage.{Law, raw}
 
 -- it may have more types than it can count
 abbrev pub raw_parse_count_fault : page.Parse → Option ProtocolFault
@@ -28,8 +27,8 @@ pub record CanParseRoundTrip (p : page.Parse) : Type 0 where
 -- a reader takes it apart by the page
 abbrev pub raw_parse_law : page.Parse → Law
 raw_parse_law p = record {
-  kind = kinds.RawParse;
   format = formats.Parse;
+  form = raw;
   body = raw_parse_body p;
   count_fault = raw_parse_count_fault p;
   room_for = saturated;

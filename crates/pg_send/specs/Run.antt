@@ -6,9 +6,8 @@ use Rattle.std.specs.declared.alloc.Global.{Global}
 use Rattle.pg_base.specs.Cutting.{IsCutInto}
 use Rattle.pg_base.specs.Encode.{IsAnswer, IsShort}
 use Rattle.pg_send.specs.FrontendMessage as law
-use Rattle.pg_send.specs.Message.{Message, law_of, tag, body, hint, fault, text, CanRoundTrip, RoundTrips, RoundTripsIfItCan}
+use Rattle.pg_send.specs.Message.{Message, law_of, tag, body, hint, fault, text, line, Meant, CanRoundTrip, RoundTrips, RoundTripsIfItCan}
 use Rattle.pg_format.specs.Format.{Means}
-use Rattle.pg_send.specs.Page.{line, Meant}
 
 abbrev pub Answer : Type 0
 Answer = Result (Unit {0}) Error

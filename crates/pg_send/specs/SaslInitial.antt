@@ -8,8 +8,7 @@ use Rattle.pg_format.specs.Format.{Means}
 use Rattle.pg_format.specs.Messages as page
 use Rattle.pg_send.specs.declared.message.sasl_initial.SaslInitial.{SaslInitial}
 use Rattle.pg_base.specs.Part.{saturated}
-use Rattle.pg_send.specs.FrontendMessage.{Law}
-use Rattle.pg_send.specs.Kind as kinds
+use Rattle.pg_send.specs.FrontendMessage.{Law, any_sasl_initial}
 
 -- the mechanism and a NUL, and the response after its length, which is -1 where there is none
 abbrev pub any_sasl_body : page.SaslInitial → List ℕ
@@ -18,8 +17,8 @@ any_sasl_body s = page.sasl_initial_response.Writes s
 -- a reader takes it apart by the page; a name that holds a NUL isn't read back
 abbrev pub any_sasl_law : page.SaslInitial → Law
 any_sasl_law s = record {
-  kind = kinds.SaslInitial;
   format = formats.PasswordPolymorphic;
+  form = any_sasl_initial;
   body = any_sasl_body s;
   count_fault = None;
   room_for = saturated;

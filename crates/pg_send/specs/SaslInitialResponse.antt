@@ -6,8 +6,7 @@ use Rattle.pg_base.specs.Reading.{Text, Signed}
 use Rattle.pg_format.specs.Messages as page
 use Rattle.pg_send.specs.declared.message.sasl.SaslInitialResponse.{SaslInitialResponse}
 use Rattle.pg_base.specs.Part.{saturated}
-use Rattle.pg_send.specs.FrontendMessage.{Law}
-use Rattle.pg_send.specs.Kind as kinds
+use Rattle.pg_send.specs.FrontendMessage.{Law, sasl_initial}
 
 pub record SaslInitialFields : Type 0 where
   pub response : List ℕ
@@ -40,8 +39,8 @@ pub record ReadsSaslInitial (body : List ℕ) (s : SaslInitialFields) : Type 0 w
 
 abbrev pub sasl_initial_law : SaslInitialFields → Law
 sasl_initial_law s = record {
-  kind = kinds.SaslInitialResponse;
   format = formats.PasswordPolymorphic;
+  form = sasl_initial;
   body = sasl_initial_body s;
   count_fault = None;
   room_for = saturated;

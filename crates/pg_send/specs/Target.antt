@@ -1,5 +1,5 @@
 -- What a Describe or a Close names: a prepared statement or a portal.
-use Rattle.std.specs.Prelude.{◌≡◌, ◌≤◌, ℕ, List, [], ◌∷◌, None}
+use Rattle.std.specs.Prelude.{◌≡◌, ◌≤◌, ℕ, Bool, List, [], ◌∷◌, None, if◌then◌else◌}
 use Rattle.pg_base.specs.declared.format.FrontendMessageFormat.{FrontendMessageFormat}
 use Rattle.pg_base.specs.declared.format.FrontendMessageFormat.TheVariants as formats
 use Rattle.pg_base.specs.Id.{name, statement_prefix, portal_prefix, max_id}
@@ -8,9 +8,7 @@ use Rattle.pg_format.specs.Messages as page
 use Rattle.pg_base.specs.Part.{saturated}
 use Rattle.pg_send.specs.declared.message.target.TargetOf.{TargetOf}
 use Rattle.pg_send.specs.declared.message.target.TargetOf.TheVariants as message
-use Rattle.pg_send.specs.FrontendMessage.{Law}
-use Rattle.pg_send.specs.Kind as kinds
-use Rattle.pg_send.specs.Kind.{Kind}
+use Rattle.pg_send.specs.FrontendMessage.{Law, plain}
 
 pub data Target : Type 0 where
   Statement : ℕ → Target
@@ -44,10 +42,10 @@ ReadsTarget body (Statement id) = ReadsName body 83 StatementName id
 ReadsTarget body (Portal id) = ReadsName body 80 PortalName id
 
 -- a message that names a target
-abbrev pub target_law : Kind → FrontendMessageFormat → Target → Law
-target_law kind format target = record {
-  kind = kind;
+abbrev pub target_law : FrontendMessageFormat → Target → Law
+target_law format target = record {
   format = format;
+  form = plain;
   body = target_body target;
   count_fault = None;
   room_for = saturated;
@@ -58,10 +56,13 @@ target_law kind format target = record {
 }
 
 abbrev pub close_law : Target → Law
-close_law target = target_law kinds.Close formats.Close target
+close_law target = target_law formats.Close target
 
 abbrev pub describe_law : Target → Law
-describe_law target = target_law kinds.Describe formats.Describe target
+describe_law target = target_law formats.Describe target
+
+abbrev pub close_or_describe_law : Bool → Target → Law
+close_or_describe_law closes target = target_law (if closes then formats.Close else formats.Describe) target
 
 abbrev pub target_of : {closes : ℕ} → TargetOf closes → Target
 target_of (message.Statement id) = Statement id

@@ -30,13 +30,13 @@ pub struct BindValues {
 }
 
 impl Model for BindValues {
-    ghost use Rattle.std.specs.Prelude.{[], vec_capacity};
+    ghost use Rattle.std.specs.Prelude.{[]};
     ghost use Rattle.pg_base.specs.Reading.{Values};
-    ghost use Rattle.pg_send.specs.BindValues.{HeldValues};
+    ghost use Rattle.pg_send.specs.BindValues.{HeldValues, values_held};
 
     ghost Value = { HeldValues };
 
-    ghost view = { λ held. record { count = held.count; bytes = held.bytes.items; capacity = vec_capacity held.bytes } };
+    ghost view = { λ held. values_held held.count held.bytes };
 
     ghost invariant = { λ held. Values held.count held.bytes.items [] };
 }

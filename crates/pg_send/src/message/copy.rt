@@ -1,7 +1,8 @@
 //! The client's part of a COPY.
 
 ghost use Rattle.std.specs.Prelude.{◌≡◌, string_bytes};
-ghost use Rattle.pg_send.specs.Shapes.{copy_data_law, copy_done_law, copy_fail_law};
+ghost use Rattle.pg_send.specs.Message as message;
+ghost use Rattle.pg_send.specs.Message.{law_of};
 
 use crate::message::FrontendMessage;
 use crate::message::composed::Composed;
@@ -29,7 +30,7 @@ impl CopyFail {
 impl<B: LendBytes> FrontendMessage for CopyData<B> {
     const FORMAT: FrontendMessageFormat = FrontendMessageFormat::CopyData;
 
-    ghost law = { λ copy. copy_data_law (B.bytes copy.0) };
+    ghost law = { λ copy. law_of (message.CopyData (B.bytes copy.0)) };
 
     fn tag(&self) -> u8 {
         FrontendMessageFormat::CopyData as u8
@@ -65,7 +66,7 @@ impl<B: LendBytes> FrontendMessage for CopyData<B> {
 impl FrontendMessage for CopyFail {
     const FORMAT: FrontendMessageFormat = FrontendMessageFormat::CopyFail;
 
-    ghost law = { λ copy. copy_fail_law (string_bytes copy.message) };
+    ghost law = { λ copy. law_of (message.CopyFail (string_bytes copy.message)) };
 
     fn tag(&self) -> u8 {
         Self::FORMAT as u8
@@ -107,7 +108,7 @@ impl<'a> Composed for CopyFailRef<'a> {
 
     const FORMAT: FrontendMessageFormat = FrontendMessageFormat::CopyFail;
 
-    ghost law = { λ fail. copy_fail_law fail.0.now };
+    ghost law = { λ fail. law_of (message.CopyFail fail.0.now) };
 
     ghost use Rattle.std.specs.Prelude.{refl};
 
@@ -134,7 +135,7 @@ impl Composed for CopyDone {
 
     const FORMAT: FrontendMessageFormat = FrontendMessageFormat::CopyDone;
 
-    ghost law = { λ _. copy_done_law };
+    ghost law = { λ _. law_of message.CopyDone };
 
     ghost use Rattle.std.specs.Prelude.{refl};
 

@@ -1,6 +1,7 @@
 //! A request for what the server still holds back.
 
-ghost use Rattle.pg_send.specs.Shapes.{flush_law};
+ghost use Rattle.pg_send.specs.Message as message;
+ghost use Rattle.pg_send.specs.Message.{law_of};
 
 use crate::message::composed::Composed;
 use pg_base::io::part::Nothing;
@@ -15,7 +16,7 @@ impl Composed for Flush {
 
     const FORMAT: FrontendMessageFormat = FrontendMessageFormat::Flush;
 
-    ghost law = { λ _. flush_law };
+    ghost law = { λ _. law_of message.Flush };
 
     ghost use Rattle.std.specs.Prelude.{refl};
 

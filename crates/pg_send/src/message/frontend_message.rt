@@ -7,7 +7,7 @@ ghost use Rattle.pg_base.specs.declared.error.ProtocolFault.{ProtocolFault};
 ghost use Rattle.pg_base.specs.Sink.{IsGiven, HasRoom};
 ghost use Rattle.pg_base.specs.Cutting.{max_length};
 ghost use Rattle.pg_base.specs.Part.{saturated};
-ghost use Rattle.pg_send.specs.FrontendMessage.{Law, CannotRoundTrip, tag, fault, hint, text, checked_len, EncodesMessage, IsShortFor, room_asked};
+ghost use Rattle.pg_send.specs.FrontendMessage.{Law, CannotRoundTrip, tag, fault, hint, text, checked_len, EncodesMessage, IsShortFor, ReservesEnough, room_asked};
 ghost use Rattle.pg_base.specs.Encode.{IsShort};
 
 use pg_base::io::part::Part;
@@ -61,7 +61,7 @@ pub trait FrontendMessage: Sized + Drop {
         ensures range { (law self.now).IsInRange };
 
     /// Within the limits the room that is reserved holds the body.
-    ghost enough: { (message : Self) → fault (law message) ≡ None → length (law message).body ≤ hint (law message) };
+    ghost enough: { (message : Self) → ReservesEnough (law message) };
 
     /// How much room to reserve for the body, in bytes. Within the limits it is at least the
     /// length of the body; sums saturate.

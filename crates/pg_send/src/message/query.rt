@@ -1,6 +1,7 @@
 //! A simple query.
 
-ghost use Rattle.pg_send.specs.Shapes.{query_law};
+ghost use Rattle.pg_send.specs.Message as message;
+ghost use Rattle.pg_send.specs.Message.{law_of};
 
 use crate::message::composed::Composed;
 use crate::message::round_trip::check_text;
@@ -16,7 +17,7 @@ impl<'a> Composed for Query<'a> {
 
     const FORMAT: FrontendMessageFormat = FrontendMessageFormat::Query;
 
-    ghost law = { λ query. query_law query.0.now };
+    ghost law = { λ query. law_of (message.Query query.0.now) };
 
     ghost use Rattle.std.specs.Prelude.{refl};
 

@@ -1,7 +1,6 @@
 //! A prepared statement or a portal of any name that is described or closed.
 
-ghost use Rattle.std.specs.Prelude.{if◌then◌else◌};
-ghost use Rattle.pg_send.specs.RawTarget.{raw_target_law, raw_target_of};
+ghost use Rattle.pg_send.specs.RawTarget.{raw_close_or_describe_law, raw_target_of};
 
 use crate::message::composed::Composed;
 use crate::message::round_trip::check_ended;
@@ -26,8 +25,6 @@ pub type RawDescribe<'a> = RawTargetOf<'a, false>;
 
 impl<'a, const CLOSES: bool> Composed for RawTargetOf<'a, CLOSES> {
     ghost use Rattle.std.specs.Prelude.{refl};
-    ghost use Rattle.pg_base.specs.declared.format.FrontendMessageFormat.TheVariants as formats;
-    ghost use Rattle.pg_send.specs.Kind as kinds;
 
     type Body = Then<Byte, Ended<&'a [u8]>>;
 
@@ -37,7 +34,7 @@ impl<'a, const CLOSES: bool> Composed for RawTargetOf<'a, CLOSES> {
         FrontendMessageFormat::Describe
     };
 
-    ghost law = { λ it. raw_target_law (if CLOSES then kinds.RawClose else kinds.RawDescribe) (if CLOSES then formats.Close else formats.Describe) (raw_target_of it) };
+    ghost law = { λ it. raw_close_or_describe_law CLOSES (raw_target_of it) };
 
     ghost snug = { λ _. refl };
 

@@ -3,8 +3,8 @@
 ghost use Rattle.std.specs.Prelude.{◌≡◌, ◌<◌, ◌≤◌, [], ◌∷◌, length, replicate, Ok, OnErr, IfOk, IsOkUnless, vec_capacity};
 ghost use Rattle.std.specs.Bool.{OnTrue, OnFalse};
 ghost use Rattle.pg_base.specs.declared.error.Error.TheVariants.{OutOfMemory};
+ghost use Rattle.pg_send.specs.Message.{message_of, messages_of};
 ghost use Rattle.pg_send.specs.Run.{IsLimitAnswer, IsStrictAnswer, IsAnswerOf, EachRoundTrips, NoneRanOut, EncodesOne, IsMeantByTag, IsMeantIfItCan, OnAnswers, GivesRun, GivesRead, AddsOne, AddsRun, IsShortByRule};
-ghost use Rattle.pg_send.specs.TaggedMessage.{message_of, messages_of};
 
 use crate::message::TaggedMessage;
 use pg_base::Error;

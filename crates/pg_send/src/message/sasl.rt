@@ -1,8 +1,9 @@
 //! The client's part of authentication by SASL.
 
 ghost use Rattle.std.specs.Prelude.{◌≡◌};
+ghost use Rattle.pg_send.specs.Message as message;
+ghost use Rattle.pg_send.specs.Message.{law_of};
 ghost use Rattle.pg_send.specs.SaslInitialResponse.{mechanism, sasl_initial_law, sasl_initial_fields};
-ghost use Rattle.pg_send.specs.Shapes.{sasl_response_law};
 
 use crate::message::composed::Composed;
 use pg_base::io::Ended;
@@ -70,7 +71,7 @@ impl<'a> Composed for SaslResponse<'a> {
 
     const FORMAT: FrontendMessageFormat = FrontendMessageFormat::PasswordPolymorphic;
 
-    ghost law = { λ sasl. sasl_response_law sasl.0.now };
+    ghost law = { λ sasl. law_of (message.SaslResponse sasl.0.now) };
 
     ghost use Rattle.std.specs.Prelude.{refl};
 

@@ -1,6 +1,7 @@
 //! The end of an extended query.
 
-ghost use Rattle.pg_send.specs.Shapes.{sync_law};
+ghost use Rattle.pg_send.specs.Message as message;
+ghost use Rattle.pg_send.specs.Message.{law_of};
 
 use crate::message::composed::Composed;
 use pg_base::io::part::Nothing;
@@ -16,7 +17,7 @@ impl Composed for Sync {
 
     const FORMAT: FrontendMessageFormat = FrontendMessageFormat::Sync;
 
-    ghost law = { λ _. sync_law };
+    ghost law = { λ _. law_of message.Sync };
 
     ghost use Rattle.std.specs.Prelude.{refl};
 

@@ -3,9 +3,8 @@
 ghost use Rattle.std.specs.Prelude.{◌≡◌, ◌+◌, ◌<◌, ◌≤◌, ◌++◌, None, Ok, OnOk, IfErr};
 ghost use Rattle.std.specs.Bool.{OnTrue, OnFalse};
 ghost use Rattle.pg_send.specs.FrontendMessage.{CannotRoundTrip, EncodesMessage, IsShortFor, IsShortIfItCan, Adds, room_asked};
-ghost use Rattle.pg_send.specs.Message.{FitsInto, law_of, fault, text, IsInRange, CanRoundTrip, RoundTripsIfItCan};
+ghost use Rattle.pg_send.specs.Message.{message_of, FitsInto, law_of, fault, text, IsInRange, CanRoundTrip, RoundTripsIfItCan};
 ghost use Rattle.pg_send.specs.Run.{IsMeantIfItCan, OneIsRead};
-ghost use Rattle.pg_send.specs.TaggedMessage.{message_of};
 
 use crate::message::tagged_visitor::{
     CheckRoundTrip, EncodeFrame, FrameRoom, PutFrame, PutIfFits, PutIfReadBack, TaggedVisitor,

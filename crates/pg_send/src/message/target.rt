@@ -1,7 +1,6 @@
 //! What a prepared statement or a portal takes and gives, and one that is closed.
 
-ghost use Rattle.std.specs.Prelude.{if◌then◌else◌};
-ghost use Rattle.pg_send.specs.Target.{target_law, target_of};
+ghost use Rattle.pg_send.specs.Target.{close_or_describe_law, target_of};
 
 use crate::message::composed::Composed;
 use pg_base::io::part::{Byte, Either, Then};
@@ -31,8 +30,6 @@ pub type Describe = TargetOf<false>;
 
 impl<const CLOSES: bool> Composed for TargetOf<CLOSES> {
     ghost use Rattle.std.specs.Prelude.{refl};
-    ghost use Rattle.pg_base.specs.declared.format.FrontendMessageFormat.TheVariants as formats;
-    ghost use Rattle.pg_send.specs.Kind as kinds;
 
     type Body = Then<Byte, Either<Ended<StatementId>, Ended<PortalId>>>;
 
@@ -42,7 +39,7 @@ impl<const CLOSES: bool> Composed for TargetOf<CLOSES> {
         FrontendMessageFormat::Describe
     };
 
-    ghost law = { λ it. target_law (if CLOSES then kinds.Close else kinds.Describe) (if CLOSES then formats.Close else formats.Describe) (target_of it) };
+    ghost law = { λ it. close_or_describe_law CLOSES (target_of it) };
 
     ghost snug = { λ _. refl };
 

@@ -1,6 +1,7 @@
 //! The end of a session.
 
-ghost use Rattle.pg_send.specs.Shapes.{terminate_law};
+ghost use Rattle.pg_send.specs.Message as message;
+ghost use Rattle.pg_send.specs.Message.{law_of};
 
 use crate::message::composed::Composed;
 use pg_base::io::part::Nothing;
@@ -15,7 +16,7 @@ impl Composed for Terminate {
 
     const FORMAT: FrontendMessageFormat = FrontendMessageFormat::Terminate;
 
-    ghost law = { λ _. terminate_law };
+    ghost law = { λ _. law_of message.Terminate };
 
     ghost use Rattle.std.specs.Prelude.{refl};
 

@@ -1,4 +1,4 @@
-use Rattle.pg_send.proofs.PageLemmas.{one, written, read}
+use Rattle.pg_send.proofs.MessageLemmas.{one, written, read}
 use Rattle.pg_send.proofs.laws.messages_are_of_the_page.Goals as goal
 
 pub returns-clause-one : goal.returns-clause-one

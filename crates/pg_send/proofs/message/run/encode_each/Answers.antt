@@ -3,7 +3,7 @@ use Rattle.std.proofs.lemmas.Bool.{OnTrue_at, OnFalse_at}
 use Rattle.std.proofs.lemmas.Grind.{take-set_at}
 use Rattle.std.proofs.lemmas.List.{take_all, length-set, set-get_or, get_or-set_other}
 use Rattle.pg_send.specs.Run.{Answer, IsAnswerOf, EncodesOne}
-use Rattle.pg_send.specs.TaggedMessage.{message_of, messages_of}
+use Rattle.pg_send.specs.Message.{message_of, messages_of}
 use Rattle.pg_send.proofs.RunLemmas.{AnswersOne, answers_fit, ran_at, run_ran}
 use Rattle.pg_send.proofs.message.run.encode_each.Goals as goal
 use Rattle.pg_send.proofs.message.run.encode_each.Goals.{then-not-put_by_rule, else-not-put_by_rule}

@@ -1,5 +1,5 @@
 use Rattle.std.proofs.Common.{◌≡◌, ℕ, ◌≤◌, ◌<◌, length, take, slice_index_or, Ok, vec_len, vec_capacity}
-use Rattle.pg_send.specs.TaggedMessage.{messages_of}
+use Rattle.pg_send.specs.Message.{messages_of}
 use Rattle.pg_send.specs.Run.{IsAnswerOf}
 use Rattle.pg_send.proofs.RunLemmas.{answers_fit, Ran}
 use Rattle.pg_send.proofs.message.run.encode_each.Given as goal

@@ -1,5 +1,5 @@
 use Rattle.std.proofs.Common.{◌≡◌, length, drop, arith}
-use Rattle.pg_send.specs.TaggedMessage.{messages_of}
+use Rattle.pg_send.specs.Message.{messages_of}
 use Rattle.pg_send.proofs.RunLemmas.{each_round_trips, written_back, run_by_tag, strict_by_tag}
 use Rattle.pg_send.proofs.message.run.encode_strict.Goals as goal
 

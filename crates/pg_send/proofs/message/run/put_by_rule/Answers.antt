@@ -1,6 +1,6 @@
 use Rattle.std.proofs.Common.{sym, ◌∙◌, true≢false, rules}
 use Rattle.std.proofs.lemmas.Bool.{OnTrue_at, OnTrue_from}
-use Rattle.pg_send.specs.TaggedMessage.{message_of}
+use Rattle.pg_send.specs.Message.{message_of}
 use Rattle.pg_send.proofs.RunLemmas.{put_one}
 use Rattle.pg_send.proofs.message.run.put_by_rule.Goals as goal
 

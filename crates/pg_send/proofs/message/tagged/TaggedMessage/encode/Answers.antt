@@ -1,5 +1,5 @@
 use Rattle.std.proofs.Common.{arith}
-use Rattle.pg_send.specs.TaggedMessage.{message_of}
+use Rattle.pg_send.specs.Message.{message_of}
 use Rattle.pg_send.proofs.MessageLemmas.{round_trips_if_ok}
 use Rattle.pg_send.proofs.RunLemmas.{message_by_tag}
 use Rattle.pg_send.proofs.message.tagged.TaggedMessage.encode.Goals as goal
