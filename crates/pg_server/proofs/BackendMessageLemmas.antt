@@ -1,5 +1,5 @@
 -- What a message without a fault says is read back from its body.
-use Rattle.std.proofs.Common.{◌≡◌, ℕ, ◌+◌, ◌^◌, ◌<◌, ◌≤◌, [], ◌∷◌, ◌++◌, length, None, Ok, refl, arith, length-append}
+use Rattle.std.proofs.Common.{◌≡◌, ℕ, ◌+◌, ◌^◌, ◌<◌, ◌≤◌, [], ◌∷◌, ◌++◌, length, None, Ok, Bool, true, false, refl, arith, length-append}
 use Rattle.std.specs.List.{flat_map, list_any}
 use Rattle.std.proofs.lemmas.List.{append-nil}
 use Rattle.pg_base.specs.Cutting.{max_length}
@@ -10,12 +10,16 @@ use Rattle.pg_format.specs.Format.{Lawful, Means}
 use Rattle.pg_format.specs.Format.Nullable.{cell}
 use Rattle.pg_format.specs.Format.Parts.{until_nul}
 use Rattle.pg_format.specs.Messages as page
+use Rattle.pg_format.specs.Replication.{is_set, bit, in_copy_data}
+use Rattle.pg_format.specs.declared.replication.ReplicationKind.{ReplicationKind}
+use Rattle.pg_format.specs.declared.replication.ReplicationKind.TheVariants as contents
+use Rattle.pg_format.proofs.FormatLaws.Replication.{lawful_replication}
 use Rattle.pg_format.proofs.FormatLaws.FromServer as server
 use Rattle.pg_format.proofs.FormatLaws.Parts.{lawful_remaining}
 use Rattle.pg_server.specs.Backend.BackendText.{part_of, body, fault}
 use Rattle.pg_server.specs.Backend.Item.{too_many, max_unsigned, max_signed, nul_fault, holds_nul, breaks_names}
 use Rattle.pg_server.specs.Backend.Message as message
-use Rattle.pg_server.specs.Backend.Message.{Message, law_of, IsReadable, IsRead}
+use Rattle.pg_server.specs.Backend.Message.{Message, law_of, IsReadable, IsRead, replication_fault, IsReplicationInRange}
 use Rattle.pg_server.specs.Backend.Notice.{breaks_fields}
 use Rattle.pg_server.proofs.BackendFitsLemmas.{numbers_fit, codes_fit, cell_fits, cells_fit, texts_fit, few_names, names_fit, fields_fit, columns_fit}
 use Rattle.pg_base.proofs.TaggedLemmas.{len_fits, no_part_fault, no_fault}
@@ -43,6 +47,22 @@ fits_request (page.sasl names) e r h =
     (((omega arith, ((names_fit names (0 ∷ []) free h, refl), refl)), refl), refl)
 fits_request (page.sasl_continue content) e r h = (((omega arith, ((refl, h), refl)), refl), refl)
 fits_request (page.sasl_final content) e r h = (((omega arith, ((refl, h), refl)), refl), refl)
+
+bit_fits : (set : Bool) → (bit set < 256) × (is_set (bit set) ≡ set)
+bit_fits true = (omega arith, refl)
+bit_fits false = (omega arith, refl)
+
+fits_replication : (kind : ReplicationKind) (value : (in_copy_data kind).Value) → replication_fault kind value ≡ None → IsReplicationInRange kind value → (in_copy_data kind).format.Fits value []
+fits_replication contents.XLogData x e r = ((r.0, (r.1, (r.2, refl))), refl)
+fits_replication contents.PrimaryKeepalive k e r = ((r.0, (r.1, bit_fits k.wants_reply)), refl)
+fits_replication contents.StandbyStatusUpdate u e r = ((r.0, (r.1, (r.2, (r.3, bit_fits u.wants_reply)))), refl)
+fits_replication contents.HotStandbyFeedback f e r = ((r.0, (r.1, (r.2, (r.3, r.4)))), refl)
+fits_replication contents.NewArchive a e r =
+    let free = both_clean (holds_nul a.name) (holds_nul a.location) e in
+    ((clean a.name free.0, clean a.location free.1), refl)
+fits_replication contents.Manifest v e r = (refl, refl)
+fits_replication contents.BackupData bytes e r = (refl, refl)
+fits_replication contents.Progress n e r = (r, refl)
 
 fits : (m : Message) → fault (law_of m) ≡ None → (law_of m).IsInRange → IsReadable m → (law_of m).line.Fits (law_of m).value []
 fits (message.Authentication request) e r h = fits_request request e r h
@@ -75,6 +95,7 @@ fits (message.ParameterStatus s) e r h =
     (((clean s.name free.0, h.name), (clean s.value free.1, h.value)), refl)
 fits (message.Raw tag bytes) e r h = refl
 fits (message.ReadyForQuery ready) e r h = (tt, refl)
+fits (message.Replication kind value) e r h = (tt, fits_replication kind value (parts (message.Replication kind value) e) r)
 fits (message.RowDescription columns) e r h =
     let holds = list_any (λ (column : page.Column). holds_nul column.name) columns in
     let both = neither (too_many max_unsigned (length columns)) (nul_fault holds) (parts (message.RowDescription columns) e) in
@@ -97,6 +118,7 @@ lawful (message.ParameterDescription types) = server.lawful_parameter_descriptio
 lawful (message.ParameterStatus s) = server.lawful_parameter_status
 lawful (message.Raw tag bytes) = lawful_remaining
 lawful (message.ReadyForQuery ready) = server.lawful_ready_for_query
+lawful (message.Replication kind value) = lawful_replication kind
 lawful (message.RowDescription columns) = server.lawful_row_description
 
 -- what fits is read back, and nothing else is

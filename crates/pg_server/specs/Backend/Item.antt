@@ -1,5 +1,5 @@
 -- Lists in a body, and what is wrong with them.
-use Rattle.std.specs.Prelude.{ℕ, ◌==◌, ◌||◌, Bool, true, false, List, [], ◌∷◌, All, Option, Some, None, nat_le, if◌then◌else◌}
+use Rattle.std.specs.Prelude.{ℕ, ◌==◌, ◌||◌, Bool, true, false, List, [], ◌∷◌, length, map, All, Option, Some, None, nat_le, if◌then◌else◌}
 use Rattle.std.specs.List.{flat_map, list_any}
 use Rattle.pg_base.specs.Numbers.{be16}
 use Rattle.pg_base.specs.Part.{PartLaw}
@@ -8,6 +8,7 @@ use Rattle.pg_base.specs.Text.{ended}
 use Rattle.pg_base.specs.declared.error.ProtocolFault.{ProtocolFault}
 use Rattle.pg_base.specs.declared.error.ProtocolFault.TheVariants.{TooMany, TextHoldsNul}
 use Rattle.pg_format.specs.Format.{Format}
+use Rattle.pg_format.specs.Messages.{key_fault}
 
 -- the most that an unsigned count of two bytes can say, and a signed one
 abbrev pub max_unsigned : ℕ
@@ -39,11 +40,23 @@ is_empty (byte ∷ bytes) = false
 abbrev pub breaks_names : List ℕ → Bool
 breaks_names name = is_empty name || holds_nul name
 
+-- what items say, of what a caller has in their places
+abbrev pub said : {T I V : Type 0} → (T → I) → (I → V) → List T → List V
+said item value had = map (λ x. value (item x)) had
+
 -- ---- parts
 
 -- a text and the NUL that ends it, which holds no other
 abbrev pub text_part : List ℕ → PartLaw
 text_part text = record { text = ended text; fault = text_fault text; IsInRange = Unit {0} }
+
+-- the same of a text that isn't empty
+abbrev pub name_part : List ℕ → PartLaw
+name_part name = record { text = ended name; fault = nul_fault (breaks_names name); IsInRange = Unit {0} }
+
+-- a key of a length that can be sent
+abbrev pub key_part : List ℕ → PartLaw
+key_part key = record { text = key; fault = key_fault (length key); IsInRange = Unit {0} }
 
 -- an item, which may be broken
 abbrev pub item_part : {V : Type 0} → Format V → (V → Bool) → (V → Type 0) → V → PartLaw

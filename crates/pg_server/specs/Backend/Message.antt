@@ -10,7 +10,11 @@ use Rattle.pg_base.specs.declared.format.BackendMessageFormat.{BackendMessageFor
 use Rattle.pg_base.specs.declared.format.BackendMessageFormat.TheVariants as formats
 use Rattle.pg_format.specs.Format.{Format, Means}
 use Rattle.pg_format.specs.Format.Parts.{remaining}
+use Rattle.pg_format.specs.Format.Parts.{FitsSigned}
 use Rattle.pg_format.specs.Messages as page
+use Rattle.pg_format.specs.Replication.{in_copy_data, replication}
+use Rattle.pg_format.specs.declared.replication.ReplicationKind.{ReplicationKind}
+use Rattle.pg_format.specs.declared.replication.ReplicationKind.TheVariants as contents
 use Rattle.pg_format.specs.Notices.{Field, notice_fault}
 use Rattle.pg_format.specs.Sasl.{first_message_fault, final_message_fault}
 use Rattle.pg_server.specs.Backend.Authentication.{names_fault, IsSalted}
@@ -44,7 +48,41 @@ pub data Message : Type 0 where
   ParameterStatus : page.Setting → Message
   Raw : ℕ → List ℕ → Message
   ReadyForQuery : ReadyForQueryText → Message
+  Replication : (kind : ReplicationKind) → (in_copy_data kind).Value → Message
   RowDescription : List page.Column → Message
+
+-- the process that serves a session, and its secret key
+abbrev pub key_data_of : ℕ → List ℕ → Message
+key_data_of process_id key = BackendKeyData (record { process_id = process_id; secret_key = key })
+
+-- a minor version of version 3, and the names of options
+abbrev pub negotiation_of : ℕ → List (List ℕ) → Message
+negotiation_of minor options = NegotiateProtocolVersion (record { major = 3; minor = minor; options = options })
+
+abbrev pub notification_of : ℕ → List ℕ → List ℕ → Message
+notification_of process_id channel payload = Notification (record { process_id = process_id; channel = channel; payload = payload })
+
+-- a setting and its value
+abbrev pub parameter_status_of : List ℕ → List ℕ → Message
+parameter_status_of name value = ParameterStatus (record { name = name; value = value })
+
+-- a request for SASL by one of these mechanisms
+abbrev pub sasl_offer_of : List (List ℕ) → Message
+sasl_offer_of mechanisms = Authentication (page.sasl mechanisms)
+
+-- ---- in the data of a CopyData
+
+abbrev pub replication_fault : (kind : ReplicationKind) → (in_copy_data kind).Value → Option ProtocolFault
+replication_fault contents.NewArchive archive = option_or (text_fault archive.name) (text_fault archive.location)
+replication_fault other value = None
+
+abbrev pub IsReplicationInRange : (kind : ReplicationKind) → (in_copy_data kind).Value → Type 0
+IsReplicationInRange contents.XLogData x = (x.start < 2 ^ 64) × (x.end < 2 ^ 64) × FitsSigned 8 x.clock
+IsReplicationInRange contents.PrimaryKeepalive k = (k.end < 2 ^ 64) × FitsSigned 8 k.clock
+IsReplicationInRange contents.StandbyStatusUpdate u = (u.written < 2 ^ 64) × (u.flushed < 2 ^ 64) × (u.applied < 2 ^ 64) × FitsSigned 8 u.clock
+IsReplicationInRange contents.HotStandbyFeedback f = FitsSigned 8 f.clock × (f.xmin < 2 ^ 32) × (f.xmin_epoch < 2 ^ 32) × (f.catalog_xmin < 2 ^ 32) × (f.catalog_xmin_epoch < 2 ^ 32)
+IsReplicationInRange contents.Progress processed = processed < 2 ^ 64
+IsReplicationInRange other value = Unit {0}
 
 -- a message by its tag, the line of the page that writes it, what it says, the first fault of its parts, and
 -- that its numbers are in their ranges
@@ -72,6 +110,7 @@ law_of (ParameterDescription types) = of_kind formats.ParameterDescription page.
 law_of (ParameterStatus setting) = of_kind formats.ParameterStatus page.parameter_status setting (option_or (text_fault setting.name) (text_fault setting.value)) (Unit {0})
 law_of (Raw tag body) = by_line tag remaining body None (Unit {0})
 law_of (ReadyForQuery ready) = of_kind formats.ReadyForQuery page.ready_for_query (status_of ready) None (Unit {0})
+law_of (Replication kind value) = of_kind formats.CopyData (replication kind) value (replication_fault kind value) (IsReplicationInRange kind value)
 law_of (RowDescription columns) =
     of_kind formats.RowDescription page.row_description columns
     (option_or (too_many max_unsigned (length columns)) (nul_fault (list_any (λ (column : page.Column). holds_nul column.name) columns)))

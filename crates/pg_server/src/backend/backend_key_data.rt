@@ -1,7 +1,6 @@
 //! What a cancel request has to name.
 
-ghost use Rattle.pg_format.specs.Messages.{key_fault};
-ghost use Rattle.pg_server.specs.Backend.Message as messages;
+ghost use Rattle.pg_server.specs.Backend.Message.{key_data_of};
 
 use crate::backend::BackendText;
 use pg_base::ProtocolFault;
@@ -27,10 +26,7 @@ pub struct BackendKeyDataText<'a> {
 impl<'a> BackendText for BackendKeyDataText<'a> {
     type Body = Then<Number32, Key<'a>>;
 
-    ghost message = { λ key. messages.BackendKeyData (record {
-      process_id = key.process_id;
-      secret_key = key.secret_key.now;
-    }) };
+    ghost message = { λ key. key_data_of key.process_id key.secret_key.now };
 
     fn tag(&self) -> u8 {
         b'K'
@@ -47,13 +43,9 @@ impl<'a> BackendText for BackendKeyDataText<'a> {
 pub struct Key<'a>(pub &'a [u8]);
 
 impl Part for Key<'_> {
-    ghost use Rattle.std.specs.Prelude.{length};
+    ghost use Rattle.pg_server.specs.Backend.Item.{key_part};
 
-    ghost part = { λ it. record {
-      text = it.0.now;
-      fault = key_fault (length it.0.now);
-      IsInRange = Unit {0};
-    } };
+    ghost part = { λ it. key_part it.0.now };
 
     #[inline(always)]
     fn len(&self) -> usize {

@@ -75,6 +75,7 @@ pub fn encode<M: BackendText>(message: &M, buf: &mut Vec<u8>) -> Result<(), Erro
 /// Writes tag, length and body of a message at the front of `out` where it is that long, and gives the
 /// length of them all: a greater one than `out` has says that nothing was written. A fault leaves
 /// `out` as it was.
+#[tactic(auto, using(crate::proofs::BackendMessageLemmas::own_message, crate::proofs::BackendMessageLemmas::accepted))]
 pub fn write<M: BackendText>(message: &M, out: &mut [u8]) -> Result<usize, ProtocolFault>
     ensures written { IsWritten (law_of (M.message message.now)) out.old out.new result }
     ensures read { IfOk result (λ len. len ≤ length out.old → IsRead (M.message message.now)) }

@@ -40,8 +40,7 @@ pub struct CopyResponseText<'a> {
 impl<'a> BackendText for CopyResponseText<'a> {
     type Body = Then<Byte, Then<ColumnCount, Items<'a, i16, i16>>>;
 
-    ghost message = { λ response. messages.CopyResponse response.direction response.format
-        response.format_codes.now };
+    ghost message = { λ it. messages.CopyResponse it.direction it.format it.format_codes.now };
 
     fn tag(&self) -> u8 {
         self.direction as u8
@@ -97,6 +96,7 @@ impl Item for i16 {
     ghost IsInRange = { λ number. FitsSigned 2 number };
 
     #[inline(always)]
+    #[tactic(auto, using(crate::proofs::BackendNumbersLemmas::complement_16, crate::proofs::BackendNumbersLemmas::fits_16))]
     fn parts(&self) -> Number16 {
         Number16(self.cast_unsigned())
     }

@@ -1,6 +1,7 @@
 //! A row of values.
 
-ghost use Rattle.std.specs.Prelude.{map, false, option_copied};
+ghost use Rattle.std.specs.Prelude.{false, option_copied};
+ghost use Rattle.pg_server.specs.Backend.Item.{said};
 ghost use Rattle.pg_server.specs.Backend.Message as messages;
 
 use crate::backend::BackendText;
@@ -19,8 +20,7 @@ pub struct DataRowText<'a, V = Option<&'a [u8]>> {
 impl<'a, V: AsItem<Option<&'a [u8]>>> BackendText for DataRowText<'a, V> {
     type Body = Counted<'a, Option<&'a [u8]>, V>;
 
-    ghost message = { λ row. messages.DataRow
-        (map (λ value. option_copied (V.item value)) row.values.now) };
+    ghost message = { λ row. messages.DataRow (said V.item option_copied row.values.now) };
 
     fn tag(&self) -> u8 {
         b'D'

@@ -1,6 +1,6 @@
 //! Lists in a body, one item after the other.
 
-ghost use Rattle.std.specs.Prelude.{◌≡◌, Bool, map};
+ghost use Rattle.std.specs.Prelude.{◌≡◌, Bool};
 ghost use Rattle.pg_format.specs.Format.{Format};
 ghost use Rattle.pg_server.specs.Backend.Item.{IsItemPart, too_many, max_unsigned, nul_fault};
 
@@ -60,10 +60,9 @@ impl<I: Item> AsItem<I> for I {
 pub struct Items<'a, I, T>(pub PhantomData<I>, pub &'a [T]);
 
 impl<I: Item, T: AsItem<I>> Part for Items<'_, I, T> {
-    ghost use Rattle.pg_server.specs.Backend.Item.{items_part};
+    ghost use Rattle.pg_server.specs.Backend.Item.{items_part, said};
 
-    ghost part = { λ it. items_part I.format I.is_broken I.IsInRange
-        (map (λ x. I.value (T.item x)) it.1.now) };
+    ghost part = { λ x. items_part I.format I.is_broken I.IsInRange (said T.item I.value x.1.now) };
 
     fn len(&self) -> usize {
         let mut len: usize = 0;

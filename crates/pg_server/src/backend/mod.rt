@@ -21,7 +21,7 @@ mod raw;
 mod ready_for_query;
 mod row_description;
 mod sasl;
-mod text;
+pub(crate) mod text;
 
 pub use authentication::AuthenticationText;
 pub use backend_key_data::BackendKeyDataText;

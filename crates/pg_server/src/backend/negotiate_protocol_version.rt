@@ -1,7 +1,7 @@
 //! What of the protocol the server doesn't speak.
 
-ghost use Rattle.std.specs.Prelude.{map};
-ghost use Rattle.pg_server.specs.Backend.Message as messages;
+ghost use Rattle.pg_server.specs.Backend.Item.{said};
+ghost use Rattle.pg_server.specs.Backend.Message.{negotiation_of};
 
 use crate::backend::BackendText;
 use crate::backend::item::{AsItem, Items};
@@ -26,11 +26,7 @@ pub struct NegotiateProtocolVersionText<'a, N = &'a [u8]> {
 impl<'a, N: AsItem<&'a [u8]>> BackendText for NegotiateProtocolVersionText<'a, N> {
     type Body = Then<Then<Number16, Number16>, Options<'a, N>>;
 
-    ghost message = { λ version. messages.NegotiateProtocolVersion (record {
-      major = 3;
-      minor = version.minor;
-      options = map (λ name. (N.item name).now) version.options.now;
-    }) };
+    ghost message = { λ it. negotiation_of it.minor (said N.item (λ n. n.now) it.options.now) };
 
     fn tag(&self) -> u8 {
         b'v'
@@ -51,7 +47,7 @@ pub struct Options<'a, N>(pub Items<'a, &'a [u8], N>);
 impl<'a, N: AsItem<&'a [u8]>> Part for Options<'a, N> {
     ghost use Rattle.pg_server.specs.Backend.NegotiateProtocolVersion.{options_part};
 
-    ghost part = { λ it. options_part (map (λ name. (N.item name).now) it.0.1.now) };
+    ghost part = { λ it. options_part (said N.item (λ n. n.now) it.0.1.now) };
 
     #[inline(always)]
     fn len(&self) -> usize {

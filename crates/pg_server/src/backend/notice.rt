@@ -1,6 +1,6 @@
 //! Errors and notices.
 
-ghost use Rattle.std.specs.Prelude.{map};
+ghost use Rattle.pg_server.specs.Backend.Item.{said};
 ghost use Rattle.pg_server.specs.Backend.Message as messages;
 ghost use Rattle.pg_server.specs.Backend.Notice.{field_of};
 
@@ -44,8 +44,7 @@ pub struct NoticeText<'a, F = NoticeFieldText<'a>> {
 impl<'a, F: AsItem<NoticeFieldText<'a>>> BackendText for NoticeText<'a, F> {
     type Body = ThenFirst<Items<'a, NoticeFieldText<'a>, F>, Byte>;
 
-    ghost message = { λ notice. messages.Notice notice.kind
-        (map (λ field. field_of (F.item field)) notice.fields.now) };
+    ghost message = { λ it. messages.Notice it.kind (said F.item field_of it.fields.now) };
 
     fn tag(&self) -> u8 {
         self.kind as u8

@@ -1,6 +1,6 @@
 //! A notification of a channel.
 
-ghost use Rattle.pg_server.specs.Backend.Message as messages;
+ghost use Rattle.pg_server.specs.Backend.Message.{notification_of};
 
 use crate::backend::BackendText;
 use crate::backend::text::NulEnded;
@@ -21,11 +21,7 @@ pub struct NotificationText<'a> {
 impl<'a> BackendText for NotificationText<'a> {
     type Body = Then<Number32, Then<NulEnded<'a>, NulEnded<'a>>>;
 
-    ghost message = { λ notification. messages.Notification (record {
-      process_id = notification.process_id;
-      channel = notification.channel.now;
-      payload = notification.payload.now;
-    }) };
+    ghost message = { λ it. notification_of it.process_id it.channel.now it.payload.now };
 
     fn tag(&self) -> u8 {
         b'A'

@@ -1,6 +1,7 @@
 //! The types of the parameters of a statement.
 
-ghost use Rattle.std.specs.Prelude.{false, map};
+ghost use Rattle.std.specs.Prelude.{false};
+ghost use Rattle.pg_server.specs.Backend.Item.{said};
 ghost use Rattle.pg_server.specs.Backend.Message as messages;
 
 use crate::backend::BackendText;
@@ -19,8 +20,7 @@ pub struct ParameterDescriptionText<'a, T = Oid> {
 impl<'a, T: AsItem<Oid>> BackendText for ParameterDescriptionText<'a, T> {
     type Body = Counted<'a, Oid, T>;
 
-    ghost message = { λ description. messages.ParameterDescription
-        (map (λ number. (T.item number).0) description.types.now) };
+    ghost message = { λ it. messages.ParameterDescription (said T.item (λ n. n.0) it.types.now) };
 
     fn tag(&self) -> u8 {
         b't'

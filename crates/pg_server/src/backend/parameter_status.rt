@@ -1,6 +1,6 @@
 //! A setting of the session.
 
-ghost use Rattle.pg_server.specs.Backend.Message as messages;
+ghost use Rattle.pg_server.specs.Backend.Message.{parameter_status_of};
 
 use crate::backend::BackendText;
 use crate::backend::text::NulEnded;
@@ -19,10 +19,7 @@ pub struct ParameterStatusText<'a> {
 impl<'a> BackendText for ParameterStatusText<'a> {
     type Body = Then<NulEnded<'a>, NulEnded<'a>>;
 
-    ghost message = { λ status. messages.ParameterStatus (record {
-      name = status.name.now;
-      value = status.value.now;
-    }) };
+    ghost message = { λ status. parameter_status_of status.name.now status.value.now };
 
     fn tag(&self) -> u8 {
         b'S'

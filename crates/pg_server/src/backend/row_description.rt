@@ -1,6 +1,6 @@
 //! The columns of a result.
 
-ghost use Rattle.std.specs.Prelude.{map};
+ghost use Rattle.pg_server.specs.Backend.Item.{said};
 ghost use Rattle.pg_server.specs.Backend.Message as messages;
 ghost use Rattle.pg_server.specs.Backend.RowDescription.{column_of};
 
@@ -40,8 +40,7 @@ pub struct RowDescriptionText<'a, C = ColumnText<'a>> {
 impl<'a, C: AsItem<ColumnText<'a>>> BackendText for RowDescriptionText<'a, C> {
     type Body = Counted<'a, ColumnText<'a>, C>;
 
-    ghost message = { λ description. messages.RowDescription
-        (map (λ column. column_of (C.item column)) description.columns.now) };
+    ghost message = { λ it. messages.RowDescription (said C.item column_of it.columns.now) };
 
     fn tag(&self) -> u8 {
         b'T'

@@ -1,8 +1,7 @@
 //! The mechanisms by which a client may say who it is.
 
-ghost use Rattle.std.specs.Prelude.{map};
-ghost use Rattle.pg_format.specs.Messages.{sasl};
-ghost use Rattle.pg_server.specs.Backend.Message as messages;
+ghost use Rattle.pg_server.specs.Backend.Item.{said};
+ghost use Rattle.pg_server.specs.Backend.Message.{sasl_offer_of};
 
 use crate::backend::BackendText;
 use crate::backend::item::{AsItem, Item, Items, nul_fault};
@@ -31,8 +30,7 @@ pub type Mechanisms<'a, N> = ThenFirst<Items<'a, Mechanism<'a>, N>, Byte>;
 impl<'a, N: AsItem<Mechanism<'a>>> BackendText for SaslText<'a, N> {
     type Body = Then<Number32, Mechanisms<'a, N>>;
 
-    ghost message = { λ request. messages.Authentication
-        (sasl (map (λ name. (N.item name).0.now) request.mechanisms.now)) };
+    ghost message = { λ it. sasl_offer_of (said N.item (λ n. n.0.now) it.mechanisms.now) };
 
     fn tag(&self) -> u8 {
         b'R'
@@ -85,14 +83,9 @@ impl<'a> Item for Mechanism<'a> {
 }
 
 impl Part for Mechanism<'_> {
-    ghost use Rattle.pg_base.specs.Text.{ended};
-    ghost use Rattle.pg_server.specs.Backend.Item.{breaks_names, nul_fault};
+    ghost use Rattle.pg_server.specs.Backend.Item.{name_part};
 
-    ghost part = { λ it. record {
-      text = ended it.0.now;
-      fault = nul_fault (breaks_names it.0.now);
-      IsInRange = Unit {0};
-    } };
+    ghost part = { λ it. name_part it.0.now };
 
     #[inline(always)]
     fn len(&self) -> usize {

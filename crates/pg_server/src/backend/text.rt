@@ -7,6 +7,8 @@ use crate::backend::item::{Item, nul_fault};
 use pg_base::ProtocolFault;
 use pg_base::io::part::Part;
 use pg_base::io::{Ended, Sink};
+use pg_format::items;
+use pg_format::text::text_at;
 
 /// A text and the NUL that ends it. One that holds a NUL is refused with `TextHoldsNul`.
 #[derive(Clone, Copy)]
@@ -28,6 +30,23 @@ impl Part for NulEnded<'_> {
     #[inline(always)]
     fn put<S: Sink>(&self, sink: &mut S) {
         sink.put_text(self.0);
+    }
+}
+
+impl<'a> items::Item<'a> for NulEnded<'a> {
+    ghost use Rattle.std.specs.Prelude.{ℕ, List};
+    ghost use Rattle.pg_format.specs.Format.Parts.{until_nul};
+
+    ghost Shown = { List ℕ };
+
+    ghost shown = { λ it. it.0.now };
+
+    ghost format = { until_nul };
+
+    #[inline(always)]
+    fn item_at(body: &'a [u8], at: usize) -> Result<(NulEnded<'a>, usize), ProtocolFault> {
+        let (text, end) = text_at(body, at)?;
+        Ok((NulEnded(text), end))
     }
 }
 

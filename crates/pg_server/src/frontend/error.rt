@@ -3,7 +3,10 @@
 ghost use Rattle.std.specs.Prelude.{Some};
 ghost use Rattle.pg_server.specs.Frontend.Error.{fault_words};
 
-use std::fmt;
+use pg_base::ProtocolFault::{
+    BadLength, MissingNul, Short, UnknownCode, UnknownMessageType, ValueLength,
+};
+use std::fmt::{self, Display};
 
 /// Why a message from a client is refused. Offsets and lengths are in bytes; an offset counts from the start of
 /// the body.
@@ -53,28 +56,26 @@ pub enum FrontendFault {
     },
 }
 
-impl fmt::Display for FrontendFault {
+impl Display for FrontendFault {
     ghost output = { λ fault. Some (fault_words fault) };
 
     fn fmt<W: fmt::Write>(&self, f: &mut fmt::Formatter<W>) -> fmt::Result {
         match *self {
-            FrontendFault::UnknownTag(tag) => write!(f, "unknown message type: {tag}"),
-            FrontendFault::UnknownCode(code) => write!(f, "unknown code: {code}"),
+            FrontendFault::UnknownTag(tag) => Display::fmt(&UnknownMessageType(tag), f),
+            FrontendFault::UnknownCode(code) => Display::fmt(&UnknownCode(code), f),
             FrontendFault::UnknownTarget(letter) => {
                 write!(f, "neither a statement nor a portal: {letter}")
             }
-            FrontendFault::Short { at, needed, got } => {
-                write!(f, "expected {needed} bytes at offset {at}, got {got}")
-            }
-            FrontendFault::MissingNul { at } => write!(f, "expected NUL after offset {at}"),
+            FrontendFault::Short { at, needed, got } => Display::fmt(&Short { at, needed, got }, f),
+            FrontendFault::MissingNul { at } => Display::fmt(&MissingNul { at }, f),
             FrontendFault::ValueLength { at, length } => {
-                write!(f, "bad value length at offset {at}: {length}")
+                Display::fmt(&ValueLength { at, length }, f)
             }
             FrontendFault::KeyLength(length) => write!(f, "bad secret key length: {length}"),
             FrontendFault::TrailingBytes { at } => {
                 write!(f, "expected the end of the message at offset {at}")
             }
-            FrontendFault::BadLength(length) => write!(f, "bad message length: {length}"),
+            FrontendFault::BadLength(length) => Display::fmt(&BadLength(length), f),
             FrontendFault::FirstTooLong { length, limit } => {
                 write!(
                     f,

@@ -8,6 +8,7 @@ use crate::frontend::Target;
 use crate::frontend::error::FrontendFault;
 
 /// Faults are equal where they are the same, and so are targets.
+#[tactic(auto, using(crate::proofs::FrontendErrorLemmas::same_faults))]
 pub fn values_are_equal_where_they_are_the_same()
     ensures faults { IsEqualByValue ⟦<FrontendFault as PartialEq>⟧.eq }
     ensures targets { IsEqualByValue ⟦<Target as PartialEq>⟧.eq }

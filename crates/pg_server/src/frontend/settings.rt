@@ -32,7 +32,7 @@ impl<'a> Model for Settings<'a> {
 impl<'a> Iterator for Settings<'a> {
     type Item = (&'a [u8], &'a [u8]);
 
-    ghost next_gives = { YieldsFirstBy (λ setting. (setting.0.now, setting.1.now)) (λ settings. settings) };
+    ghost next_gives = { YieldsFirstBy (λ it. (it.0.now, it.1.now)) (λ settings. settings) };
 
     ghost remaining = { item_count (λ settings. settings) };
 
