@@ -14,7 +14,7 @@ use Rattle.pg_frames.specs.declared.frontend.message.ClientMessage.{ClientMessag
 use Rattle.pg_frames.specs.declared.frontend.message.ClientMessageKind.{ClientMessageKind}
 use Rattle.pg_frames.specs.declared.frontend.message.ClientMessageKind.TheVariants as kinds
 use Rattle.pg_frames.specs.Frontend.Frame.{StandsFirst, BeginsWith, Whole, WantsMore, IsStreamFault}
-use Rattle.pg_frames.specs.Frontend.Reader.{Reading, Takes, IsReaderError, header}
+use Rattle.pg_frames.specs.Frontend.Reader.{Reading, Takes, IsReaderError, awaiting, header}
 use Rattle.pg_frames.proofs.FrontendFrameLemmas.{first_fits, begins_wants_none, fault_not_begins, whole_wants_none, fault_not_whole, fault_wants_none, one_fault}
 
 -- what stands before the body, the body and the rest are all the bytes
@@ -49,12 +49,9 @@ taken_with limit expects.Tagged bytes kinds.First body rest next end contents le
 taken_with limit expects.Tagged bytes (kinds.Tagged format) body rest next end contents left p is c l =
     (rw (c, l) (taken bytes (frontend_tag format) body rest end p.0 is), p.1)
 
-abbrev pub reading : ℕ → Expects → List ℕ → Reading
-reading limit state bytes = record { limit = limit; expects = state; bytes = bytes }
-
 -- a reader that was this and then is what is left has taken that message
 pub takes : (old new : Reading) (limit : ℕ) (state : Expects) (stream bytes : List ℕ) (kind : ClientMessageKind) (body rest : List ℕ) (next : Expects) (end : ℕ) (contents left : List ℕ)
-    → old ≡ reading limit state bytes → new ≡ reading limit next left → stream ≡ bytes → BeginsWith limit state stream kind body rest next → end ≡ length stream - length rest → contents ≡ drop (header kind) (take end bytes) → left ≡ drop end bytes → Takes old (record { kind = kind; contents = contents }) new
+    → old ≡ awaiting limit state bytes → new ≡ awaiting limit next left → stream ≡ bytes → BeginsWith limit state stream kind body rest next → end ≡ length stream - length rest → contents ≡ drop (header kind) (take end bytes) → left ≡ drop end bytes → Takes old (record { kind = kind; contents = contents }) new
 takes old new limit state stream bytes kind body rest next end contents left o n s p is c l =
     let begins = taken_with limit state bytes kind body rest next end contents left (rw s at p) (rw s at is) c l in
     rw (o, n) (record { begins = begins; limit = refl })

@@ -3,7 +3,7 @@ use Rattle.std.proofs.Common.{◌≡◌, ◌⊎◌, ℤ, ◌+◌, ◌<◌, ◌�
 use Rattle.pg_frames.specs.declared.frontend.frame.Expects.{Expects}
 use Rattle.pg_frames.specs.declared.frontend.frame.Expects.TheVariants as expects
 use Rattle.pg_frames.specs.Relay.Head.{HasHead, HasLowLength, IsFrame, IsNext, head_length}
-use Rattle.pg_frames.specs.Relay.{Relaying, IsUnfinished, IsTaken, IsForParts, IsForWhole, IsFault, IsHeadFault, IsRelayError, Takes, bytes_of}
+use Rattle.pg_frames.specs.Relay.{Relaying, IsUnfinished, IsTaken, IsForParts, IsForWhole, IsFault, IsHeadFault, IsRelayError, Takes, bytes_of, holding, relay_at}
 use Rattle.pg_frames.specs.declared.relay.error.RelayError.{RelayError}
 use Rattle.pg_frames.specs.declared.relay.error.RelayError.TheVariants.{BadLength, TooLong, NotFrames, OutOfMemory}
 use Rattle.pg_frames.specs.declared.relay.event.Event.TheVariants.{Frame, Part, Held}
@@ -73,14 +73,14 @@ unfinished_has_no_fault limit state held NotFrames u f = f
 unfinished_has_no_fault limit state held OutOfMemory u f = f
 
 -- a fault of bytes is an error at them
-pub fault_is_error : (wants : ℕ → ℕ → Bool) (limit : ℕ) (state : Expects) (held bytes all : List ℕ) (error : RelayError) → all ≡ held ++ bytes → IsFault wants limit state all error → IsRelayError wants (record { limit = limit; expects = state; held = held; left = 0 }) bytes error
+pub fault_is_error : (wants : ℕ → ℕ → Bool) (limit : ℕ) (state : Expects) (held bytes all : List ℕ) (error : RelayError) → all ≡ held ++ bytes → IsFault wants limit state all error → IsRelayError wants (holding limit state held) bytes error
 fault_is_error wants limit state held bytes all (BadLength announced) e f = (refl, rw (← e) f)
 fault_is_error wants limit state held bytes all (TooLong count most) e f = (refl, rw (← e) f)
 fault_is_error wants limit state held bytes all NotFrames e f = f
 fault_is_error wants limit state held bytes all OutOfMemory e f = absurd f
 
 -- an error at the front of a piece is one at the piece
-pub error_longer : (wants : ℕ → ℕ → Bool) (limit : ℕ) (state : Expects) (held : List ℕ) (left : ℕ) (piece bytes rest : List ℕ) (error : RelayError) → 0 < length held → left ≡ 0 → piece ≡ bytes ++ rest → IsRelayError wants (record { limit = limit; expects = state; held = held; left = 0 }) bytes error → IsRelayError wants (record { limit = limit; expects = state; held = held; left = left }) piece error
+pub error_longer : (wants : ℕ → ℕ → Bool) (limit : ℕ) (state : Expects) (held : List ℕ) (left : ℕ) (piece bytes rest : List ℕ) (error : RelayError) → 0 < length held → left ≡ 0 → piece ≡ bytes ++ rest → IsRelayError wants (holding limit state held) bytes error → IsRelayError wants (relay_at limit state held left) piece error
 error_longer wants limit state held left piece bytes rest (BadLength announced) some between e f =
     let all : held ++ piece ≡ (held ++ bytes) ++ rest = rw e (sym (append_assoc held bytes rest)) in
     (between, rw all (low_stays state (held ++ bytes) rest announced f.1))
@@ -91,7 +91,7 @@ error_longer wants limit state held left piece bytes rest NotFrames some between
 error_longer wants limit state held left piece bytes rest OutOfMemory some between e f = record { between = between; some = omega (arith, f.some, ap length e, length-append bytes rest); holds = inl some }
 
 -- a step over a piece where nothing is held: the front of a frame that goes out in parts
-pub takes_parts : (wants : ℕ → ℕ → Bool) (limit : ℕ) (state : Expects) (held : List ℕ) (l : ℕ) (piece : List ℕ) (b : FrameBytes) (rest : List ℕ) (count left : ℕ) → held ≡ [] → l ≡ 0 → IsForParts wants state piece count → piece ≡ bytes_of b ++ rest → length (bytes_of b) ≡ min count (length piece) → length (bytes_of b) + left ≡ count → Takes wants (record { limit = limit; expects = state; held = held; left = l }) piece (Part b left) rest (record { limit = limit; expects = state; held = held; left = left })
+pub takes_parts : (wants : ℕ → ℕ → Bool) (limit : ℕ) (state : Expects) (held : List ℕ) (l : ℕ) (piece : List ℕ) (b : FrameBytes) (rest : List ℕ) (count left : ℕ) → held ≡ [] → l ≡ 0 → IsForParts wants state piece count → piece ≡ bytes_of b ++ rest → length (bytes_of b) ≡ min count (length piece) → length (bytes_of b) + left ≡ count → Takes wants (relay_at limit state held l) piece (Part b left) rest (relay_at limit state held left)
 takes_parts wants limit state held l piece b rest count left nothing between p e counts lefts =
     let bytes = bytes_of b in
     let fits = head_fits state piece p.tag count p.head in
@@ -106,7 +106,7 @@ takes_parts wants limit state held l piece b rest count left nothing between p e
     }
 
 -- a whole frame
-pub takes_frame : (wants : ℕ → ℕ → Bool) (limit : ℕ) (state : Expects) (held : List ℕ) (l : ℕ) (piece : List ℕ) (b : FrameBytes) (rest : List ℕ) (tag : Option ℕ) (count : ℕ) (next : Expects) → held ≡ [] → l ≡ 0 → IsForWhole wants limit state piece tag count → piece ≡ bytes_of b ++ rest → length (bytes_of b) ≡ count → IsNext state (bytes_of b) next → Takes wants (record { limit = limit; expects = state; held = held; left = l }) piece (Frame tag b) rest (record { limit = limit; expects = next; held = held; left = l })
+pub takes_frame : (wants : ℕ → ℕ → Bool) (limit : ℕ) (state : Expects) (held : List ℕ) (l : ℕ) (piece : List ℕ) (b : FrameBytes) (rest : List ℕ) (tag : Option ℕ) (count : ℕ) (next : Expects) → held ≡ [] → l ≡ 0 → IsForWhole wants limit state piece tag count → piece ≡ bytes_of b ++ rest → length (bytes_of b) ≡ count → IsNext state (bytes_of b) next → Takes wants (relay_at limit state held l) piece (Frame tag b) rest (relay_at limit next held l)
 takes_frame wants limit state held l piece b rest tag count next nothing between w e counts follows =
     let bytes = bytes_of b in
     let longer : length piece ≡ length bytes + length rest = omega (arith, ap length e, length-append bytes rest) in
@@ -120,7 +120,7 @@ takes_frame wants limit state held l piece b rest tag count next nothing between
     }
 
 -- a step over a piece that goes on with what is held: the front of a frame that goes out in parts
-pub takes_parts_joined : (wants : ℕ → ℕ → Bool) (limit : ℕ) (state : Expects) (held : List ℕ) (l : ℕ) (piece bytes : List ℕ) (b : FrameBytes) (rest none : List ℕ) (count left missing : ℕ) → l ≡ 0 → none ≡ [] → bytes_of b ≡ held ++ bytes → piece ≡ bytes ++ rest → 0 < missing → length bytes ≡ min missing (length piece) → IsForParts wants state (bytes_of b) count → length (bytes_of b) + left ≡ count → Takes wants (record { limit = limit; expects = state; held = held; left = l }) piece (Part b left) rest (record { limit = limit; expects = state; held = none; left = left })
+pub takes_parts_joined : (wants : ℕ → ℕ → Bool) (limit : ℕ) (state : Expects) (held : List ℕ) (l : ℕ) (piece bytes : List ℕ) (b : FrameBytes) (rest none : List ℕ) (count left missing : ℕ) → l ≡ 0 → none ≡ [] → bytes_of b ≡ held ++ bytes → piece ≡ bytes ++ rest → 0 < missing → length bytes ≡ min missing (length piece) → IsForParts wants state (bytes_of b) count → length (bytes_of b) + left ≡ count → Takes wants (relay_at limit state held l) piece (Part b left) rest (relay_at limit state none left)
 takes_parts_joined wants limit state held l piece bytes b rest none count left missing between nothing joined e some counts p lefts =
     let longer : length piece ≡ length bytes + length rest = omega (arith, ap length e, length-append bytes rest) in
     let all : held ++ piece ≡ bytes_of b ++ none ++ rest = rw nothing (conserved_whole held piece bytes (bytes_of b) rest joined e) in
@@ -132,7 +132,7 @@ takes_parts_joined wants limit state held l piece bytes b rest none count left m
     }
 
 -- nothing yet
-pub takes_held : (wants : ℕ → ℕ → Bool) (limit : ℕ) (state : Expects) (held : List ℕ) (l : ℕ) (piece bytes rest new : List ℕ) (missing : ℕ) → l ≡ 0 → new ≡ held ++ bytes → piece ≡ bytes ++ rest → 0 < missing → length bytes ≡ min missing (length piece) → IsUnfinished limit state new → ((tag : Option ℕ) (count : ℕ) → HasHead state new tag count → IsTaken wants limit tag count) → Takes wants (record { limit = limit; expects = state; held = held; left = l }) piece Held rest (record { limit = limit; expects = state; held = new; left = l })
+pub takes_held : (wants : ℕ → ℕ → Bool) (limit : ℕ) (state : Expects) (held : List ℕ) (l : ℕ) (piece bytes rest new : List ℕ) (missing : ℕ) → l ≡ 0 → new ≡ held ++ bytes → piece ≡ bytes ++ rest → 0 < missing → length bytes ≡ min missing (length piece) → IsUnfinished limit state new → ((tag : Option ℕ) (count : ℕ) → HasHead state new tag count → IsTaken wants limit tag count) → Takes wants (relay_at limit state held l) piece Held rest (relay_at limit state new l)
 takes_held wants limit state held l piece bytes rest new missing between joined e some counts unfinished taken =
     let longer : length piece ≡ length bytes + length rest = omega (arith, ap length e, length-append bytes rest) in
     record {
@@ -143,7 +143,7 @@ takes_held wants limit state held l piece bytes rest new missing between joined 
     }
 
 -- the last bytes of a whole frame
-pub takes_frame_joined : (wants : ℕ → ℕ → Bool) (limit : ℕ) (state : Expects) (held : List ℕ) (l : ℕ) (piece bytes : List ℕ) (b : FrameBytes) (rest none : List ℕ) (tag : Option ℕ) (count : ℕ) (next : Expects) (missing : ℕ) → l ≡ 0 → none ≡ [] → bytes_of b ≡ held ++ bytes → piece ≡ bytes ++ rest → 0 < missing → length bytes ≡ min missing (length piece) → IsForWhole wants limit state (bytes_of b) tag count → count ≡ length (bytes_of b) → IsNext state (bytes_of b) next → Takes wants (record { limit = limit; expects = state; held = held; left = l }) piece (Frame tag b) rest (record { limit = limit; expects = next; held = none; left = l })
+pub takes_frame_joined : (wants : ℕ → ℕ → Bool) (limit : ℕ) (state : Expects) (held : List ℕ) (l : ℕ) (piece bytes : List ℕ) (b : FrameBytes) (rest none : List ℕ) (tag : Option ℕ) (count : ℕ) (next : Expects) (missing : ℕ) → l ≡ 0 → none ≡ [] → bytes_of b ≡ held ++ bytes → piece ≡ bytes ++ rest → 0 < missing → length bytes ≡ min missing (length piece) → IsForWhole wants limit state (bytes_of b) tag count → count ≡ length (bytes_of b) → IsNext state (bytes_of b) next → Takes wants (relay_at limit state held l) piece (Frame tag b) rest (relay_at limit next none l)
 takes_frame_joined wants limit state held l piece bytes b rest none tag count next missing between nothing joined e some counts w whole follows =
     let longer : length piece ≡ length bytes + length rest = omega (arith, ap length e, length-append bytes rest) in
     let all : held ++ piece ≡ bytes_of b ++ none ++ rest = rw nothing (conserved_whole held piece bytes (bytes_of b) rest joined e) in

@@ -8,7 +8,7 @@ use Rattle.pg_frames.specs.declared.frontend.frame.Expects.{Expects}
 use Rattle.pg_frames.specs.Relay.Answer.{bytes_in, placed}
 use Rattle.pg_frames.specs.Relay.Head.{HasHead, IsFrame}
 use Rattle.pg_frames.specs.Relay.Pass.{HasAdded, HasPassed, PassesOn, PutsAnswer, PutsOut}
-use Rattle.pg_frames.specs.Relay.{Relaying, bytes_of, ComesWhole, ComesInParts, Holds, Takes}
+use Rattle.pg_frames.specs.Relay.{Relaying, bytes_of, ComesWhole, ComesInParts, Holds, Takes, relay_at}
 use Rattle.pg_frames.specs.declared.relay.answer.Answer.{Answer}
 use Rattle.pg_frames.specs.declared.relay.event.Event.{Event}
 use Rattle.pg_frames.specs.declared.relay.event.Event.TheVariants.{Frame, Part, Held}
@@ -16,7 +16,7 @@ use Rattle.pg_frames.proofs.RelayPassLemmas.{bytes_in-append, bytes_in-one, goes
 
 -- the relay as it will be when it has taken a piece, all of which it holds
 abbrev pub with_held : Relaying → List ℕ → Relaying
-with_held relay piece = record { limit = relay.limit; expects = relay.expects; held = relay.held ++ piece; left = relay.left }
+with_held relay piece = relay_at relay.limit relay.expects (relay.held ++ piece) relay.left
 
 passed_held : {U : Type 0} (wanted : U → ℕ → ℕ → Bool) (Answers : U → Option ℕ → List ℕ → Answer → List ℕ → U → Type 0) (start : Expects) (first : U) (bytes out : List ℕ) (user : U) (old : Relaying) (piece rest : List ℕ) (new : Relaying) (later : U) (after : List ℕ) → HasPassed wanted Answers start first bytes out user (with_held old piece) → new.limit ≡ old.limit → old.held ++ piece ≡ new.held ++ rest → Holds (wanted user) old new → later ≡ user → after ≡ out → HasPassed wanted Answers start first bytes after later (with_held new rest)
 passed_held wanted Answers start first bytes out user old piece rest new later after p limits conserved h same is = record {

@@ -1,5 +1,5 @@
 -- The front of a stream is one of three: a whole message, one that goes on, or a fault.
-use Rattle.std.proofs.Common.{◌≡◌, ◌+◌, ◌-◌, ◌≤◌, ℕ, ℤ, pos, List, [], ◌∷◌, ◌++◌, length, take, drop, inl, inr, refl, sym, ap, ◌∙◌, append_assoc, append-nil, arith, length-append, length-drop, Option, Some, None, Bor, IfSome}
+use Rattle.std.proofs.Common.{◌≡◌, ◌+◌, ◌-◌, ◌<◌, ◌≤◌, ℕ, ℤ, pos, List, ◌∷◌, ◌++◌, length, take, drop, inl, inr, refl, sym, ap, ◌∙◌, append_assoc, arith, length-append, length-drop, Option, Some, None, Bor, IfSome}
 use Rattle.std.specs.List.{IsSplitAt}
 use Rattle.std.specs.Option.{MatchOption}
 use Rattle.std.proofs.lemmas.Int.{ints}
@@ -12,7 +12,7 @@ use Rattle.pg_base.specs.declared.format.BackendMessageFormat.{BackendMessageFor
 use Rattle.pg_base.specs.declared.error.ProtocolFault.{ProtocolFault}
 use Rattle.pg_base.specs.declared.error.ProtocolFault.TheVariants.{UnknownMessageType, BadLength}
 use Rattle.pg_base.proofs.ReadingLemmas.{one_signed, signed_fits}
-use Rattle.pg_frames.specs.Stream.{Whole, Announces, WantsMore, IsStreamFault}
+use Rattle.pg_frames.specs.Stream.{Whole, Announces, TakesJust, TakesAtLeast, WantsMore, IsStreamFault}
 
 -- the first five bytes announce one message
 pub one_announced : (bytes : List ℕ) (s t : ℕ) (x y : ℤ) → Announces bytes s x → Announces bytes t y → (s ≡ t) × (x ≡ y)
@@ -150,3 +150,22 @@ taken bytes tag body rest end p is =
 pub taken_from : (old stream contents left : List ℕ) (tag : ℕ) (body rest : List ℕ) (end : ℕ) → Begins stream tag body rest → end ≡ length stream - length rest → stream ≡ old → contents ≡ drop 5 (take end old) → left ≡ drop end old → Begins old tag contents left
 taken_from old stream contents left tag body rest end p is same c l =
     rw (c, l) (taken old tag body rest end (rw same at p) (rw same at is))
+
+-- a message at the front takes as many bytes, whatever comes next
+pub just_stays : (old more new : List ℕ) (count : ℕ) → new ≡ old ++ more → TakesJust old count → TakesJust new count
+just_stays old more new count fed p =
+    record { tag = p.tag; announced = p.announced; announces = rw fed (announces_stays old more p.tag (pos p.announced) p.announces); known = p.known; least = p.least; is = p.is }
+
+-- fewer bytes want more
+pub too_few : (bytes : List ℕ) (count : ℕ) → TakesAtLeast bytes count → length bytes < count → WantsMore bytes
+too_few bytes count (inl few) short = inl (omega (arith, few, short))
+too_few bytes count (inr p) short = inr (record { tag = p.tag; announced = p.announced; announces = p.announces; known = p.known; least = p.least; short = omega (arith, short, p.is) })
+
+-- a message that wants more takes as many bytes as its head announces
+pub takes_announced : (bytes : List ℕ) (tag : ℕ) (announced : ℤ) (n : ℕ) → WantsMore bytes → Announces bytes tag announced → announced ≡ pos n → TakesAtLeast bytes (1 + n)
+takes_announced bytes tag announced n (inl short) a is = absurd (omega (arith, short, announces_fits bytes tag announced a))
+takes_announced bytes tag announced n (inr on) a is =
+    let one = one_announced bytes tag on.tag announced (pos on.announced) a on.announces in
+    let both : pos n ≡ pos on.announced = sym is ∙ one.1 in
+    let same : n ≡ on.announced = cc in
+    inr (record { tag = on.tag; announced = on.announced; announces = on.announces; known = on.known; least = on.least; is = ap (λ (m : ℕ). 1 + m) same })

@@ -26,9 +26,12 @@ pub record Relaying : Type 0 where
   pub held : List ℕ
   pub left : ℕ
 
+abbrev pub relay_at : ℕ → Expects → List ℕ → ℕ → Relaying
+relay_at limit state held left = record { limit = limit; expects = state; held = held; left = left }
+
 -- one that holds these bytes, and passes nothing on in parts
 abbrev pub holding : ℕ → Expects → List ℕ → Relaying
-holding limit state held = record { limit = limit; expects = state; held = held; left = 0 }
+holding limit state held = relay_at limit state held 0
 
 -- the frame at the front goes on after the bytes that have come, and may be held
 pub record GoesOn (limit : ℕ) (state : Expects) (bytes : List ℕ) : Type 0 where

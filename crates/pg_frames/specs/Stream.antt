@@ -45,6 +45,19 @@ pub record IsPart (bytes : List ℕ) (tag : ℕ) : Type 0 where
   pub least : 4 ≤ announced
   pub short : length bytes < 1 + announced
 
+-- the message at the front takes so many bytes, which its tag and its length say
+pub record TakesJust (bytes : List ℕ) (count : ℕ) : Type 0 where
+  pub tag : ℕ
+  pub announced : ℕ
+  pub announces : Announces bytes tag (pos announced)
+  pub known : IsBackendTag tag
+  pub least : 4 ≤ announced
+  pub is : count ≡ 1 + announced
+
+-- the message at the front takes so many bytes at least: what a tag and a length take, or just so many
+abbrev pub TakesAtLeast : List ℕ → ℕ → Type 0
+TakesAtLeast bytes count = (count ≡ 5) ⊎ TakesJust bytes count
+
 -- the message goes on after the bytes that have come
 pub record GoesOn (bytes : List ℕ) : Type 0 where
   pub tag : ℕ

@@ -5,27 +5,32 @@ ghost use Rattle.std.specs.Prelude.{◌≡◌, ◌≢◌, ◌<◌, ◌≤◌, �
 use bytes::{Bytes, BytesMut};
 use std::alloc::{AllocError, Global};
 use std::marker::Model;
+use std::mem;
 
 /// The most bytes of a block of memory that are kept whether they are needed or not.
 const MAX_KEPT: usize = 64 * 1024;
+
+/// The most bytes that a block grows by although fewer are needed.
+const MAX_STEP: usize = 4 * 1024;
 
 /// The bytes that were fed and not yet taken. In a contract it is the list of them.
 ///
 /// A body that is taken shares the block of memory that its bytes were fed into, and keeps that block
 /// until it is dropped. Memory is asked for as bytes are fed, so there are at most twice the bytes that
 /// were fed and not taken, and the block that is filled. A block is used again once no body shares it.
-/// What is left after the last whole message is copied when more is fed. A block of up to 64 KiB is kept.
-/// A larger one is given back as soon as all is taken and, since all was taken before, at most 64 KiB
-/// were held at once.
+/// What is left after the last whole message is copied at most once when more is fed. Where a block is
+/// full, room is asked for as large as the block, up to 4 KiB, so that small pieces ask seldom.
+/// A block of up to 64 KiB is kept. A larger one is given back as soon as all is taken and, since all was
+/// taken before, at most 64 KiB were held at once.
 #[derive(Drop)]
 pub(crate) struct Block {
     alloc: Global,
     // The front of what was fed, from which bodies are cut. While it holds bytes the buffer is empty.
     shared: Bytes,
     buffer: BytesMut,
-    // How many bytes the buffer's block has had room for at most, since a block was given back.
+    // How many bytes a shared block has had room for at most, since a block was given back.
     most: usize,
-    // How many bytes were held at most, since all was taken.
+    // How many bytes were held at most when some were shared, since all was taken.
     held: usize,
 }
 
@@ -65,7 +70,17 @@ impl Block {
         }
     }
 
+    /// How many bytes were fed and not yet taken.
+    #[inline(always)]
+    pub(crate) fn len(&self) -> usize
+        ensures { result ≡ length self.now }
+    {
+        self.shared.len() + self.buffer.len()
+    }
+
     /// Adds bytes, or is out of memory and changes nothing. No bytes need no memory.
+    // Inlined, so that a small piece costs two tests and a copy.
+    #[inline(always)]
     pub(crate) fn feed(&mut self, bytes: &[u8]) -> Result<(), AllocError>
         ensures ok { OnOk result (self.new ≡ self.old ++ bytes.now) }
         ensures err { OnErr result (self.new ≡ self.old) }
@@ -74,14 +89,13 @@ impl Block {
         if bytes.is_empty() {
             return Ok(());
         }
-        if self.shared.is_empty() {
-            self.buffer.extend_from_slice(bytes)?;
-        } else {
-            self.buffer = joined(self.alloc, self.shared.as_slice(), bytes)?;
-            self.shared = Bytes::new();
+        if !self.shared.is_empty() {
+            unshare(self.alloc, &mut self.shared, &mut self.buffer, bytes.len())?;
         }
-        self.most = self.most.max(self.buffer.capacity());
-        self.held = self.held.max(self.buffer.len());
+        if self.buffer.capacity() - self.buffer.len() < bytes.len() {
+            grow(&mut self.buffer, self.most, bytes.len())?;
+        }
+        self.buffer.extend_reserved(bytes);
         Ok(())
     }
 
@@ -94,7 +108,11 @@ impl Block {
         ensures rest { OnOk result (self.new ≡ drop end self.old) }
         ensures err { OnErr result (self.new ≡ self.old) }
     {
-        share(&mut self.shared, &mut self.buffer)?;
+        if self.shared.is_empty() {
+            self.most = self.most.max(self.buffer.capacity());
+            self.held = self.held.max(self.buffer.len());
+            share(&mut self.shared, &mut self.buffer, end)?;
+        }
         let body = take_body(&mut self.shared, head, end)?;
         self.give_back();
         Ok(body)
@@ -105,7 +123,7 @@ impl Block {
     fn give_back(&mut self)
         ensures { self.new ≡ self.old }
     {
-        if !self.bytes().is_empty() {
+        if self.len() > 0 {
             return;
         }
         if self.most > MAX_KEPT && self.held <= MAX_KEPT {
@@ -117,17 +135,20 @@ impl Block {
     }
 }
 
-// Moves all bytes to the shared ones, unless some are there already.
-#[inline(always)]
-fn share(shared: &mut Bytes, buffer: &mut BytesMut) -> Result<(), AllocError>
-    requires { 0 < length shared.old → buffer.old.items ≡ [] }
-    ensures all { OnOk result (shared.new ≡ shared.old ++ buffer.old.items) }
-    ensures none { OnOk result (buffer.new.items ≡ []) }
+// Moves the bytes to the shared ones, at least those up to `end`. What follows them stays where more can
+// be added, if it is less than what it follows.
+#[inline(never)]
+fn share(shared: &mut Bytes, buffer: &mut BytesMut, end: usize) -> Result<(), AllocError>
+    requires none { shared.old ≡ [] }
+    requires within { end ≤ length buffer.old.items }
+    ensures all { OnOk result (shared.new ++ buffer.new.items ≡ buffer.old.items) }
+    ensures long { OnOk result (end ≤ length shared.new) }
+    ensures left { OnOk result (end < length shared.new → buffer.new.items ≡ []) }
     ensures err { OnErr result ((shared.new ≡ shared.old) × (buffer.new ≡ buffer.old)) }
 {
-    if shared.is_empty() {
-        *shared = buffer.freeze_to(buffer.len())?;
-    }
+    let all = buffer.len();
+    let count = if all - end < end { end } else { all };
+    *shared = buffer.freeze_to(count)?;
     Ok(())
 }
 
@@ -141,6 +162,10 @@ fn take_body(shared: &mut Bytes, head: usize, end: usize) -> Result<Bytes, Alloc
 {
     if end == head {
         shared.advance(head);
+        if shared.is_empty() {
+            // No bytes would keep the block from being used again.
+            *shared = Bytes::new();
+        }
         return Ok(Bytes::new());
     }
     let mut body = shared.split_to(end)?;
@@ -148,12 +173,54 @@ fn take_body(shared: &mut Bytes, head: usize, end: usize) -> Result<Bytes, Alloc
     Ok(body)
 }
 
-// A buffer that holds both, one after the other.
-fn joined(alloc: Global, front: &[u8], rest: &[u8]) -> Result<BytesMut, AllocError>
-    ensures { IfOk result (λ buffer. buffer.items ≡ front.now ++ rest.now) }
+// Moves the shared bytes to the buffer: into the rest of the block, or with the whole block where no body
+// shares it, or else into a block of their own, in which so many more have room.
+#[inline(never)]
+fn unshare(
+    alloc: Global,
+    shared: &mut Bytes,
+    buffer: &mut BytesMut,
+    more: usize,
+) -> Result<(), AllocError>
+    requires { buffer.old.items ≡ [] }
+    ensures ok { OnOk result ((shared.new ≡ []) × (buffer.new.items ≡ shared.old)) }
+    ensures err { OnErr result ((shared.new ≡ shared.old) × (buffer.new.items ≡ [])) }
 {
-    let mut buffer = BytesMut::with_capacity(alloc, front.len().saturating_add(rest.len()))?;
-    buffer.extend_from_slice(front)?;
-    buffer.extend_from_slice(rest)?;
+    let rest = mem::replace(shared, Bytes::new());
+    let spare = buffer.capacity() - buffer.len();
+    if rest.len() <= spare && more <= spare - rest.len() {
+        buffer.extend_reserved(rest.as_slice());
+        return Ok(());
+    }
+    *buffer = BytesMut::new(alloc);
+    match rest.try_into_mut() {
+        Ok(whole) => *buffer = whole,
+        Err(rest) => match copied(alloc, rest.as_slice(), more) {
+            Ok(copy) => *buffer = copy,
+            Err(error) => {
+                *shared = rest;
+                return Err(error);
+            }
+        },
+    }
+    Ok(())
+}
+
+// A buffer that holds these bytes, and has room for so many more.
+fn copied(alloc: Global, bytes: &[u8], more: usize) -> Result<BytesMut, AllocError>
+    ensures { IfOk result (λ buffer. buffer.items ≡ bytes.now) }
+{
+    let mut buffer = BytesMut::with_capacity(alloc, bytes.len().saturating_add(more))?;
+    buffer.extend_from_slice(bytes)?;
     Ok(buffer)
+}
+
+// Makes room for so many bytes more: for as many as the block has, up to `MAX_STEP`, where they are more.
+#[inline(never)]
+fn grow(buffer: &mut BytesMut, most: usize, more: usize) -> Result<(), AllocError>
+    ensures items { buffer.new.items ≡ buffer.old.items }
+    ensures room { OnOk result (more ≤ buffer.new.spare) }
+{
+    let block = most.max(buffer.capacity());
+    buffer.reserve(more.max(block.min(MAX_STEP)))
 }

@@ -41,6 +41,7 @@ pub fn read_pieces(
 }
 
 // Takes all messages that are whole, and answers the fault where one stops it.
+#[tactic(auto, using(crate::proofs::PiecesLemmas::stream_hands_out))]
 fn take_all(
     reader: &mut FrameReader,
     messages: &mut Vec<ReceivedMessage>,

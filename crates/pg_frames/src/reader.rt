@@ -4,11 +4,11 @@ ghost use Rattle.std.specs.Prelude.{◌≡◌, ◌≢◌, ◌==◌, [], ◌++◌
 ghost use Rattle.pg_base.specs.declared.error.Error.TheVariants.{Protocol, OutOfMemory};
 ghost use Rattle.pg_frames.specs.Frame.{IfFound, IfNotFound};
 ghost use Rattle.pg_frames.specs.Reader.{TakesMessage, IsFoundUnless, GivesFault};
-ghost use Rattle.pg_frames.specs.Stream.{Whole, WantsMore, IsStreamFault, IsReaderError};
+ghost use Rattle.pg_frames.specs.Stream.{TakesAtLeast, Whole, WantsMore, IsStreamFault, IsReaderError};
 
 use crate::block::Block;
 use crate::frame::{Frame, next_frame};
-use crate::head::HEADER;
+use crate::head::{FrameHead, HEADER, MIN_LENGTH};
 use pg_base::Error;
 use pg_format::ReceivedMessage;
 use std::alloc::Global;
@@ -22,19 +22,25 @@ use std::marker::Model;
 /// block until it is dropped. The reader asks for memory as bytes are fed and never for a length that
 /// a message announces, so it holds at most twice what it was fed and hasn't handed out, and the
 /// block that it fills. It uses a block again once no body shares it. What is left after the last
-/// whole message is copied when more is fed. It keeps a block of up to 64 KiB. A larger one it gives
-/// back as soon as all is handed out and, since all was handed out before, it held 64 KiB at most.
+/// whole message is copied at most once when more is fed. It keeps a block of up to 64 KiB. A larger
+/// one it gives back as soon as all is handed out and, since all was handed out before, it held 64 KiB
+/// at most. It looks at a message twice at most, when its length is there and when it is whole.
 #[derive(Drop)]
 pub struct FrameReader {
     block: Block,
+    // How many bytes the message at the front takes at least.
+    least: usize,
 }
 
 impl Model for FrameReader {
     ghost use Rattle.std.specs.Prelude.{ℕ, List};
+    ghost use Rattle.pg_frames.specs.Stream.{TakesAtLeast};
 
     ghost Value = { List ℕ };
 
     ghost view = { λ reader. reader.block };
+
+    ghost invariant = { λ reader. TakesAtLeast reader.block reader.least };
 }
 
 impl FrameReader {
@@ -44,6 +50,7 @@ impl FrameReader {
     {
         FrameReader {
             block: Block::new(alloc),
+            least: HEADER,
         }
     }
 
@@ -51,7 +58,7 @@ impl FrameReader {
     pub fn len(&self) -> usize
         ensures { result ≡ length self.now }
     {
-        self.block.bytes().len()
+        self.block.len()
     }
 
     /// Whether all bytes that were fed are taken.
@@ -63,6 +70,8 @@ impl FrameReader {
 
     /// Adds the next bytes of the stream, or is `OutOfMemory` and changes nothing. No bytes need no
     /// memory.
+    #[inline(always)]
+    #[tactic(auto, using(crate::proofs::StreamLemmas::just_stays))]
     pub fn feed(&mut self, bytes: &[u8]) -> Result<(), Error>
         ensures ok { OnOk result (self.new ≡ self.old ++ bytes.now) }
         ensures err { OnErr result (self.new ≡ self.old) }
@@ -79,6 +88,8 @@ impl FrameReader {
     /// that memory ran out. Each error leaves the reader as it was, so the same call may be made
     /// again: after a fault it gives the fault again, and after `OutOfMemory` it gives the message
     /// as soon as there is memory.
+    // Inlined, so that the message isn't copied on its way.
+    #[inline(always)]
     pub fn next_message(&mut self) -> Result<Option<ReceivedMessage>, Error>
         ensures message { IfFound result (λ message. TakesMessage self.old message self.new) }
         ensures partial { IfNotFound result (WantsMore self.old × (self.new ≡ self.old)) }
@@ -90,6 +101,9 @@ impl FrameReader {
         ensures partial_due { WantsMore self.old → result ≡ Ok None }
         ensures fault_due { GivesFault result (IsStreamFault self.old) (Protocol None) }
     {
+        if self.block.len() < self.least {
+            return Ok(None);
+        }
         self.take_next()
     }
 
@@ -104,10 +118,25 @@ impl FrameReader {
     {
         let stream = self.block.bytes();
         let Some(Frame { format, rest, .. }) = next_frame(stream)? else {
+            self.least = least_of(stream);
             return Ok(None);
         };
         let end = stream.len() - rest.len();
         let contents = self.block.take(HEADER, end)?;
+        self.least = HEADER;
         Ok(Some(ReceivedMessage { format, contents }))
+    }
+}
+
+// How many bytes the message takes at least of which these are too few.
+#[inline(always)]
+#[tactic(auto, using(crate::proofs::StreamLemmas::takes_announced))]
+fn least_of(stream: &[u8]) -> usize
+    requires { WantsMore stream.now }
+    ensures { TakesAtLeast stream.now result }
+{
+    match FrameHead::of(stream) {
+        Some(head) if head.announced >= MIN_LENGTH => 1 + head.announced as usize,
+        _ => HEADER,
     }
 }

@@ -15,9 +15,12 @@ pub record Reading : Type 0 where
   pub expects : Expects
   pub bytes : List ℕ
 
+abbrev pub awaiting : ℕ → Expects → List ℕ → Reading
+awaiting limit state bytes = record { limit = limit; expects = state; bytes = bytes }
+
 -- more bytes were fed
 abbrev pub fed : Reading → List ℕ → Reading
-fed reading more = record { limit = reading.limit; expects = reading.expects; bytes = reading.bytes ++ more }
+fed reading more = awaiting reading.limit reading.expects (reading.bytes ++ more)
 
 -- at the front of the bytes a whole message stands, as it is expected
 abbrev pub WholeIn : Reading → Type 0

@@ -2,13 +2,13 @@
 use Rattle.std.specs.Prelude.{◌≡◌, ◌<◌, ◌≤◌, ◌⊎◌, ℕ, Bool, List, [], length, take, Option}
 use Rattle.pg_frames.specs.declared.frontend.frame.Expects.{Expects}
 use Rattle.pg_frames.specs.Relay.Head.{HasHead, head_length}
-use Rattle.pg_frames.specs.Relay.{Relaying, ComesWhole, ComesInParts, IsTaken}
+use Rattle.pg_frames.specs.Relay.{Relaying, ComesWhole, ComesInParts, IsTaken, relay_at}
 use Rattle.pg_frames.specs.declared.relay.passage.Passage.{Passage}
 use Rattle.pg_frames.specs.declared.relay.passage.Passage.TheVariants.{Whole, Part, Needs}
 
 -- a relay that holds nothing
 abbrev pub holding_nothing : ℕ → Expects → ℕ → Relaying
-holding_nothing limit state left = record { limit = limit; expects = state; held = []; left = left }
+holding_nothing limit state left = relay_at limit state [] left
 
 -- the first bytes of the stream are a whole frame, as a relay hands it out
 pub record PassesWhole (wants : ℕ → ℕ → Bool) (limit : ℕ) (state : Expects) (left : ℕ) (stream : List ℕ) (tag : Option ℕ) (count : ℕ) (next : Expects) : Type 0 where

@@ -93,6 +93,7 @@ fn next_first(limit: usize, stream: &[u8]) -> Result<Option<FrontendFrame<'_>>, 
 
 /// What is expected after a first message with this body: after an SSLRequest or a GSSENCRequest, which its
 /// code alone says, another one, and after any other a message with a tag.
+#[tactic(auto, using(crate::proofs::FrontendFrameLemmas::asks_for_none))]
 pub fn after_first(body: &[u8]) -> Expects
     ensures { Follows body.now result }
 {

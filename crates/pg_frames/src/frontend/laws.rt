@@ -33,6 +33,7 @@ pub fn one_answer_is_due()
 {}
 
 /// A fault stays, whatever comes next.
+#[tactic(auto, using(crate::proofs::FrontendFrameLemmas::fault_stays))]
 pub fn a_fault_stays()
     ensures { FaultStays IsFaultIn fed }
 {}

@@ -42,6 +42,7 @@ pub fn read_client_pieces(
 }
 
 // Takes all messages that are whole, and answers the fault where one stops it.
+#[tactic(auto, using(crate::proofs::FrontendPiecesLemmas::stream_hands_out))]
 fn take_all(
     reader: &mut FrontendFrameReader,
     messages: &mut Vec<ClientMessage>,

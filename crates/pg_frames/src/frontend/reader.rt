@@ -4,7 +4,7 @@ ghost use Rattle.std.specs.Prelude.{◌≡◌, ◌≢◌, ◌==◌, [], length, 
 ghost use Rattle.pg_frames.specs.declared.frontend.error.FrontendError.TheVariants.{Protocol, OutOfMemory};
 ghost use Rattle.pg_frames.specs.declared.frontend.frame.Expects.TheVariants.{First};
 ghost use Rattle.pg_frames.specs.Frame.{IfFound, IfNotFound};
-ghost use Rattle.pg_frames.specs.Frontend.Reader.{Takes, IsReaderError, IsFaultIn, WantsMoreIn, WholeIn, fed, header};
+ghost use Rattle.pg_frames.specs.Frontend.Reader.{Takes, IsReaderError, IsFaultIn, WantsMoreIn, WholeIn, awaiting, fed, header};
 ghost use Rattle.pg_frames.specs.Reader.{IsFoundUnless, GivesFault};
 
 use crate::block::Block;
@@ -28,18 +28,18 @@ pub struct FrontendFrameReader {
 }
 
 impl Model for FrontendFrameReader {
-    ghost use Rattle.pg_frames.specs.Frontend.Reader.{Reading};
+    ghost use Rattle.pg_frames.specs.Frontend.Reader.{Reading, awaiting};
 
     ghost Value = { Reading };
 
-    ghost view = { λ reader. record { limit = reader.limit; expects = reader.expects; bytes = reader.block } };
+    ghost view = { λ reader. awaiting reader.limit reader.expects reader.block };
 }
 
 impl FrontendFrameReader {
     /// A reader that was fed nothing, and takes first messages up to this length, which counts itself;
     /// PostgreSQL's own servers take [`MAX_FIRST_LENGTH`](crate::frontend::MAX_FIRST_LENGTH). It takes no memory.
     pub fn new(alloc: Global, limit: usize) -> Self
-        ensures { result ≡ record { limit = limit; expects = First; bytes = [] } }
+        ensures { result ≡ awaiting limit First [] }
     {
         FrontendFrameReader {
             limit,
@@ -52,7 +52,7 @@ impl FrontendFrameReader {
     pub fn len(&self) -> usize
         ensures { result ≡ length self.now.bytes }
     {
-        self.block.bytes().len()
+        self.block.len()
     }
 
     /// Whether all bytes that were fed are taken.

@@ -45,6 +45,7 @@ pub fn no_more_passes_after_a_low_length<U: Answers>()
 {}
 
 /// Frames with tags are messages, and their bytes are cut into these and no others.
+#[tactic(auto, using(pg_base::proofs::CuttingLemmas::is_cut_into, crate::proofs::RelayMessagesLemmas::frames_cut))]
 pub fn frames_are_messages()
     ensures { (frames : Frames) (last : Expects) → Lead Tagged frames last → AreMessages frames }
 {}

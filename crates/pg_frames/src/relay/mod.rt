@@ -48,11 +48,11 @@ pub struct Relay {
 }
 
 impl Model for Relay {
-    ghost use Rattle.pg_frames.specs.Relay.{Relaying, IsKept};
+    ghost use Rattle.pg_frames.specs.Relay.{Relaying, IsKept, relay_at};
 
     ghost Value = { Relaying };
 
-    ghost view = { λ relay. record { limit = relay.limit; expects = relay.expects; held = relay.held.items; left = relay.left } };
+    ghost view = { λ relay. relay_at relay.limit relay.expects relay.held.items relay.left };
 
     ghost invariant = { λ relay. IsKept relay.limit relay.expects relay.held.items relay.left };
 }
@@ -227,6 +227,7 @@ impl Relay {
 }
 
 // Adds bytes to what is held, and says what becomes of its frame then; where it is an error, nothing is added.
+#[tactic(auto, using(crate::proofs::RelayLemmas::fault_is_error))]
 fn fate_with<W: Wants>(
     wants: &W,
     limit: usize,

@@ -23,6 +23,7 @@ impl Relay {
 
     /// What is held: no more than the front of a frame that isn't whole yet and is within the limit, or some bytes of
     /// its tag and length.
+    #[tactic(auto, using(crate::proofs::RelayLemmas::unfinished_short))]
     pub fn held(&self) -> &[u8]
         ensures held { result.now ≡ self.now.held }
         ensures unfinished { IsUnfinished self.now.limit self.now.expects result.now }

@@ -1,4 +1,4 @@
-use Rattle.std.proofs.Common.{◌≡◌, ℕ, List, Option, Some, None, Result, Ok, Err, IfOk, IfErr, IfSome, IfNone, IsSome, refl}
+use Rattle.std.proofs.Common.{rules, ◌≡◌, ℕ, List, Option, Some, None, Result, Ok, Err, IfOk, IfErr, IfSome, IfNone, IsSome, refl}
 use Rattle.std.specs.Result.{MatchResult}
 use Rattle.pg_base.specs.Cutting.{Begins}
 use Rattle.pg_base.specs.Format.{backend_tag}
@@ -7,7 +7,7 @@ use Rattle.pg_base.specs.declared.error.Error.TheVariants.{Protocol, OutOfMemory
 use Rattle.pg_base.specs.declared.error.ProtocolFault.{ProtocolFault}
 use Rattle.pg_format.specs.declared.received.ReceivedMessage.{ReceivedMessage}
 use Rattle.pg_frames.specs.Stream.{Whole, WantsMore, IsStreamFault, IsReaderError}
-use Rattle.pg_frames.proofs.StreamLemmas.{whole_wants_none, fault_not_whole, fault_wants_none, one_fault, known_whole}
+use Rattle.pg_frames.proofs.StreamLemmas.{too_few, whole_wants_none, fault_not_whole, fault_wants_none, one_fault, known_whole}
 use Rattle.pg_frames.proofs.reader.FrameReader.next_message.Goals as goal
 
 -- A reader's answer is the one that is due, for any type of message that it hands out.
@@ -45,3 +45,13 @@ returns-clause-partial_due c = partial_due c.args.self.now c.take_next.new.self 
 
 pub returns-clause-fault_due : goal.returns-clause-fault_due
 returns-clause-fault_due c = fault_due c.args.self.now c.take_next.new.self c.take_next.result c.take_next.ensures.message c.take_next.ensures.partial c.take_next.ensures.error
+
+pub returns-then-len-self-clause-whole_due : goal.returns-then-len-self-clause-whole_due
+returns-then-len-self-clause-whole_due c =
+    let wants : WantsMore c.args.self.now = rw (← c.self.view_is) (too_few c.self.inside.block c.self.inside.least c.self.invariant (search rules)) in
+    λ whole. absurd (whole_wants_none c.args.self.now whole wants)
+
+pub returns-then-len-self-clause-fault_due : goal.returns-then-len-self-clause-fault_due
+returns-then-len-self-clause-fault_due c =
+    let wants : WantsMore c.args.self.now = rw (← c.self.view_is) (too_few c.self.inside.block c.self.inside.least c.self.invariant (search rules)) in
+    λ fault f. absurd (fault_wants_none c.args.self.now fault f wants)
