@@ -6,10 +6,8 @@ use Rattle.pg_base.specs.Format.{frontend_tag}
 use Rattle.pg_format.specs.Format.{Format, Lawful, AreBytes, Means}
 use Rattle.pg_format.proofs.FormatLaws.FromClient as client
 use Rattle.pg_send.specs.Message as message
-use Rattle.pg_send.specs.Message.{Message, law_of, tag, body, fault, IsInRange, CanRoundTrip}
-use Rattle.pg_send.specs.Page.{line, Meant}
-use Rattle.pg_send.proofs.MessageLemmas.{reads_itself}
-use Rattle.pg_send.proofs.PageLemmas.{means}
+use Rattle.pg_send.specs.Message.{Message, law_of, line, Meant, tag, body, fault, IsInRange, CanRoundTrip}
+use Rattle.pg_send.proofs.MessageLemmas.{reads_itself, means}
 use Rattle.pg_server.specs.declared.frontend.error.FrontendFault.{FrontendFault}
 use Rattle.pg_server.specs.declared.frontend.frontend_message_ref.FrontendMessageRef.{FrontendMessageRef}
 use Rattle.pg_server.specs.Frontend.FrontendMessageRef.{Answer, Reads, ReadsKind, ReadsTagged}

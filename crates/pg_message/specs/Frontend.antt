@@ -1,8 +1,8 @@
 -- What is read of a message that was written.
 use Rattle.std.specs.Prelude.{◌≡◌, ℕ, List, Ok}
 use Rattle.pg_send.specs.Message as message
-use Rattle.pg_send.specs.Message.{Message, body, CanRoundTrip}
-use Rattle.pg_send.specs.Page.{MeantByBind, Meant}
+use Rattle.pg_send.specs.Message.{Message, body, Meant, CanRoundTrip}
+use Rattle.pg_send.specs.Page.{MeantByBind}
 use Rattle.pg_server.specs.declared.frontend.frontend_message_ref.FrontendMessageRef.{FrontendMessageRef}
 use Rattle.pg_server.specs.declared.frontend.frontend_message_ref.FrontendMessageRef.TheVariants as messages
 use Rattle.pg_server.specs.Frontend.Page.{shown_bind, shown_execute, shown_call, shown_parse, shown_targeted}

@@ -4,7 +4,8 @@
 //! To send, make a message of [`message`] and append it to a buffer by its `encode_msg`, or many at
 //! once by [`message::encode_all`]. To receive, feed a [`message::FrameReader`] what the socket gives, take
 //! each message that is complete, and read it by [`message::ServerMessage::decode`]. A server, a proxy or a pooler
-//! finds the other side in [`frontend`] and [`backend`], and the core of a proxy in [`relay`].
+//! finds the other side in [`frontend`] and [`backend`], and the core of a proxy in [`relay`]. The messages of
+//! replication are in [`replication`].
 //!
 //! Except for the laws of both sides, everything stands in a crate below, where its contract is: `pg_base`,
 //! `pg_format`, `pg_send`, `pg_receive`, `pg_server` and `pg_frames`. The words of the contracts of `pg_base` are
@@ -18,6 +19,7 @@ pub mod io;
 pub mod laws;
 pub mod message;
 pub mod relay;
+pub mod replication;
 
 pub use error::{Error, ErrorKind, FrontendFault, PgDatabaseError, ProtocolFault};
 pub use frontend::FrontendMessageRef;
