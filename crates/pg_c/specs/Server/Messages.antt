@@ -1,6 +1,5 @@
 -- Messages to a client, from what a C program passes.
 use Rattle.std.specs.Prelude.{ℕ, ℤ, List, Bool, Some, None, map, if◌then◌else◌}
-use Rattle.pg_format.specs.Messages as page
 use Rattle.pg_server.specs.Backend.Message as messages
 use Rattle.pg_server.specs.Backend.Message.{Message}
 use Rattle.pg_server.specs.declared.backend.copy.CopyDirection.{CopyDirection}
@@ -15,24 +14,14 @@ use Rattle.pg_c.specs.declared.server.rows.PgmsgColumnText.{PgmsgColumnText}
 
 -- a request for SASL by one of these mechanisms
 abbrev pub sasl_offer_of : List PgmsgBytes → Message
-sasl_offer_of mechanisms = messages.Authentication (page.sasl (map bytes_of mechanisms))
+sasl_offer_of mechanisms = messages.sasl_offer_of (map bytes_of mechanisms)
 
 abbrev pub negotiation_of : ℕ → List PgmsgBytes → Message
-negotiation_of minor options = messages.NegotiateProtocolVersion (record { major = 3; minor = minor; options = map bytes_of options })
-
-abbrev pub key_of : ℕ → List ℕ → Message
-key_of process_id key = messages.BackendKeyData (record { process_id = process_id; secret_key = key })
-
--- a setting and its value
-abbrev pub parameter_status_of : List ℕ → List ℕ → Message
-parameter_status_of name value = messages.ParameterStatus (record { name = name; value = value })
-
-abbrev pub notification_of : ℕ → List ℕ → List ℕ → Message
-notification_of process_id channel payload = messages.Notification (record { process_id = process_id; channel = channel; payload = payload })
+negotiation_of minor options = messages.negotiation_of minor (map bytes_of options)
 
 -- a notification is put, or refused for its fault
 abbrev pub PutsNotification : ℕ → List ℕ → List ℕ → List ℕ → List ℕ → ℤ → Type 0
-PutsNotification process_id channel payload old new result = PutsServerMessage (notification_of process_id channel payload) old new result
+PutsNotification process_id channel payload old new result = PutsServerMessage (messages.notification_of process_id channel payload) old new result
 
 -- an error or a notice of these fields
 abbrev pub notice_of_kind : List PgmsgFieldText → NoticeKind → Message

@@ -53,6 +53,7 @@ pub extern "C" fn pgmsg_next_first_frame(
 }
 
 // Where the first message at the front is.
+#[tactic(auto, using(crate::proofs::ClientFramesLemmas::first_at, crate::proofs::ClientFramesLemmas::stands_first))]
 fn first_place_of(frame: &FrontendFrame<'_>) -> PgmsgFrame
     ensures { IsFirstPlace frame.now result }
 {
@@ -80,6 +81,7 @@ fn needed_first(stream: &[u8]) -> usize
 /// more bytes are needed. Then `tag` is given as soon as there is a byte. Refused where no message from a
 /// client has this tag, or its length is below 4: then, whatever comes next.
 #[unsafe(no_mangle)]
+#[tactic(auto, using(crate::proofs::ClientFramesLemmas::needs_tagged))]
 pub extern "C" fn pgmsg_next_frontend_frame(
     alloc: Global,
     stream: &[u8],

@@ -29,6 +29,7 @@ const NULL: i32 = -1;
 /// The place of the name at an offset, and the offset after its NUL. One that is empty or short is found
 /// without a call.
 #[inline(always)]
+#[tactic(auto, using(std::proofs::lemmas::Bool::cases_lt, crate::proofs::ClientValuesLemmas::near_finds, crate::proofs::ClientValuesLemmas::empty_finds))]
 pub(crate) fn name_at(body: &[u8], at: usize) -> Result<(PgmsgSpan, usize), FrontendFault>
     requires within { at ≤ length body.now }
     requires short { length body.now ≤ MAX_BODY }
@@ -66,6 +67,7 @@ pub(crate) fn place_of_text_at(body: &[u8], at: usize) -> Result<(PgmsgSpan, usi
 /// The place of the values whose count is at an offset, and the offset after them. As many are given as
 /// there is room for; where one can't be read, at most those before it.
 #[inline(always)]
+#[tactic(auto, using(std::proofs::lemmas::Result::err_from_is_err_and, pg_server::proofs::FrontendMessageLemmas::after))]
 pub(crate) fn values_at(
     body: &[u8],
     at: usize,

@@ -115,13 +115,13 @@ struct SaslResponse<'a>(&'a [u8]);
 
 impl<'a> Composed for SaslResponse<'a> {
     ghost use Rattle.std.specs.Prelude.{refl};
-    ghost use Rattle.pg_send.specs.Shapes.{sasl_response_law};
+    ghost use Rattle.pg_send.specs.Message.{law_of};
 
     type Body = Slice<'a>;
 
     const FORMAT: FrontendMessageFormat = FrontendMessageFormat::PasswordPolymorphic;
 
-    ghost law = { λ sasl. sasl_response_law sasl.0.now };
+    ghost law = { λ sasl. law_of (message.SaslResponse sasl.0.now) };
 
     ghost snug = { λ _. refl };
 

@@ -1,9 +1,7 @@
 //! Messages that are one text: a query, or why a COPY fails.
 
-ghost use Rattle.std.specs.Prelude.{if◌then◌else◌};
-ghost use Rattle.pg_base.specs.Part.{saturated};
 ghost use Rattle.pg_send.specs.Message as message;
-ghost use Rattle.pg_send.specs.Shapes.{text_law};
+ghost use Rattle.pg_send.specs.Shapes.{copy_fail_or_query_law};
 ghost use Rattle.pg_c.specs.Put.{PutsMessage};
 
 use crate::put::put;
@@ -22,8 +20,6 @@ type Query<'a> = TextOf<'a, false>;
 
 impl<'a, const FAILS: bool> Composed for TextOf<'a, FAILS> {
     ghost use Rattle.std.specs.Prelude.{refl};
-    ghost use Rattle.pg_base.specs.declared.format.FrontendMessageFormat.TheVariants as formats;
-    ghost use Rattle.pg_send.specs.Kind as kinds;
 
     type Body = Ended<&'a [u8]>;
 
@@ -33,7 +29,7 @@ impl<'a, const FAILS: bool> Composed for TextOf<'a, FAILS> {
         FrontendMessageFormat::Query
     };
 
-    ghost law = { λ it. text_law (if FAILS then kinds.CopyFail else kinds.Query) (if FAILS then formats.CopyFail else formats.Query) saturated it.0.now };
+    ghost law = { λ it. copy_fail_or_query_law FAILS it.0.now };
 
     ghost snug = { λ _. refl };
 

@@ -63,6 +63,7 @@ pub extern "C" fn pgmsg_read_severity(alloc: Global, body: &[u8], fault: &mut Pg
     }
 }
 
+#[tactic(auto, using(crate::proofs::ReadFieldsLemmas::severity_read, crate::proofs::ReadFieldsLemmas::severity_known, crate::proofs::ReadFieldsLemmas::severity_within, crate::proofs::ReadFieldsLemmas::severity_broken))]
 fn severity_of(body: &[u8]) -> Result<PgSeverity, ProtocolFault>
     ensures severity { IfOk result (λ found. IsSeverityOf body.now (pos (severity_number found))) }
     ensures within { OnOk result (length body.now ≤ max_body) }

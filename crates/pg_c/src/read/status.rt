@@ -180,6 +180,7 @@ fn key_of(body: &[u8]) -> Result<RawKeyData<'_>, ProtocolFault>
 
 /// What a command has done, by the body of its CommandComplete. 0, or why it is refused.
 #[unsafe(no_mangle)]
+#[tactic(auto, using(crate::proofs::PlaceLemmas::tag_at))]
 pub extern "C" fn pgmsg_read_command_complete(
     alloc: Global,
     body: &[u8],

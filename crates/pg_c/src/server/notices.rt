@@ -35,6 +35,7 @@ impl<'a> AsItem<NoticeFieldText<'a>> for PgmsgFieldText<'a> {
 /// `S`, the severity, `C`, the code, and `M`, the message. A field of the letter 0, or a text that holds a
 /// NUL, is refused: it would end the fields. Of other tags it is refused with PGMSG_UNKNOWN_MESSAGE_TYPE.
 #[unsafe(no_mangle)]
+#[tactic(auto, using(crate::proofs::ServerLettersLemmas::notice_found, crate::proofs::ServerLettersLemmas::put_by_letter, crate::proofs::ServerLettersLemmas::refused_by_letter))]
 pub extern "C" fn pgmsg_put_notice(tag: u8, fields: &[PgmsgFieldText<'_>], out: &mut [u8]) -> isize
     ensures { PutsByTag notice_tag (notice_of_kind fields.now) tag out.old out.new result }
 {

@@ -61,6 +61,7 @@ fn direction_of(tag: u8) -> Option<CopyDirection>
 
 /// A FunctionCallResponse: the result of a function that was called, or NULL.
 #[unsafe(no_mangle)]
+#[tactic(auto, using(crate::proofs::ServerListsLemmas::same_value))]
 pub extern "C" fn pgmsg_put_function_result(value: &[u8], is_null: bool, out: &mut [u8]) -> isize
     ensures { PutsServerMessage (result_of is_null value.now) out.old out.new result }
 {

@@ -63,6 +63,7 @@ pub extern "C" fn pgmsg_put_columns(columns: &[PgmsgColumnText<'_>], out: &mut [
 
 /// The values of a row, each in the format that was asked for, or NULL.
 #[unsafe(no_mangle)]
+#[tactic(auto, using(crate::proofs::ServerListsLemmas::same_values))]
 pub extern "C" fn pgmsg_put_row(values: &[PgmsgValue<'_>], out: &mut [u8]) -> isize
     ensures { PutsServerMessage (data_row_of values.now) out.old out.new result }
 {

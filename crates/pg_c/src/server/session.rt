@@ -1,9 +1,10 @@
 //! What the server says of the session.
 
 ghost use Rattle.std.specs.Prelude.{◌≡◌};
+ghost use Rattle.pg_server.specs.Backend.Message.{key_data_of, parameter_status_of};
 ghost use Rattle.pg_c.specs.Server.{PutsServerMessage};
 ghost use Rattle.pg_c.specs.Server.Letters.{ready_of, PutsReady};
-ghost use Rattle.pg_c.specs.Server.Messages.{negotiation_of, key_of, parameter_status_of};
+ghost use Rattle.pg_c.specs.Server.Messages.{negotiation_of};
 
 use crate::refusal::UNKNOWN_STATUS;
 use crate::server::authentication::PgmsgBytes;
@@ -33,7 +34,7 @@ pub extern "C" fn pgmsg_put_backend_key_data(
     secret_key: &[u8],
     out: &mut [u8],
 ) -> isize
-    ensures { PutsServerMessage (key_of process_id secret_key.now) out.old out.new result }
+    ensures { PutsServerMessage (key_data_of process_id secret_key.now) out.old out.new result }
 {
     let key = BackendKeyDataText {
         process_id,
@@ -54,6 +55,7 @@ pub extern "C" fn pgmsg_put_parameter_status(name: &[u8], value: &[u8], out: &mu
 /// The server is ready for the next query. `status` is `I` where no transaction is open, `T` where one
 /// is, and `E` where one is and has failed.
 #[unsafe(no_mangle)]
+#[tactic(auto, using(crate::proofs::ServerLettersLemmas::ready_found, crate::proofs::ServerLettersLemmas::put_by_letter, crate::proofs::ServerLettersLemmas::refused_by_letter))]
 pub extern "C" fn pgmsg_put_ready(status: u8, out: &mut [u8]) -> isize
     ensures { PutsReady status out.old out.new result }
 {
