@@ -1,5 +1,9 @@
 # Recordings of both sides that are replayed without a server. Sourced by `test`.
 
+# What speaks to a server or to a replay, and how it begins.
+client=("$(python3 -c 'import sys; print(sys.executable)' 2> /dev/null)" -S -E -B tests/replay_client.py)
+as_postgres='startup:user=postgres,database=postgres'
+
 # Whether a program has said that it listens, or is gone.
 has_begun() {
     grep -q '^listening on' "$1" || ! kill -0 "$2"
@@ -8,6 +12,7 @@ has_begun() {
 # Starts pg_record on a free port with options, with both sides to a new file. Leaves its process in $taping, its port
 # in $tape_port.
 start_tape() {
+    tape_file=$1
     : > "$work/errors.tape"
     rm -f "$1"
     "$programs/pg_record" -h 127.0.0.1 -p "$PGPORT" -o "$1" "${@:2}" 0 2> "$work/errors.tape" &
@@ -34,6 +39,7 @@ stop_tape() {
     await has_no_session
     kill "$taping"
     reap "$taping"
+    exported_back "the recording ${tape_file##*/}" "$tape_file"
 }
 
 # Starts pg_replay on a file with options. Leaves its process in $replaying, its port in $replay_port.
@@ -235,13 +241,7 @@ is_listening() {
 }
 
 test_replay() {
-    local begun=$SECONDS passed_before=$passed as_postgres client slow_taping slow_replaying slow_clients=()
-    if ! has_python; then
-        echo 'left out: replays, whose tests need Python 3.11 (apt-get install python3)'
-        return
-    fi
-    as_postgres='startup:user=postgres,database=postgres'
-    client=("$(python3 -c 'import sys; print(sys.executable)')" -S -E -B tests/replay_client.py)
+    local slow_taping slow_replaying slow_clients=()
     begin_slow_openings
     test_replay_psql
     test_replay_pgbench
@@ -261,12 +261,6 @@ test_replay() {
     test_escaped_differences
     test_unread_differences
     test_replay_example
-    test_replay_rules
     test_replay_causes
-    test_replay_real
-    test_replay_random
-    test_replay_replication
-    test_replay_missing
     end_slow_openings
-    echo "replay: $((passed - passed_before)) tests in $((SECONDS - begun)) s"
 }

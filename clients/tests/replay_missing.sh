@@ -193,6 +193,26 @@ test_missing_database() {
     expect 'missing: a database that is gone' 11 'ends the session: database "of_missing" does not exist'
 }
 
+# A query of one test has changed, and all tests share a session. The server has kept their database.
+test_missing_django() {
+    local tape=$work/missing-django.tape suite=(/usr/bin/python3 -B tests/real/django_suite.py --keepdb)
+    local changed=("${suite[@]/tests\/real/$work}") options=(--any-literal time --any-literal uuid)
+    has_module django || return
+    try "${suite[@]}"
+    record_command "$tape" "${suite[@]}"
+    sed 's/get(name="Ann").coins, 10)/get(name="Ann", coins=10).coins, 10)/' tests/real/django_suite.py > "$work/django_suite.py"
+    start_missing missing "$tape" '' --any-order --again "${options[@]}"
+    try at_port "$replay_port" "${changed[@]}"
+    same 'missing: a test of Django that has changed' "$status $output" '0 15 tests, 0 errors, 0 failures'
+    stop_replay
+    expect 'missing: the session of all tests is renewed' 143 '1 sessions are new'
+    start_replay "$tape" "${options[@]}"
+    try at_port "$replay_port" "${changed[@]}"
+    same 'missing: all tests of Django without a server' "$status $output" '0 15 tests, 0 errors, 0 failures'
+    end_replay
+    expect 'missing: all sessions of Django' 0 '2 of 2 sessions are replayed'
+}
+
 test_missing_options() {
     local tape=$work/missing.tape
     try "$programs/pg_replay" --record-missing --record-all "$tape" 0
@@ -213,6 +233,7 @@ test_replay_missing() {
     test_missing_pgbench
     test_missing_passwords
     test_missing_database
+    test_missing_django
     test_missing_options
     echo "missing: $((passed - passed_before)) tests"
 }

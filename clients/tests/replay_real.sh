@@ -160,14 +160,14 @@ test_replay_example() {
         echo 'left out: the tests of the example on its recording, since there is no python3-psycopg2'
         return
     fi
-    start_replay $folder/people.tape
+    start_replay $folder/tapes/test_people.tape
     try run_example $folder
     taken=$(grep -o 'Ran [0-9]* tests in [0-9.]*s' <<< "$errors")
     expect "replay: the example, $taken" 0 'Ran 10 tests'
     same 'replay: the example takes less than a second' "${taken##* }" "0${taken##* 0}"
     end_replay
     expect 'replay: the example, each session' 0 '10 of 10 sessions are replayed'
-    start_replay $folder/people.tape --any-order --again
+    start_replay $folder/tapes/test_people.tape --any-order --again
     try run_example $folder test_people.PeopleTest.test_pays test_people.PeopleTest.test_adds
     expect 'replay: two tests of the example, in another order' 0 'Ran 2 tests'
     try run_example $folder
@@ -175,7 +175,7 @@ test_replay_example() {
     stop_replay
     cp -r $folder "$work/example"
     sed -i 's/coins DESC, name/coins DESC/' "$work/example/people.py"
-    start_replay $folder/people.tape --any-order --go-on
+    start_replay $folder/tapes/test_people.tape --any-order --go-on
     try run_example "$work/example"
     expect 'replay: a program that changed' 1 'errors=3'
     end_replay

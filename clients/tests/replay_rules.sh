@@ -17,6 +17,10 @@ test_replay_invented_names() {
     fits 'invented names, other ones' '' "${session[@]}"
     session[3]='query:BEGIN' session[7]='query:SAVEPOINT u' session[9]='query:RELEASE SAVEPOINT s2026'
     differs 'the name of another savepoint' '' 'they part in the query' "${session[@]}"
+    session=("$as_postgres" read 'parse:a:SELECT $1::text' sync read query:BEGIN read 'query:SAVEPOINT s1' read
+        'query:DECLARE c1 CURSOR FOR SELECT 1' read 'query:ROLLBACK TO s1' read query:COMMIT read bind::a:1 execute::0 sync read terminate end)
+    record_words "${session[@]}"
+    fits 'invented names, another one after the same ones' '' "${session[@]/c1/c2026}"
 }
 
 test_replay_set_of_settings() {
@@ -139,6 +143,27 @@ test_replay_prepared_pools() {
     same 'replay: such a pool, its answers' "$(grep -o "^D .*[123]'" <<< "$replayed" | grep -o "[123]'" | tr -d "\n'")" 132
 }
 
+# Two clients that change places have each another statement by the same name, which it keeps.
+test_replay_names_in_pools() {
+    local file=$work/named.tape number words=()
+    start_tape "$file"
+    for number in 1 2; do
+        at_port "$tape_port" "${client[@]}" "$as_postgres" read 'parse:a:SELECT $1::text' "parse:b:SELECT 'b$number'" sync read \
+            "bind::a:a$number" execute::0 sync read bind::b: execute::0 sync read terminate end > /dev/null
+    done
+    stop_tape
+    for number in 1 2; do
+        words+=("at:$number" "$as_postgres" read 'parse:a:SELECT $1::text' "parse:b:SELECT 'b$number'" sync read)
+    done
+    words+=(at:1 bind::a:a2 execute::0 sync read at:2 bind::a:a1 execute::0 sync read)
+    for number in 1 2; do
+        words+=("at:$number" bind::b: execute::0 sync read terminate end)
+    done
+    replay_command "$file" '' "${client[@]}" "${words[@]}"
+    expect 'replay: a pool whose clients have other statements by the same names' 0 '2 of 2 sessions are replayed'
+    same 'replay: such a pool, the answers of each' "$(grep '^D ' <<< "$replayed" | grep -o "[ab][12]'" | tr -d "\n'")" a2a1b1b2
+}
+
 # The words of clients that are three connections of a pool, each transaction at the next one of them.
 in_a_pool() {
     local at=0 number
@@ -163,4 +188,5 @@ test_replay_rules() {
     test_replay_rule_file
     test_replay_pools
     test_replay_prepared_pools
+    test_replay_names_in_pools
 }

@@ -1,6 +1,6 @@
-"""A Django application and its fifteen tests, each within a savepoint of its class's transaction: django_suite.py
+"""A Django application and its fifteen tests, each within a savepoint of its class's transaction: django_suite.py [--keepdb]
 
-It speaks to the server that PGHOST and PGPORT name.
+It speaks to the server that PGHOST and PGPORT name, which keeps the tests' database with --keepdb.
 """
 
 import os
@@ -107,7 +107,7 @@ class PersonTest(TestCase):
         self.assertEqual(Person.objects.select_for_update().get(name="Bob").coins, 5)
 
 
-runner = DiscoverRunner(verbosity=0, interactive=False)
+runner = DiscoverRunner(verbosity=0, interactive=False, keepdb="--keepdb" in sys.argv)
 old = runner.setup_databases()
 result = unittest.TextTestRunner(stream=open(os.devnull, "w")).run(unittest.defaultTestLoader.loadTestsFromTestCase(PersonTest))
 runner.teardown_databases(old)

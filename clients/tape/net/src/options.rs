@@ -27,8 +27,7 @@ pub struct Listening {
     /// The key of that certificate
     #[arg(long, value_name = "FILE", requires = "cert")]
     pub key: Option<PathBuf>,
-    /// Serve with so many threads, not with twice as many as there are processors. A client has a thread of its own
-    /// while there are no more clients than that
+    /// Serve with so many threads, not with half as many as there are processors
     #[arg(long, value_name = "N", value_parser = clap::value_parser!(u64).range(1..=THREADS_MOST))]
     pub threads: Option<u64>,
 }
@@ -74,7 +73,7 @@ impl Listening {
     /// The threads that serve clients.
     pub fn workers(&self) -> std::io::Result<Workers> {
         let processors = std::thread::available_parallelism().map_or(1, |it| it.get() as u64);
-        let usual = (2 * processors).min(THREADS_MOST);
+        let usual = ((processors + 1) / 2).min(THREADS_MOST);
         Workers::new(self.threads.unwrap_or(usual) as usize)
     }
 }

@@ -92,10 +92,10 @@ async fn run(
 /// Puts what was recorded into the recording, once no session goes on.
 fn renew(shared: &Shared, options: &Options, tell: &Sayer) -> Result<(), Failure> {
     if let Some(renewal) = &shared.renewal {
-        let left = shared.pool().left();
-        let count = renewal.end(&left)?;
+        let renewed = shared.pool().renewed();
+        let count = renewal.end(&renewed)?;
         let path = options.file.display();
-        tell.say(format!("{count} sessions are new in {path}, and {} gone", left.len()));
+        tell.say(format!("{count} sessions are new in {path}, and {} gone", renewed.len()));
     }
     Ok(())
 }

@@ -3,7 +3,7 @@
 use crate::form::{Former, Forms};
 use crate::pool::{Claim, Pool, Step};
 use crate::rules::Rules;
-use crate::tape::{load, Cut, Cutter, Tape, Window, HEAD, MESSAGE_MOST};
+use crate::tape::{load, Cut, Cutter, Tape, What, Window, HEAD, MESSAGE_MOST};
 use ::mutants::{Mutants, OF_CLIENT, STARTUP};
 use std::sync::Arc;
 
@@ -11,28 +11,74 @@ use std::sync::Arc;
 const SAID: u64 = 50_000;
 const CUT: u64 = 200_000;
 
+const UNCHANGED: &str = "an unchanged recording";
+
+/// What the client of a recorded connection says, of which the first messages are those of the recording, or none.
+fn said_by(mutants: &mut Mutants, tape: &Tape, connection: usize) -> Vec<u8> {
+    let turns = &tape.turns[tape.connections[connection].turns.clone()];
+    let recorded = turns.iter().flat_map(|it| it.said()).take(mutants.below(20));
+    let mut said: Vec<u8> = recorded.flat_map(|it| tape.message(it).expect(UNCHANGED)).collect();
+    said.extend(mutants.messages(&OF_CLIENT, 20));
+    if mutants.flips() {
+        mutants.mutated(said)
+    } else {
+        said
+    }
+}
+
+/// The recorded message that is next, while a client says byte by byte what was recorded.
+struct Next {
+    said: Option<usize>,
+    window: Window,
+}
+
+impl Next {
+    /// The form of a message. That of the recorded one is the same, and its names stand for the same.
+    fn form(&mut self, tape: &Tape, former: &mut Former, message: &[u8]) -> u32 {
+        let next = self.said.take().filter(|it| *it < tape.script.len());
+        let mut is_said = |it| tape.is_recorded(it, message, &mut self.window).expect(UNCHANGED);
+        let next = next.filter(|it| is_said(*it));
+        if let Some(next) = next {
+            let there = tape.former_at(next, &Arc::default()).expect(UNCHANGED);
+            assert!(there.has_names_of(former));
+        }
+        let form = tape.forms.find(former.message(Some(message[0]), &message[HEAD..]));
+        if let Some(What::Form(recorded)) = next.map(|it| tape.script.what(it)) {
+            assert_eq!(recorded, form);
+            self.said = next;
+        }
+        form
+    }
+}
+
 /// Says something to a recording by a pool of one client.
 fn say(mutants: &mut Mutants, tape: &Arc<Tape>, pool: &mut Pool) {
     let mut former = Former::new(Arc::new(Rules::default()));
     let form = tape.forms.find(former.message(None, &STARTUP[4..]));
     mutants.took(1);
-    let Claim::Seat(seat, _) = pool.claim(form) else {
+    let Claim::Seat(seat) = pool.claim(form) else {
         return;
     };
-    let said = mutants.messages(&OF_CLIENT, 20);
-    let said = if mutants.flips() { mutants.mutated(said) } else { said };
+    let said = said_by(mutants, tape, seat);
+    let mut next =
+        Next { said: Some(tape.connections[seat].startup + 1), window: Window::default() };
     let (mut cutter, mut rest) = (Cutter::of_client(), &said[..]);
     while let Ok(Some(Cut::Whole(message))) = cutter.cut(&mut rest) {
         mutants.took(1);
-        let form = tape.forms.find(former.message(Some(message[0]), &message[HEAD..]));
-        match pool.step(seat, form).expect("an unchanged recording") {
+        let form = next.form(tape, &mut former, message);
+        match pool.step(seat, form).expect(UNCHANGED) {
             Step::Fits(fit) => {
                 former.settle(form);
+                if fit.is_turn_over {
+                    former.end_transaction();
+                }
                 assert!(fit.said < tape.script.len());
+                next.said = next.said.filter(|it| *it == fit.said).map(|it| it + 1);
             }
             Step::Prepares(said) => {
                 former.settle(form);
                 assert!(said < tape.script.len());
+                next.said = None;
             }
             Step::Differs(said) => {
                 assert!(said.map_or(true, |it| it < tape.script.len()));
@@ -65,9 +111,9 @@ fn anything_that_is_recorded_or_said_is_taken() {
         }
         let mut window = Window::default();
         for said in 0..tape.script.len() {
-            tape.message(said).expect("an unchanged recording");
+            tape.message(said).expect(UNCHANGED);
             for part in tape.heard_of(said) {
-                tape.heard(part, &mut window).expect("an unchanged recording");
+                tape.heard(part, &mut window).expect(UNCHANGED);
             }
         }
     }

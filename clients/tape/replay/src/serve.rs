@@ -145,7 +145,7 @@ impl Shared {
 impl Shared {
     /// Ends a client that got no connection: it is counted for the one that it differs from.
     pub fn fail(&self, connection: Option<usize>) {
-        let seat = connection.and_then(|it| self.pool().take_failed(it));
+        let seat = connection.filter(|it| self.pool().take_failed(*it));
         if let Some(seat) = seat {
             self.leave(seat, Ok(false));
         } else if !self.goes_on {

@@ -84,6 +84,11 @@ impl Former {
         self.names.settle(form, &mut self.effects);
     }
 
+    /// Whether names stand for the same here and there.
+    pub fn has_names_of(&self, other: &Former) -> bool {
+        self.names == other.names
+    }
+
     /// Forgets the names that a transaction takes along when it ends.
     pub fn end_transaction(&mut self) {
         self.names.end_transaction();

@@ -51,7 +51,7 @@ impl Effect {
 }
 
 /// What the rules say of a statement, or of a portal of it.
-#[derive(Debug, Default)]
+#[derive(Debug, Default, PartialEq, Eq)]
 pub struct About {
     /// The parameters whose values may differ, from 1 on.
     pub free: Vec<usize>,
@@ -62,7 +62,7 @@ pub struct About {
 }
 
 /// What a name stands for.
-#[derive(Clone, Debug)]
+#[derive(Clone, Debug, PartialEq, Eq)]
 struct Definition {
     /// The form of the message that made it.
     form: u32,
@@ -72,7 +72,7 @@ struct Definition {
 }
 
 /// What the names of a session stand for.
-#[derive(Clone, Debug, Default)]
+#[derive(Clone, Debug, Default, PartialEq, Eq)]
 pub struct Names {
     statements: HashMap<Vec<u8>, Definition>,
     portals: HashMap<Vec<u8>, Definition>,

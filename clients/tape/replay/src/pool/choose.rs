@@ -7,7 +7,7 @@ impl Pool {
     /// Takes another turn in the place of that which a session is in: one that went the same up to here, and goes on with
     /// a form. A client that has that one gets this one.
     pub(super) fn choose_again(&mut self, id: usize, form: u32) -> Result<bool, Changed> {
-        let seat = &self.seats[&id];
+        let seat = self.seat(id);
         let (Some(turn), at) = (seat.turn, seat.at) else {
             return Ok(false);
         };
@@ -20,7 +20,7 @@ impl Pool {
             };
             if self.is_alike(turn, other, count)? {
                 self.change(id, turn, other);
-                self.seat(id).at = place;
+                self.seat_mut(id).at = place;
                 return Ok(true);
             }
         }
@@ -28,12 +28,12 @@ impl Pool {
     }
 
     /// The messages of a turn that none may leave out.
-    fn core(&self, turn: usize) -> impl Iterator<Item = usize> + '_ {
+    pub(super) fn core(&self, turn: usize) -> impl Iterator<Item = usize> + '_ {
         self.tape.turns[turn].said().filter(|it| !self.tape.is_free(*it))
     }
 
     /// How many of them are before a place in the turn.
-    fn passed(&self, turn: usize, at: usize) -> usize {
+    pub(super) fn passed(&self, turn: usize, at: usize) -> usize {
         let place = self.tape.turns[turn].said().start + at;
         self.core(turn).take_while(|it| *it < place).count()
     }
@@ -63,7 +63,7 @@ impl Pool {
         passed: u64,
         next: &[u8],
     ) -> Result<Option<usize>, Changed> {
-        let seat = &self.seats[&id];
+        let seat = self.seat(id);
         let (Some(turn), at) = (seat.turn, seat.at) else {
             return Ok(None);
         };
@@ -79,7 +79,7 @@ impl Pool {
                 && self.is_alike(turn, other, count)?;
             if fits {
                 self.change(id, turn, other);
-                self.seat(id).at = said - self.tape.turns[other].said().start;
+                self.seat_mut(id).at = said - self.tape.turns[other].said().start;
                 return Ok(Some(said));
             }
         }
@@ -92,22 +92,38 @@ impl Pool {
         match self.holders.get(&other).copied() {
             Some(holder) if holder == id => false,
             Some(holder) => {
-                let there = &self.seats[&holder];
+                let there = self.seat(holder);
                 there.turn == Some(other) && !there.is_busy && self.passed(other, there.at) <= count
             }
             None => self.is_free(other),
         }
     }
 
+    /// Whether no other connection begins a turn with so many messages of this one.
+    pub(super) fn is_of_one(&self, turn: usize, count: usize) -> bool {
+        let connection = self.tape.turns[turn].connection();
+        let mut others = self.like(turn, count).into_iter();
+        count > 0
+            && !others.any(|other| {
+                self.tape.turns[other].connection() != connection
+                    && self.says_alike(turn, other, count)
+            })
+    }
+
+    /// Whether so many messages of two turns are the same, where those that are compared as bytes are of one length.
+    fn says_alike(&self, one: usize, other: usize, count: usize) -> bool {
+        let what = |said: usize| self.tape.script.what(said);
+        let pairs = self.core(one).zip(self.core(other)).take(count);
+        pairs.filter(|(one, other)| what(*one) == what(*other)).count() == count
+    }
+
     /// Whether two turns are the same for so many messages and their answers.
     fn is_alike(&self, one: usize, other: usize, count: usize) -> Result<bool, Changed> {
-        let pairs: Vec<_> = self.core(one).zip(self.core(other)).take(count).collect();
-        let what = |said: usize| self.tape.script.what(said);
-        if pairs.len() < count || !pairs.iter().all(|(one, other)| what(*one) == what(*other)) {
+        if !self.says_alike(one, other, count) {
             return Ok(false);
         }
-        for (one, other) in pairs {
-            let is_same = match what(one) {
+        for (one, other) in self.core(one).zip(self.core(other)).take(count) {
+            let is_same = match self.tape.script.what(one) {
                 What::Form(_) => true,
                 What::Bytes(len) => self.tape.begins_with(other, one, len, &[])?,
             };
@@ -121,7 +137,7 @@ impl Pool {
     /// Exchanges two turns, of which another client may have the second. That one goes on at the same message.
     fn change(&mut self, id: usize, own: usize, other: usize) {
         let holder = self.holders.insert(other, id);
-        self.seat(id).take_instead(own, other);
+        self.seat_mut(id).take_instead(own, other);
         let Some(holder) = holder else {
             self.holders.remove(&own);
             self.uses[own] -= 1;
@@ -129,9 +145,9 @@ impl Pool {
             return;
         };
         self.holders.insert(own, holder);
-        let count = self.passed(other, self.seats[&holder].at);
+        let count = self.passed(other, self.seat(holder).at);
         let place = self.place_after(own, count).unwrap_or(0);
-        let seat = self.seat(holder);
+        let seat = self.seat_mut(holder);
         seat.take_instead(other, own);
         seat.at = place;
     }

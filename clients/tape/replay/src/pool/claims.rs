@@ -6,8 +6,8 @@ use crate::tape::What;
 /// What becomes of a Startup.
 #[derive(Clone, Copy, Debug, PartialEq, Eq)]
 pub enum Claim {
-    /// The session has this number, and the connection is this one.
-    Seat(usize, usize),
+    /// This one, whose number the session has.
+    Seat(usize),
     /// No free connection fits, of which this is the first.
     Differs(Option<usize>),
 }
@@ -26,63 +26,61 @@ impl Pool {
         let found = self.free().filter(fits).min_by_key(|it| self.connections[*it].rounds);
         match found {
             None => Claim::Differs(first),
-            Some(connection) => Claim::Seat(self.sit(connection), connection),
+            Some(connection) => {
+                self.sit(connection);
+                Claim::Seat(connection)
+            }
         }
     }
 
     /// Takes a connection for a client that said another Startup, where it is free still.
-    pub fn take_failed(&mut self, connection: usize) -> Option<usize> {
-        (!self.connections[connection].is_held).then(|| self.sit(connection))
+    pub fn take_failed(&mut self, connection: usize) -> bool {
+        let is_free = self.connections[connection].seat.is_none();
+        if is_free {
+            self.sit(connection);
+        }
+        is_free
     }
 
     /// Whether a client has a connection.
     pub fn is_held(&self) -> bool {
-        self.connections.iter().any(|it| it.is_held)
+        self.connections.iter().any(|it| it.seat.is_some())
     }
 
     fn free(&self) -> impl Iterator<Item = usize> + '_ {
         let all = self.connections.iter().enumerate();
-        all.filter(|(_, it)| !it.is_held && it.rounds <= self.round).map(|(number, _)| number)
+        all.filter(|(_, it)| it.seat.is_none() && it.rounds <= self.round).map(|(number, _)| number)
     }
 
     /// Lets clients take those connections again that the fewest had, of those that none has.
     fn begin_round(&mut self) {
-        let free = self.connections.iter().filter(|it| !it.is_held);
+        let free = self.connections.iter().filter(|it| it.seat.is_none());
         if let Some(fewest) = free.map(|it| it.rounds).min() {
             self.round = fewest;
         }
     }
 
-    fn sit(&mut self, connection: usize) -> usize {
-        self.connections[connection].is_held = true;
-        let id = self.next_seat;
-        self.next_seat += 1;
+    fn sit(&mut self, connection: usize) {
         let recorded = &self.tape.connections[connection];
-        self.seats.insert(
-            id,
-            Seat {
-                home: connection,
-                next: recorded.turns.start,
-                connection,
-                turn: None,
-                at: 0,
-                is_busy: false,
-                number: self.tape.script.number(recorded.startup),
-                cancels: 0,
-                begun: self.caused,
-                taken: Vec::new(),
-            },
-        );
-        id
+        self.connections[connection].seat = Some(Seat {
+            next: recorded.turns.start,
+            connection,
+            turn: None,
+            at: 0,
+            is_busy: false,
+            number: self.tape.script.number(recorded.startup),
+            cancels: 0,
+            begun: self.caused,
+            taken: Vec::new(),
+        });
     }
 
     /// Ends a session, which was replayed or did otherwise.
     pub fn leave(&mut self, id: usize, is_replayed: bool) {
-        let Some(seat) = self.seats.remove(&id) else {
+        let connection = &mut self.connections[id];
+        let Some(seat) = connection.seat.take() else {
             return;
         };
-        let connection = &mut self.connections[seat.home];
-        connection.is_held = false;
         connection.rounds += 1;
         if let Some(turn) = seat.turn.filter(|it| self.holders.get(it) == Some(&id)) {
             self.holders.remove(&turn);
@@ -91,19 +89,33 @@ impl Pool {
         self.replayed += usize::from(is_replayed);
     }
 
-    /// Ends a session that goes on with a server: others may take what it took.
+    /// Ends a session that goes on with a server, and takes the place of a recorded one: others may take what it took.
     pub fn give_back(&mut self, id: usize) {
-        let Some(seat) = self.seats.remove(&id) else {
+        let Some(seat) = self.connections[id].seat.take() else {
             return;
         };
+        if let Some(connection) = self.renewed_by(id, &seat) {
+            self.connections[connection].is_renewed = true;
+        }
         for turn in seat.taken {
             self.uses[turn] = self.uses[turn].saturating_sub(1);
             if self.holders.get(&turn) == Some(&id) {
                 self.holders.remove(&turn);
             }
         }
-        let connection = &mut self.connections[seat.home];
-        connection.is_held = false;
-        connection.is_left = true;
+    }
+
+    /// The connection that a session said a part of which no other one has. Where each is taken once, one that said nothing
+    /// of the kind has that of its Startup.
+    fn renewed_by(&self, id: usize, seat: &Seat) -> Option<usize> {
+        let said = |turn: usize| match seat.turn {
+            Some(last) if last == turn => self.passed(turn, seat.at),
+            _ => self.core(turn).count(),
+        };
+        let own = seat.taken.iter().rev().find(|turn| self.is_of_one(**turn, said(**turn)));
+        match own {
+            Some(turn) => Some(self.tape.turns[*turn].connection()),
+            None => Some(id).filter(|_| !self.again),
+        }
     }
 }

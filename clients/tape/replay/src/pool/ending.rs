@@ -30,12 +30,16 @@ impl Pool {
         self.tape.connections[place.max(1) - 1].number
     }
 
-    /// The numbers of connections whose clients all went on with a server, and of which no other client took a part.
-    pub fn left(&self) -> HashSet<u32> {
+    /// The numbers of connections in whose place a client went on with a server, and of which no other client took a part. The
+    /// login is no part, unless nothing else was said.
+    pub fn renewed(&self) -> HashSet<u32> {
         let all = self.tape.connections.iter().zip(&self.connections);
-        let left = all.filter(|(recorded, it)| {
-            it.is_left && it.rounds == 0 && recorded.turns.clone().all(|turn| self.uses[turn] == 0)
+        let renewed = all.filter(|(recorded, it)| {
+            let is_login = recorded.turns.is_empty();
+            it.is_renewed
+                && (!is_login || it.rounds == 0)
+                && recorded.turns.clone().all(|turn| self.uses[turn] == 0)
         });
-        left.map(|(recorded, _)| recorded.number).collect()
+        renewed.map(|(recorded, _)| recorded.number).collect()
     }
 }

@@ -12,11 +12,11 @@ use crate::tape::{Changed, Ending, Tape, What};
 use std::collections::HashMap;
 use std::sync::Arc;
 
-/// What a client has.
-#[derive(Debug)]
+const SEATED: &str = "a session has a seat until it ends";
+
+/// What the client of a connection has.
+#[derive(Clone, Debug)]
 struct Seat {
-    /// The connection whose Startup it said.
-    home: usize,
     /// The turn that comes next where all goes as recorded, which may be none of its connection any more.
     next: usize,
     /// The connection that it follows.
@@ -37,11 +37,12 @@ struct Seat {
 
 #[derive(Clone, Debug, Default)]
 struct ConnectionState {
-    is_held: bool,
+    /// Of the client that said its Startup.
+    seat: Option<Seat>,
     /// How many clients had it and are gone.
     rounds: usize,
-    /// A client that had it went on otherwise, with a server.
-    is_left: bool,
+    /// A client went on with a server in its place.
+    is_renewed: bool,
 }
 
 pub struct Pool {
@@ -50,7 +51,7 @@ pub struct Pool {
     gives_back: bool,
     /// How often each turn was taken.
     uses: Vec<u32>,
-    /// The sessions that are in a turn, by its number.
+    /// The sessions that are in a turn, by its number. A session has the number of its connection.
     holders: HashMap<usize, usize>,
     connections: Vec<ConnectionState>,
     /// Those connections can be taken that so many clients had, or fewer.
@@ -59,8 +60,6 @@ pub struct Pool {
     by_first: Vec<(u32, u32)>,
     /// Messages that prepare statements, by their forms. Only the connections of a pool say them at other places.
     preparing: HashMap<u32, usize>,
-    seats: HashMap<usize, Seat>,
-    next_seat: usize,
     /// When messages were said that others wait for, by their count.
     causes: HashMap<usize, u64>,
     caused: u64,
@@ -135,8 +134,6 @@ impl Pool {
             connections: vec![ConnectionState::default(); tape.connections.len()],
             round: if again && any_order { usize::MAX } else { 0 },
             by_first,
-            seats: HashMap::new(),
-            next_seat: 0,
             causes: HashMap::new(),
             caused: 0,
             done: 0,
@@ -158,8 +155,7 @@ impl Pool {
 
     /// What is expected next.
     pub fn expected(&self, id: usize) -> Expected {
-        let seat = &self.seats[&id];
-        let connection = &self.tape.connections[seat.connection];
+        let (seat, home) = (self.seat(id), &self.tape.connections[id]);
         let said = match seat.turn {
             Some(turn) => Some(self.tape.turns[turn].said().start + seat.at)
                 .filter(|it| *it < self.tape.turns[turn].said().end),
@@ -168,16 +164,16 @@ impl Pool {
         Expected {
             said,
             is_sure: seat.turn.is_some() || self.tape.is_single(),
-            ending: self.tape.connections[seat.home].ending,
-            has_turns: !self.tape.connections[seat.home].turns.is_empty(),
-            connection: connection.number,
+            ending: home.ending,
+            has_turns: !home.turns.is_empty(),
+            connection: self.tape.connections[seat.connection].number,
             number: said.map_or(seat.number + 1, |it| self.tape.script.number(it)),
         }
     }
 
     /// Takes a message by the number of its form.
     pub fn step(&mut self, id: usize, form: u32) -> Result<Step, Changed> {
-        let is_next = match self.seats[&id].turn {
+        let is_next = match self.seat(id).turn {
             Some(turn) => self.pass(id, turn, form),
             None => self.take_turn(id, form),
         };
@@ -213,20 +209,24 @@ impl Pool {
 
     /// Goes to the next message of a turn that has a form, where that may be.
     fn pass(&mut self, id: usize, turn: usize, form: u32) -> bool {
-        let found = self.find(turn, self.seats[&id].at, form);
+        let found = self.find(turn, self.seat(id).at, form);
         if let Some(at) = found {
-            self.seat(id).at = at;
+            self.seat_mut(id).at = at;
         }
         found.is_some()
     }
 
-    fn seat(&mut self, id: usize) -> &mut Seat {
-        self.seats.get_mut(&id).expect("a session has a seat until it ends")
+    fn seat(&self, id: usize) -> &Seat {
+        self.connections[id].seat.as_ref().expect(SEATED)
+    }
+
+    fn seat_mut(&mut self, id: usize) -> &mut Seat {
+        self.connections[id].seat.as_mut().expect(SEATED)
     }
 
     /// Begins a turn whose first message has a form.
     fn take_turn(&mut self, id: usize, form: u32) -> bool {
-        let seat = &self.seats[&id];
+        let seat = self.seat(id);
         let end = self.tape.connections[seat.connection].turns.end;
         let mut own = (seat.next..end).filter(|turn| self.is_free(*turn));
         let own =
@@ -273,7 +273,7 @@ impl Pool {
         self.uses[turn] += 1;
         self.holders.insert(turn, id);
         let gives_back = self.gives_back;
-        let seat = self.seat(id);
+        let seat = self.seat_mut(id);
         seat.turn = Some(turn);
         seat.at = at;
         if gives_back {
@@ -283,8 +283,8 @@ impl Pool {
 
     /// Goes on after a message that fits.
     fn advance(&mut self, id: usize) -> Fit {
-        let tape = self.tape.clone();
-        let seat = self.seat(id);
+        let tape = &*self.tape;
+        let seat = self.connections[id].seat.as_mut().expect(SEATED);
         let turn = seat.turn.unwrap_or_default();
         let recorded = &tape.turns[turn];
         let said = recorded.said().start + seat.at;
@@ -318,11 +318,11 @@ impl Pool {
             .expected(id)
             .said
             .filter(|it| matches!(self.tape.script.what(*it), What::Bytes(_)))?;
-        if self.seats[&id].turn.is_none() {
-            let turn = self.own_next(&self.seats[&id])?;
+        if self.seat(id).turn.is_none() {
+            let turn = self.own_next(self.seat(id))?;
             self.hold(id, turn, 0);
         }
-        self.seat(id).is_busy = true;
+        self.seat_mut(id).is_busy = true;
         Some(said)
     }
 
@@ -333,7 +333,7 @@ impl Pool {
 
     /// Whether a message was said since a session began.
     pub fn is_said(&self, id: usize, said: usize) -> bool {
-        self.causes.get(&said).copied().unwrap_or(0) > self.seats[&id].begun
+        self.causes.get(&said).copied().unwrap_or(0) > self.seat(id).begun
     }
 
     /// Takes a request to cancel what the session of a process does. Answers whether there is one.
@@ -341,13 +341,13 @@ impl Pool {
         let Some(connection) = self.tape.processes.get(&process) else {
             return false;
         };
-        let seat = self.seats.values_mut().find(|it| it.home == *connection);
+        let seat = self.connections[*connection].seat.as_mut();
         seat.map(|it| it.cancels += 1).is_some()
     }
 
     /// Whether a request to cancel has come, which is used up by that.
     pub fn take_cancel(&mut self, id: usize) -> bool {
-        let seat = self.seat(id);
+        let seat = self.seat_mut(id);
         let has_come = seat.cancels > 0;
         seat.cancels -= u32::from(has_come);
         has_come

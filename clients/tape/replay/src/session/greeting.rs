@@ -95,9 +95,10 @@ async fn seat(shared: &Shared, guest: Guest) {
     let former = &mut Former::new(shared.rules.clone());
     let form = shared.tape.forms.find(former.message(None, &guest.startup[4..]));
     match claim(shared, form).await {
-        Claim::Seat(seat, connection) => {
-            let ended = serve(shared, guest, seat, connection).await;
-            shared.leave(seat, ended);
+        Claim::Seat(seat) => {
+            if let Some(ended) = serve(shared, guest, seat).await.transpose() {
+                shared.leave(seat, ended);
+            }
         }
         Claim::Differs(connection) => match pass_on(shared, guest).await {
             Ok(()) => {}
@@ -106,11 +107,11 @@ async fn seat(shared: &Shared, guest: Guest) {
     }
 }
 
-/// Serves a client that has a seat and a recorded connection.
-async fn serve(shared: &Shared, mut guest: Guest, seat: usize, connection: usize) -> Result<bool> {
-    let recorded = &shared.tape.connections[connection];
+/// Serves a client that has the seat of a recorded connection. `None` where it left that to others, and went on with a server.
+async fn serve(shared: &Shared, mut guest: Guest, seat: usize) -> Result<Option<bool>> {
+    let recorded = &shared.tape.connections[seat];
     if recorded.is_left_at_password {
-        return Ok(ask_in_vain(&mut guest).await.is_ok());
+        return Ok(Some(ask_in_vain(&mut guest).await.is_ok()));
     }
     let Guest { peer, stream, startup, rest } = guest;
     let taping = match &shared.renewal {
@@ -118,7 +119,7 @@ async fn serve(shared: &Shared, mut guest: Guest, seat: usize, connection: usize
         Some(renewal) => match Taping::begin(renewal, &peer, &startup).await {
             Ok(taping) => Some(taping),
             // Why nothing is recorded any more is told already.
-            Err(Over) => return Ok(false),
+            Err(Over) => return Ok(Some(false)),
         },
     };
     Session::new(shared, seat, taping).serve(stream, recorded.startup, rest).await
@@ -160,7 +161,7 @@ async fn claim(shared: &Shared, form: u32) -> Claim {
     loop {
         let claim = shared.pool().claim(form);
         let may_fit = match claim {
-            Claim::Seat(..) => false,
+            Claim::Seat(_) => false,
             // What a server answers has to wait for no recorded connection.
             Claim::Differs(_) if shared.renewal.is_some() && form == UNRECORDED => false,
             Claim::Differs(first) => first.is_none() || shared.any_order,

@@ -56,6 +56,10 @@ pub struct Session<'s> {
     seat: usize,
     state: State,
     has_failed: bool,
+    /// The recorded message that comes next, while the client says byte by byte what was recorded: names stand for the same
+    /// as there.
+    next: Option<usize>,
+    /// Makes the forms of what it says otherwise.
     former: Former,
     cutter: Cutter,
     /// Where a long message isn't over, how many bytes of it came.
@@ -89,6 +93,7 @@ impl<'s> Session<'s> {
             seat,
             state: State::Serving,
             has_failed: false,
+            next: None,
             former: Former::new(shared.rules.clone()),
             cutter: Cutter::of_client(),
             long: 0,
@@ -107,20 +112,21 @@ impl<'s> Session<'s> {
     }
 
     /// Serves a client whose Startup fits a connection, and which has said these bytes after it. Answers whether it did
-    /// as recorded.
+    /// as recorded, or `None` where it went on with a server.
     pub async fn serve(
         mut self,
         mut stream: Stream,
         startup: usize,
         bytes: Vec<u8>,
-    ) -> Result<bool> {
+    ) -> Result<Option<bool>> {
         self.out.add(&self.shared.tape, startup, self.heard_at);
+        self.next = Some(startup + 1);
         self.end_without_turns();
         self.note(&bytes).await;
         let ends = self.talk(&mut stream, bytes).await;
         if self.state == State::Missing && ends.is_ok() {
             let Some(left) = self.pass_on(stream).await else {
-                return Ok(true);
+                return Ok(None);
             };
             stream = left;
         }
@@ -129,7 +135,7 @@ impl<'s> Session<'s> {
             linger(&mut stream).await;
         }
         self.end_taping().await;
-        ends.map(|()| !self.has_failed)
+        ends.map(|()| Some(!self.has_failed))
     }
 
     /// Ends a session of which nothing after its Startup is recorded, where its client didn't end it.

@@ -29,7 +29,8 @@ pub struct Outgoing<'s> {
     late: Vec<usize>,
     keeps_times: bool,
     together: Vec<u8>,
-    window: Window,
+    /// What was read of the recording for this session.
+    pub window: Window,
     /// Where the session is recorded too.
     pub taping: Option<Taping<'s>>,
 }
@@ -113,7 +114,7 @@ impl<'s> Outgoing<'s> {
             }
         }
         sent.is_for_others |= !self.late.is_empty();
-        self.flush(stream).await?;
+        flush(&mut self.together, &mut self.taping, stream).await?;
         Ok(sent)
     }
 
@@ -193,21 +194,16 @@ impl<'s> Outgoing<'s> {
         Ok(())
     }
 
-    /// Sends what is together. What comes next is read from the recording again.
-    async fn flush(&mut self, stream: &mut Stream) -> Result<(), Unsent> {
-        self.window.clear();
-        flush(&mut self.together, &mut self.taping, stream).await
-    }
-
     /// Sends all that is left, whatever it waits for but other clients.
     pub async fn send_all(&mut self, shared: &Shared, stream: &mut Stream) -> Result<(), Unsent> {
         while let Some(item) = self.items.pop_front() {
             self.put(&shared.tape, item, stream).await?;
         }
-        self.flush(stream).await
+        flush(&mut self.together, &mut self.taping, stream).await
     }
 }
 
+/// Sends what is together.
 async fn flush(
     together: &mut Vec<u8>,
     taping: &mut Option<Taping<'_>>,

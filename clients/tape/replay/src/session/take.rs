@@ -8,6 +8,9 @@ use crate::tape::{is_state_of_standby, Changed, Cut, Cutter, Ending, Tape, What,
 use pgmsg::backend::{Message, TransactionStatus};
 use pgmsg::List;
 
+/// How many messages of a connection are read to see whether a client can follow it from there on.
+const FOLLOWED_MOST: u32 = 32;
+
 impl Session<'_> {
     /// Takes bytes, message by message, until the session ends.
     pub(super) fn take(&mut self, mut bytes: &[u8]) -> Result<(), Changed> {
@@ -43,26 +46,46 @@ impl Session<'_> {
 
     /// Takes a message that is compared by its form.
     fn take_form(&mut self, message: &[u8]) -> Result<(), Changed> {
-        let (shared, tag) = (self.shared, message[0]);
-        let form = shared.tape.forms.find(self.former.message(Some(tag), &message[HEAD..]));
-        self.ends_run = !matches!(tag, b'P' | b'B' | b'D' | b'E' | b'C');
-        let is_end_of_ignored = tag == b'S' && self.is_ignoring;
-        let step = match is_end_of_ignored {
-            true => Step::Differs(None),
-            false => shared.pool().step(self.seat, form)?,
+        self.ends_run = !matches!(message[0], b'P' | b'B' | b'D' | b'E' | b'C');
+        let known = self.known_form(message)?;
+        let form = match known {
+            Some(form) => form,
+            None => self.form_of(message)?,
         };
+        let step = match self.is_end_of_ignored(message) {
+            true => Step::Differs(None),
+            false => self.shared.pool().step(self.seat, form)?,
+        };
+        match (known, step) {
+            (None, _) => self.answer(step, form, message),
+            (Some(_), Step::Fits(fit)) if self.next == Some(fit.said) => {
+                self.fit(fit);
+                Ok(())
+            }
+            (Some(_), _) => {
+                self.form_of(message)?;
+                self.answer(step, form, message)
+            }
+        }
+    }
+
+    /// Answers a message of a form, which was made of it.
+    fn answer(&mut self, step: Step, form: u32, message: &[u8]) -> Result<(), Changed> {
         match step {
             Step::Fits(fit) => {
+                self.follow(fit.said, message)?;
                 self.former.settle(form);
                 self.fit(fit);
             }
             Step::Prepares(said) => {
-                self.out.add(&shared.tape, said, self.heard_at);
+                self.out.add(&self.shared.tape, said, self.heard_at);
                 self.former.settle(form);
                 self.is_ignoring = true;
                 self.holds = false;
             }
-            Step::Differs(_) if is_end_of_ignored || self.former.ignored().is_some() => {
+            Step::Differs(_)
+                if self.is_end_of_ignored(message) || self.former.ignored().is_some() =>
+            {
                 self.ignore(form)
             }
             Step::Differs(_) => self.differ(Side::message(message)),
@@ -70,8 +93,46 @@ impl Session<'_> {
         Ok(())
     }
 
+    fn is_end_of_ignored(&self, message: &[u8]) -> bool {
+        message[0] == b'S' && self.is_ignoring
+    }
+
+    /// The form of the message that was recorded next, where this is the very one: all names stand for the same then.
+    fn known_form(&mut self, message: &[u8]) -> Result<Option<u32>, Changed> {
+        let tape = &self.shared.tape;
+        let next = self.next.filter(|it| *it < tape.script.len());
+        match next.map(|it| (it, tape.script.what(it))) {
+            Some((next, What::Form(form))) => {
+                let is_recorded = tape.is_recorded(next, message, &mut self.out.window)?;
+                Ok(is_recorded.then_some(form))
+            }
+            _ => Ok(None),
+        }
+    }
+
+    /// The form of a message that isn't the one which was recorded next.
+    fn form_of(&mut self, message: &[u8]) -> Result<u32, Changed> {
+        let shared = self.shared;
+        if let Some(next) = self.next.take() {
+            self.former = shared.tape.former_at(next, &shared.rules)?;
+        }
+        Ok(shared.tape.forms.find(self.former.message(Some(message[0]), &message[HEAD..])))
+    }
+
+    /// Follows another connection, of which the client has said a message early on: where it is the very one, and names stand
+    /// for the same there.
+    fn follow(&mut self, said: usize, message: &[u8]) -> Result<(), Changed> {
+        let (tape, rules) = (&self.shared.tape, &self.shared.rules);
+        let follows = tape.script.number(said) <= FOLLOWED_MOST
+            && tape.is_recorded(said, message, &mut self.out.window)?
+            && tape.former_at(said, rules)?.has_names_of(&self.former);
+        self.next = Some(said).filter(|_| follows);
+        Ok(())
+    }
+
     /// Answers what fits.
     fn fit(&mut self, fit: Fit) {
+        self.next = self.next.filter(|it| *it == fit.said).map(|it| it + 1);
         let said = &self.shared.tape.script.said[fit.said];
         self.out.add(&self.shared.tape, fit.said, self.heard_at);
         self.is_owing = said.goes_on && !fit.is_turn_over;

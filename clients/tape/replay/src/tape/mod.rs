@@ -14,21 +14,27 @@ pub use connection::is_state_of_standby;
 pub use cutter::{Cut, Cutter};
 pub use load::{load, plain};
 pub use piece::{Changed, Piece, Window};
+use said::Spoken;
 pub use said::{Place, Script, What};
 pub use spoken::SpokenReader;
 
-use crate::form::Forms;
+use crate::form::{Former, Forms};
+use crate::rules::Rules;
 use pgmsg::frontend::Message;
 use std::collections::HashMap;
 use std::fs::File;
 use std::ops::Range;
 use std::path::PathBuf;
+use std::sync::Arc;
 
 /// Longer messages are compared piece by piece, and have to be the very bytes that were recorded.
 pub const MESSAGE_MOST: usize = 1 << 20;
 
 /// How many bytes of answers are read at once, unless one part is longer.
 const WINDOW_MOST: u64 = 64 << 10;
+
+/// A message and its answer are read at once where they are so near.
+const NEAR_MOST: u64 = 8 << 10;
 
 /// The bytes of a tag and a length.
 pub const HEAD: usize = 5;
@@ -136,13 +142,48 @@ impl Tape {
     /// The bytes of a part of an answer, which are read with those after them that the server sent with it.
     pub fn heard<'w>(&self, heard: usize, window: &'w mut Window) -> Result<&'w [u8], Changed> {
         let piece = &self.heard[heard];
-        let (mut end, mut rest) = (piece.end(), self.heard[heard + 1..].iter());
-        while let Some(next) =
-            rest.next().filter(|it| it.at() == end && it.end() <= piece.at() + WINDOW_MOST)
-        {
-            end = next.end();
-        }
+        let end = || {
+            let (mut end, mut rest) = (piece.end(), self.heard[heard + 1..].iter());
+            while let Some(next) =
+                rest.next().filter(|it| it.at() == end && it.end() <= piece.at() + WINDOW_MOST)
+            {
+                end = next.end();
+            }
+            end
+        };
         window.piece(piece, end, &self.file)
+    }
+
+    /// Whether a message is the very one that was recorded, which is read with its answer where that is near.
+    pub fn is_recorded(
+        &self,
+        said: usize,
+        message: &[u8],
+        window: &mut Window,
+    ) -> Result<bool, Changed> {
+        let (mut place, mut rest) = (self.script.said[said].at, message);
+        while !rest.is_empty() {
+            let Some(Spoken { piece, .. }) = self.script.spoken.get(place.piece as usize) else {
+                return Ok(false);
+            };
+            let end = || self.end_of_answer(said, piece.at() + NEAR_MOST).unwrap_or(0);
+            let bytes = &window.piece(piece, end, &self.file)?[place.at as usize..];
+            let count = bytes.len().min(rest.len());
+            if bytes[..count] != rest[..count] {
+                return Ok(false);
+            }
+            rest = &rest[count..];
+            place = Place { piece: place.piece + 1, at: 0 };
+        }
+        Ok(true)
+    }
+
+    /// Where what is heard of a message and of those that the client said with it ends, if that is before an offset.
+    fn end_of_answer(&self, said: usize, most: u64) -> Option<u64> {
+        let (later, record) = (&self.script.said[said..], self.script.said[said].at.piece);
+        let count = later.iter().take_while(|it| it.at.piece == record).count();
+        let heard = self.heard_of(said).start..self.heard_of(said + count - 1).end;
+        heard.last().map(|it| self.heard[it].end()).filter(|it| *it <= most)
     }
 
     /// The recorded bytes of a message: the whole of one of up to `MESSAGE_MOST` bytes, else its head.
@@ -223,6 +264,26 @@ impl Tape {
                 _ => None,
             }
         })
+    }
+
+    /// What knows the names that a recorded connection has before a message.
+    pub fn former_at(&self, said: usize, rules: &Arc<Rules>) -> Result<Former, Changed> {
+        let mut former = Former::new(rules.clone());
+        let place = self.connections.partition_point(|it| it.startup < said);
+        let turns = place.checked_sub(1).map_or(0..0, |it| self.connections[it].turns.clone());
+        for turn in self.turns[turns].iter().take_while(|it| it.said().start < said) {
+            for before in turn.said().take_while(|it| *it < said) {
+                if let What::Form(form) = self.script.what(before) {
+                    let message = self.message(before)?;
+                    former.message(Some(message[0]), &message[HEAD..]);
+                    former.settle(form);
+                }
+            }
+            if turn.is_whole && turn.said().end <= said {
+                former.end_transaction();
+            }
+        }
+        Ok(former)
     }
 
     /// Reads what a client said from a message on.

@@ -54,36 +54,35 @@ impl Piece {
 pub struct Window {
     at: u64,
     bytes: Vec<u8>,
+    /// Where the last piece of them begins that was compared with its checksum.
+    checked: Option<u64>,
 }
 
 impl Window {
     /// The bytes of a piece. Where they aren't here yet, they are read with those that follow up to an end.
-    pub fn piece(&mut self, piece: &Piece, end: u64, file: &File) -> Result<&[u8], Changed> {
+    pub fn piece(
+        &mut self,
+        piece: &Piece,
+        end: impl FnOnce() -> u64,
+        file: &File,
+    ) -> Result<&[u8], Changed> {
         let range = match piece.place_in(self) {
             Some(range) => range,
             None => {
-                self.read(piece.at, end.max(piece.end()) - piece.at, file)?;
+                self.read(piece.at, end().max(piece.end()) - piece.at, file)?;
                 0..piece.len()
             }
         };
         let bytes = &self.bytes[range];
-        match crc32fast::hash(bytes) == piece.checksum {
-            true => Ok(bytes),
-            false => Err(Changed::Changed),
+        if self.checked != Some(piece.at) && crc32fast::hash(bytes) != piece.checksum {
+            return Err(Changed::Changed);
         }
-    }
-
-    pub fn bytes(&self) -> &[u8] {
-        &self.bytes
-    }
-
-    /// Forgets the bytes, which others may change in the file.
-    pub fn clear(&mut self) {
-        self.bytes.clear();
+        self.checked = Some(piece.at);
+        Ok(bytes)
     }
 
     fn read(&mut self, at: u64, len: u64, file: &File) -> Result<(), Changed> {
-        self.at = at;
+        (self.at, self.checked) = (at, None);
         self.bytes.resize(len as usize, 0);
         file.read_exact_at(&mut self.bytes, at).map_err(|why| {
             self.bytes.clear();

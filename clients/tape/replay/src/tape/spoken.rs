@@ -6,13 +6,12 @@ use super::{Changed, Tape, Window};
 /// Reads what a client said on from a place.
 pub struct SpokenReader {
     place: Place,
-    held: Option<u32>,
     window: Window,
 }
 
 impl SpokenReader {
     pub fn new(place: Place) -> SpokenReader {
-        SpokenReader { place, held: None, window: Window::default() }
+        SpokenReader { place, window: Window::default() }
     }
 
     pub fn place(&self) -> Place {
@@ -27,11 +26,8 @@ impl SpokenReader {
                 return Ok(&[]);
             };
             if (self.place.at as usize) < piece.len() {
-                if self.held != Some(self.place.piece) {
-                    self.window.piece(piece, piece.end(), &tape.file)?;
-                    self.held = Some(self.place.piece);
-                }
-                return Ok(&self.window.bytes()[self.place.at as usize..]);
+                let bytes = self.window.piece(piece, || piece.end(), &tape.file)?;
+                return Ok(&bytes[self.place.at as usize..]);
             }
             self.place = Place { piece: self.place.piece + 1, at: 0 };
         }
