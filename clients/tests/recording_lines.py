@@ -1,21 +1,31 @@
 """Checks exported lines against the schema of a recording, up to 30 of each kind and shape; or changes them one way after
-the other, and checks that pg_tape names the fault with its line:
+the other, and checks that pg_tape names the fault with its line; or runs it on a terminal, and checks that it shows a bar:
 
     recording_lines.py schema SCHEMA LINES
     recording_lines.py faults PG_TAPE LINES TAPE
+    recording_lines.py bar PG_TAPE COMMAND FILE OUTPUT
 
-TAPE is a file that may be written. Prints how many lines and kinds, or how many changes, it checked. Ends with 3 where there
-is no jsonschema.
+TAPE and OUTPUT are files that may be written. Prints how many lines and kinds, or how many changes, it checked, or what the
+bar showed last. Ends with 3 where there is no jsonschema.
 """
 
 import collections
+import fcntl
 import json
+import os
 import pathlib
+import pty
 import random
+import re
+import struct
 import subprocess
 import sys
+import termios
 
 MOST = 30
+
+# What stands behind a bar: what is done and all there is, the rate, and the time that is left.
+BAR = r"\[[^]]*\] ([\d.]+ ?\wiB/[\d.]+ ?\wiB [\d.]+ ?\w*B/s \w+)"
 
 CHANGES = {
     "a field is missing": lambda line: {name: line[name] for name in list(line)[:-1]},
@@ -82,5 +92,26 @@ def check_faults(program, lines, tape):
     print(f"{count} changes")
 
 
+def check_bar(program, command, file, output):
+    """Has a program read a long file, with a terminal for standard error and without one."""
+    arguments = [program, command, file, "-o", output]
+    if said := subprocess.run(arguments, capture_output=True, check=True).stderr:
+        sys.exit(f"without a terminal: {said}")
+    ours, theirs = pty.openpty()
+    fcntl.ioctl(theirs, termios.TIOCSWINSZ, struct.pack("4H", 24, 100, 0, 0))
+    run = subprocess.Popen(arguments, stderr=theirs, env={**os.environ, "TERM": "xterm"})
+    os.close(theirs)
+    shown = b""
+    try:
+        while more := os.read(ours, 1 << 16):
+            shown += more
+    except OSError:
+        pass  # The terminal is closed by all that had it.
+    bars = re.findall(f"{command} {BAR}", shown.decode(errors="replace"))
+    if run.wait() or not bars:
+        sys.exit(f"status {run.returncode}, no bar: {shown[-200:]}")
+    print(bars[-1])
+
+
 if __name__ == "__main__":
-    {"schema": check_schema, "faults": check_faults}[sys.argv[1]](*sys.argv[2:])
+    {"schema": check_schema, "faults": check_faults, "bar": check_bar}[sys.argv[1]](*sys.argv[2:])

@@ -201,6 +201,45 @@ many_lines() {
     }'
 }
 
+# Lines of a recording of so many rows, of half a kilobyte each.
+long_lines() {
+    echo '{"kind":"Recording","version":1,"begun":0}'
+    echo '{"connection":1,"time":0,"kind":"Opened","address":"[local]"}'
+    echo '{"connection":1,"time":0,"side":"client","kind":"StartupMessage","minor":0,"settings":[]}'
+    awk -v count="$1" 'BEGIN {
+        text = sprintf("%500s", "")
+        row = "{\"connection\":1,\"time\":%d,\"side\":\"server\",\"kind\":\"DataRow\",\"values\":[\"%d\",null,\"%s\"]}\n"
+        for (at = 1; at <= count; at++) printf row, at / 10, at, text
+    }'
+}
+
+# Runs a command with so many kilobytes of memory of its own.
+with_data() (
+    ulimit -d "$1"
+    exec "${@:2}"
+)
+
+# A recording of 24 MB, and its lines, in half of its size of memory; and the bar of such work.
+test_tape_long() {
+    local most=12288 tape=$work/long.tape back=$work/long.back lines=$work/long.jsonl size command
+    long_lines 45000 > "$lines"
+    try with_data $most "$programs/pg_tape" import "$lines" -o "$tape"
+    expect "long: lines of $(($(wc -c < "$lines") >> 10)) kB are imported in $most kB" 0
+    size=$(($(wc -c < "$tape") >> 10))
+    same 'long: the recording is longer than that' "$((size > most + 8192))" 1
+    for command in export redact merge; do
+        try with_data $most "$programs/pg_tape" $command "$tape" -o "$back"
+        expect "long: $command of a recording of $size kB in $most kB" 0
+    done
+    exported_back 'long' "$tape"
+    for command in export redact view; do
+        try python3 -B tests/recording_lines.py bar "$programs/pg_tape" $command "$tape" "$back"
+        expect "long: the bar of $command: $output" 0
+    done
+    try python3 -B tests/recording_lines.py bar "$programs/pg_tape" import "$lines" "$back"
+    expect "long: the bar of import: $output" 0
+}
+
 # The page of a recording: in a browser where there is one, else by its data.
 test_tape_view() {
     local name
@@ -222,6 +261,7 @@ test_recordings() {
     test_tape_redact_logins
     test_tape_edits
     test_tape_exports
+    test_tape_long
     test_tape_view
     ok "$recordings_exported recordings are exported and imported with the same bytes"
 }

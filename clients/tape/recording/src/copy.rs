@@ -1,6 +1,6 @@
 //! A recording that is made of the records of others.
 
-use crate::{file_head, put_record, Kind};
+use crate::{crc32, file_head, put_record, Kind};
 use std::io::{self, Write};
 
 /// A recording that is written from records whose times are known.
@@ -23,7 +23,7 @@ impl<W: Write> Copy<W> {
         content: &[u8],
     ) -> io::Result<()> {
         self.bytes.clear();
-        let checksum = crc32fast::hash(content);
+        let checksum = crc32(content);
         put_record(&mut self.bytes, kind, connection, time, content, checksum);
         self.out.write_all(&self.bytes)
     }

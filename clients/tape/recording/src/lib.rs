@@ -73,7 +73,7 @@ const MAGIC: &[u8; 8] = b"PGMSGREC";
 const VERSION: u32 = 1;
 
 /// A side of a connection.
-#[derive(Clone, Copy, Debug, PartialEq, Eq, Hash)]
+#[derive(Clone, Copy, Debug, PartialEq, Eq, PartialOrd, Ord, Hash)]
 pub enum Side {
     Client,
     Server,
@@ -132,9 +132,25 @@ fn file_head(begun: u64) -> [u8; HEAD] {
     head[..8].copy_from_slice(MAGIC);
     head[8..12].copy_from_slice(&VERSION.to_be_bytes());
     head[12..20].copy_from_slice(&begun.to_be_bytes());
-    let checksum = crc32fast::hash(&head[..20]);
+    let checksum = crc32(&head[..20]);
     head[20..].copy_from_slice(&checksum.to_be_bytes());
     head
+}
+
+/// The checksum of bytes. Most records are shorter than what the crate computes at once: zeros stand before them then, which
+/// change nothing as long as no bit of the state is set. So their first four bytes are inverted, and not the state.
+pub fn crc32(bytes: &[u8]) -> u32 {
+    const AT_ONCE: usize = 128;
+    if !(4..AT_ONCE).contains(&bytes.len()) {
+        return crc32fast::hash(bytes);
+    }
+    let mut room = [0; AT_ONCE];
+    let last = &mut room[AT_ONCE - bytes.len()..];
+    last.copy_from_slice(bytes);
+    last[..4].iter_mut().for_each(|byte| *byte = !*byte);
+    let mut hasher = crc32fast::Hasher::new_with_initial(u32::MAX);
+    hasher.update(&room);
+    hasher.finalize()
 }
 
 /// Adds a record to bytes, whose content has that checksum.
@@ -158,7 +174,20 @@ fn record_head(kind: Kind, connection: u32, time: u64, len: usize) -> [u8; RECOR
     head[4] = kind.letter();
     head[5..9].copy_from_slice(&connection.to_be_bytes());
     head[9..17].copy_from_slice(&time.to_be_bytes());
-    let checksum = crc32fast::hash(&head[..17]);
+    let checksum = crc32(&head[..17]);
     head[17..].copy_from_slice(&checksum.to_be_bytes());
     head
+}
+
+#[cfg(test)]
+mod tests {
+    use super::*;
+
+    #[test]
+    fn a_checksum_of_any_length_is_that_of_the_crate() {
+        let bytes: Vec<u8> = (0..400_u32).map(|it| (it * it % 251) as u8).collect();
+        for len in 0..=bytes.len() {
+            assert_eq!(crc32(&bytes[..len]), crc32fast::hash(&bytes[..len]), "{len}");
+        }
+    }
 }

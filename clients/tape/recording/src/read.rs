@@ -1,6 +1,6 @@
 //! A recording that is read.
 
-use crate::{Kind, Side, Turns, HEAD, MAGIC, MOST, RECORD_HEAD, RECORD_TAIL, VERSION};
+use crate::{crc32, Kind, Side, Turns, HEAD, MAGIC, MOST, RECORD_HEAD, RECORD_TAIL, VERSION};
 use std::io::{self, Read};
 use std::path::Path;
 
@@ -72,7 +72,7 @@ struct Head {
 
 impl Head {
     fn read(head: &[u8; RECORD_HEAD]) -> Result<Head, &'static str> {
-        if four(&head[17..]) != crc32fast::hash(&head[..17]) {
+        if four(&head[17..]) != crc32(&head[..17]) {
             return Err("the checksum of its head is wrong");
         }
         let len = four(&head[..4]) as usize;
@@ -97,7 +97,7 @@ impl<R: Read> Reader<R> {
         if &head[..8] != MAGIC {
             return Err(Damage::NoTape("it doesn't begin with PGMSGREC"));
         }
-        if four(&head[20..]) != crc32fast::hash(&head[..20]) {
+        if four(&head[20..]) != crc32(&head[..20]) {
             return Err(Damage::Head);
         }
         match four(&head[8..12]) {
@@ -163,7 +163,7 @@ impl<R: Read> Reader<R> {
     /// Whether a content is as its head has it, and its connection in turn.
     fn check(&mut self, head: &Head) -> Result<(), &'static str> {
         let (content, checksum) = self.content.split_at(head.len);
-        if four(checksum) != crc32fast::hash(content) {
+        if four(checksum) != crc32(content) {
             return Err("the checksum of its content is wrong");
         }
         self.turns.take(head.kind, head.connection, content)
@@ -212,7 +212,7 @@ mod tests {
         let mut bytes = file_head(1).to_vec();
         let mut places = vec![bytes.len()];
         for (kind, content) in records {
-            put_record(&mut bytes, kind, 1, 2, content, crc32fast::hash(content));
+            put_record(&mut bytes, kind, 1, 2, content, crc32(content));
             places.push(bytes.len());
         }
         (bytes, places)

@@ -1,13 +1,13 @@
 //! The turns of connections: each is opened as the next one, and has records until it is closed.
 
 use crate::Kind;
-use std::collections::HashSet;
+use std::collections::BTreeSet;
 
 /// Follows the connections of a recording.
 #[derive(Debug, Default)]
 pub struct Turns {
     opened: u32,
-    open: HashSet<u32>,
+    open: BTreeSet<u32>,
 }
 
 impl Turns {

@@ -1,6 +1,6 @@
 //! A recording that is written.
 
-use crate::{file_head, put_record, record_head, Kind, HEAD, RECORD_HEAD, RECORD_TAIL};
+use crate::{crc32, file_head, put_record, record_head, Kind, HEAD, RECORD_HEAD, RECORD_TAIL};
 use std::fs::{self, File, OpenOptions};
 use std::io::{self, IoSlice, Write};
 use std::mem;
@@ -70,12 +70,12 @@ impl Tape {
     pub fn add(&self, connection: u32, records: &[(Kind, &[u8])]) -> u64 {
         // The checksum of one is made before others are kept waiting; more at a time are rare.
         let checksum = match records {
-            &[(_, content)] => crc32fast::hash(content),
+            &[(_, content)] => crc32(content),
             _ => 0,
         };
         let mut queue = lock(&self.queue);
         for &(kind, content) in records {
-            let checksum = if records.len() > 1 { crc32fast::hash(content) } else { checksum };
+            let checksum = if records.len() > 1 { crc32(content) } else { checksum };
             let time = self.now();
             put_record(&mut queue.bytes, kind, connection, time, content, checksum);
             queue.added += (RECORD_HEAD + content.len() + RECORD_TAIL) as u64;
@@ -97,7 +97,7 @@ impl Tape {
 
     /// Writes a record after all that was added, without copying its content.
     pub fn write_long(&self, connection: u32, kind: Kind, content: &[u8]) -> Result<(), Lost> {
-        let checksum = crc32fast::hash(content).to_be_bytes();
+        let checksum = crc32(content).to_be_bytes();
         let mut out = lock(&self.out);
         let (bytes, time) = self.take(&mut out, RECORD_HEAD + content.len() + RECORD_TAIL);
         let head = record_head(kind, connection, time, content.len());

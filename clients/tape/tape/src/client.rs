@@ -1,10 +1,9 @@
 //! A client's messages with their fields.
 
-use crate::kinds::kinds;
 use crate::parts::{format_list, formats, list, other, text, values};
 use crate::shapes::{
-    Bind, CopyFail, Data, Empty, Execute, FunctionCall, Initial, Key, Other, Parse, Password,
-    Query, Setting, Startup, Target, TargetKind,
+    kinds, Bind, CopyFail, Data, Empty, Execute, FunctionCall, Initial, Key, Other, Parse,
+    Password, Query, Setting, Startup, Target, TargetKind,
 };
 use pgmsg::frontend::{self, Message, PasswordMessage, SaslInitialResponse};
 use pgmsg::{ByteStr, Format, List, Refusal, Secret};

@@ -9,7 +9,7 @@ use crate::queue::{Queue, Slot};
 use pgmsg::Next;
 use recording::{Kind, Record, Side, MESSAGE_HEAD};
 use std::borrow::Cow;
-use std::collections::HashMap;
+use std::collections::BTreeMap;
 
 /// How much is held while a message isn't whole.
 const HELD: usize = 8 << 20;
@@ -22,7 +22,7 @@ impl<E, F: FnMut(Item<'_>) -> Result<(), E>> Sink<E> for F {}
 /// Cuts records into items.
 #[derive(Default)]
 pub struct Cutter {
-    directions: HashMap<(u32, Side), Direction>,
+    directions: BTreeMap<(u32, Side), Direction>,
     queue: Queue,
 }
 
@@ -37,14 +37,14 @@ impl Cutter {
                 for side in [Side::Client, Side::Server] {
                     self.directions.insert((connection, side), Direction::new(side));
                 }
-                self.give(item(What::Opened(content.into())), sink)?;
+                self.queue.give(item(What::Opened(content.into())), sink)?;
             }
-            Kind::Encrypted => self.give(item(What::Encrypted), sink)?,
+            Kind::Encrypted => self.queue.give(item(What::Encrypted), sink)?,
             Kind::LeftOut(side) => {
                 self.break_off(connection, side);
                 if let [tag, a, b, c, d] = *content {
                     let length = u32::from_be_bytes([a, b, c, d]);
-                    self.give(item(What::LeftOut { side, tag, length }), sink)?;
+                    self.queue.give(item(What::LeftOut { side, tag, length }), sink)?;
                 }
             }
             Kind::Closed => {
@@ -53,7 +53,7 @@ impl Cutter {
                     self.directions.remove(&(connection, side));
                 }
                 let side = record.closed_by().unwrap_or(Side::Server);
-                self.give(item(What::Closed(side)), sink)?;
+                self.queue.give(item(What::Closed(side)), sink)?;
             }
         }
         self.drain(sink)
@@ -62,15 +62,6 @@ impl Cutter {
     /// Gives what is left at the end of a recording.
     pub fn end<E>(&mut self, sink: &mut impl Sink<E>) -> Result<(), E> {
         self.shrink(0, sink)
-    }
-
-    /// Gives an item, after those that are held.
-    fn give<E>(&mut self, item: Item<'_>, sink: &mut impl Sink<E>) -> Result<(), E> {
-        if self.queue.is_empty() {
-            return sink(item);
-        }
-        self.queue.push(item.into_owned());
-        Ok(())
     }
 
     /// Gives the items at the front that don't wait, and holds no more than it may.
@@ -122,117 +113,100 @@ impl Cutter {
         side: Side,
         sink: &mut impl Sink<E>,
     ) -> Result<(), E> {
-        let slot =
-            Slot { connection: record.connection, time: record.time, begins: true, side, len: 0 };
-        let mut cut = Cut { slot, rest: record.content, waiting: None };
-        if cut.rest.is_empty() {
-            return self.pass_on(&mut cut, 0, sink);
-        }
-        let key = (record.connection, side);
-        // It is out of the map while the record is cut, so that it isn't looked up for each message.
-        let mut direction = self.directions.remove(&key).unwrap_or_else(|| Direction::new(side));
-        while !cut.rest.is_empty() {
-            self.step(&mut direction, &mut cut, sink)?;
-        }
-        self.directions.insert(key, direction);
-        Ok(())
-    }
-
-    /// Takes the next message of a record, or what there is of it.
-    fn step<E>(
-        &mut self,
-        direction: &mut Direction,
-        cut: &mut Cut<'_>,
-        sink: &mut impl Sink<E>,
-    ) -> Result<(), E> {
-        match direction.way {
-            Way::Broken => {
-                let count = cut.rest.len();
-                self.pass_on(cut, count, sink)
-            }
-            Way::Parts(left) => {
-                let count = left.min(cut.rest.len());
-                direction.way = Direction::parts(left - count);
-                self.pass_on(cut, count, sink)
-            }
-            Way::Messages if direction.held.is_empty() => self.look(direction, cut, sink),
-            Way::Messages => self.hold(direction, cut, sink),
-        }
-    }
-
-    /// Gives the next bytes of a record as they came.
-    fn pass_on<E>(
-        &mut self,
-        cut: &mut Cut<'_>,
-        count: usize,
-        sink: &mut impl Sink<E>,
-    ) -> Result<(), E> {
-        let slot = cut.slot;
-        self.give(slot.bytes(cut.split(count)), sink)
-    }
-
-    /// Looks for a message at the front of what is left of a record.
-    fn look<E>(
-        &mut self,
-        direction: &mut Direction,
-        cut: &mut Cut<'_>,
-        sink: &mut impl Sink<E>,
-    ) -> Result<(), E> {
-        match direction.decoder.next(cut.rest) {
-            Ok(Next::Frame(frame)) => {
-                let slot = cut.slot;
-                let here = cut.split(frame.bytes.len()).len();
-                let message = Message { tag: frame.tag, bytes: Cow::Borrowed(frame.bytes) };
-                return self
-                    .give(slot.item(What::Message { side: slot.side, message, here }), sink);
-            }
-            Ok(Next::Incomplete { tag: Some(_), needed })
-                if needed > LONGEST && cut.rest.len() >= MESSAGE_HEAD =>
-            {
-                direction.pass(needed, 0);
-            }
-            Ok(Next::Incomplete { .. }) => {
-                direction.held.extend_from_slice(cut.rest);
-                cut.waiting = None;
-                cut.wait(cut.rest.len(), direction, &mut self.queue);
-            }
-            Err(_) => direction.way = Way::Broken,
-        }
-        Ok(())
-    }
-
-    /// Adds bytes of a record to the front of a message that is held.
-    fn hold<E>(
-        &mut self,
-        direction: &mut Direction,
-        cut: &mut Cut<'_>,
-        sink: &mut impl Sink<E>,
-    ) -> Result<(), E> {
-        let needed = match direction.decoder.next(&direction.held) {
-            Ok(Next::Incomplete { needed, .. }) => needed,
-            _ => 0,
+        let &Record { connection, time, content, .. } = record;
+        let direction = self.directions.entry((connection, side));
+        let mut cut = Cut {
+            slot: Slot { connection, time, begins: true, side, len: 0 },
+            rest: content,
+            waiting: None,
+            direction: direction.or_insert_with(|| Direction::new(side)),
+            queue: &mut self.queue,
         };
-        let count = needed.saturating_sub(direction.held.len()).clamp(1, cut.rest.len());
-        direction.held.extend_from_slice(&cut.rest[..count]);
-        if direction.slots.is_empty() {
-            self.pass_on(cut, count, sink)?;
-        } else {
-            cut.wait(count, direction, &mut self.queue);
+        if content.is_empty() {
+            return cut.pass_on(0, sink);
         }
-        direction.judge(cut.slot.side, &mut self.queue);
+        while !cut.rest.is_empty() {
+            cut.step(sink)?;
+        }
         Ok(())
     }
 }
 
 /// What is left of a record.
-struct Cut<'r> {
+struct Cut<'r, 'c> {
     slot: Slot,
     rest: &'r [u8],
     /// The entry that waits with bytes of this record.
     waiting: Option<u64>,
+    direction: &'c mut Direction,
+    queue: &'c mut Queue,
 }
 
-impl<'r> Cut<'r> {
+impl<'r> Cut<'r, '_> {
+    /// Takes the next message of a record, or what there is of it.
+    fn step<E>(&mut self, sink: &mut impl Sink<E>) -> Result<(), E> {
+        match self.direction.way {
+            Way::Broken => self.pass_on(self.rest.len(), sink),
+            Way::Parts(left) => {
+                let count = left.min(self.rest.len());
+                self.direction.way = Direction::parts(left - count);
+                self.pass_on(count, sink)
+            }
+            Way::Messages if self.direction.held.is_empty() => self.look(sink),
+            Way::Messages => self.hold(sink),
+        }
+    }
+
+    /// Gives the next bytes of a record as they came.
+    fn pass_on<E>(&mut self, count: usize, sink: &mut impl Sink<E>) -> Result<(), E> {
+        let slot = self.slot;
+        let bytes = self.split(count);
+        self.queue.give(slot.bytes(bytes), sink)
+    }
+
+    /// Looks for a message at the front of what is left of a record.
+    fn look<E>(&mut self, sink: &mut impl Sink<E>) -> Result<(), E> {
+        match self.direction.decoder.next(self.rest) {
+            Ok(Next::Frame(frame)) => {
+                let slot = self.slot;
+                let here = self.split(frame.bytes.len()).len();
+                let message = Message { tag: frame.tag, bytes: Cow::Borrowed(frame.bytes) };
+                let what = What::Message { side: slot.side, message, here };
+                return self.queue.give(slot.item(what), sink);
+            }
+            Ok(Next::Incomplete { tag: Some(_), needed })
+                if needed > LONGEST && self.rest.len() >= MESSAGE_HEAD =>
+            {
+                self.direction.pass(needed, 0);
+            }
+            Ok(Next::Incomplete { .. }) => {
+                self.direction.held.extend_from_slice(self.rest);
+                self.waiting = None;
+                self.wait(self.rest.len());
+            }
+            Err(_) => self.direction.way = Way::Broken,
+        }
+        Ok(())
+    }
+
+    /// Adds bytes of a record to the front of a message that is held.
+    fn hold<E>(&mut self, sink: &mut impl Sink<E>) -> Result<(), E> {
+        let held = &mut self.direction.held;
+        let needed = match self.direction.decoder.next(held) {
+            Ok(Next::Incomplete { needed, .. }) => needed,
+            _ => 0,
+        };
+        let count = needed.saturating_sub(held.len()).clamp(1, self.rest.len());
+        held.extend_from_slice(&self.rest[..count]);
+        if self.direction.slots.is_empty() {
+            self.pass_on(count, sink)?;
+        } else {
+            self.wait(count);
+        }
+        self.direction.judge(self.slot.side, self.queue);
+        Ok(())
+    }
+
     /// Takes bytes off the front.
     fn split(&mut self, count: usize) -> &'r [u8] {
         let (bytes, rest) = self.rest.split_at(count);
@@ -242,12 +216,12 @@ impl<'r> Cut<'r> {
     }
 
     /// Has the next bytes wait for the rest of their message.
-    fn wait(&mut self, count: usize, direction: &mut Direction, queue: &mut Queue) {
+    fn wait(&mut self, count: usize) {
         match self.waiting {
-            Some(number) => queue.grow(number, count),
+            Some(number) => self.queue.grow(number, count),
             None => {
-                let number = queue.wait(Slot { len: count, ..self.slot });
-                direction.slots.push(number);
+                let number = self.queue.wait(Slot { len: count, ..self.slot });
+                self.direction.slots.push(number);
                 self.waiting = Some(number);
             }
         }

@@ -9,7 +9,7 @@ use crate::text::Text;
 use std::path::Path;
 
 /// How many bytes of lines are held to be written at once.
-const ROOM: usize = 1 << 16;
+const ROOM: usize = 1 << 17;
 
 pub fn export(path: &Path, to: Option<&Path>) -> Result<()> {
     let mut tape = Tape::open(path, &Bar::new("export", &[path]))?;

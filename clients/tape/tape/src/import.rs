@@ -4,14 +4,14 @@ use crate::bar::Bar;
 use crate::failure::{Failure, Result, Status};
 use crate::input::open;
 use crate::joiner::{Joiner, Spot, Unjoined};
+use crate::layout::Taker;
 use crate::line::{write, Head, Place, Said, VERSION};
 use crate::output::Output;
 use crate::parse::{self, Line};
-use crate::row_lines::RowLines;
-use crate::server::Server;
-use pgmsg::backend::Message;
+use memchr::memchr;
 use recording::{Kind, Side};
-use std::io::{BufRead, BufReader, Read};
+use std::io::{self, BufRead, BufReader, Read};
+use std::mem;
 use std::path::Path;
 
 const ROOM: usize = 1 << 17;
@@ -36,39 +36,61 @@ struct Import<'o> {
     out: Option<&'o mut Output>,
     joiner: Option<Joiner<&'o mut Output>>,
     message: Vec<u8>,
-    rows: RowLines,
+    taker: Taker,
     tail: Vec<u8>,
 }
 
 pub fn import(path: &Path, to: &Path) -> Result<()> {
-    let mut file = BufReader::with_capacity(ROOM, Bar::new("import", &[path]).on(open(path)?));
+    let file = BufReader::with_capacity(ROOM, Bar::new("import", &[path]).on(open(path)?));
+    let mut lines = Lines { file, passed: 0, line: Vec::new() };
     let mut out = Output::create(to)?;
-    let tail = read(&mut file, &mut out, path, to)?;
+    let tail = read(&mut lines, &mut out, path, to)?;
     out.put(&tail)?;
     out.end()
 }
 
+/// The lines of a file.
+struct Lines<R> {
+    file: BufReader<R>,
+    /// How long the last line is, where it lies in the file's buffer.
+    passed: usize,
+    /// One that doesn't.
+    line: Vec<u8>,
+}
+
+impl<R: Read> Lines<R> {
+    /// The next line, or its front where it is too long; none at the end.
+    fn next(&mut self) -> io::Result<&[u8]> {
+        self.file.consume(mem::take(&mut self.passed));
+        if let Some(end) = self.file.fill_buf().map_or(None, |it| memchr(b'\n', it)) {
+            self.passed = end + 1;
+            return Ok(&self.file.buffer()[..=end]);
+        }
+        self.line.clear();
+        self.file.by_ref().take(LONGEST as u64 + 1).read_until(b'\n', &mut self.line)?;
+        Ok(&self.line)
+    }
+}
+
 /// Reads all lines, and gives what follows the last whole record.
-fn read(file: &mut impl BufRead, out: &mut Output, path: &Path, to: &Path) -> Result<Vec<u8>> {
+fn read(lines: &mut Lines<impl Read>, out: &mut Output, path: &Path, to: &Path) -> Result<Vec<u8>> {
     let mut import = Import {
         out: Some(out),
         joiner: None,
         message: Vec::new(),
-        rows: RowLines::default(),
+        taker: Taker::default(),
         tail: Vec::new(),
     };
-    let (mut bytes, mut number) = (Vec::new(), 0_u64);
+    let mut number = 0_u64;
     loop {
-        bytes.clear();
         number += 1;
-        let read = file.by_ref().take(LONGEST as u64 + 1).read_until(b'\n', &mut bytes);
-        let is_over = read.map_err(|why| Failure::unread(path, &why))? == 0;
-        let taken = match is_over {
+        let line = lines.next().map_err(|why| Failure::unread(path, &why))?;
+        let taken = match line.is_empty() {
             true => import.end(),
-            false => import.line(&bytes),
+            false => import.line(line),
         };
         taken.map_err(|wrong| fault(&wrong, path, to, number))?;
-        if is_over {
+        if line.is_empty() {
             return Ok(import.tail);
         }
     }
@@ -95,34 +117,28 @@ impl Import<'_> {
         if bytes.len() > LONGEST {
             return Err(Wrong::Other("it is longer than 32 MiB"));
         }
+        if let (Some(joiner), []) = (&mut self.joiner, &self.tail[..]) {
+            self.message.clear();
+            if let Some(spot) = self.taker.take(bytes, &mut self.message) {
+                return Ok(joiner.message(spot, &self.message, None)?);
+            }
+        }
         if bytes.iter().all(u8::is_ascii_whitespace) {
             return Ok(());
         }
         let text = std::str::from_utf8(bytes).map_err(|_| Wrong::Other("it is no UTF-8"))?;
-        if let (Some((place, values)), Some(joiner)) = (self.rows.read(text), &mut self.joiner) {
-            self.message.clear();
-            Message::DataRow(values.into()).write(&mut self.message)?;
-            return Ok(joiner.message(spot_of(place), &self.message, place.here)?);
-        }
         match parse::read(text) {
-            Ok(line) => self.read(text, &line),
+            Ok(line) => self.take(&line),
             Err(why) => {
                 let ordered = parse::ordered(text).ok_or(Wrong::Json(why))?;
-                self.read(&ordered, &parse::read(&ordered).map_err(Wrong::Json)?)
+                self.take(&parse::read(&ordered).map_err(Wrong::Json)?)
             }
         }
     }
 
     /// Takes a line that was read.
-    fn read(&mut self, text: &str, line: &Line<'_>) -> std::result::Result<(), Wrong> {
-        self.take(line.place, &line.said)?;
-        if matches!(line.said, Said::Server(Server::DataRow(_))) {
-            self.rows.note(text, line.place);
-        }
-        Ok(())
-    }
-
-    fn take(&mut self, place: Place, said: &Said<'_>) -> std::result::Result<(), Wrong> {
+    fn take(&mut self, line: &Line<'_>) -> std::result::Result<(), Wrong> {
+        let Line { place, said } = line;
         if !self.tail.is_empty() {
             return Err(Wrong::Other("nothing follows a line of the kind `Cut`"));
         }
@@ -134,7 +150,7 @@ impl Import<'_> {
             (_, None) => return Err(Wrong::Other("the first line isn't of the kind `Recording`")),
             (_, Some(joiner)) => joiner,
         };
-        let spot = spot_of(place);
+        let spot = spot_of(*place);
         let Spot { connection, time, side, .. } = spot;
         match said {
             Said::Opened(it) => joiner.record(Kind::Opened, connection, time, &it.address.0)?,
@@ -147,10 +163,7 @@ impl Import<'_> {
             }
             Said::Continued(_) => joiner.go_on(spot, place.here)?,
             Said::Bytes(it) => joiner.message(spot, &it.data.0, place.here)?,
-            Said::Cut(it) => {
-                self.tail = it.data.0.to_vec();
-                self.rows = RowLines::default();
-            }
+            Said::Cut(it) => self.tail = it.data.0.to_vec(),
             Said::Client(_) | Said::Server(_) | Said::Recording(_) => {
                 self.message.clear();
                 write(said, &mut self.message)?;

@@ -2,8 +2,8 @@
 
 use crate::client::Client;
 use crate::item::{Item, Message, What};
+use crate::layout::Layout;
 use crate::parts::untyped;
-use crate::rows::Rows;
 use crate::server::Server;
 use crate::shapes::{Empty, Other, Tag};
 use crate::text::Text;
@@ -142,20 +142,18 @@ pub fn put(out: &mut Vec<u8>, place: Place, said: &Said<'_>) {
 pub struct Writer {
     /// The record that the next item of a message may go on with.
     last: Option<(u32, u64, Side)>,
+    /// How the lines of that record begin.
+    begin: Vec<u8>,
     /// A message as its fields give it.
     again: Vec<u8>,
-    rows: Rows,
 }
 
 impl Writer {
     /// Appends the line of an item.
     pub fn item(&mut self, out: &mut Vec<u8>, item: &Item<'_>) {
         let place = self.place(item);
-        match &item.what {
-            What::Message { side: Side::Server, message, .. } if message.tag == Some(b'D') => {
-                self.row(out, place, message)
-            }
-            what => put(out, place, &self.said(what)),
+        if !self.put_laid_out(out, place, &item.what) {
+            put(out, place, &self.said(&item.what));
         }
     }
 
@@ -171,9 +169,34 @@ impl Writer {
         };
         let is_left_out = matches!(item.what, What::LeftOut { .. });
         let record = side.filter(|_| !is_left_out).map(|side| (item.connection, item.time, side));
-        let apart = item.begins && record.is_some() && record == self.last;
+        let is_same = record.is_some() && record == self.last;
         self.last = record;
-        Place { connection: Some(item.connection), time: Some(item.time), side, apart, here }
+        let (connection, time) = (Some(item.connection), Some(item.time));
+        let place = Place { connection, time, side, apart: false, here: None };
+        if let Some(side) = side.filter(|_| !is_same) {
+            self.begin.clear();
+            put_begin(&mut self.begin, item, side);
+        }
+        Place { apart: item.begins && is_same, here, ..place }
+    }
+
+    /// Appends the line of a message that has a layout, and nothing of others.
+    fn put_laid_out(&mut self, out: &mut Vec<u8>, place: Place, what: &What<'_>) -> bool {
+        let message = match what {
+            What::Message { message, .. } if !place.apart && place.here.is_none() => message,
+            _ => return false,
+        };
+        let layout = match (place.side, message.tag) {
+            (Some(side), Some(tag)) => Layout::of_tag(side, tag),
+            _ => None,
+        };
+        let start = out.len();
+        out.extend_from_slice(&self.begin);
+        let is_put = layout.map_or(false, |layout| layout.put(out, message.body()));
+        if !is_put {
+            out.truncate(start);
+        }
+        is_put
     }
 
     /// What the line of an item says.
@@ -188,21 +211,6 @@ impl Writer {
             What::Message { side, message, .. } => self.message(*side, message),
             What::Continued { .. } => Said::Continued(Empty {}),
             What::Bytes { bytes, .. } => Said::Bytes(Bytes { data: Text(Cow::Borrowed(bytes)) }),
-        }
-    }
-
-    /// Appends the line of a DataRow.
-    fn row(&mut self, out: &mut Vec<u8>, place: Place, message: &Message<'_>) {
-        let start = out.len();
-        // Writing to a vector never fails, and the place of a message has parts.
-        let _ = serde_json::to_writer(&mut *out, &place);
-        out.pop();
-        out.extend_from_slice(br#","kind":"DataRow","values":["#);
-        if self.rows.put(out, message.body()) {
-            out.extend_from_slice(b"]}\n");
-        } else {
-            out.truncate(start);
-            put(out, place, &self.message(Side::Server, message));
         }
     }
 
@@ -230,6 +238,19 @@ impl Writer {
             (_, None) => Said::Bytes(Bytes { data: Text(Cow::Borrowed(&message.bytes)) }),
         }
     }
+}
+
+/// Appends the front of an item's line up to the name of its kind.
+fn put_begin(out: &mut Vec<u8>, item: &Item<'_>, side: Side) {
+    // Writing to a vector never fails.
+    out.extend_from_slice(br#"{"connection":"#);
+    let _ = serde_json::to_writer(&mut *out, &item.connection);
+    out.extend_from_slice(br#","time":"#);
+    let _ = serde_json::to_writer(&mut *out, &item.time);
+    out.extend_from_slice(match side {
+        Side::Client => br#","side":"client","kind":""#,
+        Side::Server => br#","side":"server","kind":""#,
+    });
 }
 
 fn other(side: Side, other: Other<'_>) -> Said<'_> {

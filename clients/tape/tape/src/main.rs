@@ -17,7 +17,7 @@ mod import;
 mod input;
 mod item;
 mod joiner;
-mod kinds;
+mod layout;
 mod line;
 mod merge;
 #[cfg(test)]
@@ -31,8 +31,6 @@ mod redact;
 mod remove;
 #[cfg(test)]
 mod roundtrip;
-mod row_lines;
-mod rows;
 #[cfg(test)]
 mod samples;
 mod server;

@@ -1,5 +1,6 @@
 //! Items in their order, of which some wait for the rest of a message.
 
+use crate::cutter::Sink;
 use crate::item::{Item, What};
 use recording::Side;
 use std::borrow::Cow;
@@ -52,9 +53,15 @@ impl Queue {
         self.size
     }
 
-    pub fn push(&mut self, item: Item<'static>) {
+    /// Gives an item to a sink, or holds it where others are held.
+    #[inline]
+    pub fn give<E>(&mut self, item: Item<'_>, sink: &mut impl Sink<E>) -> Result<(), E> {
+        if self.is_empty() {
+            return sink(item);
+        }
         self.size += ENTRY + item.len();
-        self.entries.push_back(Entry::Ready(item));
+        self.entries.push_back(Entry::Ready(item.into_owned()));
+        Ok(())
     }
 
     /// Adds a part of a message, and gives its number.

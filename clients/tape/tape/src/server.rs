@@ -1,10 +1,9 @@
 //! A server's messages with their fields.
 
 use crate::fields::Report;
-use crate::kinds::kinds;
 use crate::parts::{format_list, formats, list, other, text, values};
 use crate::shapes::{
-    Column, Columns, Command, Copy, Data, Empty, FunctionResult, Key, Mechanisms, Method,
+    kinds, Column, Columns, Command, Copy, Data, Empty, FunctionResult, Key, Mechanisms, Method,
     Negotiation, Notification, Other, Ready, Row, Salt, Setting, Status, Types,
 };
 use crate::text::Text;

@@ -21,16 +21,32 @@ fn is_no_text(byte: u8) -> bool {
     byte < b' ' && !matches!(byte, b'\t' | b'\n' | b'\r')
 }
 
-/// Whether bytes are a text of ASCII that JSON has as it is. All of them are looked at, which a compiler does many at a time.
-pub fn is_plain(bytes: &[u8]) -> bool {
-    let is_other = |byte: u8| !(b' '..0x7f).contains(&byte) || byte == b'"' || byte == b'\\';
-    !bytes.iter().fold(false, |found, byte| found | is_other(*byte))
+/// Whether there is a byte like that. All are looked at, which a compiler does many at a time.
+pub fn has(bytes: &[u8], is: impl Fn(u8) -> bool) -> bool {
+    bytes.iter().fold(false, |found, byte| found | is(*byte))
+}
+
+/// Whether bytes are a text of ASCII that JSON has as it is.
+fn is_plain(bytes: &[u8]) -> bool {
+    !has(bytes, |it| !(b' '..0x7f).contains(&it) || it == b'"' || it == b'\\')
+}
+
+/// Appends bytes as JSON has them.
+pub fn put_text(out: &mut Vec<u8>, bytes: &[u8]) {
+    if is_plain(bytes) {
+        out.push(b'"');
+        out.extend_from_slice(bytes);
+        out.push(b'"');
+    } else {
+        // Writing to a vector never fails.
+        let _ = serde_json::to_writer(out, &Text::from(bytes));
+    }
 }
 
 impl Text<'_> {
     /// The text, where the bytes are one: UTF-8 without control characters other than those of lines and columns.
     fn as_str(&self) -> Option<&str> {
-        match self.0.iter().fold(false, |found, byte| found | is_no_text(*byte)) {
+        match has(&self.0, is_no_text) {
             true => None,
             false => str::from_utf8(&self.0).ok(),
         }

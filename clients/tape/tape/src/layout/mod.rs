@@ -1,0 +1,272 @@
+//! The layouts of the messages that recordings have most of, as "Message Formats" of PostgreSQL's documentation has them. By
+//! them a message becomes a line, and a line a message, in one pass without fields in between. A message that isn't laid out
+//! so is left to the library, and a line that an export would write otherwise to a reader of JSON; tests compare what both
+//! ways give.
+
+mod put;
+mod take;
+
+pub use take::Taker;
+
+use memchr::memchr;
+use recording::Side;
+
+/// A part of a message.
+#[derive(Debug)]
+enum Part {
+    /// A text, which a NUL ends.
+    Text,
+    /// The same, where it is UTF-8.
+    Name,
+    /// All bytes that are left.
+    Rest,
+    /// The length of a value and its bytes, or -1 for NULL.
+    Value,
+    I16,
+    I32,
+    U32,
+    /// A letter, and the string that a line has for it.
+    Letter(&'static [(u8, &'static str)]),
+    /// A count of 16 bits, and as many parts.
+    List(&'static Part),
+    /// Parts that have names.
+    Object(&'static [Field]),
+}
+
+#[derive(Debug)]
+struct Field {
+    /// The name as it stands between fields of a line: `,"name":`.
+    key: &'static str,
+    part: Part,
+}
+
+/// The layout of a kind of message: its fields in the order of the line, which is that of the message.
+#[derive(Debug)]
+pub struct Layout {
+    side: Side,
+    tag: u8,
+    /// The name of the kind as it stands in a line after the first quote: `Query"`.
+    kind: &'static str,
+    fields: &'static [Field],
+}
+
+impl Layout {
+    /// The layout of a side's messages of a tag.
+    pub fn of_tag(side: Side, tag: u8) -> Option<&'static Layout> {
+        LAYOUTS.iter().find(|it| it.tag == tag && it.side == side)
+    }
+
+    /// The layout of a side's messages whose kind stands at the front of a text, and what follows that.
+    fn of_kind(side: Side, text: &[u8]) -> Option<(&'static Layout, &[u8])> {
+        let (kind, rest) = text.split_at(memchr(b'"', text)? + 1);
+        let layout = LAYOUTS.iter().find(|it| it.side == side && it.kind.as_bytes() == kind)?;
+        Some((layout, rest))
+    }
+}
+
+macro_rules! fields {
+    ($($name:ident: $part:expr),*) => {
+        &[$(Field { key: concat!(",\"", stringify!($name), "\":"), part: $part }),*]
+    };
+}
+
+macro_rules! layouts {
+    ($($side:ident $tag:literal $kind:ident { $($fields:tt)* })*) => {
+        &[$(Layout {
+            side: Side::$side,
+            tag: $tag,
+            kind: concat!(stringify!($kind), "\""),
+            fields: fields!($($fields)*),
+        }),*]
+    };
+}
+
+const STATUS: Part = Part::Letter(&[(b'I', "\"I\""), (b'T', "\"T\""), (b'E', "\"E\"")]);
+const TARGET: Part = Part::Letter(&[(b'S', "\"statement\""), (b'P', "\"portal\"")]);
+const VALUES: Part = Part::List(&Part::Value);
+const FORMATS: Part = Part::List(&Part::I16);
+const TYPES: Part = Part::List(&Part::U32);
+const COLUMN: Part = Part::Object(fields! {
+    name: Part::Name,
+    table: Part::U32,
+    attribute: Part::I16,
+    type_id: Part::U32,
+    type_size: Part::I16,
+    type_modifier: Part::I32,
+    format: Part::I16
+});
+
+static LAYOUTS: &[Layout] = layouts! {
+    Server b'D' DataRow { values: VALUES }
+    Server b'd' CopyData { data: Part::Rest }
+    Client b'd' CopyData { data: Part::Rest }
+    Server b'C' CommandComplete { command: Part::Text }
+    Server b'Z' ReadyForQuery { status: STATUS }
+    Client b'S' Sync {}
+    Client b'B' Bind {
+        portal: Part::Text,
+        statement: Part::Text,
+        formats: FORMATS,
+        values: VALUES,
+        result_formats: FORMATS
+    }
+    Client b'E' Execute { portal: Part::Text, max_rows: Part::U32 }
+    Server b'2' BindComplete {}
+    Client b'P' Parse { statement: Part::Text, query: Part::Text, types: TYPES }
+    Server b'1' ParseComplete {}
+    Client b'D' Describe { target: TARGET, name: Part::Text }
+    Client b'C' Close { target: TARGET, name: Part::Text }
+    Server b'3' CloseComplete {}
+    Client b'Q' Query { query: Part::Text }
+    Server b'T' RowDescription { columns: Part::List(&COLUMN) }
+    Server b't' ParameterDescription { types: TYPES }
+    Server b'n' NoData {}
+    Server b'S' ParameterStatus { name: Part::Name, value: Part::Name }
+    Server b'A' NotificationResponse {
+        process_id: Part::U32,
+        channel: Part::Text,
+        payload: Part::Text
+    }
+    Server b's' PortalSuspended {}
+    Server b'I' EmptyQueryResponse {}
+    Client b'H' Flush {}
+    Client b'X' Terminate {}
+    Server b'c' CopyDone {}
+    Client b'c' CopyDone {}
+};
+
+#[cfg(test)]
+mod tests {
+    use super::*;
+    use crate::item::Message;
+    use crate::joiner::Spot;
+    use crate::line::{self, Place, Writer};
+    use crate::parse;
+    use crate::samples;
+    use pgmsg::backend::{self, Column};
+    use pgmsg::frontend;
+    use rand::rngs::SmallRng;
+    use rand::{Rng, SeedableRng};
+
+    const BEGIN: &str = r#"{"connection":1,"time":5,"side":""#;
+
+    /// The messages of the samples that have a layout, and two that are texts as a whole.
+    fn messages() -> Vec<(Side, Vec<u8>)> {
+        let (mut of_client, mut of_server) =
+            (samples::client_messages(), samples::server_messages());
+        of_client.push(frontend::Message::Query("SELECT 1".into()));
+        of_server.push(backend::Message::RowDescription([Column::new("one", 23)].into()));
+        let mut all = Vec::new();
+        for message in of_client {
+            let mut bytes = Vec::new();
+            message.write(&mut bytes).unwrap();
+            all.push((Side::Client, bytes));
+        }
+        for message in of_server {
+            let mut bytes = Vec::new();
+            message.write(&mut bytes).unwrap();
+            all.push((Side::Server, bytes));
+        }
+        all.retain(|(side, bytes)| Layout::of_tag(*side, bytes[0]).is_some());
+        all
+    }
+
+    /// The line of a message by the library and by serde.
+    fn by_fields(side: Side, bytes: &[u8]) -> String {
+        let (mut out, mut writer) = (Vec::new(), Writer::default());
+        let place =
+            Place { connection: Some(1), time: Some(5), side: Some(side), ..Place::default() };
+        let message = Message { tag: Some(bytes[0]), bytes: bytes.into() };
+        line::put(&mut out, place, &writer.message(side, &message));
+        String::from_utf8(out).unwrap()
+    }
+
+    /// The line of a message by its layout.
+    fn by_layout(side: Side, bytes: &[u8]) -> Option<String> {
+        let side_name = if side == Side::Client { "client" } else { "server" };
+        let mut out = format!("{BEGIN}{side_name}\",\"kind\":\"").into_bytes();
+        let is_put = Layout::of_tag(side, bytes[0]).unwrap().put(&mut out, &bytes[5..]);
+        is_put.then(|| String::from_utf8(out).unwrap())
+    }
+
+    /// The message of a line by serde and by the library.
+    fn read(line: &str) -> Option<(Place, Vec<u8>)> {
+        let line = parse::read(line).ok()?;
+        let mut out = Vec::new();
+        line::write(&line.said, &mut out).ok()?;
+        Some((line.place, out))
+    }
+
+    #[test]
+    fn each_message_with_a_layout_becomes_its_line_and_the_same_message() {
+        let (mut kinds, mut taker) = (Vec::new(), Taker::default());
+        for (side, message) in messages() {
+            let line = by_layout(side, &message).unwrap();
+            assert_eq!(line, by_fields(side, &message));
+            let mut out = Vec::new();
+            if let Some(spot) = taker.take(line.as_bytes(), &mut out) {
+                assert_eq!(spot, Spot { connection: 1, time: 5, side, begins: false });
+                assert_eq!(out, message, "{line}");
+                kinds.push((side, message[0]));
+            }
+        }
+        let missing = LAYOUTS.iter().filter(|it| !kinds.contains(&(it.side, it.tag)));
+        assert_eq!(missing.map(|it| it.kind).collect::<Vec<_>>(), [""; 0]);
+    }
+
+    #[test]
+    fn what_a_layout_gives_of_a_changed_message_is_what_its_fields_give() {
+        let (mut random, mut laid_out) = (SmallRng::seed_from_u64(11), 0);
+        for (side, message) in messages() {
+            for _ in 0..2_000 {
+                let mut changed = message[5..].to_vec();
+                for _ in 0..random.gen_range(1..3) {
+                    let at = random.gen_range(0..=changed.len());
+                    match random.gen_range(0..3) {
+                        0 => changed.insert(at, [0, 0xff, b'"', random.gen()][at % 4]),
+                        1 => changed.truncate(at),
+                        _ => changed.iter_mut().skip(at).take(1).for_each(|it| *it = random.gen()),
+                    }
+                }
+                let length = (changed.len() as u32 + 4).to_be_bytes();
+                let bytes = [&message[..1], &length, &changed].concat();
+                if let Some(line) = by_layout(side, &bytes) {
+                    laid_out += 1;
+                    assert_eq!(line, by_fields(side, &bytes));
+                }
+            }
+        }
+        assert!(laid_out > 5_000, "{laid_out}");
+    }
+
+    #[test]
+    fn what_a_changed_line_gives_is_what_its_fields_give() {
+        let (mut random, mut taken) = (SmallRng::seed_from_u64(12), 0);
+        let mut taker = Taker::default();
+        for (side, message) in messages() {
+            let line = by_fields(side, &message).into_bytes();
+            for _ in 0..2_000 {
+                let mut changed = line.clone();
+                for _ in 0..random.gen_range(1..3) {
+                    let at = random.gen_range(0..changed.len());
+                    match random.gen_range(0..3) {
+                        0 => changed.insert(at, b"\"{}[],:0-1\\n\t "[random.gen_range(0..14)]),
+                        1 => drop(changed.remove(at)),
+                        _ => changed[at] = random.gen_range(b' '..0x7f),
+                    }
+                }
+                let mut out = Vec::new();
+                if let Some(spot) = taker.take(&changed, &mut out) {
+                    taken += 1;
+                    let changed = String::from_utf8(changed).unwrap();
+                    let (place, wanted) = read(&changed).unwrap_or_else(|| panic!("{changed}"));
+                    assert_eq!(out, wanted, "{changed}");
+                    let found = (place.connection, place.time, place.side, place.here);
+                    let wanted = (Some(spot.connection), Some(spot.time), Some(spot.side), None);
+                    assert_eq!(found, wanted, "{changed}");
+                }
+            }
+        }
+        assert!(taken > 500, "{taken}");
+    }
+}
