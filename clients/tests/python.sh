@@ -92,7 +92,6 @@ test_python() {
     LD_PRELOAD="$(cc -print-file-name=libasan.so) $(cc -print-file-name=libubsan.so)" ASAN_OPTIONS=detect_leaks=0 \
         PYTHONMALLOC=malloc test_python_units 'each access to memory is tested' "$work/package_sanitized"
     test_pip "$work"/package.wheels/pgmsg-*.whl
-    test_types
 }
 
 # The wheel by pip, which gets nothing else, in each Python that there is.
@@ -179,6 +178,13 @@ test_python_tapes() {
     PATH=$bin:$PATH PG_RECORD=$PWD/$programs/pg_record PG_REPLAY=$PWD/$programs/pg_replay \
         try run_python "$work/package" -m unittest discover -s tests -p python_tapes.py
     expect "python, tests on recordings: $(grep -o 'Ran [0-9]* tests' <<< "$errors")" 0 OK
+    if ! "$builder" -c 'import pytest, psycopg2' 2> /dev/null; then
+        echo "left out: the example by the fixture, which needs pytest and psycopg2 of $builder (apt-get install python3-pytest python3-psycopg2)"
+        return
+    fi
+    PG_REPLAY=$PWD/$programs/pg_replay PGHOST=127.0.0.1 PGPORT=1 \
+        try run_python "$work/package" -m pytest -q -p no:cacheprovider examples/recorded
+    expect "python, the example without a server: $(grep -o '[0-9]* passed' <<< "$output")" 0
 }
 
 # What an example says before the words of an error.

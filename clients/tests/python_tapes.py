@@ -139,6 +139,21 @@ class TestTape(InFolder):
             self.assertEqual([ask(it, "SELECT 1"), ask(it, "SELECT 2", "SELECT 4"), ask(it, "SELECT 5")], ["1\n", "2\n4\n", "5\n"])
         self.assertEqual([file.name for file in self.path.parent.iterdir()], ["numbers.tape"])
 
+    def test_a_session_is_renewed_though_another_client_has_its_login(self):
+        with tape(self.path, record=True) as it:
+            self.assertEqual([ask(it, "SELECT 0", "SELECT 1"), ask(it, "SELECT 0", "SELECT 2", "SELECT 3")], ["0\n1\n", "0\n2\n3\n"])
+        with tape(self.path, missing=True) as it:
+            self.assertEqual([ask(it, "SELECT 0", "SELECT 2", "SELECT 4"), ask(it, "SELECT 0", "SELECT 1")], ["0\n2\n4\n", "0\n1\n"])
+        with mock.patch.dict(os.environ, NO_SERVER), tape(self.path, whole=True) as it:
+            self.assertEqual([ask(it, "SELECT 0", "SELECT 1"), ask(it, "SELECT 0", "SELECT 2", "SELECT 4")], ["0\n1\n", "0\n2\n4\n"])
+
+    def test_a_new_session_is_recorded_beside_those_that_are_not_taken(self):
+        self.record("SELECT 1", "SELECT 2")
+        with tape(self.path, missing=True) as it:
+            self.assertEqual(ask(it, "SELECT 3"), "3\n")
+        with mock.patch.dict(os.environ, NO_SERVER), tape(self.path, whole=True) as it:
+            self.assertEqual([ask(it, f"SELECT {number}") for number in (1, 2, 3)], ["1\n", "2\n", "3\n"])
+
     def test_nothing_more_is_recorded_where_no_server_is_reached(self):
         self.record("SELECT 2")
         before = self.path.read_bytes()
@@ -195,9 +210,11 @@ class TestPytest(InFolder):
         self.assertEqual(self.run_pytest("-k", "two", **NO_SERVER)[0], 0)
 
     def test_only_a_new_test_is_recorded(self):
-        self.assertEqual(self.run_pytest("--pg-record-missing", "-k", "one")[0], 0)
-        self.assertEqual(self.run_pytest("--pg-record-missing")[0], 0)
-        self.assertEqual(self.run_pytest("--pg-whole", **NO_SERVER)[0], 0)
+        for first, others in [("one", ()), ("two", ("-k", "one"))]:
+            (self.folder / "tapes" / "test_numbers.tape").unlink(missing_ok=True)
+            self.assertEqual(self.run_pytest("--pg-record-missing", "-k", first)[0], 0)
+            self.assertEqual(self.run_pytest("--pg-record-missing", *others)[0], 0)
+            self.assertEqual(self.run_pytest("--pg-whole", **NO_SERVER)[0], 0)
 
     def test_a_difference(self):
         self.assertEqual(self.run_pytest("--pg-record")[0], 0)

@@ -1,7 +1,12 @@
 """Tests of people.py, each with a session of its own. They know nothing of recordings.
 
-    pg_record -o people.tape 6000 &                     # once, beside a server
-    pg_replay --any-order --again people.tape 6000 &    # instead of it, without one
+    pytest --pg-record    # once, beside a server
+    pytest                # without one
+
+The same without pytest and the Python package:
+
+    pg_record -o tapes/test_people.tape 6000 &
+    pg_replay --any-order --again tapes/test_people.tape 6000 &
     PGHOST=127.0.0.1 PGPORT=6000 python3 -m unittest    # with either
 """
 
