@@ -7,14 +7,18 @@ is a library, proved and tried by wrong bodies as the others, and what it marks 
 
 import re
 import shutil
+import sys
 
 import crates
 
 NAME = "pg_exports"
 
-# A function that is exported, up to its body: what it takes and returns, and its clauses.
+MARK = "#[unsafe(no_mangle)]"
+
+# A function that is exported, up to its body: what it takes and returns, and its clauses. Other attributes, which say how it
+# is proved, are left out.
 EXPORT = re.compile(
-    r'^#\[unsafe\(no_mangle\)\]\n(?P<head>pub extern "C" fn (?P<name>\w+)\((?P<params>[^)]*)\).*(?:\n    .*)*?)\s\{$', re.MULTILINE)
+    r'^#\[unsafe\(no_mangle\)\]\n(?:#\[.*\]\n)*(?P<head>pub extern "C" fn (?P<name>\w+)\((?P<params>[^)]*)\).*(?:\n    .*)*?)\s\{$', re.MULTILINE)
 
 GHOST_USE = re.compile(r"^ghost use [^;]*;$", re.MULTILINE)
 
@@ -53,6 +57,8 @@ def path_of(file):
 def module(path, text, places):
     """The exports of a module."""
     exports = list(EXPORT.finditer(text))
+    if len(exports) != text.count(MARK):
+        sys.exit(f"clients/exports.py: {path} marks a function in a form that isn't known")
     structs = sorted({struct for export in exports for struct in re.findall(r"\bPgmsg\w+", export["head"])})
     uses = [f"use pg_c::{places[struct]}::{struct};" for struct in structs]
     if any("Global" in export["params"] for export in exports):
@@ -63,4 +69,4 @@ def module(path, text, places):
 def calling(path, export):
     """An export, whose body is a call."""
     arguments = ", ".join(re.findall(r"(\w+): ", export["params"]))
-    return f"\n#[unsafe(no_mangle)]\n{export['head']}\n{{\n    pg_c::{path}::{export['name']}({arguments})\n}}\n"
+    return f"\n{MARK}\n{export['head']}\n{{\n    pg_c::{path}::{export['name']}({arguments})\n}}\n"

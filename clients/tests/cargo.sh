@@ -26,12 +26,25 @@ has_crates() {
     [ -z "$lacking" ]
 }
 
+# The crates of others that the workspace tape takes.
+tape_crates=(anyhow base64 bytes clap crc32fast hex indicatif memchr once_cell openssl rand regex rlimit rustix serde serde_json similar socket2 thiserror tokio tokio-openssl toml)
+
+# Compiles these, which takes no library, where they are there.
+compile_tape_crates() {
+    local cargo_folder
+    if read -r cargo_folder _ < <(rust_folders 1.65) && has_crates "${tape_crates[@]/%clap/clap-4}"; then
+        # What a newer cargo wrote an older one may not read.
+        rm -f tape/Cargo.lock
+        by_cargo tape build "${tape_crates[@]/#/--package=}"
+    fi
+}
+
 # Runs cargo of $cargo_folder in a folder on a library, without what only a debugger takes. What it builds is in one place
 # for all that take the same crates.
 by_cargo() {
     env -C "$1" PATH="$cargo_folder:$PATH" RUSTC="$cargo_folder/rustc" RUSTDOC="$cargo_folder/rustdoc" \
         RUSTDOCFLAGS=-Dwarnings CARGO_INCREMENTAL=0 CARGO_PROFILE_DEV_DEBUG=0 CARGO_TARGET_DIR="$PWD/out/cargo" \
-        PGMSG_LIB_DIR="$(dirname "$(realpath "$LIBRARY")")" "$cargo_folder/cargo" "$2" --offline --quiet "${@:3}"
+        PGMSG_LIB_DIR="$(dirname "$(realpath "${LIBRARY:-none}")")" "$cargo_folder/cargo" "$2" --offline --quiet "${@:3}"
 }
 
 # The same where each warning of the compiler and of clippy about the workspace's own crates is an error: they are compiled

@@ -117,6 +117,7 @@ fn main() -> Result<(), pgmsg::Refusal> {
     Ok(())
 }
 END
+    install_library
     try "$cargo_folder/cargo" add --offline --quiet --manifest-path "$program/Cargo.toml" --path "$PWD/rust/pgmsg"
     expect "$name: is added" 0
     try env -u PGMSG_LIB_DIR PATH="$cargo_folder:$PATH" RUSTC="$cargo_folder/rustc" CARGO_TARGET_DIR="$program/target" \
