@@ -1,3 +1,2 @@
 pub mod Backend
 pub mod Frontend
-pub mod Replication

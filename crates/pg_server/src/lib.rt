@@ -4,4 +4,3 @@
 
 pub mod backend;
 pub mod frontend;
-pub mod replication;

@@ -8,9 +8,9 @@ use Rattle.pg_format.specs.Field.{signed64}
 use Rattle.pg_format.specs.declared.replication.ReplicationKind.TheVariants as kinds
 use Rattle.pg_server.specs.Backend.BackendText.{part_of}
 use Rattle.pg_server.specs.Backend.Message.{Replication, law_of}
-use Rattle.pg_server.specs.Replication.{shown_xlog_data}
-use Rattle.pg_server.specs.declared.replication.streaming.XLogData.{XLogData}
-use Rattle.pg_server.proofs.replication.streaming.XLogDataBackendText.parts.Goals as goal
+use Rattle.pg_replication.specs.ReplicationMessage.{shown_xlog_data}
+use Rattle.pg_replication.specs.declared.streaming.XLogData.{XLogData}
+use Rattle.pg_replication.proofs.streaming.XLogDataBackendText.parts.Goals as goal
 
 of_parts : (it : XLogData) (clock : ℤ) → clock ≡ it.clock
     → IsSame (both (byte 119) (both (number64 it.start) (both (number64 it.end) (both (signed64 clock) (bytes it.content.now)))))

@@ -1,5 +1,6 @@
 //! What the data of a CopyData says while a server streams its log or a backup: read by either side, and written as
 //! a whole CopyData. Nothing is read by asking for memory.
+#![tactic(auto)]
 
 mod backup;
 mod replication_message;

@@ -11,9 +11,9 @@ use Rattle.pg_format.specs.Replication.{bit, flag}
 use Rattle.pg_format.specs.declared.replication.ReplicationKind.TheVariants as kinds
 use Rattle.pg_server.specs.Backend.BackendText.{part_of}
 use Rattle.pg_server.specs.Backend.Message.{Replication, law_of}
-use Rattle.pg_server.specs.Replication.{shown_status_update}
-use Rattle.pg_server.specs.declared.replication.streaming.StandbyStatusUpdate.{StandbyStatusUpdate}
-use Rattle.pg_server.proofs.replication.streaming.StandbyStatusUpdateBackendText.parts.Goals as goal
+use Rattle.pg_replication.specs.ReplicationMessage.{shown_status_update}
+use Rattle.pg_replication.specs.declared.streaming.StandbyStatusUpdate.{StandbyStatusUpdate}
+use Rattle.pg_replication.proofs.streaming.StandbyStatusUpdateBackendText.parts.Goals as goal
 
 one_byte : (set : Bool) → bit set ∷ [] ≡ flag.Writes set
 one_byte true = refl

@@ -1,5 +1,5 @@
 use Rattle.std.proofs.lemmas.Result.{err_from_is_err_and}
-use Rattle.pg_server.proofs.replication.streaming.StandbyStatusUpdate.read.Goals as goal
+use Rattle.pg_replication.proofs.streaming.StandbyStatusUpdate.read.Goals as goal
 
 pub returns-in_err-written : goal.returns-in_err-written
 returns-in_err-written c =

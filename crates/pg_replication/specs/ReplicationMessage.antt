@@ -10,16 +10,16 @@ use Rattle.pg_format.specs.Replication as page
 use Rattle.pg_format.specs.Replication.{replication_letter, IsNoLetter}
 use Rattle.pg_format.specs.declared.replication.ReplicationKind.{ReplicationKind}
 use Rattle.pg_format.specs.declared.replication.ReplicationKind.TheVariants as kinds
-use Rattle.pg_server.specs.declared.replication.streaming.XLogData.{XLogData}
-use Rattle.pg_server.specs.declared.replication.streaming.PrimaryKeepalive.{PrimaryKeepalive}
-use Rattle.pg_server.specs.declared.replication.streaming.StandbyStatusUpdate.{StandbyStatusUpdate}
-use Rattle.pg_server.specs.declared.replication.streaming.HotStandbyFeedback.{HotStandbyFeedback}
-use Rattle.pg_server.specs.declared.replication.backup.NewArchive.{NewArchive}
-use Rattle.pg_server.specs.declared.replication.backup.Manifest.{Manifest}
-use Rattle.pg_server.specs.declared.replication.backup.BackupData.{BackupData}
-use Rattle.pg_server.specs.declared.replication.backup.Progress.{Progress}
-use Rattle.pg_server.specs.declared.replication.replication_message.ReplicationMessage.{ReplicationMessage}
-use Rattle.pg_server.specs.declared.replication.replication_message.ReplicationMessage.TheVariants as messages
+use Rattle.pg_replication.specs.declared.streaming.XLogData.{XLogData}
+use Rattle.pg_replication.specs.declared.streaming.PrimaryKeepalive.{PrimaryKeepalive}
+use Rattle.pg_replication.specs.declared.streaming.StandbyStatusUpdate.{StandbyStatusUpdate}
+use Rattle.pg_replication.specs.declared.streaming.HotStandbyFeedback.{HotStandbyFeedback}
+use Rattle.pg_replication.specs.declared.backup.NewArchive.{NewArchive}
+use Rattle.pg_replication.specs.declared.backup.Manifest.{Manifest}
+use Rattle.pg_replication.specs.declared.backup.BackupData.{BackupData}
+use Rattle.pg_replication.specs.declared.backup.Progress.{Progress}
+use Rattle.pg_replication.specs.declared.replication_message.ReplicationMessage.{ReplicationMessage}
+use Rattle.pg_replication.specs.declared.replication_message.ReplicationMessage.TheVariants as messages
 
 abbrev pub shown_xlog_data : XLogData → page.XLogData
 shown_xlog_data x = record { start = x.start; end = x.end; clock = x.clock; content = x.content.now }

@@ -5,9 +5,9 @@ ghost use Rattle.pg_format.specs.Format.Places.{ReadsAfter};
 ghost use Rattle.pg_format.specs.Replication as page;
 ghost use Rattle.pg_format.specs.declared.replication.ReplicationKind.TheVariants as kinds;
 ghost use Rattle.pg_server.specs.Backend.Message.{Replication};
-ghost use Rattle.pg_server.specs.Replication.{shown_xlog_data, shown_keepalive, shown_status_update, shown_feedback};
+ghost use Rattle.pg_replication.specs.ReplicationMessage.{shown_xlog_data, shown_keepalive, shown_status_update, shown_feedback};
 
-use crate::backend::BackendText;
+use pg_server::backend::BackendText;
 use pg_base::ProtocolFault;
 use pg_base::io::MAX_BODY;
 use pg_base::io::part::{Byte, Number32, Number64, Slice, Then};
@@ -30,7 +30,7 @@ type XLogDataFields<'a> = Then<Number64, Then<Number64, Then<Signed64, Slice<'a>
 
 impl<'a> XLogData<'a> {
     /// Reads what follows the letter, which stands before an offset of a message.
-    pub(super) fn read(message: &'a [u8], at: usize) -> Result<XLogData<'a>, ProtocolFault>
+    pub(crate) fn read(message: &'a [u8], at: usize) -> Result<XLogData<'a>, ProtocolFault>
         requires within { at ≤ length message.now }
         requires short { length message.now ≤ MAX_BODY }
         ensures { ReadsAfter page.xlog_data shown_xlog_data message.now at result }
@@ -86,7 +86,7 @@ type PrimaryKeepaliveFields = Then<Number64, Then<Signed64, Flag>>;
 
 impl PrimaryKeepalive {
     /// Reads what follows the letter, which stands before an offset of a message.
-    pub(super) fn read(message: &[u8], at: usize) -> Result<PrimaryKeepalive, ProtocolFault>
+    pub(crate) fn read(message: &[u8], at: usize) -> Result<PrimaryKeepalive, ProtocolFault>
         requires within { at ≤ length message.now }
         requires short { length message.now ≤ MAX_BODY }
         ensures { ReadsAfter page.primary_keepalive shown_keepalive message.now at result }
@@ -145,7 +145,7 @@ type StandbyStatusUpdateFields = Then<
 
 impl StandbyStatusUpdate {
     /// Reads what follows the letter, which stands before an offset of a message.
-    pub(super) fn read(message: &[u8], at: usize) -> Result<StandbyStatusUpdate, ProtocolFault>
+    pub(crate) fn read(message: &[u8], at: usize) -> Result<StandbyStatusUpdate, ProtocolFault>
         requires within { at ≤ length message.now }
         requires short { length message.now ≤ MAX_BODY }
         ensures { ReadsAfter page.standby_status_update shown_status_update message.now at result }
@@ -217,7 +217,7 @@ type HotStandbyFeedbackFields = Then<
 
 impl HotStandbyFeedback {
     /// Reads what follows the letter, which stands before an offset of a message.
-    pub(super) fn read(message: &[u8], at: usize) -> Result<HotStandbyFeedback, ProtocolFault>
+    pub(crate) fn read(message: &[u8], at: usize) -> Result<HotStandbyFeedback, ProtocolFault>
         requires within { at ≤ length message.now }
         requires short { length message.now ≤ MAX_BODY }
         ensures { ReadsAfter page.hot_standby_feedback shown_feedback message.now at result }

@@ -1,6 +1,6 @@
 use Rattle.std.proofs.Common.{refl, inl, inr}
 use Rattle.std.proofs.lemmas.Result.{err_from_is_err_and}
-use Rattle.pg_server.proofs.replication.replication_message.ReplicationMessage.read.Goals as goal
+use Rattle.pg_replication.proofs.replication_message.ReplicationMessage.read.Goals as goal
 
 pub returns-in_err-letter-clause-read : goal.returns-in_err-letter-clause-read
 returns-in_err-letter-clause-read c =

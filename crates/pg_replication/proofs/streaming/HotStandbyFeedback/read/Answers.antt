@@ -1,5 +1,5 @@
 use Rattle.std.proofs.lemmas.Result.{err_from_is_err_and}
-use Rattle.pg_server.proofs.replication.streaming.HotStandbyFeedback.read.Goals as goal
+use Rattle.pg_replication.proofs.streaming.HotStandbyFeedback.read.Goals as goal
 
 pub returns-in_err-clock : goal.returns-in_err-clock
 returns-in_err-clock c =

@@ -5,10 +5,10 @@ ghost use Rattle.pg_format.specs.Format.Places.{ReadsAfter};
 ghost use Rattle.pg_format.specs.Replication as page;
 ghost use Rattle.pg_format.specs.declared.replication.ReplicationKind.TheVariants as kinds;
 ghost use Rattle.pg_server.specs.Backend.Message.{Replication};
-ghost use Rattle.pg_server.specs.Replication.{shown_new_archive, shown_manifest, shown_backup_data, shown_progress};
+ghost use Rattle.pg_replication.specs.ReplicationMessage.{shown_new_archive, shown_manifest, shown_backup_data, shown_progress};
 
-use crate::backend::BackendText;
-use crate::backend::text::NulEnded;
+use pg_server::backend::BackendText;
+use pg_server::backend::NulEnded;
 use pg_base::ProtocolFault;
 use pg_base::io::MAX_BODY;
 use pg_base::io::part::{Byte, Nothing, Number64, Slice, Then};
@@ -26,7 +26,7 @@ pub struct NewArchive<'a> {
 
 impl<'a> NewArchive<'a> {
     /// Reads what follows the letter, which stands before an offset of a message.
-    pub(super) fn read(message: &'a [u8], at: usize) -> Result<NewArchive<'a>, ProtocolFault>
+    pub(crate) fn read(message: &'a [u8], at: usize) -> Result<NewArchive<'a>, ProtocolFault>
         requires within { at ≤ length message.now }
         requires short { length message.now ≤ MAX_BODY }
         ensures { ReadsAfter page.new_archive shown_new_archive message.now at result }
@@ -62,7 +62,7 @@ pub struct Manifest;
 
 impl Manifest {
     /// Reads what follows the letter, which stands before an offset of a message.
-    pub(super) fn read(message: &[u8], at: usize) -> Result<Manifest, ProtocolFault>
+    pub(crate) fn read(message: &[u8], at: usize) -> Result<Manifest, ProtocolFault>
         requires within { at ≤ length message.now }
         requires short { length message.now ≤ MAX_BODY }
         ensures { ReadsAfter page.manifest shown_manifest message.now at result }
@@ -97,7 +97,7 @@ pub struct BackupData<'a> {
 
 impl<'a> BackupData<'a> {
     /// Reads what follows the letter, which stands before an offset of a message.
-    pub(super) fn read(message: &'a [u8], at: usize) -> Result<BackupData<'a>, ProtocolFault>
+    pub(crate) fn read(message: &'a [u8], at: usize) -> Result<BackupData<'a>, ProtocolFault>
         requires within { at ≤ length message.now }
         requires short { length message.now ≤ MAX_BODY }
         ensures { ReadsAfter page.backup_data shown_backup_data message.now at result }
@@ -131,7 +131,7 @@ pub struct Progress {
 
 impl Progress {
     /// Reads what follows the letter, which stands before an offset of a message.
-    pub(super) fn read(message: &[u8], at: usize) -> Result<Progress, ProtocolFault>
+    pub(crate) fn read(message: &[u8], at: usize) -> Result<Progress, ProtocolFault>
         requires within { at ≤ length message.now }
         requires short { length message.now ≤ MAX_BODY }
         ensures { ReadsAfter page.progress shown_progress message.now at result }

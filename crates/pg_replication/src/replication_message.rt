@@ -1,9 +1,9 @@
 //! Any message of replication.
 
 ghost use Rattle.std.specs.Prelude.{◌≤◌, ◌<◌, length};
-ghost use Rattle.pg_server.specs.Replication.{ReadsReplication, ReadsKind, IsTooLong};
+ghost use Rattle.pg_replication.specs.ReplicationMessage.{ReadsReplication, ReadsKind, IsTooLong};
 
-use crate::replication::{
+use crate::{
     BackupData, HotStandbyFeedback, Manifest, NewArchive, PrimaryKeepalive, Progress,
     StandbyStatusUpdate, XLogData,
 };
