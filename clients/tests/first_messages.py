@@ -1,7 +1,7 @@
 #!/usr/bin/env python3
-"""Compares what a PostgreSQL server takes as the first message of a connection with what pg_server_tool reads.
+"""Compares what a PostgreSQL server takes as the first message of a connection with what pg_tool reads.
 
-    first_messages.py PORT    PG_SERVER_TOOL reads what is sent to the server at this port of 127.0.0.1, where postgres
+    first_messages.py PORT    PG_TOOL reads what is sent to the server at this port of 127.0.0.1, where postgres
                               needs no password; prints what was compared
 
 A server that takes a Startup answers with an Authentication, after a NegotiateProtocolVersion where it was asked for more
@@ -81,7 +81,7 @@ def answered(port, body):
 
 
 def tool(mode, text):
-    return subprocess.run([os.environ["PG_SERVER_TOOL"], mode], input=text, stdout=subprocess.PIPE).stdout
+    return subprocess.run([os.environ["PG_TOOL"], "server", mode], input=text, stdout=subprocess.PIPE).stdout
 
 
 def is_read(body):

@@ -1,11 +1,11 @@
 #!/usr/bin/env python3
-"""Keeps what clients say to a server, and compares it with what pg_server_tool reads of it.
+"""Keeps what clients say to a server, and compares it with what pg_tool reads of it.
 
     said.py keep FOLDER PORT       passes connections on to a port of this machine, and keeps what each client says in a
                                    file of the folder, and what the server answers in one of its name with .answers;
                                    prints its own port
     said.py pass PORT SAID ANSWERED    passes one connection on, and keeps both sides in files; prints its own port
-    said.py read FOLDER PROGRAM    PG_SERVER_TOOL must read each file as messages and nothing else, and the program must print
+    said.py read FOLDER PROGRAM    PG_TOOL must read each file as messages and nothing else, and the program must print
                                    the same lines; prints each kind
 """
 
@@ -22,7 +22,7 @@ import threading
 import asked
 
 sys.path.insert(0, str(pathlib.Path(__file__).resolve().parents[2] / "tests"))
-import rows_of_pg_server_tool as rows  # noqa: E402
+import rows_of_server as rows  # noqa: E402
 
 PIECE = 65536
 
@@ -78,7 +78,7 @@ def read(folder, program):
     files = [file for file in sorted(folder.iterdir()) if not file.suffix]
     for file in files:
         said = file.read_bytes()
-        lines = lines_of([os.environ["PG_SERVER_TOOL"], "stream"], said)
+        lines = lines_of([os.environ["PG_TOOL"], "server", "stream"], said)
         if lines_of([program], said) != lines:
             raise ValueError(f"{file.name}: {program} prints other lines")
         kinds.update(line.split(" ")[0] for line in lines)

@@ -1,4 +1,4 @@
-# What clients say to a server: read by pg_server_tool, by the lines of pg_record, and passed on. Sourced by `test`.
+# What clients say to a server: read by pg_tool, by the lines of pg_record, and passed on. Sourced by `test`.
 
 # Leaves the process that keeps what is said in $keeping, its port in $said_port, what precedes a client in $aloud.
 start_keeping() {
@@ -98,8 +98,8 @@ keep_said() {
 }
 
 test_said() {
-    if [ -z "${PG_SERVER_TOOL:-}" ]; then
-        echo 'left out: what clients say, since PG_SERVER_TOOL names no pg_server_tool'
+    if [ -z "${PG_TOOL:-}" ]; then
+        echo 'left out: what clients say, since PG_TOOL names no pg_tool'
         return
     fi
     keep_said
@@ -108,7 +108,7 @@ test_said() {
     same 'each kind of message is said' "$(comm -23 <(echo "$said_kinds") <(tr ' ' '\n' <<< "$output" | sort))" ''
 }
 
-# Streams of the tables of pg_server_tool.
+# Streams of the tables of the server's side.
 test_said_lines() {
     try timeout 300 tests/said_lines.py "$programs/said_lines"
     expect "the lines of clients' streams: $output" 0
@@ -133,8 +133,8 @@ test_passed_on() {
 # Which first messages a server takes, beside what is read of them.
 test_first_messages() {
     local taken
-    if [ -z "${PG_SERVER_TOOL:-}" ]; then
-        echo 'left out: first messages by pg_server_tool, which PG_SERVER_TOOL has to name'
+    if [ -z "${PG_TOOL:-}" ]; then
+        echo 'left out: first messages by pg_tool, which PG_TOOL has to name'
         return
     fi
     try tests/first_messages.py "$PGPORT"

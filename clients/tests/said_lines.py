@@ -1,5 +1,5 @@
 #!/usr/bin/env python3
-"""Compares the lines that said_lines prints of clients' streams with the tables of pg_server_tool.
+"""Compares the lines that said_lines prints of clients' streams with the tables of `pg_tool server stream`.
 
     said_lines.py PROGRAM
 
@@ -16,7 +16,7 @@ import tempfile
 import asked
 
 sys.path.insert(0, str(pathlib.Path(__file__).resolve().parents[2] / "tests"))
-import rows_of_pg_server_tool as rows  # noqa: E402
+import rows_of_server as rows  # noqa: E402
 
 OPENING, OPENED = "startup 3.0 -", b"\0\0\0\x09\0\3\0\0\0"
 

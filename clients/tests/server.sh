@@ -85,7 +85,7 @@ init_server() {
 forget_variables() {
     local name
     for name in "${!PG@}"; do
-        if [[ $name != PG_TOOL && $name != PG_SERVER_TOOL ]]; then
+        if [[ $name != PG_TOOL ]]; then
             unset "$name"
         fi
     done

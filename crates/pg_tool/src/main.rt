@@ -1,14 +1,21 @@
-//! Writes and reads PostgreSQL messages that are given as lines of text, and finds them in a stream.
+//! Writes and reads PostgreSQL messages that are given as lines of text, and finds them in a stream: the messages of a
+//! client's side, and after the word `server` those of a server's side.
 #![tactic(auto)]
 
-mod command;
-mod decode;
-mod encode;
+mod answers;
+mod client;
+mod digits;
+mod fault;
+mod frames;
+mod lines;
+mod numbers;
 mod run;
+mod server;
 mod stream;
-mod word;
+mod tagged;
+mod text;
 
-use pg_lines::Fault;
+use crate::fault::Fault;
 use std::env;
 use std::process::ExitCode;
 

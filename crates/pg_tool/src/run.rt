@@ -1,20 +1,27 @@
 //! A run of the program over any input and output.
 
-use crate::decode::decode;
-use crate::encode::encode;
+use crate::fault::Fault;
 use crate::stream::stream;
-use pg_lines::{Fault, read_all, write_text};
+use crate::text::{read_all, write_text};
+use crate::{client, server};
+use pg_frames::FrameReader;
+use pg_frames::frontend::{FrontendFrameReader, MAX_FIRST_LENGTH};
 use std::alloc::Global;
 use std::io::{Read, Write};
 
 const USAGE: &str = "usage: pg_tool encode|decode|stream";
+
+const SERVER_USAGE: &str = "usage: pg_tool server encode|decode|stream";
+
+/// The word before the command of a server's side.
+const SERVER: &str = "server";
 
 /// The exit status of a wrong argument.
 const WRONG_USAGE: u8 = 2;
 
 /// What the program does with its input.
 #[derive(Clone, Copy)]
-pub enum Mode {
+pub enum Command {
     /// Writes messages as their bytes.
     Encode,
     /// Reads bodies by their tags.
@@ -33,44 +40,69 @@ pub fn start<R: Read, W: Write, E: Write>(
     output: &mut W,
     errors: &mut E,
 ) -> u8 {
-    let Some(mode) = mode_of(args) else {
-        let _ = writeln!(errors, "{USAGE}");
+    let (is_server, usage, command) = match args {
+        [] => (false, USAGE, Some(Command::Encode)),
+        [side, words @ ..] if side.as_str() == SERVER => (true, SERVER_USAGE, command_of(words)),
+        words => (false, USAGE, command_of(words)),
+    };
+    let Some(command) = command else {
+        let _ = writeln!(errors, "{usage}");
         return WRONG_USAGE;
     };
-    match run(alloc, mode, input, output) {
+    let run = if is_server {
+        run_server(alloc, command, input, output)
+    } else {
+        run_client(alloc, command, input, output)
+    };
+    match run {
         Ok(()) => 0,
         Err(fault) => fault.report(errors),
     }
 }
 
-/// Runs a mode. `Stream` writes the line of each message as soon as it is whole. The other two read
-/// all input, and then write all output, and nothing where a line is bad.
-pub fn run<R: Read, W: Write>(
+// Runs a command of a client's side. `Stream` writes the line of each message as soon as it is whole. The other
+// two read all input, and then write all output, and nothing where a line is bad.
+fn run_client<R: Read, W: Write>(
     alloc: Global,
-    mode: Mode,
+    command: Command,
     input: &mut R,
     output: &mut W,
 ) -> Result<(), Fault> {
-    let text = match mode {
-        Mode::Encode => encode(alloc, read_all(alloc, input)?.as_slice())?,
-        Mode::Decode => decode(alloc, read_all(alloc, input)?.as_slice())?,
-        Mode::Stream => return stream(alloc, input, output),
+    let text = match command {
+        Command::Encode => client::encode(alloc, read_all(alloc, input)?.as_slice())?,
+        Command::Decode => client::decode(alloc, read_all(alloc, input)?.as_slice())?,
+        Command::Stream => return stream(alloc, FrameReader::new(alloc), input, output),
     };
     write_text(output, text.as_str())
 }
 
-// The mode that the arguments name: that of `encode` where there are none.
-fn mode_of(args: &[String]) -> Option<Mode> {
-    let Some(word) = args.first() else {
-        return Some(Mode::Encode);
+// The same of a server's side, whose stream begins with a connection.
+fn run_server<R: Read, W: Write>(
+    alloc: Global,
+    command: Command,
+    input: &mut R,
+    output: &mut W,
+) -> Result<(), Fault> {
+    let text = match command {
+        Command::Encode => server::encode(alloc, read_all(alloc, input)?.as_slice())?,
+        Command::Decode => server::decode(alloc, read_all(alloc, input)?.as_slice())?,
+        Command::Stream => {
+            let messages = FrontendFrameReader::new(alloc, MAX_FIRST_LENGTH);
+            return stream(alloc, messages, input, output);
+        }
     };
-    if args.len() > 1 {
+    write_text(output, text.as_str())
+}
+
+// The command that one word names.
+fn command_of(words: &[String]) -> Option<Command> {
+    let [word] = words else {
         return None;
-    }
+    };
     match word.as_str() {
-        "encode" => Some(Mode::Encode),
-        "decode" => Some(Mode::Decode),
-        "stream" => Some(Mode::Stream),
+        "encode" => Some(Command::Encode),
+        "decode" => Some(Command::Decode),
+        "stream" => Some(Command::Stream),
         _ => None,
     }
 }

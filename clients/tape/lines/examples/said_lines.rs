@@ -3,7 +3,7 @@
 //!     said_lines < STREAM
 //!     said_lines FILE..      those of the stream in each file, and then an empty line
 //!
-//! The lines are those of `pg_server_tool stream`: a message and its fields, or the words of its fault, as soon as it is
+//! The lines are those of `pg_tool server stream`: a message and its fields, or the words of its fault, as soon as it is
 //! whole; at last how many bytes are no whole message, or what is wrong with the stream.
 
 use pgmsg::{Decoder, Fault, Next};

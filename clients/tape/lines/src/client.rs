@@ -1,4 +1,4 @@
-//! A client's message as `pg_server_tool stream` prints it.
+//! A client's message as `pg_tool server stream` prints it.
 
 use crate::{put, put_bytes, put_digits};
 use pgmsg::frontend::{Bind, FunctionCall, Message, Parse, Settings, Target};

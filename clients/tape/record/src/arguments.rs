@@ -83,7 +83,7 @@ fn style(text: &str) -> Result<Style, String> {
 pub enum Form {
     /// Messages of the server, as `pg_tool stream` does.
     Server,
-    /// Also those of the client, as `pg_server_tool stream` does.
+    /// Also those of the client, as `pg_tool server stream` does.
     Lines,
     /// Both, as libpq's PQtrace does.
     Trace(Style),

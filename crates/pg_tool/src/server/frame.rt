@@ -1,0 +1,102 @@
+//! The frame that a message becomes.
+
+use crate::server::reply::{Column, Field, Negotiation, Notice, Reply, Request};
+use pg_base::Error;
+use pg_server::backend::{
+    AuthenticationText, ColumnText, CommandCompleteText, CopyDataText, DataRowText,
+    FunctionCallResponseText, NegotiateProtocolVersionText, NoticeFieldText, NoticeText,
+    ParameterDescriptionText, RowDescriptionText, encode,
+};
+use std::alloc::{AllocError, Global};
+
+/// Adds the frame of a message to others, which stay as they were where it is refused.
+pub fn push_frame(alloc: Global, reply: &Reply, frames: &mut Vec<u8>) -> Result<(), Error> {
+    match reply {
+        Reply::Authentication(request) => push_request(alloc, request, frames),
+        Reply::BackendKeyData(key) => encode(&key.text(), frames),
+        Reply::CommandComplete(command) => push_command(command.as_slice(), frames),
+        Reply::CopyData(bytes) => encode(&CopyDataText(bytes.as_slice()), frames),
+        Reply::CopyResponse(response) => encode(&response.text(), frames),
+        Reply::DataRow(values) => push_row(alloc, values.as_slice(), frames),
+        Reply::FunctionCallResponse(value) => push_result(value, frames),
+        Reply::NegotiateProtocolVersion(version) => push_version(alloc, version, frames),
+        Reply::NoBody(message) => encode(message, frames),
+        Reply::Notice(notice) => push_notice(alloc, notice, frames),
+        Reply::Notification(notification) => encode(&notification.text(), frames),
+        Reply::ParameterDescription(types) => {
+            let types = types.as_slice();
+            encode(&ParameterDescriptionText { types }, frames)
+        }
+        Reply::ParameterStatus(setting) => encode(&setting.text(), frames),
+        Reply::ReadyForQuery(status) => encode(status, frames),
+        Reply::RowDescription(columns) => push_columns(alloc, columns.as_slice(), frames),
+    }
+}
+
+fn push_request(alloc: Global, request: &Request, frames: &mut Vec<u8>) -> Result<(), Error> {
+    match request {
+        Request::Ok => encode(&AuthenticationText::Ok, frames),
+        Request::CleartextPassword => encode(&AuthenticationText::CleartextPassword, frames),
+        Request::Md5Password(salt) => encode(&AuthenticationText::Md5Password(*salt), frames),
+        Request::Sasl(names) => {
+            let names = borrowed(alloc, names.as_slice())?;
+            encode(&AuthenticationText::Sasl(names.as_slice()), frames)
+        }
+        Request::SaslContinue(content) => {
+            encode(
+                &AuthenticationText::SaslContinue(content.as_slice()),
+                frames,
+            )
+        }
+        Request::SaslFinal(content) => {
+            encode(&AuthenticationText::SaslFinal(content.as_slice()), frames)
+        }
+    }
+}
+
+fn push_command(command: &[u8], frames: &mut Vec<u8>) -> Result<(), Error> {
+    encode(&CommandCompleteText { command }, frames)
+}
+
+fn push_row(alloc: Global, values: &[Option<Vec<u8>>], frames: &mut Vec<u8>) -> Result<(), Error> {
+    let values: Vec<Option<&[u8]>> = values.iter().map(borrowed_value).collect(alloc)?;
+    let values = values.as_slice();
+    encode(&DataRowText { values }, frames)
+}
+
+fn push_result(value: &Option<Vec<u8>>, frames: &mut Vec<u8>) -> Result<(), Error> {
+    let value = borrowed_value(value);
+    encode(&FunctionCallResponseText { value }, frames)
+}
+
+fn push_version(alloc: Global, version: &Negotiation, frames: &mut Vec<u8>) -> Result<(), Error> {
+    let minor = version.minor;
+    let options = borrowed(alloc, version.options.as_slice())?;
+    let options = options.as_slice();
+    encode(&NegotiateProtocolVersionText { minor, options }, frames)
+}
+
+fn push_notice(alloc: Global, notice: &Notice, frames: &mut Vec<u8>) -> Result<(), Error> {
+    let kind = notice.kind;
+    let fields: Vec<NoticeFieldText<'_>> = notice.fields.iter().map(Field::text).collect(alloc)?;
+    let fields = fields.as_slice();
+    encode(&NoticeText { kind, fields }, frames)
+}
+
+fn push_columns(alloc: Global, columns: &[Column], frames: &mut Vec<u8>) -> Result<(), Error> {
+    let columns: Vec<ColumnText<'_>> = columns.iter().map(Column::text).collect(alloc)?;
+    let columns = columns.as_slice();
+    encode(&RowDescriptionText { columns }, frames)
+}
+
+fn borrowed_value(value: &Option<Vec<u8>>) -> Option<&[u8]> {
+    value.as_ref().map(|value| value.as_slice())
+}
+
+fn borrowed(alloc: Global, texts: &[Vec<u8>]) -> Result<Vec<&[u8]>, AllocError> {
+    let mut borrowed = Vec::new(alloc);
+    for text in texts {
+        borrowed.push(text.as_slice())?;
+    }
+    Ok(borrowed)
+}
