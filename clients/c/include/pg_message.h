@@ -330,6 +330,62 @@ typedef struct {
     size_t text_len;
 } pgmsg_field_text;
 
+/* What the data of a CopyData says in replication, by the letter that it begins with (PostgreSQL's
+ * documentation, "Streaming Replication Protocol"). From the server: `w`, XLogData, has in
+ * `content` a piece of the log that begins at `start`, of a log that ends at `end`. `k`, Primary
+ * keepalive: the log ends at `end`, and `wants_reply` asks the client to answer at once. From the
+ * client: `r`, Standby status update, has the positions after the last byte that was `written`,
+ * `flushed` and `applied`, and `wants_reply` asks the server. `h`, Hot standby feedback: the oldest
+ * transactions that the client needs, `xmin`, and `catalog_xmin` of its slots, each with its epoch,
+ * and 0 for none. From the server in a backup: `n`, a new archive, has the `name` of its file, and
+ * the `location` of its tablespace, which is empty for the main folder of the data. `m`: the
+ * manifest begins. `d`: `content` is a part of the archive or the manifest that began last. `p`: so
+ * many bytes were `processed`. Positions count the bytes of the log. `clock` of `w`, `k`, `r` and
+ * `h` is the sender's, in microseconds since the beginning of the year 2000. What a message hasn't
+ * is 0, false or empty. */
+typedef struct {
+    uint8_t letter;
+    uint64_t start;
+    uint64_t end;
+    uint64_t written;
+    uint64_t flushed;
+    uint64_t applied;
+    uint64_t processed;
+    int64_t clock;
+    bool wants_reply;
+    uint32_t xmin;
+    uint32_t xmin_epoch;
+    uint32_t catalog_xmin;
+    uint32_t catalog_xmin_epoch;
+    pgmsg_span name;
+    pgmsg_span location;
+    pgmsg_span content;
+} pgmsg_replication;
+
+/* A message of replication that is written: its letter, and its parts as `pgmsg_replication` has
+ * them. What is no part of it is passed over. */
+typedef struct {
+    uint8_t letter;
+    uint64_t start;
+    uint64_t end;
+    uint64_t written;
+    uint64_t flushed;
+    uint64_t applied;
+    uint64_t processed;
+    int64_t clock;
+    bool wants_reply;
+    uint32_t xmin;
+    uint32_t xmin_epoch;
+    uint32_t catalog_xmin;
+    uint32_t catalog_xmin_epoch;
+    const uint8_t *name;
+    size_t name_len;
+    const uint8_t *location;
+    size_t location_len;
+    const uint8_t *content;
+    size_t content_len;
+} pgmsg_replication_text;
+
 /* One direction of a connection that is passed on. Set `limit` to the most bytes of a message that
  * is taken whole, `left` to 0, and `is_first` where a client's first message comes next;
  * `pgmsg_relay_next` moves the last two on. */
@@ -708,6 +764,18 @@ ptrdiff_t pgmsg_put_notice(uint8_t tag, const pgmsg_field_text *fields, size_t f
  * what was said. A NUL in a text is refused. */
 ptrdiff_t pgmsg_put_notification(uint32_t process_id, const uint8_t *channel, size_t channel_len,
     const uint8_t *payload, size_t payload_len, uint8_t *out, size_t out_len);
+
+/* What the data of a CopyData says in replication, of either side. Places are in `content`. 0, or
+ * why it is refused: of a letter of no kind with PGMSG_UNKNOWN_MESSAGE_TYPE, and where bytes follow
+ * the last part of a message with PGMSG_BODY_TOO_LONG. */
+int32_t pgmsg_read_replication(const uint8_t *content, size_t content_len,
+    pgmsg_replication *message, pgmsg_fault *fault);
+
+/* A message of replication, as a whole CopyData. One of a letter of no kind is refused with
+ * PGMSG_UNKNOWN_MESSAGE_TYPE, a NUL in a `name` or a `location` with PGMSG_TEXT_HOLDS_NUL, and a
+ * message that is longer than a length field can say with PGMSG_MESSAGE_TOO_LONG. */
+ptrdiff_t pgmsg_put_replication(const pgmsg_replication_text *message, uint8_t *out,
+    size_t out_len);
 
 /* What is at the front of a stream that is passed on: 1 for a whole message that is wanted whole,
  * or a first one; 2 for the next bytes of one that isn't; 0 where more bytes are needed. Messages

@@ -20,10 +20,11 @@ struct inputs {
     const pgmsg_bytes *names;
     const pgmsg_field_text *fields;
     const pgmsg_column_text *columns;
+    const pgmsg_replication_text *replication;
 };
 
 /* Where inputs and a message are. */
-static struct guarded texts, digests, codes, types, values, settings, names, fields, columns, outs;
+static struct guarded texts, digests, codes, types, values, settings, names, fields, columns, replications, outs;
 
 /* Each call that writes a message, by its arguments. */
 #define CALLS(CALL)                                                                                                 \
@@ -60,7 +61,8 @@ static struct guarded texts, digests, codes, types, values, settings, names, fie
     CALL(function_result, (in->text, in->n, in->n % 2 == 1, out, out_len))                                          \
     CALL(frame, ((uint8_t)in->n, in->text, in->n, out, out_len))                                                    \
     CALL(notice, ("EN?"[in->n % 3], in->fields, in->n, out, out_len))                                               \
-    CALL(notification, (number, in->text, in->n, in->text, in->n, out, out_len))
+    CALL(notification, (number, in->text, in->n, in->text, in->n, out, out_len))                                    \
+    CALL(replication, (in->replication, out, out_len))
 
 #define WRITER(name, arguments)                                                              \
     static ptrdiff_t put_##name(const struct inputs *in, uint8_t *out, size_t out_len)      \
@@ -90,6 +92,9 @@ static struct inputs guarded_inputs(size_t n, enum side side)
     pgmsg_bytes *name = (pgmsg_bytes *)(void *)place(&names, n * sizeof *name, side);
     pgmsg_field_text *field = (pgmsg_field_text *)(void *)place(&fields, n * sizeof *field, side);
     pgmsg_column_text *column = (pgmsg_column_text *)(void *)place(&columns, n * sizeof *column, side);
+    pgmsg_replication_text *replication = (pgmsg_replication_text *)(void *)place(&replications, sizeof *replication, side);
+    *replication = (pgmsg_replication_text){
+        "wkrhnmdp?"[n % 9], n, n + 1, n + 2, n + 3, n + 4, n + 5, -(int64_t)n, n % 2 == 1, 6, 7, 8, 9, text, n, text, n, text, n};
     for (size_t i = 0; i < DIGEST; i++)
         digest[i] = (uint8_t)(16 * i + n);
     for (size_t i = 0; i < n; i++) {
@@ -102,7 +107,7 @@ static struct inputs guarded_inputs(size_t n, enum side side)
         field[i] = (pgmsg_field_text){(uint8_t)('A' + i), place(&texts, len, side), len};
         column[i] = (pgmsg_column_text){place(&texts, len, side), len, type[i], (int16_t)i, type[i], -1, -1, 1};
     }
-    return (struct inputs){n, text, digest, code, type, value, setting, name, field, column};
+    return (struct inputs){n, text, digest, code, type, value, setting, name, field, column, replication};
 }
 
 /* Whether the bytes of a message's page are as they were, from one place to another. */
@@ -191,7 +196,7 @@ static void test_side(struct tally *tally, enum side side)
 void test_guarded_put(struct tally *tally)
 {
     struct guarded *const pages[] = {&texts,    &digests, &codes,   &types, &values,
-                                     &settings, &names,   &fields,  &columns, &outs};
+                                     &settings, &names,   &fields,  &columns, &replications, &outs};
     for (size_t i = 0; i < sizeof pages / sizeof *pages; i++)
         *pages[i] = guarded_page();
     for (uint8_t *text = texts.from; text < texts.end; text++)

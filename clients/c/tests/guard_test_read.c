@@ -25,6 +25,7 @@
     CALL(function_result, pgmsg_read_function_result(body, len, ONE(pgmsg_cell), fault))                   \
     CALL(negotiation, pgmsg_read_negotiate_version(body, len, ONE(pgmsg_negotiation), ITEMS(pgmsg_span), fault)) \
     CALL(ready, pgmsg_read_ready(body, len, fault))                                                        \
+    CALL(replication, pgmsg_read_replication(body, len, ONE(pgmsg_replication), fault))                    \
     CALL(copy_response, pgmsg_read_copy_response(body, len, ONE(pgmsg_copy_response), ITEMS(int16_t), fault)) \
     CALL(authentication, pgmsg_read_authentication(body, len, ONE(pgmsg_authentication), fault))           \
     CALL(mechanisms, (ptrdiff_t)pgmsg_read_mechanisms(body, len, ITEMS(pgmsg_span)))                       \
@@ -62,6 +63,14 @@ static const struct body samples[] = {
     BODY(negotiation, "\0\3\0\2" "\0\0\0\2" "_pq_.a\0" "\351\0" "!"),
     BODY(ready, "T"),
     BODY(copy_response, "\1" "\0\3" "\0\0" "\0\1" "\0\0"),
+    BODY(replication, "w" "\0\0\0\0\0\0\0\1" "\0\0\0\0\0\0\0\2" "\0\0\0\0\0\0\0\3" "log"),
+    BODY(replication, "k" "\0\0\0\0\0\0\0\1" "\0\0\0\0\0\0\0\2" "\1"),
+    BODY(replication, "r" "\0\0\0\0\0\0\0\1" "\0\0\0\0\0\0\0\2" "\0\0\0\0\0\0\0\3" "\0\0\0\0\0\0\0\4" "\1"),
+    BODY(replication, "h" "\0\0\0\0\0\0\0\1" "\0\0\0\2" "\0\0\0\3" "\0\0\0\4" "\0\0\0\5"),
+    BODY(replication, "n" "base.tar\0" "/srv\0"),
+    BODY(replication, "m"),
+    BODY(replication, "d" "tar"),
+    BODY(replication, "p" "\0\0\0\0\0\0\0\1"),
     BODY(authentication, "\0\0\0\5" "\1\2\3\4"),
     BODY(mechanisms, "\0\0\0\12" "SCRAM-SHA-256\0" "\351\0" "\0"),
     BODY(challenge, "\0\0\0\13" "r=abc,s=AQID,i=8192"),

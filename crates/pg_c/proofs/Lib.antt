@@ -10,5 +10,6 @@ pub mod ReadLemmas
 pub mod ReadListsLemmas
 pub mod ReadRowLemmas
 pub mod RefusalLemmas
+pub mod ReplicationLemmas
 pub mod ServerLettersLemmas
 pub mod ServerListsLemmas

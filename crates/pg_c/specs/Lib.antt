@@ -4,4 +4,5 @@ pub mod Put
 pub mod Read
 pub mod Refusal
 pub mod Relay
+pub mod Replication
 pub mod Server

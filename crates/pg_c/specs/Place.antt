@@ -12,6 +12,14 @@ bytes_in bytes at len = if nat_le (at + len) (length bytes) then Some (slice_ran
 abbrev pub part : List ℕ → PgmsgSpan → Option (List ℕ)
 part bytes span = bytes_in bytes span.at span.len
 
+-- the place of what a message hasn't
+abbrev pub nowhere : PgmsgSpan
+nowhere = record { at = 0; len = 0 }
+
+-- the place of bytes that stand at an offset
+abbrev pub span_of : ℕ → List ℕ → PgmsgSpan
+span_of at bytes = record { at = at; len = length bytes }
+
 -- so many items stand from an offset on, and these are they
 pub record StandAt {X : Type 0} (g : Format X) (bytes : List ℕ) (list : PgmsgList) (items : List X) : Type 0 where
   pub end : ℕ

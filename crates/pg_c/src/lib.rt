@@ -11,4 +11,5 @@ pub mod put;
 pub mod read;
 pub mod refusal;
 pub mod relay;
+pub mod replication;
 pub mod server;

@@ -230,6 +230,58 @@ pub struct pgmsg_field_text {
 }
 #[repr(C)]
 #[derive(Debug, Default, Copy, Clone)]
+pub struct pgmsg_replication {
+    pub letter: u8,
+    pub start: u64,
+    pub end: u64,
+    pub written: u64,
+    pub flushed: u64,
+    pub applied: u64,
+    pub processed: u64,
+    pub clock: i64,
+    pub wants_reply: bool,
+    pub xmin: u32,
+    pub xmin_epoch: u32,
+    pub catalog_xmin: u32,
+    pub catalog_xmin_epoch: u32,
+    pub name: pgmsg_span,
+    pub location: pgmsg_span,
+    pub content: pgmsg_span,
+}
+#[repr(C)]
+#[derive(Debug, Copy, Clone)]
+pub struct pgmsg_replication_text {
+    pub letter: u8,
+    pub start: u64,
+    pub end: u64,
+    pub written: u64,
+    pub flushed: u64,
+    pub applied: u64,
+    pub processed: u64,
+    pub clock: i64,
+    pub wants_reply: bool,
+    pub xmin: u32,
+    pub xmin_epoch: u32,
+    pub catalog_xmin: u32,
+    pub catalog_xmin_epoch: u32,
+    pub name: *const u8,
+    pub name_len: usize,
+    pub location: *const u8,
+    pub location_len: usize,
+    pub content: *const u8,
+    pub content_len: usize,
+}
+impl Default for pgmsg_replication_text {
+    fn default() -> Self {
+        let mut s = ::core::mem::MaybeUninit::<Self>::uninit();
+        unsafe {
+            ::core::ptr::write_bytes(s.as_mut_ptr(), 0, 1);
+            s.assume_init()
+        }
+    }
+}
+#[repr(C)]
+#[derive(Debug, Default, Copy, Clone)]
 pub struct pgmsg_relay {
     pub limit: usize,
     pub left: usize,
@@ -455,6 +507,13 @@ extern "C" {
     pub fn pgmsg_put_notification(
         process_id: u32, channel: *const u8, channel_len: usize, payload: *const u8,
         payload_len: usize, out: *mut u8, out_len: usize,
+    ) -> isize;
+    pub fn pgmsg_read_replication(
+        content: *const u8, content_len: usize, message: *mut pgmsg_replication,
+        fault: *mut pgmsg_fault,
+    ) -> i32;
+    pub fn pgmsg_put_replication(
+        message: *const pgmsg_replication_text, out: *mut u8, out_len: usize,
     ) -> isize;
     pub fn pgmsg_relay_next(
         relay: *mut pgmsg_relay, wanted: *const u8, stream: *const u8, stream_len: usize,

@@ -4,13 +4,8 @@ use Rattle.pg_server.specs.Frontend.FirstMessageRef as frontend
 use Rattle.pg_server.specs.declared.frontend.error.FrontendFault.{FrontendFault}
 use Rattle.pg_server.specs.declared.frontend.first_message_ref.FirstMessageRef.{FirstMessageRef}
 use Rattle.pg_server.specs.declared.frontend.first_message_ref.FirstMessageRef.TheVariants as messages
-use Rattle.pg_c.specs.Place.{part}
+use Rattle.pg_c.specs.Place.{part, nowhere}
 use Rattle.pg_c.specs.declared.client.first.PgmsgFirst.{PgmsgFirst}
-use Rattle.pg_c.specs.declared.place.PgmsgSpan.{PgmsgSpan}
-
--- the place of what a message hasn't
-abbrev pub nowhere : PgmsgSpan
-nowhere = record { at = 0; len = 0 }
 
 -- the message by its kind; what is of other kinds is 0 and empty, and the settings are all after the code
 abbrev pub IsGivenAs : List ℕ → FirstMessageRef → PgmsgFirst → Type 0

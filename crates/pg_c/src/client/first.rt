@@ -6,7 +6,7 @@ ghost use Rattle.pg_format.specs.Received.{max_body};
 ghost use Rattle.pg_c.specs.Client.{RefusesClientBodyFor};
 ghost use Rattle.pg_c.specs.Client.First.{BreaksFirst, IsGivenAs, ReadsFirst};
 
-use crate::place::PgmsgSpan;
+use crate::place::{NOWHERE, PgmsgSpan};
 use crate::read::check_body;
 use crate::refusal::{PgmsgFault, report, report_client};
 use pg_server::frontend::FirstMessageRef;
@@ -29,8 +29,6 @@ const CODE_LENGTH: usize = 4;
 
 // Those before a key: the code and the number of a process.
 const BEFORE_KEY: usize = 8;
-
-const NOWHERE: PgmsgSpan = PgmsgSpan { at: 0, len: 0 };
 
 /// A first message of the kind that `kind` says, by one of the numbers PGMSG_FIRST_STARTUP and so on. A
 /// Startup has the minor version of the protocol's version 3 and its settings: names and values, each with

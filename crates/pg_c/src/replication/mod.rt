@@ -1,0 +1,6 @@
+//! What the data of a CopyData says while a server streams its log or a backup.
+//!
+//! Each message begins with a letter, which says its kind, and one struct has what all of the kinds have.
+
+pub mod put;
+pub mod read;
