@@ -4,7 +4,8 @@
 //! Tarnwhisk, whose code is proved. It has no sockets and no state of a connection: a [`Decoder`] cuts a
 //! stream into its messages, without copying them; [`backend::Message`] and [`frontend::Message`] are any
 //! message of a server and of a client, borrowed of its bytes, to be read and to be written; a
-//! [`relay::Relay`] passes the bytes of either side on; [`scram`] answers for the password.
+//! [`relay::Relay`] passes the bytes of either side on; [`replication::Message`] is what a CopyData says of the log
+//! or of a backup; [`scram`] answers for the password.
 //!
 //! ```
 //! use pgmsg::{backend, frontend, Decoder};
@@ -62,6 +63,7 @@ pub mod frontend;
 mod list;
 mod message;
 pub mod relay;
+pub mod replication;
 mod row;
 pub mod scram;
 mod table;

@@ -67,7 +67,7 @@ fn secrets_are_named_and_not_shown() {
             (bytes[0], bytes[8])
         })
         .collect();
-    assert_eq!(secret_tags, [(b'R', 11), (b'R', 12), (b'R', 8), (b'K', 0xd2)]);
+    assert_eq!(secret_tags, [(b'R', 11), (b'R', 12), (b'R', 8), (b'R', 99), (b'K', 0xd2)]);
     let secrets: Vec<_> =
         of_client().iter().filter(|it| it.1.is_secret()).map(|it| format!("{:?}", it.1)).collect();
     assert_eq!(

@@ -92,7 +92,7 @@ pub fn server_messages() -> Vec<backend::Message<'static>> {
         M::Authentication(Authentication::SaslFinal(Secret(b"v=abcd"))),
         M::Authentication(Authentication::Md5Password([0, 1, 2, 255])),
         M::Authentication(Authentication::CleartextPassword),
-        M::Authentication(Authentication::Other(8, Secret(b"\x60"))),
+        M::Authentication(Authentication::GssContinue(Secret(b"\x60"))),
         M::Authentication(Authentication::Ok),
         M::BackendKeyData(backend::BackendKeyData {
             process_id: 12,

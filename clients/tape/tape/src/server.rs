@@ -153,8 +153,14 @@ fn authentication_of<'a>(it: &Authentication<'a>) -> Option<Server<'a>> {
         Authentication::SaslFinal(data) => {
             Server::AuthenticationSASLFinal(Data { data: data.0.into() })
         }
-        Authentication::Other(method, data) => {
-            Server::Authentication(Method { method: *method, data: data.0.into() })
+        Authentication::GssContinue(data) | Authentication::Other(_, data) => {
+            Server::Authentication(Method { method: it.method(), data: data.0.into() })
+        }
+        Authentication::KerberosV5
+        | Authentication::ScmCredential
+        | Authentication::Gss
+        | Authentication::Sspi => {
+            Server::Authentication(Method { method: it.method(), data: b""[..].into() })
         }
         _ => return None,
     })

@@ -29,17 +29,27 @@ const METHOD: usize = 4;
 pub enum Authentication<'a> {
     /// The client is accepted.
     Ok,
+    /// Kerberos V5 is wanted, by a server before version 9.3.
+    KerberosV5,
     /// A password is wanted in clear.
     CleartextPassword,
     /// A password is wanted as an MD5 digest, with this salt.
     Md5Password([u8; 4]),
+    /// The credentials of a Unix socket are wanted, by a server before version 9.1.
+    ScmCredential,
+    /// An exchange of GSSAPI is wanted.
+    Gss,
+    /// The next data in an exchange of GSSAPI or SSPI.
+    GssContinue(Secret<'a>),
+    /// An exchange of SSPI is wanted.
+    Sspi,
     /// A SASL exchange is wanted, by one of these mechanisms, in the order of the server's preference.
     Sasl(List<'a, ByteStr<'a>>),
     /// The next data in a SASL exchange, which [`scram::Client`](crate::scram::Client) answers.
     SaslContinue(Secret<'a>),
     /// The last data in a SASL exchange.
     SaslFinal(Secret<'a>),
-    /// Another method, by its number and what follows that: GSSAPI, SSPI, Kerberos.
+    /// Another method, by its number and what follows that.
     Other(u32, Secret<'a>),
 }
 
@@ -50,8 +60,13 @@ impl<'a> Authentication<'a> {
         let content = Secret(part(body, raw.content)?);
         match raw.method {
             0 => Ok(Authentication::Ok),
+            2 => Ok(Authentication::KerberosV5),
             3 => Ok(Authentication::CleartextPassword),
             5 => read_salt(body).map(Authentication::Md5Password),
+            6 => Ok(Authentication::ScmCredential),
+            7 => Ok(Authentication::Gss),
+            8 => Ok(Authentication::GssContinue(content)),
+            9 => Ok(Authentication::Sspi),
             10 => read_mechanisms(body).map(Authentication::Sasl),
             11 => Ok(Authentication::SaslContinue(content)),
             12 => Ok(Authentication::SaslFinal(content)),
@@ -63,8 +78,13 @@ impl<'a> Authentication<'a> {
     pub fn method(&self) -> u32 {
         match self {
             Authentication::Ok => 0,
+            Authentication::KerberosV5 => 2,
             Authentication::CleartextPassword => 3,
             Authentication::Md5Password(_) => 5,
+            Authentication::ScmCredential => 6,
+            Authentication::Gss => 7,
+            Authentication::GssContinue(_) => 8,
+            Authentication::Sspi => 9,
             Authentication::Sasl(_) => 10,
             Authentication::SaslContinue(_) => 11,
             Authentication::SaslFinal(_) => 12,
@@ -78,10 +98,16 @@ impl<'a> Authentication<'a> {
     /// empty.
     pub fn write<B: Buffer>(&self, out: &mut B) -> Result<(), Refusal> {
         let content = match self {
-            Authentication::Ok | Authentication::CleartextPassword => b"",
+            Authentication::Ok
+            | Authentication::KerberosV5
+            | Authentication::CleartextPassword
+            | Authentication::ScmCredential
+            | Authentication::Gss
+            | Authentication::Sspi => b"",
             Authentication::Md5Password(salt) => &salt[..],
             Authentication::Sasl(mechanisms) => return write_mechanisms(mechanisms, out),
-            Authentication::SaslContinue(data)
+            Authentication::GssContinue(data)
+            | Authentication::SaslContinue(data)
             | Authentication::SaslFinal(data)
             | Authentication::Other(_, data) => data.0,
         };
@@ -93,7 +119,9 @@ impl<'a> Authentication<'a> {
     pub fn is_secret(&self) -> bool {
         match self {
             Authentication::Other(_, content) => !content.0.is_empty(),
-            Authentication::SaslContinue(_) | Authentication::SaslFinal(_) => true,
+            Authentication::GssContinue(_)
+            | Authentication::SaslContinue(_)
+            | Authentication::SaslFinal(_) => true,
             _ => false,
         }
     }

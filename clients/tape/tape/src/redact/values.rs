@@ -93,7 +93,8 @@ pub fn server(
     match message {
         M::BackendKeyData(key) => places.add(key.secret_key.0, Mask::Zeros),
         M::Authentication(
-            Authentication::SaslContinue(data)
+            Authentication::GssContinue(data)
+            | Authentication::SaslContinue(data)
             | Authentication::SaslFinal(data)
             | Authentication::Other(_, data),
         ) => {
