@@ -25,11 +25,12 @@ What is refused is a `Fault`, with a code and words; where no memory is there, i
 """
 
 from . import _library as _library  # first, since it loads what all others import
+from . import replication as replication
 from ._fast import VERSION as __version__
 from .authentication import (
     Authentication, AuthenticationCleartextPassword, AuthenticationGSS, AuthenticationGSSContinue,
     AuthenticationKerberosV5, AuthenticationMD5Password, AuthenticationOk, AuthenticationSASL,
-    AuthenticationSASLContinue, AuthenticationSASLFinal, AuthenticationSSPI, Challenge)
+    AuthenticationSASLContinue, AuthenticationSASLFinal, AuthenticationSCMCredential, AuthenticationSSPI, Challenge)
 from .copying import CopyBothResponse, CopyData, CopyDone, CopyFail, CopyInResponse, CopyOutResponse, copy_head
 from .fault import Code, Fault
 from .login import Login
@@ -53,7 +54,8 @@ from .tags import read_backend, read_frontend
 __all__ = [
     "Answer", "Authentication", "AuthenticationCleartextPassword", "AuthenticationGSS", "AuthenticationGSSContinue",
     "AuthenticationKerberosV5", "AuthenticationMD5Password", "AuthenticationOk", "AuthenticationResponse",
-    "AuthenticationSASL", "AuthenticationSASLContinue", "AuthenticationSASLFinal", "AuthenticationSSPI",
+    "AuthenticationSASL", "AuthenticationSASLContinue", "AuthenticationSASLFinal",
+    "AuthenticationSCMCredential", "AuthenticationSSPI",
     "BackendKeyData", "BackendMessage", "Bind", "BindComplete", "CancelRequest", "Challenge", "ClientStream", "Close",
     "CloseComplete", "Code", "Column", "CommandComplete", "CopyBothResponse", "CopyData", "CopyDone", "CopyFail",
     "CopyInResponse", "CopyOutResponse", "DataRow", "Describe", "EmptyQueryResponse", "ErrorResponse", "Execute",

@@ -85,6 +85,11 @@ class AuthenticationMD5Password(Authentication, method=5):
 
 
 @dataclass(frozen=True, slots=True)
+class AuthenticationSCMCredential(Authentication, method=6):
+    """Asks for the credentials of a Unix socket, as servers before version 9.1 may do."""
+
+
+@dataclass(frozen=True, slots=True)
 class AuthenticationGSS(Authentication, method=7):
     """Asks for an exchange of GSSAPI."""
 
@@ -172,5 +177,5 @@ class AuthenticationSASLFinal(AuthenticationWithData, method=12):
 
 METHODS: dict[int | None, type[Authentication]] = by(
     "METHOD", AuthenticationOk, AuthenticationKerberosV5, AuthenticationCleartextPassword, AuthenticationMD5Password,
-    AuthenticationGSS, AuthenticationGSSContinue, AuthenticationSSPI, AuthenticationSASL, AuthenticationSASLContinue,
-    AuthenticationSASLFinal)
+    AuthenticationSCMCredential, AuthenticationGSS, AuthenticationGSSContinue, AuthenticationSSPI, AuthenticationSASL,
+    AuthenticationSASLContinue, AuthenticationSASLFinal)

@@ -19,6 +19,7 @@ OF_SERVER = [
     (AuthenticationKerberosV5(), b"R\0\0\0\x08\0\0\0\2"),
     (AuthenticationCleartextPassword(), b"R\0\0\0\x08\0\0\0\3"),
     (AuthenticationMD5Password(b"abcd"), b"R\0\0\0\x0c\0\0\0\5abcd"),
+    (AuthenticationSCMCredential(), b"R\0\0\0\x08\0\0\0\6"),
     (AuthenticationGSS(), b"R\0\0\0\x08\0\0\0\7"),
     (AuthenticationGSSContinue(b"\0\xff"), b"R\0\0\0\x0a\0\0\0\x08\0\xff"),
     (AuthenticationSSPI(), b"R\0\0\0\x08\0\0\0\x09"),

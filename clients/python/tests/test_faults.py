@@ -62,7 +62,7 @@ REPORTED = [
     (ParameterStatus, b"a\0b", Code.MISSING_NUL, 2, "expected NUL after offset 2"),
     (severity, b"VFOO\0\0", Code.UNKNOWN_SEVERITY, 0, "unknown severity"),
     (severity, b"V\xff\0\0", Code.NOTICE_NOT_UTF8, 0, NOTICE_NOT_UTF8),
-    (Authentication, b"\0\0\0\6", Code.UNKNOWN_AUTHENTICATION, 0, "unknown authentication method: 6"),
+    (Authentication, b"\0\0\0\4", Code.UNKNOWN_AUTHENTICATION, 0, "unknown authentication method: 4"),
     (challenge, b"r", Code.SHORT_SASL_ITEM, 0, "SASL item of fewer than two bytes"),
     (verifier, b"v=*", Code.BASE64, 0, "SASL value is not base64"),
     (AuthenticationMD5Password, b"\0\0\0\5abc", Code.SHORT, 4, "expected 4 bytes at offset 4, got 3"),

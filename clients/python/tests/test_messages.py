@@ -75,7 +75,7 @@ class TestEach(unittest.TestCase):
     def test_each_class_has_one(self):
         classes = {it for it in vars(pgmsg).values() if inspect.isclass(it) and dataclasses.is_dataclass(it)}
         self.assertEqual(classes - {Column}, {type(message) for message, _ in samples.ALL})
-        self.assertEqual(len(classes), 53)
+        self.assertEqual(len(classes), 54)
 
     def test_none_changes(self):
         for message, _ in samples.ALL:

@@ -4,8 +4,8 @@ from collections.abc import Iterator
 from typing import assert_type
 
 from pgmsg import (
-    BackendMessage, Bind, ClientStream, CommandComplete, DataRow, FrontendMessage, Login, Query, Relay, ServerStream,
-    executions)
+    BackendMessage, Bind, ClientStream, CommandComplete, CopyData, DataRow, FrontendMessage, Login, Query, Relay, ServerStream,
+    executions, replication)
 
 
 def read(stream: ClientStream) -> None:
@@ -30,6 +30,14 @@ def serve(stream: ServerStream) -> None:
         assert_type(message, FrontendMessage)
         if isinstance(message, Query):
             assert_type(stream.send(DataRow(["a", None, b"b"])), bytes)
+
+
+def replicate(message: CopyData) -> None:
+    match replication.read(message.data):
+        case replication.XLogData(start, content=content):
+            assert_type((start, content), tuple[int, bytes])
+        case replication.PrimaryKeepalive(wants_reply=wants_reply):
+            assert_type(wants_reply, bool)
 
 
 def write(login: Login, relay: Relay) -> None:
