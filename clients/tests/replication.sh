@@ -42,8 +42,7 @@ has_streamed() {
 test_standby_through() {
     local standby_port
     standby_port=$(free_port)
-    printf '%s\n' 'hot_standby_feedback = on' 'wal_receiver_status_interval = 1' "port = $standby_port" \
-        | as_owner tee -a "$server_folder/standby/postgresql.auto.conf" > /dev/null
+    printf '%s\n' 'hot_standby_feedback = on' "port = $standby_port" | as_owner tee -a "$server_folder/standby/postgresql.auto.conf" > /dev/null
     standby_ctl -l "$server_folder/standby.log" start
     sql 'INSERT INTO streamed VALUES (1)'
     if await has_streamed; then
@@ -51,7 +50,7 @@ test_standby_through() {
     else
         bad 'replication: a standby through pg_record has the rows' "$(tail -n 5 "$server_folder/standby.log")"
     fi
-    # Some turns of status updates and keepalives.
+    # The server asks a standby that has said nothing for a second whether it is there.
     sleep 3
     standby_ctl -m fast stop
 }
