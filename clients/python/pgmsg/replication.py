@@ -65,6 +65,7 @@ class ReplicationMessage(FrontendMessage, BackendMessage, tag="d"):
 
     def write(self) -> bytes:
         message = ffi.new("pgmsg_replication_text *", {"letter": ord(self.LETTER)})
+        # What the struct points to.
         held = []
         for name, given in self._parts():
             if name in TEXTS:

@@ -1,7 +1,8 @@
 -- The messages of replication as a C program reads and passes them: one record has what all of the kinds have.
-use Rattle.std.specs.Prelude.{◌≡◌, ◌≤◌, ℕ, List, length, Bool, true, false, ℤ, pos, Some, Result, Ok, Err, ◌+◌}
+use Rattle.std.specs.Prelude.{◌≡◌, ◌≤◌, ℕ, List, length, Bool, true, false, ℤ, pos, Some, Result, Ok, Err}
 use Rattle.pg_base.specs.declared.error.ProtocolFault.{ProtocolFault}
 use Rattle.pg_format.specs.Received.{max_body}
+use Rattle.pg_format.specs.Replication.{replication_letter}
 use Rattle.pg_format.specs.declared.replication.ReplicationKind.{ReplicationKind}
 use Rattle.pg_format.specs.declared.replication.ReplicationKind.TheVariants as kinds
 use Rattle.pg_server.specs.Backend.Message.{Message, Replication}
@@ -14,31 +15,58 @@ use Rattle.pg_replication.specs.declared.streaming.StandbyStatusUpdate.{StandbyS
 use Rattle.pg_replication.specs.declared.streaming.HotStandbyFeedback.{HotStandbyFeedback}
 use Rattle.pg_c.specs.Place.{StandsIn, nowhere}
 use Rattle.pg_c.specs.Read.{IsBodyFault}
+use Rattle.pg_c.specs.Server.{PutsByTag}
 use Rattle.pg_c.specs.declared.place.PgmsgSpan.{PgmsgSpan}
 use Rattle.pg_c.specs.declared.replication.put.PgmsgReplicationText.{PgmsgReplicationText}
 use Rattle.pg_c.specs.declared.replication.read.PgmsgReplication.{PgmsgReplication}
 
 -- ---- reading
 
--- the log ends here
-abbrev pub given_keepalive : PrimaryKeepalive → PgmsgReplication
-given_keepalive k = record { letter = 107; start = 0; end = k.end; written = 0; flushed = 0; applied = 0; processed = 0; clock = k.clock; wants_reply = k.wants_reply; xmin = 0; xmin_epoch = 0; catalog_xmin = 0; catalog_xmin_epoch = 0; name = nowhere; location = nowhere; content = nowhere }
+-- the struct, by its letter, where a piece of the log begins and the log ends, how far a client has come, how many bytes
+-- were processed, a clock, a flag, the oldest transactions with their epochs, and places
+abbrev pub filled : ℕ → (ℕ × ℕ) → (ℕ × ℕ × ℕ) → ℕ → ℤ → Bool → (ℕ × ℕ × ℕ × ℕ) → PgmsgSpan → PgmsgSpan → PgmsgSpan → PgmsgReplication
+filled letter piece reached processed clock wants_reply oldest name location content = record {
+  letter = letter;
+  start = piece.0;
+  end = piece.1;
+  written = reached.0;
+  flushed = reached.1;
+  applied = reached.2;
+  processed = processed;
+  clock = clock;
+  wants_reply = wants_reply;
+  xmin = oldest.0;
+  xmin_epoch = oldest.1;
+  catalog_xmin = oldest.2;
+  catalog_xmin_epoch = oldest.3;
+  name = name;
+  location = location;
+  content = content;
+}
 
--- the client has come so far
-abbrev pub given_status : StandbyStatusUpdate → PgmsgReplication
-given_status s = record { letter = 114; start = 0; end = 0; written = s.written; flushed = s.flushed; applied = s.applied; processed = 0; clock = s.clock; wants_reply = s.wants_reply; xmin = 0; xmin_epoch = 0; catalog_xmin = 0; catalog_xmin_epoch = 0; name = nowhere; location = nowhere; content = nowhere }
+-- of a message that doesn't say how far a client has come, and of one that names no transactions
+abbrev pub unreached : ℕ × ℕ × ℕ
+unreached = (0, 0, 0)
 
--- the client needs these transactions
-abbrev pub given_feedback : HotStandbyFeedback → PgmsgReplication
-given_feedback h = record { letter = 104; start = 0; end = 0; written = 0; flushed = 0; applied = 0; processed = 0; clock = h.clock; wants_reply = false; xmin = h.xmin; xmin_epoch = h.xmin_epoch; catalog_xmin = h.catalog_xmin; catalog_xmin_epoch = h.catalog_xmin_epoch; name = nowhere; location = nowhere; content = nowhere }
+abbrev pub no_oldest : ℕ × ℕ × ℕ × ℕ
+no_oldest = (0, 0, 0, 0)
 
 -- a piece of the log, whose bytes are at a place
 abbrev pub given_log : XLogData → PgmsgSpan → PgmsgReplication
-given_log x place = record { letter = 119; start = x.start; end = x.end; written = 0; flushed = 0; applied = 0; processed = 0; clock = x.clock; wants_reply = false; xmin = 0; xmin_epoch = 0; catalog_xmin = 0; catalog_xmin_epoch = 0; name = nowhere; location = nowhere; content = place }
+given_log x place = filled 119 (x.start, x.end) unreached 0 x.clock false no_oldest nowhere nowhere place
+
+abbrev pub given_keepalive : PrimaryKeepalive → PgmsgReplication
+given_keepalive k = filled 107 (0, k.end) unreached 0 k.clock k.wants_reply no_oldest nowhere nowhere nowhere
+
+abbrev pub given_status : StandbyStatusUpdate → PgmsgReplication
+given_status s = filled 114 (0, 0) (s.written, s.flushed, s.applied) 0 s.clock s.wants_reply no_oldest nowhere nowhere nowhere
+
+abbrev pub given_feedback : HotStandbyFeedback → PgmsgReplication
+given_feedback h = filled 104 (0, 0) unreached 0 h.clock false (h.xmin, h.xmin_epoch, h.catalog_xmin, h.catalog_xmin_epoch) nowhere nowhere nowhere
 
 -- a message of a backup, with a letter, a number and places
 abbrev pub given_backup : ℕ → ℕ → PgmsgSpan → PgmsgSpan → PgmsgSpan → PgmsgReplication
-given_backup letter processed name location content = record { letter = letter; start = 0; end = 0; written = 0; flushed = 0; applied = 0; processed = processed; clock = pos 0; wants_reply = false; xmin = 0; xmin_epoch = 0; catalog_xmin = 0; catalog_xmin_epoch = 0; name = name; location = location; content = content }
+given_backup letter processed name location content = filled letter (0, 0) unreached processed (pos 0) false no_oldest name location content
 
 -- the message by its letter; what is of other kinds is 0 and empty
 abbrev pub IsGivenAs : List ℕ → ReplicationMessage → PgmsgReplication → Type 0
@@ -91,3 +119,7 @@ content_of t kinds.NewArchive = Replication kinds.NewArchive (record { name = t.
 content_of t kinds.Manifest = Replication kinds.Manifest tt
 content_of t kinds.BackupData = Replication kinds.BackupData t.content.now
 content_of t kinds.Progress = Replication kinds.Progress t.processed
+
+-- the message is put as a whole CopyData, or refused for its letter or its first fault
+abbrev pub PutsReplication : PgmsgReplicationText → List ℕ → List ℕ → ℤ → Type 0
+PutsReplication message old new result = PutsByTag replication_letter (content_of message) message.letter old new result

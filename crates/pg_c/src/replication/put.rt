@@ -1,9 +1,8 @@
 //! The messages of replication, each written as a whole CopyData.
 
 ghost use Rattle.std.specs.Prelude.{◌≡◌};
-ghost use Rattle.pg_format.specs.Replication.{replication_letter};
-ghost use Rattle.pg_c.specs.Replication.{content_of, log_of, keepalive_of, status_of, feedback_of};
-ghost use Rattle.pg_c.specs.Server.{PutsServerMessage, PutsByTag};
+ghost use Rattle.pg_c.specs.Replication.{content_of, PutsReplication, log_of, keepalive_of, status_of, feedback_of};
+ghost use Rattle.pg_c.specs.Server.{PutsServerMessage};
 
 use crate::refusal::UNKNOWN_MESSAGE_TYPE;
 use crate::server::put;
@@ -40,7 +39,7 @@ pub struct PgmsgReplicationText<'a> {
 /// longer than a length field can say with PGMSG_MESSAGE_TOO_LONG.
 #[unsafe(no_mangle)]
 pub extern "C" fn pgmsg_put_replication(message: &PgmsgReplicationText<'_>, out: &mut [u8]) -> isize
-    ensures { PutsByTag replication_letter (content_of message.now) message.now.letter out.old out.new result }
+    ensures { PutsReplication message.now out.old out.new result }
 {
     match ReplicationKind::of_letter(message.letter) {
         Some(kind) => put_kind(kind, message, out),
