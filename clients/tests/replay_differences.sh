@@ -200,6 +200,49 @@ test_replay_times() {
         sync read sleep:1.5 terminate end
 }
 
+# A client that goes on after a difference: refused up to a rollback that was recorded, it gets what was recorded after that.
+test_replay_gone_on() {
+    local begin=("$as_postgres" read query:BEGIN read 'query:SAVEPOINT a1' read) name
+    local ending=('query:SAVEPOINT b1' read 'query:SELECT 2' read 'query:ROLLBACK TO b1' read query:COMMIT read 'query:SELECT 3' read terminate end)
+    record_words "${begin[@]}" 'query:SELECT 1' read 'query:ROLLBACK TO a1' read 'query:RELEASE a1' read "${ending[@]}"
+    for name in 1 2026; do
+        replay_command "$work/words.tape" --go-on "${client[@]}" "${begin[@]/a1/a$name}" 'query:SELECT 10' read 'query:SELECT 11' read \
+            'parse::SELECT 12' bind::: execute::0 sync read "query:ROLLBACK TO a$name" read "query:RELEASE a$name" read "${ending[@]}"
+        expect "replay: a difference after which a client rolls back to its savepoint a$name" 11 'query: SELECT [-1-]{+10+}'
+        same "replay: what follows it is refused, and after the rollback answered, a$name" \
+            "$(grep -c 'SERROR.*C08P01' <<< "$replayed") $(grep -c 'SERROR.*C25P02' <<< "$replayed") $(grep -c "^Z b'E'" <<< "$replayed")" '1 2 3'
+        same "replay: the answers after it, a$name" "$(grep '^D ' <<< "$replayed" | grep -o "[0-9]'" | tr -d "\n'")" 23
+        same "replay: it is told once, a$name" "$(grep -c "isn't the recorded one" <<< "$errors")" 1
+    done
+    replay_command "$work/words.tape" --go-on "${client[@]}" "${begin[@]}" 'query:SELECT 10' read query:COMMIT read query:ROLLBACK read \
+        terminate end
+    same 'replay: another rollback than the recorded one is refused too' \
+        "$status $(grep -c 'SERROR.*C25P02' <<< "$replayed") $(grep -c FATAL <<< "$replayed")" '11 2 0'
+    differs 'what differs ends a session without --go-on' '' 'message 4 of connection 1' "${begin[@]}" 'query:SELECT 10' end
+    record_words "${begin[@]}" 'query:SELECT 1' read 'query:RELEASE a1' read 'query:SAVEPOINT a2' read 'query:ROLLBACK TO a2' read \
+        query:COMMIT read terminate end
+    replay_command "$work/words.tape" --go-on "${client[@]}" "${begin[@]}" 'query:SELECT 10' read 'query:ROLLBACK TO a1' read terminate end
+    same 'replay: a rollback to a savepoint that was released in the recording is refused' \
+        "$status $(grep -c 'SERROR.*C25P02' <<< "$replayed")" '11 1'
+    record_words "${begin[@]}" 'query:SELECT 1' read query:COMMIT read terminate end
+    replay_command "$work/words.tape" --go-on "${client[@]}" "${begin[@]}" 'query:SELECT 10' end
+    same 'replay: a difference ends a session that was not rolled back' "$status $(grep -c 'SFATAL.*C08P01' <<< "$replayed")" '11 1'
+}
+
+# One query of fifteen tests that share a session has changed: one test fails.
+test_replay_changed_django() {
+    local suite=(/usr/bin/python3 -B tests/real/django_suite.py) options=(--any-literal time --any-literal uuid --any-order --again --go-on)
+    has_module django || return
+    record_command "$work/changed-django.tape" "${suite[@]}"
+    sed 's/get(name="Ann").coins, 10)/get(name="Ann", coins=10).coins, 10)/' tests/real/django_suite.py > "$work/changed_suite.py"
+    start_replay "$work/changed-django.tape" "${options[@]}"
+    at_port "$replay_port" /usr/bin/python3 -B "$work/changed_suite.py" > "$work/output" 2>&1
+    same 'replay: of fifteen tests of Django the changed one fails' "$(tail -n 1 "$work/output")" '15 tests, 1 errors, 0 failures'
+    same 'replay: and it shows the difference' "$(grep -c "OperationalError: message .* isn't the recorded one" "$work/output")" 1
+    stop_replay
+    expect 'replay: a difference within a test of Django' 143 'they part in the query'
+}
+
 test_replay_differences() {
     test_replay_queries
     test_replay_real_differences
@@ -209,4 +252,6 @@ test_replay_differences() {
     test_replay_values
     test_replay_order
     test_replay_times
+    test_replay_gone_on
+    test_replay_changed_django
 }

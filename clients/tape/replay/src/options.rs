@@ -60,7 +60,8 @@ pub struct Options {
     /// Takes silence for a difference where the recorded client had sent more
     #[arg(long, value_name = "SECONDS", value_parser = clap::value_parser!(u32).range(..=86400))]
     patience: Option<u32>,
-    /// Serves on after a difference
+    /// Serves on after a difference. Within a transaction that was rolled back its client goes on too: what it says is refused, as
+    /// by a server once a statement has failed, until it rolls back as recorded
     #[arg(long)]
     pub go_on: bool,
     /// Serves the recording again when all of it is replayed

@@ -5,6 +5,7 @@ mod names;
 mod sql;
 mod store;
 
+pub use sql::is_rollback;
 pub use store::{Forms, UNRECORDED};
 
 use crate::rules::Rules;
@@ -77,6 +78,16 @@ impl Former {
     /// How the last message is answered where the rules let a client say it.
     pub fn ignored(&self) -> Option<&Ignored> {
         self.ignored.as_ref()
+    }
+
+    /// The place of the savepoint that the last message goes back to, where it does, among those that there are.
+    pub fn undone(&self) -> Option<usize> {
+        self.names.undone(&self.effects)
+    }
+
+    /// How many savepoints there are.
+    pub fn savepoints(&self) -> usize {
+        self.names.savepoints()
     }
 
     /// Lets the last message take effect, whose form has this number.

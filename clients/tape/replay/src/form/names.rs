@@ -155,6 +155,19 @@ impl Names {
         }
     }
 
+    /// The place of the savepoint that these effects go back to first.
+    pub fn undone(&self, effects: &[Effect]) -> Option<usize> {
+        let name = effects.iter().find_map(|it| match it {
+            Effect::Back(name) => Some(name),
+            _ => None,
+        });
+        self.savepoints.iter().rposition(|(it, _)| Some(it) == name)
+    }
+
+    pub fn savepoints(&self) -> usize {
+        self.savepoints.len()
+    }
+
     /// Does what a message of a form does.
     pub fn settle(&mut self, form: u32, effects: &mut Vec<Effect>) {
         for (place, effect) in effects.drain(..).enumerate() {

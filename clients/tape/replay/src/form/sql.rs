@@ -58,6 +58,11 @@ fn naming() -> &'static Regex {
     pattern!(&NAMING.replace("SP", SPACE).replace("ID", &format!("(?:{IDENTIFIER})")))
 }
 
+/// Whether a text begins by undoing a transaction or a part of it.
+pub fn is_rollback(text: &[u8]) -> bool {
+    pattern!(&r"(?i-u)^(?:SP)*(?:ROLLBACK|ABORT)\b".replace("SP", SPACE)).is_match(text)
+}
+
 /// Adds a text as it is compared. What its names do is added to `effects`.
 pub fn put(
     out: &mut Vec<u8>,
@@ -232,6 +237,16 @@ mod tests {
 
     fn are_alike(one: &str, other: &str, literals: &[LiteralKind]) -> bool {
         form(one, literals) == form(other, literals)
+    }
+
+    #[test]
+    fn rollbacks_are_found() {
+        for text in ["ROLLBACK", " /* all */ rollback to savepoint a", "-- all\nAbort;"] {
+            assert!(is_rollback(text.as_bytes()), "{text}");
+        }
+        for text in ["", "ROLLBACKS", "SELECT 'ROLLBACK'", "RELEASE a; ROLLBACK"] {
+            assert!(!is_rollback(text.as_bytes()), "{text}");
+        }
     }
 
     #[test]

@@ -10,6 +10,7 @@ pub use claims::Claim;
 
 use crate::tape::{Changed, Ending, Tape, What};
 use std::collections::HashMap;
+use std::ops::Range;
 use std::sync::Arc;
 
 const SEATED: &str = "a session has a seat until it ends";
@@ -310,6 +311,20 @@ impl Pool {
             hangs_up: is_end && connection.ending == Ending::ByServer,
             is_cut: is_end && connection.ending == Ending::Unrecorded { is_idle: false },
         }
+    }
+
+    /// What is recorded of the turn at hand from the message on that would be next.
+    pub fn ahead(&self, id: usize) -> Range<usize> {
+        let seat = self.seat(id);
+        let said = seat.turn.map_or(0..0, |turn| self.tape.turns[turn].said());
+        said.start + seat.at..said.end
+    }
+
+    /// Takes a message that is ahead, and leaves out those before it.
+    pub fn skip_to(&mut self, id: usize, said: usize) -> Fit {
+        let skipped = said - self.ahead(id).start;
+        self.seat_mut(id).at += skipped;
+        self.advance(id)
     }
 
     /// Begins with data or a long message, where the recorded client does so next.

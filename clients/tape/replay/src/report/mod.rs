@@ -159,27 +159,49 @@ impl Report {
         format!("pg_replay: {}\n{}{}", self.sentence, self.sides, self.more)
     }
 
-    /// What the client hears: an error, and a ReadyForQuery after it, without which some drivers show none.
+    /// What the client hears: an error that ends its session, and a ReadyForQuery after it, without which some drivers show
+    /// none.
     pub fn error(&self) -> Vec<u8> {
+        let ready = Message::ReadyForQuery(TransactionStatus::Idle);
+        self.written("FATAL", Some(ready).filter(|_| !self.is_startup))
+    }
+
+    /// What it hears where its session goes on.
+    pub fn refusal(&self) -> Vec<u8> {
+        self.written("ERROR", None)
+    }
+
+    fn written(&self, severity: &str, then: Option<Message<'_>>) -> Vec<u8> {
         let (sentence, detail) =
             (plain(&self.sentence), plain(&format!("{}{}", self.sides, self.more)));
-        let mut fields = fatal("08P01", &sentence);
+        let mut fields = fields(severity, "08P01", &sentence);
         fields.push(Field::new(FieldKind::Detail, &detail));
-        let mut messages = vec![Message::ErrorResponse(fields.into())];
-        if !self.is_startup {
-            messages.push(Message::ReadyForQuery(TransactionStatus::Idle));
-        }
-        let mut bytes = Vec::new();
-        let written = messages.iter().try_for_each(|it| it.write(&mut bytes));
-        written.map_or(Vec::new(), |()| bytes)
+        let mut bytes = bytes_of(&Message::ErrorResponse(fields.into()));
+        bytes.extend(then.iter().flat_map(bytes_of));
+        bytes
     }
+}
+
+/// The bytes of a message; none of one that can't be written.
+pub fn bytes_of(message: &Message<'_>) -> Vec<u8> {
+    let mut bytes = Vec::new();
+    message.write(&mut bytes).map_or(Vec::new(), |()| bytes)
 }
 
 /// The fields of an error that ends a session.
 pub fn fatal<'a>(code: &'a str, message: &'a str) -> Vec<Field<'a>> {
+    fields("FATAL", code, message)
+}
+
+/// An error after which a session goes on.
+pub fn refusal(code: &str, message: &str) -> Vec<u8> {
+    bytes_of(&Message::ErrorResponse(fields("ERROR", code, message).into()))
+}
+
+fn fields<'a>(severity: &'a str, code: &'a str, message: &'a str) -> Vec<Field<'a>> {
     vec![
-        Field::new(FieldKind::LocalizedSeverity, "FATAL"),
-        Field::new(FieldKind::Severity, "FATAL"),
+        Field::new(FieldKind::LocalizedSeverity, severity),
+        Field::new(FieldKind::Severity, severity),
         Field::new(FieldKind::Code, code),
         Field::new(FieldKind::Message, message),
     ]

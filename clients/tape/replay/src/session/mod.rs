@@ -2,6 +2,7 @@
 
 mod greeting;
 mod login;
+mod lost;
 mod outgoing;
 mod passing;
 mod take;
@@ -16,6 +17,7 @@ use crate::report::{Allowed, Parting, Report, Side};
 use crate::serve::Shared;
 use crate::tape::{Changed, Cutter, Ending, Place, SpokenReader};
 use anyhow::Result;
+use lost::Lost;
 use net::{Failure, Status, Stream};
 use outgoing::{Outgoing, Sent};
 use pgmsg::backend::Message;
@@ -65,6 +67,8 @@ pub struct Session<'s> {
     /// Where a long message isn't over, how many bytes of it came.
     long: usize,
     run: Option<Run>,
+    /// What the client said within a transaction isn't recorded.
+    lost: Option<Lost>,
     out: Outgoing<'s>,
     /// The difference where something is missing.
     missing: Option<Report>,
@@ -98,6 +102,7 @@ impl<'s> Session<'s> {
             cutter: Cutter::of_client(),
             long: 0,
             run: None,
+            lost: None,
             out: Outgoing::new(shared.keeps_times, taping),
             missing: None,
             is_leaving: false,
@@ -223,20 +228,34 @@ impl<'s> Session<'s> {
 
     /// Ends the session where the client says otherwise than recorded.
     fn differ(&mut self, received: Side) {
-        let expected = self.shared.pool().expected(self.seat);
-        let recorded = Side::recorded(&self.shared.tape, &expected);
-        self.differ_from(&recorded, &received, None);
+        let report = self.report(&received);
+        self.end_by(report);
     }
 
     /// The same with what was recorded, and with the place where both part.
     fn differ_from(&mut self, recorded: &Side, received: &Side, part: Option<Parting>) {
+        let report = self.report_of(recorded, received, part);
+        self.end_by(report);
+    }
+
+    /// The difference of what the client says.
+    fn report(&self, received: &Side) -> Report {
+        let expected = self.shared.pool().expected(self.seat);
+        let recorded = Side::recorded(&self.shared.tape, &expected);
+        self.report_of(&recorded, received, None)
+    }
+
+    fn report_of(&self, recorded: &Side, received: &Side, part: Option<Parting>) -> Report {
         let (expected, shared) = (self.shared.pool().expected(self.seat), self.shared);
         let statement = expected.said.and_then(|it| shared.tape.statement_of(it));
         let (allowed, place) = (
             Allowed { rules: &shared.rules, statement },
             (Some(expected.connection), expected.number),
         );
-        let report = Report::new(place, &allowed, recorded, received, part);
+        Report::new(place, &allowed, recorded, received, part)
+    }
+
+    fn end_by(&mut self, report: Report) {
         if self.out.taping.is_some() && !self.is_leaving {
             self.missing = Some(report);
             self.state = State::Missing;

@@ -28,6 +28,9 @@ impl Session<'_> {
     }
 
     fn take_message(&mut self, message: &[u8]) -> Result<(), Changed> {
+        if let Some(lost) = self.lost {
+            return self.take_lost(lost, message);
+        }
         match message[0] {
             // Answers don't wait for a Flush, and no password is asked for any more.
             b'H' | b'p' => {
@@ -88,7 +91,7 @@ impl Session<'_> {
             {
                 self.ignore(form)
             }
-            Step::Differs(_) => self.differ(Side::message(message)),
+            Step::Differs(_) => self.take_other(message)?,
         }
         Ok(())
     }
@@ -111,7 +114,7 @@ impl Session<'_> {
     }
 
     /// The form of a message that isn't the one which was recorded next.
-    fn form_of(&mut self, message: &[u8]) -> Result<u32, Changed> {
+    pub(super) fn form_of(&mut self, message: &[u8]) -> Result<u32, Changed> {
         let shared = self.shared;
         if let Some(next) = self.next.take() {
             self.former = shared.tape.former_at(next, &shared.rules)?;
@@ -131,7 +134,7 @@ impl Session<'_> {
     }
 
     /// Answers what fits.
-    fn fit(&mut self, fit: Fit) {
+    pub(super) fn fit(&mut self, fit: Fit) {
         self.next = self.next.filter(|it| *it == fit.said).map(|it| it + 1);
         let said = &self.shared.tape.script.said[fit.said];
         self.out.add(&self.shared.tape, fit.said, self.heard_at);
@@ -280,7 +283,8 @@ impl Session<'_> {
         if self.run.as_ref().map_or(false, |it| it.left == 0) {
             self.finish_run();
         }
-        if self.state == State::Ending {
+        if self.state == State::Ending || self.lost.is_some() {
+            self.state = State::Ending;
             return Ok(());
         }
         self.is_leaving = true;

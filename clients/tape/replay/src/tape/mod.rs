@@ -286,6 +286,33 @@ impl Tape {
         Ok(former)
     }
 
+    /// Where the recorded client rolled back by a message of a form, of some that it said one after the other, to a savepoint
+    /// of the place that it had before them, if one is named: as long as that savepoint was there.
+    pub fn undone(
+        &self,
+        ahead: Range<usize>,
+        form: u32,
+        savepoint: Option<usize>,
+        rules: &Arc<Rules>,
+    ) -> Result<Option<usize>, Changed> {
+        let mut former = self.former_at(ahead.start, rules)?;
+        for said in ahead {
+            let What::Form(recorded) = self.script.what(said) else {
+                continue;
+            };
+            if recorded == form {
+                return Ok(Some(said));
+            }
+            let message = self.message(said)?;
+            former.message(Some(message[0]), &message[HEAD..]);
+            former.settle(recorded);
+            if savepoint.map_or(false, |it| it >= former.savepoints()) {
+                break;
+            }
+        }
+        Ok(None)
+    }
+
     /// Reads what a client said from a message on.
     pub fn reader(&self, said: usize) -> SpokenReader {
         SpokenReader::new(self.script.said[said].at)

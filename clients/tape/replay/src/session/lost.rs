@@ -1,0 +1,114 @@
+//! Going on after a difference within a transaction. The client hears an error as of a statement that fails in a server, and what
+//! follows is refused, until the client rolls back what the recorded one rolled back later, too: nothing is left then of what
+//! both did otherwise.
+
+use super::{Session, State};
+use crate::form::is_rollback;
+use crate::pool::Fit;
+use crate::report::{bytes_of, refusal, Side};
+use crate::tape::{Changed, What, HEAD};
+use pgmsg::backend::{Message as Answer, TransactionStatus};
+use pgmsg::frontend::Message;
+
+/// What a client is refused that said something else than recorded.
+#[derive(Clone, Copy, Debug, PartialEq, Eq)]
+pub enum Lost {
+    /// All but a rollback.
+    Transaction,
+    /// All up to the next Sync, too.
+    Exchange,
+}
+
+/// Whether a message rolls back a transaction or a part of it.
+fn rolls_back(message: &[u8]) -> bool {
+    match Message::read_body(Some(message[0]), &message[HEAD..]) {
+        Ok(Message::Query(text)) => is_rollback(&text),
+        Ok(Message::Parse(parse)) => is_rollback(&parse.query),
+        _ => false,
+    }
+}
+
+impl Session<'_> {
+    /// Takes what isn't recorded: by an error after which the session can go on, or by one that ends it.
+    pub(super) fn take_other(&mut self, message: &[u8]) -> Result<(), Changed> {
+        if !self.shared.goes_on || self.out.taping.is_some() || !self.is_rolled_back_later()? {
+            self.differ(Side::message(message));
+            return Ok(());
+        }
+        let report = self.report(&Side::message(message));
+        self.shared.tell_difference(&report);
+        self.has_failed = true;
+        self.refuse(message, report.refusal());
+        Ok(())
+    }
+
+    /// Whether the recorded client rolled back, later in the transaction at hand.
+    fn is_rolled_back_later(&self) -> Result<bool, Changed> {
+        let (tape, ahead) = (&self.shared.tape, self.shared.pool().ahead(self.seat));
+        for said in ahead {
+            let is_text = matches!(tape.script.what(said), What::Form(_));
+            if is_text && rolls_back(&tape.message(said)?) {
+                return Ok(true);
+            }
+        }
+        Ok(false)
+    }
+
+    /// Takes a message of a client that is lost.
+    pub(super) fn take_lost(&mut self, lost: Lost, message: &[u8]) -> Result<(), Changed> {
+        match message[0] {
+            b'X' => self.state = State::Ending,
+            b'S' => {
+                self.lost = Some(Lost::Transaction);
+                self.add_failed();
+            }
+            // Data of a COPY that was refused have no answer, and a Flush has none.
+            b'd' | b'c' | b'f' | b'H' => {}
+            _ if lost == Lost::Exchange => {}
+            _ => match self.found_again(message)? {
+                Some(fit) => {
+                    self.lost = None;
+                    self.fit(fit);
+                }
+                None => self.refuse(
+                    message,
+                    refusal("25P02", "what follows a difference isn't known, up to a rollback"),
+                ),
+            },
+        }
+        Ok(())
+    }
+
+    /// Finds where the recorded client rolled back as this one does.
+    fn found_again(&mut self, message: &[u8]) -> Result<Option<Fit>, Changed> {
+        if !rolls_back(message) {
+            return Ok(None);
+        }
+        let form = self.form_of(message)?;
+        let (shared, ahead) = (self.shared, self.shared.pool().ahead(self.seat));
+        let found = shared.tape.undone(ahead, form, self.former.undone(), &shared.rules)?;
+        Ok(found.map(|said| {
+            self.former.settle(form);
+            shared.pool().skip_to(self.seat, said)
+        }))
+    }
+
+    /// Ends an answer within a transaction that has failed.
+    fn add_failed(&mut self) {
+        self.out.add_made(bytes_of(&Answer::ReadyForQuery(TransactionStatus::Failed)));
+    }
+
+    /// Refuses a message by an error, as a server does in a transaction that has failed.
+    fn refuse(&mut self, message: &[u8], error: Vec<u8>) {
+        self.out.add_made(error);
+        self.holds = false;
+        self.is_owing = false;
+        self.lost = Some(match message[0] {
+            b'Q' | b'F' | b'S' => {
+                self.add_failed();
+                Lost::Transaction
+            }
+            _ => Lost::Exchange,
+        });
+    }
+}
