@@ -37,7 +37,7 @@ test_package() {
         echo 'left out: packages, which need what the Python package needs, dpkg-dev, debhelper, dh-python and help2man'
         return
     fi
-    PROGRAMS=$programs try ./package "$work/packages"
+    PROGRAMS=$built try ./package "$work/packages"
     expect 'package: they are made' 0
     [ "$status" = 0 ] || return
     commands_of Install | tail -n +2 | sed 's/ *#.*//; 1s/install/install --yes/' > "$work/commands"

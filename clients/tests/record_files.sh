@@ -29,7 +29,6 @@ read_back() {
         bad "the second reader reads: $1" "$(cat "$work/errors.read")"
         return
     fi
-    exported_back "$1" "$2"
     recordings_read=$((recordings_read + 1))
     records_read=$((records_read + $(wc -l < "$work/records")))
 }

@@ -1,19 +1,5 @@
 # Recordings that pg_tape exports, imports, edits, redacts and shows. Sourced by `test`.
 
-# Tests that the export of a recording, imported again, has the same bytes. How many did is counted.
-recordings_exported=0
-exported_back() {
-    local lines=$work/exported.jsonl
-    if ! "$programs/pg_tape" export "$2" -o "$lines" 2> "$work/errors.exported" \
-        || ! "$programs/pg_tape" import "$lines" -o "$work/imported.tape" 2>> "$work/errors.exported"; then
-        bad "exported and imported: $1" "$(cat "$work/errors.exported")"
-    elif ! cmp "$2" "$work/imported.tape" > "$work/difference"; then
-        bad "exported and imported: $1" "$(cat "$work/difference")"
-    else
-        recordings_exported=$((recordings_exported + 1))
-    fi
-}
-
 # A script that says secrets in each way, and has an error, a notice, COPY each way and a notification.
 write_secret_script() {
     cat > "$work/secret.sql" << 'SQL'
@@ -50,7 +36,7 @@ name = "no_such_column"
 TOML
 }
 
-secrets='ann\.lee|bob\.fox|1971-03-21|1980-05-06|123456|654321|Secret-In|Another-S|Third-One|4111111|SCRAM-SHA-256\$[0-9]*:[0-9+/]*[A-WYZa-wyz]'
+secrets='ann\.lee|bob\.fox|1971-03-21|1980-05-06|123456|654321|Secret-In|Another-S|Third-One|4111111|SCRAM-SHA-256\$[0-9]*:[A-Za-z0-9+/]*[A-WYZa-wyz]'
 
 # Secrets that rules name, and those that are found without one.
 test_tape_redact() {
@@ -73,7 +59,6 @@ test_tape_redact() {
     kinds='s/^.*"kind":"\([A-Za-z]*\)".*/\1/'
     sed "$kinds" "$work/secret.jsonl" > "$work/kinds"
     same 'redact: so do the kinds of messages' "$(sed "$kinds" "$work/redacted.jsonl" | cmp - "$work/kinds")" ''
-    exported_back 'redacted' "$redacted"
     try "$programs/pg_tape" diff "$tape" "$redacted"
     expect 'redact: what differs is shown' 1
     same 'redact: as lines of both' "$(grep -c '^[-+] server DataRow' "$work/output" | sed 's/^[1-9][0-9]*$/some/')" some
@@ -158,13 +143,10 @@ CASES
 
 # Exports of recordings, their schema, and lines that were changed.
 test_tape_exports() {
-    local tape
-    for tape in "$work"/{secret,words,edits,merged,two,redacted}.tape; do
-        exported_back "${tape##*/}" "$tape"
-    done
     record_command "$work/script.tape" "$bin/psql" -X -f "$work/secret.sql"
     truncate -s -7 "$work/script.tape"
-    exported_back 'a recording that is cut' "$work/script.tape"
+    try "$programs/pg_tape" export "$work/script.tape" -o "$work/script.jsonl"
+    same 'export: a recording that is cut' "$status $(tail -n 1 "$work/script.jsonl" | grep -c '"kind":"Cut"')" '0 1'
     try "$programs/pg_tape" import tape/tape/kinds.jsonl -o "$work/kinds.tape"
     expect 'import: messages of all kinds' 0
     same 'export: the same lines' "$("$programs/pg_tape" export "$work/kinds.tape" | cmp - tape/tape/kinds.jsonl)" ''
@@ -231,7 +213,6 @@ test_tape_long() {
         try with_data $most "$programs/pg_tape" $command "$tape" -o "$back"
         expect "long: $command of a recording of $size kB in $most kB" 0
     done
-    exported_back 'long' "$tape"
     for command in export redact view; do
         try python3 -B tests/recording_lines.py bar "$programs/pg_tape" $command "$tape" "$back"
         expect "long: the bar of $command: $output" 0
@@ -263,5 +244,4 @@ test_recordings() {
     test_tape_exports
     test_tape_long
     test_tape_view
-    ok "$recordings_exported recordings are exported and imported with the same bytes"
 }

@@ -12,7 +12,6 @@ has_begun() {
 # Starts pg_record on a free port with options, with both sides to a new file. Leaves its process in $taping, its port
 # in $tape_port.
 start_tape() {
-    tape_file=$1
     : > "$work/errors.tape"
     rm -f "$1"
     "$programs/pg_record" -h 127.0.0.1 -p "$PGPORT" -o "$1" "${@:2}" 0 2> "$work/errors.tape" &
@@ -39,7 +38,6 @@ stop_tape() {
     await has_no_session
     kill "$taping"
     reap "$taping"
-    exported_back "the recording ${tape_file##*/}" "$tape_file"
 }
 
 # Starts pg_replay on a file with options. Leaves its process in $replaying, its port in $replay_port.
