@@ -60,22 +60,33 @@ test_unread_notifications() {
     exec {unread}>&-
 }
 
-# A replay that can't say a difference.
+# Starts a replay of so many threads with options, and a client that differs, where standard error is a pipe that nobody reads.
+begin_unread_difference() {
+    local port
+    open_unread
+    port=$(free_port)
+    "$programs/pg_replay" --threads "$1" "${@:2}" "$work/words.tape" "$port" 2> "$work/unread" &
+    replaying=$!
+    await at_port "$port" "${client[@]}" cancel end
+    fill_unread
+    at_port "$port" "${client[@]}" "$as_postgres" read 'query:SELECT 2' end > "$work/waiting" &
+    waiting=$!
+}
+
+# A replay that can't say a difference: it ends by the difference, or by a signal where it goes on and again.
 test_unread_differences() {
-    local port number waiting begun
+    local number waiting begun
     record_words "$as_postgres" read 'query:SELECT 1' read terminate end
     for number in 1 4; do
-        open_unread
-        port=$(free_port)
-        "$programs/pg_replay" --threads "$number" "$work/words.tape" "$port" 2> "$work/unread" &
-        replaying=$!
-        await at_port "$port" "${client[@]}" cancel end
-        fill_unread
-        at_port "$port" "${client[@]}" "$as_postgres" read 'query:SELECT 2' end > "$work/waiting" &
-        waiting=$!
+        begin_unread_difference "$number"
         begun=$SECONDS
         reap "$replaying"
         same "a replay ends whose differences nobody reads, threads: $number" "$? $((SECONDS - begun <= 10))" '11 1'
+        wait "$waiting"
+        exec {unread}>&-
+        begin_unread_difference "$number" --go-on --again
+        sleep 1
+        ends_by "SIGTERM ends a replay whose differences nobody reads, threads: $number" TERM "$replaying" 143
         wait "$waiting"
         exec {unread}>&-
     done

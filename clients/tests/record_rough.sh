@@ -175,7 +175,7 @@ test_record_threads() {
         echo 'left out: recordings by several threads, without pgbench (apt-get install postgresql)'
         return
     fi
-    for number in 1 8; do
+    for number in 1 2 8; do
         start_taping "$tape" --threads "$number"
         try through "$bin/pgbench" -i -q -s 1
         try through "$bin/pgbench" -n -C -c 8 -j 4 -t 5

@@ -47,6 +47,11 @@ test_both_encrypted() {
     same 'both are recorded in clear, and not as encrypted' \
         "$(count_records O) $(count_records E) $(grep -a -o 'pg_stat_ssl' "$tape" | wc -l)" '2 0 2'
     same 'it says that a client failed at TLS' "$(grep -c 'fails at TLS' "$work/errors.record")" 1
+    start_replay "$tape" "${certificate[@]}"
+    same 'verify-full on both sides, replayed' "$(record_port=$replay_port verified "$its_encryption")" t
+    same 'a client without TLS, replayed' "$(at_port "$replay_port" "$bin/psql" -X -q -A -t -c "$its_encryption")" t
+    end_replay
+    expect 'TLS on both sides, replayed' 0 '2 of 2 sessions are replayed'
 }
 
 # Starts a recorder with options, and tests that a session through it ends with words of the recorder.
@@ -64,6 +69,9 @@ test_refused_servers() {
         --sslrootcert "$work/authority/other.crt"
     start_taping "$work/refused.tape" -h 127.0.0.1 --sslmode verify-ca --sslrootcert "$trusted.crt"
     same 'TLS with the server: verify-ca takes another host' "$(query_through "$its_encryption")" t
+    stop_recording
+    start_taping "$work/refused.tape" -h localhost --sslmode disable
+    same 'TLS with the server: disable asks for none' "$(query_through "$its_encryption")" f
     stop_recording
     try env HOME="$work" "$programs/pg_record" -h localhost --sslmode verify-full 0
     expect 'TLS with the server: no roots' 7 'no file of trusted roots'

@@ -187,6 +187,7 @@ test_replay_pgbench() {
         both_ways "pgbench-$mode" '' bash -c "pgbench_without_times -M $mode -t 50"
     done
     both_ways 'pgbench-of-8' '--any-order' bash -c 'pgbench_without_times -M prepared -c 8 -j 4 -t 20'
+    both_ways 'pgbench-of-8-without-options' '' bash -c 'pgbench_without_times -M prepared -c 8 -j 4 -t 20'
     both_ways 'pgbench-that-connects' '' bash -c 'pgbench_without_times -C -t 20'
 }
 

@@ -89,6 +89,11 @@ test_replay_tls() {
     end_replay
     try "$programs/pg_replay" --cert "$work/tls.crt" "$file" 0
     expect 'replay: a certificate without its key' 1 'usage: pg_replay'
+    record_words "$as_postgres" read terminate end
+    start_replay "$work/words.tape" --again --go-on $options
+    try tests/record_handshakes.py "$replay_port" "$work/tls.crt"
+    expect "replay: handshakes: $output" 0
+    stop_replay
     test_replay_listens "$file"
 }
 

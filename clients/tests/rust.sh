@@ -131,6 +131,8 @@ test_tape() {
     local cargo_folder count inputs
     read -r cargo_folder _ < <(rust_folders 1.65)
     expect_format tape
+    same 'the crates of pg_record: each file that is compiled by itself forbids unsafe code' \
+        "$(grep -L '^#!\[forbid(unsafe_code)\]$' tape/*/src/{lib,main}.rs tape/*/{examples,tests}/*.rs 2> /dev/null)" ''
     PG_RECORD=$(realpath "$programs/pg_record") PG_REPLAY=$(realpath "$programs/pg_replay") \
         try by_strict_cargo tape test --workspace -- --show-output
     count=$(grep -o '[0-9]* passed' <<< "$output" | awk '{ count += $1 } END { print count }')

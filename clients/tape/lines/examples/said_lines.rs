@@ -5,6 +5,7 @@
 //!
 //! The lines are those of `pg_tool server stream`: a message and its fields, or the words of its fault, as soon as it is
 //! whole; at last how many bytes are no whole message, or what is wrong with the stream.
+#![forbid(unsafe_code)]
 
 use pgmsg::{Decoder, Fault, Next};
 use std::fs::File;

@@ -3,6 +3,7 @@
 //!     trace_lines [-w] CLIENT SERVER
 //!
 //! By libpq's own lines, or with -w by those that show what libpq doesn't.
+#![forbid(unsafe_code)]
 
 use lines::trace::{encryption_answer, first_message, message, Side, Style};
 use pgmsg::frontend::Message;

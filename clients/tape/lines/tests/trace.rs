@@ -1,4 +1,5 @@
 //! Lines of the trace: of each kind of message, whole and broken.
+#![forbid(unsafe_code)]
 
 use lines::trace::{first_message, message, Side, Style};
 use Side::{Client, Server};

@@ -1,4 +1,5 @@
 //! Recordings of a server that answers each query with the query's own text, and replays of them.
+#![forbid(unsafe_code)]
 
 use std::io::{Read, Write};
 use std::net::{TcpListener, TcpStream};
