@@ -15,7 +15,7 @@ keep_recordings() {
     ln -s "$PWD/$built"/* $programs
     for program in pg_record pg_replay pg_tape; do
         if [ -x "$built/$program" ]; then
-            install -m 755 tests/keeper "$programs/$program"
+            install tests/keeper "$programs/$program"
         fi
     done
 }

@@ -1,6 +1,6 @@
 # Recordings whose recorder is killed, or has no room, and clients that are slow, many or send much. Sourced by `test`.
-# RECORD_MEGABYTES may say how long the COPY is that is recorded in little memory: 10240 takes some minutes, and as
-# much room in the folder for temporary files.
+# RECORD_MEGABYTES may say how long the COPY is that is recorded in little memory: 10240 takes many minutes, since it is exported
+# and imported too, and five times as much room in the folder for temporary files.
 
 # The most memory that a process held, in kB.
 peak_of() {
