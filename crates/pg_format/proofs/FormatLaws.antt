@@ -4,6 +4,7 @@ pub mod FromClient
 pub mod FromServer
 pub mod Kinds
 pub mod Lists
+pub mod Logical
 pub mod Nullable
 pub mod Numbers
 pub mod Parts

@@ -1,5 +1,6 @@
 pub mod EndedTextsLemmas
 pub mod ExamplesLemmas
+pub mod FieldLemmas
 pub mod FormatLaws
 pub mod ItemsLemmas
 pub mod TextLemmas

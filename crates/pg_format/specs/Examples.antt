@@ -2,10 +2,12 @@
 -- value that they mean, or beside the fault that they have.
 use Rattle.std.specs.Prelude.{◌≡◌, ℕ, pos, negsuc, true, false, List, [], ◌∷◌, ◌++◌, codes, replicate, Option, Some, None}
 use Rattle.pg_base.specs.declared.error.ProtocolFault.{ProtocolFault}
-use Rattle.pg_base.specs.declared.error.ProtocolFault.TheVariants.{BadKeyLength, BodyTooLong, MissingNul, UnknownSeverity, ValueLength}
+use Rattle.pg_base.specs.declared.error.ProtocolFault.TheVariants.{BadKeyLength, BodyTooLong, MissingNul, UnknownMessageType, UnknownSeverity, ValueLength}
 use Rattle.pg_base.specs.declared.format.BackendMessageFormat.{BackendMessageFormat}
 use Rattle.pg_base.specs.declared.format.FrontendMessageFormat.{FrontendMessageFormat}
 use Rattle.pg_format.specs.Format.{Format, Means, IsFaultOf}
+use Rattle.pg_format.specs.Logical as logical
+use Rattle.pg_format.specs.Logical.{null, unchanged, text, binary, key, whole}
 use Rattle.pg_format.specs.Notices.{Field}
 use Rattle.pg_format.specs.Messages.{from_server, from_client, BackendKey, Bind, Cancel, Column, CopyResponse, Execute, First, FunctionCall, Negotiation, Notification, Parse, SaslInitial, Setting, Targeted, opening, cancelling}
 use Rattle.pg_format.specs.Replication.{XLogData, PrimaryKeepalive, StandbyStatusUpdate, HotStandbyFeedback, NewArchive}
@@ -364,3 +366,126 @@ progress_of_258_bytes = record { bytes = 0 ∷ 0 ∷ 0 ∷ 0 ∷ 0 ∷ 0 ∷ 1 �
 
 abbrev pub progress_and_a_byte : FaultExample
 progress_and_a_byte = record { bytes = 0 ∷ 0 ∷ 0 ∷ 0 ∷ 0 ∷ 0 ∷ 1 ∷ 2 ∷ 7 ∷ []; fault = BodyTooLong 8 }
+
+-- ---- logical replication: what follows the letter
+
+abbrev pub begin_739 : Example logical.Begin
+begin_739 = record {
+  bytes = 0 ∷ 0 ∷ 0 ∷ 0 ∷ 1 ∷ 0 ∷ 0 ∷ 40 ∷ 0 ∷ 0 ∷ 0 ∷ 0 ∷ 0 ∷ 0 ∷ 1 ∷ 2 ∷ 0 ∷ 0 ∷ 2 ∷ 227 ∷ [];
+  value = record { final_lsn = 16777256; clock = pos 258; transaction = 739 };
+}
+
+abbrev pub message_to_ab : Example logical.Message
+message_to_ab = record {
+  bytes = 0 ∷ 0 ∷ 2 ∷ 227 ∷ 1 ∷ 0 ∷ 0 ∷ 0 ∷ 0 ∷ 1 ∷ 0 ∷ 0 ∷ 40 ∷ codes "ab" ++ 0 ∷ 0 ∷ 0 ∷ 0 ∷ 2 ∷ 0 ∷ 9 ∷ [];
+  value = record { transaction = Some 739; flags = 1; lsn = 16777256; prefix = codes "ab"; content = 0 ∷ 9 ∷ [] };
+}
+
+abbrev pub commit_of_begin : Example logical.Commit
+commit_of_begin = record {
+  bytes = 0 ∷ 0 ∷ 0 ∷ 0 ∷ 0 ∷ 1 ∷ 0 ∷ 0 ∷ 40 ∷ 0 ∷ 0 ∷ 0 ∷ 0 ∷ 1 ∷ 0 ∷ 0 ∷ 96 ∷ 255 ∷ 255 ∷ 255 ∷ 255 ∷ 255 ∷ 255 ∷ 255 ∷ 255 ∷ [];
+  value = record { flags = 0; lsn = 16777256; end_lsn = 16777312; clock = negsuc 0 };
+}
+
+abbrev pub origin_far : Example logical.Origin
+origin_far = record {
+  bytes = 0 ∷ 0 ∷ 0 ∷ 0 ∷ 1 ∷ 0 ∷ 0 ∷ 40 ∷ codes "far" ++ 0 ∷ [];
+  value = record { lsn = 16777256; name = codes "far" };
+}
+
+abbrev pub table_of_a_column : Example logical.Relation
+table_of_a_column = record {
+  bytes = 0 ∷ 0 ∷ 64 ∷ 5 ∷ codes "s" ++ 0 ∷ codes "t" ++ 0 ∷ 100 ∷ 0 ∷ 1 ∷ 1 ∷ codes "id" ++ 0 ∷ 0 ∷ 0 ∷ 0 ∷ 23 ∷ 255 ∷ 255 ∷ 255 ∷ 255 ∷ [];
+  value = record {
+    transaction = None;
+    relation = 16389;
+    schema = codes "s";
+    name = codes "t";
+    replica_identity = 100;
+    columns = record { flags = 1; name = codes "id"; type_id = 23; type_modifier = negsuc 0 } ∷ [];
+  };
+}
+
+abbrev pub type_mood : Example logical.TypeName
+type_mood = record {
+  bytes = 0 ∷ 0 ∷ 64 ∷ 1 ∷ codes "s" ++ 0 ∷ codes "mood" ++ 0 ∷ [];
+  value = record { transaction = None; type_id = 16385; schema = codes "s"; name = codes "mood" };
+}
+
+abbrev pub insert_of_four_values : Example logical.Insert
+insert_of_four_values = record {
+  bytes = 0 ∷ 0 ∷ 64 ∷ 5 ∷ 78 ∷ 0 ∷ 4 ∷ 110 ∷ 117 ∷ 116 ∷ 0 ∷ 0 ∷ 0 ∷ 1 ∷ 55 ∷ 98 ∷ 0 ∷ 0 ∷ 0 ∷ 2 ∷ 0 ∷ 7 ∷ [];
+  value = record { transaction = None; relation = 16389; new = null ∷ unchanged ∷ text (55 ∷ []) ∷ binary (0 ∷ 7 ∷ []) ∷ [] };
+}
+
+abbrev pub update_of_a_key : Example logical.Update
+update_of_a_key = record {
+  bytes = 0 ∷ 0 ∷ 2 ∷ 227 ∷ 0 ∷ 0 ∷ 64 ∷ 5 ∷ 75 ∷ 0 ∷ 1 ∷ 110 ∷ 78 ∷ 0 ∷ 1 ∷ 117 ∷ [];
+  value = record { transaction = Some 739; relation = 16389; old = Some (key (null ∷ [])); new = unchanged ∷ [] };
+}
+
+abbrev pub update_without_the_old : Example logical.Update
+update_without_the_old = record {
+  bytes = 0 ∷ 0 ∷ 64 ∷ 5 ∷ 78 ∷ 0 ∷ 0 ∷ [];
+  value = record { transaction = None; relation = 16389; old = None; new = [] };
+}
+
+abbrev pub delete_of_a_row : Example logical.Delete
+delete_of_a_row = record {
+  bytes = 0 ∷ 0 ∷ 64 ∷ 5 ∷ 79 ∷ 0 ∷ 1 ∷ 110 ∷ [];
+  value = record { transaction = None; relation = 16389; old = whole (null ∷ []) };
+}
+
+abbrev pub truncate_of_two : Example logical.Truncate
+truncate_of_two = record {
+  bytes = 0 ∷ 0 ∷ 0 ∷ 2 ∷ 3 ∷ 0 ∷ 0 ∷ 64 ∷ 5 ∷ 0 ∷ 0 ∷ 64 ∷ 6 ∷ [];
+  value = record { transaction = None; options = 3; relations = 16389 ∷ 16390 ∷ [] };
+}
+
+abbrev pub stream_of_739 : Example logical.StreamStart
+stream_of_739 = record {
+  bytes = 0 ∷ 0 ∷ 2 ∷ 227 ∷ 1 ∷ [];
+  value = record { transaction = 739; is_first = true };
+}
+
+abbrev pub stream_commit_739 : Example logical.StreamCommit
+stream_commit_739 = record {
+  bytes = 0 ∷ 0 ∷ 2 ∷ 227 ∷ 0 ∷ 0 ∷ 0 ∷ 0 ∷ 0 ∷ 1 ∷ 0 ∷ 0 ∷ 40 ∷ 0 ∷ 0 ∷ 0 ∷ 0 ∷ 1 ∷ 0 ∷ 0 ∷ 96 ∷ 0 ∷ 0 ∷ 0 ∷ 0 ∷ 0 ∷ 0 ∷ 1 ∷ 2 ∷ [];
+  value = record { transaction = 739; flags = 0; lsn = 16777256; end_lsn = 16777312; clock = pos 258 };
+}
+
+abbrev pub stream_abort_740 : Example logical.StreamAbort
+stream_abort_740 = record {
+  bytes = 0 ∷ 0 ∷ 2 ∷ 227 ∷ 0 ∷ 0 ∷ 2 ∷ 228 ∷ [];
+  value = record { transaction = 739; subtransaction = 740 };
+}
+
+abbrev pub begin_of_g : Example logical.BeginPrepare
+begin_of_g = record {
+  bytes = 0 ∷ 0 ∷ 0 ∷ 0 ∷ 1 ∷ 0 ∷ 0 ∷ 40 ∷ 0 ∷ 0 ∷ 0 ∷ 0 ∷ 1 ∷ 0 ∷ 0 ∷ 96 ∷ 0 ∷ 0 ∷ 0 ∷ 0 ∷ 0 ∷ 0 ∷ 1 ∷ 2 ∷ 0 ∷ 0 ∷ 2 ∷ 227 ∷ codes "g" ++ 0 ∷ [];
+  value = record { lsn = 16777256; end_lsn = 16777312; clock = pos 258; transaction = 739; gid = codes "g" };
+}
+
+abbrev pub prepare_of_g : Example logical.Prepared
+prepare_of_g = record {
+  bytes = 0 ∷ 0 ∷ 0 ∷ 0 ∷ 0 ∷ 1 ∷ 0 ∷ 0 ∷ 40 ∷ 0 ∷ 0 ∷ 0 ∷ 0 ∷ 1 ∷ 0 ∷ 0 ∷ 96 ∷ 0 ∷ 0 ∷ 0 ∷ 0 ∷ 0 ∷ 0 ∷ 1 ∷ 2 ∷ 0 ∷ 0 ∷ 2 ∷ 227 ∷ codes "g" ++ 0 ∷ [];
+  value = record { flags = 0; lsn = 16777256; end_lsn = 16777312; clock = pos 258; transaction = 739; gid = codes "g" };
+}
+
+abbrev pub rollback_of_g : Example logical.RollbackPrepared
+rollback_of_g = record {
+  bytes = 0 ∷ 0 ∷ 0 ∷ 0 ∷ 0 ∷ 1 ∷ 0 ∷ 0 ∷ 40 ∷ 0 ∷ 0 ∷ 0 ∷ 0 ∷ 1 ∷ 0 ∷ 0 ∷ 96 ∷ 0 ∷ 0 ∷ 0 ∷ 0 ∷ 0 ∷ 0 ∷ 1 ∷ 2 ∷ 255 ∷ 255 ∷ 255 ∷ 255 ∷ 255 ∷ 255 ∷ 255 ∷ 255 ∷ 0 ∷ 0 ∷ 2 ∷ 227 ∷ codes "g" ++ 0 ∷ [];
+  value = record {
+    flags = 0;
+    prepare_end_lsn = 16777256;
+    rollback_end_lsn = 16777312;
+    prepare_clock = pos 258;
+    rollback_clock = negsuc 0;
+    transaction = 739;
+    gid = codes "g";
+  };
+}
+
+-- the letter of the new row, where that of the old one is due
+abbrev pub delete_of_a_new_row : FaultExample
+delete_of_a_new_row = record { bytes = 0 ∷ 0 ∷ 64 ∷ 5 ∷ 78 ∷ 0 ∷ 0 ∷ []; fault = UnknownMessageType 78 }

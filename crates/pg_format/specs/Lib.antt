@@ -5,6 +5,7 @@ pub mod Format
 pub mod Items
 pub mod Keyed
 pub mod Lawful
+pub mod Logical
 pub mod Messages
 pub mod Notices
 pub mod Received

@@ -7,7 +7,7 @@ ghost use Rattle.pg_format.specs.Format.Places.{ReadsAfter};
 use crate::items::Item;
 use pg_base::ProtocolFault;
 use pg_base::io::part::{Byte, Nothing, Number32, Number64, Part, Slice, Then};
-use pg_base::io::{MAX_BODY, Sink, i64_at, u8_at, u32_at, u64_at};
+use pg_base::io::{MAX_BODY, Sink, bytes_at, i32_at, i64_at, u8_at, u32_at, u64_at};
 
 /// The fields that a body of at most [`MAX_BODY`] bytes has from an offset on. Nothing may follow them, else the
 /// body is refused with `BodyTooLong` from there on.
@@ -200,5 +200,47 @@ impl<'a> Item<'a> for Flag {
     #[inline(always)]
     fn item_at(body: &'a [u8], at: usize) -> Result<(Flag, usize), ProtocolFault> {
         Ok((Flag(u8_at(body, at)? != 0), at + 1))
+    }
+}
+
+/// A signed number of four bytes.
+#[derive(Clone, Copy)]
+pub struct Signed32(pub i32);
+
+impl<'a> Item<'a> for Signed32 {
+    ghost use Rattle.std.specs.Prelude.{ℤ};
+    ghost use Rattle.pg_format.specs.Format.Parts.{be_i32};
+
+    ghost Shown = { ℤ };
+
+    ghost shown = { λ it. it.0 };
+
+    ghost format = { be_i32 };
+
+    #[inline(always)]
+    fn item_at(body: &'a [u8], at: usize) -> Result<(Signed32, usize), ProtocolFault> {
+        Ok((Signed32(i32_at(body, at)?), at + 4))
+    }
+}
+
+/// Bytes after their length, which is a number of four bytes.
+#[derive(Clone, Copy)]
+pub struct SizedBytes<'a>(pub &'a [u8]);
+
+impl<'a> Item<'a> for SizedBytes<'a> {
+    ghost use Rattle.std.specs.Prelude.{ℕ, List};
+    ghost use Rattle.pg_format.specs.Logical.{sized};
+
+    ghost Shown = { List ℕ };
+
+    ghost shown = { λ it. it.0.now };
+
+    ghost format = { sized };
+
+    #[inline(always)]
+    fn item_at(body: &'a [u8], at: usize) -> Result<(SizedBytes<'a>, usize), ProtocolFault> {
+        let length = u32_at(body, at)? as usize;
+        let bytes = bytes_at(body, at + 4, length)?;
+        Ok((SizedBytes(bytes), at + 4 + length))
     }
 }

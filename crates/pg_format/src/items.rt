@@ -55,6 +55,16 @@ impl<'a> Items<'a> {
         })
     }
 
+    /// Begins at an offset of a body of at most [`MAX_BODY`] bytes, with so many items.
+    #[inline(always)]
+    pub fn begin_at(body: &'a [u8], at: usize, left: usize) -> Items<'a>
+        requires within { at ≤ length body.now }
+        requires short { length body.now ≤ MAX_BODY }
+        ensures { result ≡ record { body = body.now; at = at; left = left } }
+    {
+        Items { body, at, left }
+    }
+
     /// How many items are left.
     #[inline(always)]
     pub fn len(&self) -> usize

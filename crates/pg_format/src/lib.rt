@@ -7,10 +7,12 @@ mod copy;
 pub mod field;
 pub mod items;
 pub mod laws;
+mod logical;
 mod received;
 mod replication;
 pub mod text;
 pub mod value;
 
+pub use logical::LogicalKind;
 pub use received::{BackendMessage, ReceivedMessage};
 pub use replication::ReplicationKind;

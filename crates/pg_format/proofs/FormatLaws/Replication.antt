@@ -8,23 +8,23 @@ use Rattle.pg_format.specs.declared.replication.ReplicationKind.TheVariants as c
 use Rattle.pg_format.specs.Format.{Lawful, Total}
 use Rattle.pg_format.specs.Format.Parts.{be_u32, be_u64, be_i64}
 use Rattle.pg_format.specs.Replication.{is_set, bit, flag, xlog_data, primary_keepalive, standby_status_update, hot_standby_feedback, new_archive, manifest, backup_data, progress, in_copy_data, replication_letter, read_letter, letter, replication}
-use Rattle.pg_format.proofs.FormatLaws.Parts.{lawful_until_nul, total_until_nul, lawful_unsigned, total_unsigned, lawful_signed, total_signed, lawful_remaining, total_remaining, lawful_success, total_success, lawful_one_of}
+use Rattle.pg_format.proofs.FormatLaws.Parts.{lawful_until_nul, total_until_nul, lawful_unsigned, total_unsigned, lawful_signed, total_signed, lawful_remaining, total_remaining, lawful_success, total_success, lawful_one_of, total_one_of}
 use Rattle.pg_format.proofs.FormatLaws.Sequences.{◌l⨾◌, ◌t⨾◌, lawful_record_of, total_record_of, lawful_mapped, total_mapped}
 use Rattle.pg_format.proofs.FormatLaws.Ends.{lawful_exactly, total_exactly}
 
-u32 : Lawful be_u32
+pub u32 : Lawful be_u32
 u32 = lawful_unsigned 4 tt
 
-u64 : Lawful be_u64
+pub u64 : Lawful be_u64
 u64 = lawful_unsigned 8 tt
 
-i64 : Lawful be_i64
+pub i64 : Lawful be_i64
 i64 = lawful_signed 8 tt
 
-lawful_flag : Lawful flag
+pub lawful_flag : Lawful flag
 lawful_flag = lawful_mapped is_set bit (lawful_unsigned 1 tt)
 
-total_flag : Total flag
+pub total_flag : Total flag
 total_flag = total_mapped is_set bit (total_unsigned 1)
 
 pub lawful_xlog_data : Lawful xlog_data
@@ -99,8 +99,11 @@ total_in_copy_data contents.Progress = total_exactly (total_unsigned 8)
 own_letter : (own : ℕ) → read_letter own own ≡ Some tt
 own_letter own = rw (eq-eqb own own refl) refl
 
-lawful_letter : (own : ℕ) → Lawful (letter own)
+pub lawful_letter : (own : ℕ) → Lawful (letter own)
 lawful_letter own = lawful_one_of (read_letter own) (λ _. own) UnknownMessageType (λ _. own_letter own)
+
+pub total_letter : (own : ℕ) → Total (letter own)
+total_letter own = total_one_of (read_letter own) (λ _. own) UnknownMessageType
 
 pub lawful_replication : (kind : ReplicationKind) → Lawful (replication kind)
 lawful_replication kind = lawful_record_of _ (λ a b e i. (e i).1) (lawful_letter (replication_letter kind) l⨾ lawful_in_copy_data kind)

@@ -1,13 +1,14 @@
 -- The laws of formats of values that are tested.
-use Rattle.std.specs.Prelude.{◌≡◌, ℕ, ◌+◌, ◌<◌, ◌≤◌, List, length, Option, Some, None, Bool, true, false, ◌⊎◌, IsUtf8}
+use Rattle.std.specs.Prelude.{◌≡◌, ℕ, ◌+◌, ◌<◌, ◌≤◌, List, [], ◌∷◌, ◌++◌, length, Option, Some, None, Bool, true, false, ◌⊎◌, IsUtf8}
 use Rattle.std.specs.Str.{is_utf8}
 use Rattle.std.proofs.Common.{refl, sym, ap, ◌∙◌, arith, inl, inr}
-use Rattle.std.proofs.lemmas.Bool.{cases_lt}
+use Rattle.std.proofs.lemmas.Bool.{cases_lt, cases_eq}
 use Rattle.std.proofs.lemmas.Str.{IsUtf8-from_is_utf8, is_utf8-from_IsUtf8}
+use Rattle.pg_base.specs.Reading.{BeginsWith}
 use Rattle.pg_base.specs.declared.error.ProtocolFault.{ProtocolFault}
 use Rattle.pg_base.specs.declared.error.ProtocolFault.TheVariants.{NotUtf8}
 use Rattle.pg_format.specs.Format.{Format, Lawful, Canonical, Total, IsRead, IsBroken}
-use Rattle.pg_format.specs.Format.Tests.{verify, utf8, checked, only, with_room}
+use Rattle.pg_format.specs.Format.Tests.{verify, utf8, checked, only, with_room, ReadsUnless, unless}
 use Rattle.pg_format.proofs.FormatLaws.Parts.{lawful_until_nul, canonical_until_nul, total_until_nul, lacks}
 
 module _ {A : Type 0} {g : Format A} (Is : A → Type 0) (wrong : ProtocolFault) where
@@ -164,3 +165,42 @@ module _ {A : Type 0} {g : Format A} (needed : ℕ) where
 
     pub total_with_room : Total (with_room needed g)
     total_with_room = record { decides = λ len bytes. by_room len bytes (cases_lt (length bytes) needed) (tg.decides len bytes) }
+
+-- ---- values that stand unless another byte does
+
+begins_or_not : (stop : ℕ) (bytes : List ℕ) → BeginsWith stop bytes ⊎ ¬ (BeginsWith stop bytes)
+begins_or_not stop [] = inr (λ p. p)
+begins_or_not stop (byte ∷ bytes) = cases_eq byte stop
+
+module _ {A : Type 0} {g : Format A} (stop : ℕ) where
+  module _ (eg : Lawful g) where
+    one_unless : (bytes x y : List ℕ) (a b : Option A) → ReadsUnless stop g bytes a x → ReadsUnless stop g bytes b y → (a ≡ b) × (x ≡ y)
+    one_unless bytes x y None None p q = (refl, p.1 ∙ sym q.1)
+    one_unless bytes x y None (Some b) p q = absurd (q.0 p.0)
+    one_unless bytes x y (Some a) None p q = absurd (p.0 q.0)
+    one_unless bytes x y (Some a) (Some b) p q = let both = eg.one_value bytes x y a b p.1 q.1 in (ap Some both.0, both.1)
+
+    unless_or_fault : (len : ℕ) (bytes rest : List ℕ) (a : Option A) (f : ProtocolFault) → ReadsUnless stop g bytes a rest → (unless stop g).Breaks len bytes f → ⊥
+    unless_or_fault len bytes rest None f p q = q.0 p.0
+    unless_or_fault len bytes rest (Some a) f p q = eg.never_both len bytes rest a f p.1 q.1
+
+    unless_written : (a : Option A) (rest : List ℕ) → (unless stop g).Fits a rest → (unless stop g).Reads ((unless stop g).Writes a ++ rest) a rest
+    unless_written None rest fits = (fits, refl)
+    unless_written (Some a) rest fits = (fits.0, eg.written a rest fits.1)
+
+    pub lawful_unless : Lawful (unless stop g)
+    lawful_unless = record {
+      one_value = one_unless;
+      one_fault = λ len bytes e f p q. eg.one_fault len bytes e f p.1 q.1;
+      never_both = unless_or_fault;
+      written = unless_written;
+    }
+
+  module _ (tg : Total g) where
+    by_front : (len : ℕ) (bytes : List ℕ) → BeginsWith stop bytes ⊎ ¬ (BeginsWith stop bytes) → IsRead g bytes ⊎ IsBroken g len bytes → IsRead (unless stop g) bytes ⊎ IsBroken (unless stop g) len bytes
+    by_front len bytes (inl begins) found = inl (None, bytes, (begins, refl))
+    by_front len bytes (inr other) (inl p) = inl (Some p.0, p.1, (other, p.2))
+    by_front len bytes (inr other) (inr p) = inr (p.0, (other, p.1))
+
+    pub total_unless : Total (unless stop g)
+    total_unless = record { decides = λ len bytes. by_front len bytes (begins_or_not stop bytes) (tg.decides len bytes) }

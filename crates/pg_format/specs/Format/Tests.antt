@@ -1,5 +1,6 @@
 -- Formats of values that are tested.
-use Rattle.std.specs.Prelude.{◌≡◌, ℕ, ◌≤◌, List, length, Option, Some, None, ◌⊎◌, IsUtf8}
+use Rattle.std.specs.Prelude.{◌≡◌, ℕ, ◌≤◌, List, [], ◌++◌, length, Option, Some, None, ◌⊎◌, IsUtf8}
+use Rattle.pg_base.specs.Reading.{BeginsWith}
 use Rattle.pg_base.specs.declared.error.ProtocolFault.{ProtocolFault}
 use Rattle.pg_base.specs.declared.error.ProtocolFault.TheVariants.{NotUtf8}
 use Rattle.pg_format.specs.Format.{Format}
@@ -56,4 +57,25 @@ with_room needed g = record {
   Breaks = λ len bytes fault. Lacks needed len bytes fault ⊎ ((needed ≤ length bytes) × g.Breaks len bytes fault);
   Writes = g.Writes;
   Fits = g.Fits;
+}
+
+-- a value, or nothing where the bytes begin with this one, which belongs to what follows
+abbrev pub ReadsUnless : {A : Type 0} → ℕ → Format A → List ℕ → Option A → List ℕ → Type 0
+ReadsUnless stop g bytes None rest = BeginsWith stop bytes × (rest ≡ bytes)
+ReadsUnless stop g bytes (Some a) rest = ¬ (BeginsWith stop bytes) × g.Reads bytes a rest
+
+abbrev pub written_unless : {A : Type 0} → Format A → Option A → List ℕ
+written_unless g None = []
+written_unless g (Some a) = g.Writes a
+
+abbrev pub FitsUnless : {A : Type 0} → ℕ → Format A → Option A → List ℕ → Type 0
+FitsUnless stop g None rest = BeginsWith stop rest
+FitsUnless stop g (Some a) rest = ¬ (BeginsWith stop (g.Writes a ++ rest)) × g.Fits a rest
+
+abbrev pub unless : {A : Type 0} → ℕ → Format A → Format (Option A)
+unless stop g = record {
+  Reads = ReadsUnless stop g;
+  Breaks = λ len bytes fault. ¬ (BeginsWith stop bytes) × g.Breaks len bytes fault;
+  Writes = written_unless g;
+  Fits = FitsUnless stop g;
 }

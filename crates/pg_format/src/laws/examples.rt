@@ -2,7 +2,7 @@
 //! bytes of a body mean this value. Laws of formats hold of other numbers too; these don't. Longer
 //! examples stand in `specs/Examples.antt`, the bytes of each beside the value.
 
-ghost use Rattle.std.specs.Prelude.{◌≡◌, [], ◌∷◌, ◌++◌, codes, Some, None};
+ghost use Rattle.std.specs.Prelude.{◌≡◌, true, false, [], ◌∷◌, ◌++◌, codes, Some, None};
 ghost use Rattle.pg_base.specs.declared.error.ProtocolFault.TheVariants.{UnknownCode};
 ghost use Rattle.pg_base.specs.declared.format.BackendMessageFormat.TheVariants as backend;
 ghost use Rattle.pg_base.specs.declared.format.FrontendMessageFormat.TheVariants as frontend;
@@ -11,6 +11,9 @@ ghost use Rattle.pg_format.specs.Examples.{request_for_nothing, request_for_a_pa
 ghost use Rattle.pg_format.specs.Format.{Means, IsFaultOf};
 ghost use Rattle.pg_format.specs.Messages.{from_server, from_client, backend_key, function_call_response, negotiate_protocol_version, text, sasl_initial_response, sasl_response, first_message, opening, tls, gssapi};
 ghost use Rattle.pg_format.specs.Examples.{piece_of_a_log, keepalive_that_asks, update_of_three_positions, feedback_of_two_transactions, archive_of_a_tablespace, progress_of_258_bytes, progress_and_a_byte};
+ghost use Rattle.pg_format.specs.Examples.{begin_739, message_to_ab, commit_of_begin, origin_far, table_of_a_column, type_mood, insert_of_four_values, update_of_a_key, update_without_the_old, delete_of_a_row, truncate_of_two, stream_of_739, stream_commit_739, stream_abort_740, begin_of_g, prepare_of_g, rollback_of_g, delete_of_a_new_row};
+ghost use Rattle.pg_format.specs.Logical.{delete, in_change_stream, logical_letter};
+ghost use Rattle.pg_format.specs.declared.logical.LogicalKind.TheVariants as logical;
 ghost use Rattle.pg_format.specs.Replication.{standby_status_update, hot_standby_feedback, progress, in_copy_data, replication_letter};
 ghost use Rattle.pg_format.specs.declared.replication.ReplicationKind.TheVariants as kinds;
 ghost use Rattle.pg_format.specs.Tables.{ok, cleartext_password, md5_password, sasl, sasl_continue, sasl_final, method_number, idle, transaction, error};
@@ -164,4 +167,52 @@ pub fn examples_of_replication()
     ensures manifest_is_m { replication_letter kinds.Manifest ≡ 109 }
     ensures backup_data_is_d { replication_letter kinds.BackupData ≡ 100 }
     ensures progress_is_p { replication_letter kinds.Progress ≡ 112 }
+{}
+
+/// The messages of logical replication, in a streamed transaction and outside of one.
+pub fn examples_of_logical_replication()
+    ensures begin_739 { IsExample (in_change_stream false logical.Begin).format begin_739 }
+    ensures message_to_ab { IsExample (in_change_stream true logical.Message).format message_to_ab }
+    ensures commit_of_begin { IsExample (in_change_stream false logical.Commit).format commit_of_begin }
+    ensures origin_far { IsExample (in_change_stream true logical.Origin).format origin_far }
+    ensures table_of_a_column { IsExample (in_change_stream false logical.Relation).format table_of_a_column }
+    ensures type_mood { IsExample (in_change_stream false logical.TypeName).format type_mood }
+    ensures insert_of_four_values { IsExample (in_change_stream false logical.Insert).format insert_of_four_values }
+    ensures update_of_a_key { IsExample (in_change_stream true logical.Update).format update_of_a_key }
+    ensures update_without_the_old { IsExample (in_change_stream false logical.Update).format update_without_the_old }
+    ensures delete_of_a_row { IsExample (in_change_stream false logical.Delete).format delete_of_a_row }
+    ensures truncate_of_two { IsExample (in_change_stream false logical.Truncate).format truncate_of_two }
+    ensures stream_of_739 { IsExample (in_change_stream false logical.StreamStart).format stream_of_739 }
+    ensures stream_commit_739 { IsExample (in_change_stream false logical.StreamCommit).format stream_commit_739 }
+    ensures stream_abort_740 { IsExample (in_change_stream false logical.StreamAbort).format stream_abort_740 }
+    ensures begin_of_g { IsExample (in_change_stream false logical.BeginPrepare).format begin_of_g }
+    ensures prepare_of_g { IsExample (in_change_stream false logical.Prepare).format prepare_of_g }
+    ensures rollback_of_g { IsExample (in_change_stream false logical.RollbackPrepared).format rollback_of_g }
+    ensures stream_stop { Means (in_change_stream false logical.StreamStop).format [] tt }
+    ensures commit_prepared { IsExample (in_change_stream false logical.CommitPrepared).format prepare_of_g }
+    ensures stream_prepare { IsExample (in_change_stream false logical.StreamPrepare).format prepare_of_g }
+    ensures delete_of_a_new_row { IsFaultExample (delete false) delete_of_a_new_row }
+{}
+
+/// The letters of the messages of logical replication.
+pub fn letters_of_logical_replication()
+    ensures begin { logical_letter logical.Begin ≡ 66 }
+    ensures message { logical_letter logical.Message ≡ 77 }
+    ensures commit { logical_letter logical.Commit ≡ 67 }
+    ensures origin { logical_letter logical.Origin ≡ 79 }
+    ensures relation { logical_letter logical.Relation ≡ 82 }
+    ensures type_name { logical_letter logical.TypeName ≡ 89 }
+    ensures insert { logical_letter logical.Insert ≡ 73 }
+    ensures update { logical_letter logical.Update ≡ 85 }
+    ensures delete { logical_letter logical.Delete ≡ 68 }
+    ensures truncate { logical_letter logical.Truncate ≡ 84 }
+    ensures stream_start { logical_letter logical.StreamStart ≡ 83 }
+    ensures stream_stop { logical_letter logical.StreamStop ≡ 69 }
+    ensures stream_commit { logical_letter logical.StreamCommit ≡ 99 }
+    ensures stream_abort { logical_letter logical.StreamAbort ≡ 65 }
+    ensures begin_prepare { logical_letter logical.BeginPrepare ≡ 98 }
+    ensures prepare { logical_letter logical.Prepare ≡ 80 }
+    ensures commit_prepared { logical_letter logical.CommitPrepared ≡ 75 }
+    ensures rollback_prepared { logical_letter logical.RollbackPrepared ≡ 114 }
+    ensures stream_prepare { logical_letter logical.StreamPrepare ≡ 112 }
 {}
