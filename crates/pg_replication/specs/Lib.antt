@@ -1,1 +1,3 @@
+pub mod Lettered
+pub mod Logical
 pub mod ReplicationMessage

@@ -1,15 +1,11 @@
 -- What the messages of replication say, as the page has it, and what reading one answers.
-use Rattle.std.specs.Prelude.{◌≡◌, ℕ, List, length, drop, Result, Ok, Err, MatchResult, ◌⊎◌}
+use Rattle.std.specs.Prelude.{ℕ, List, Result}
 use Rattle.pg_base.specs.declared.error.ProtocolFault.{ProtocolFault}
-use Rattle.pg_base.specs.declared.error.ProtocolFault.TheVariants.{UnknownMessageType, BodyTooLong}
-use Rattle.pg_base.specs.Error.{IsShort}
-use Rattle.pg_format.specs.Format.{Format}
-use Rattle.pg_format.specs.Format.Parts.{be_u8}
-use Rattle.pg_format.specs.Format.Places.{ReadsAfter}
 use Rattle.pg_format.specs.Replication as page
-use Rattle.pg_format.specs.Replication.{replication_letter, IsNoLetter}
+use Rattle.pg_format.specs.Replication.{replication_letter}
 use Rattle.pg_format.specs.declared.replication.ReplicationKind.{ReplicationKind}
 use Rattle.pg_format.specs.declared.replication.ReplicationKind.TheVariants as kinds
+use Rattle.pg_replication.specs.Lettered.{Reads, ReadsLettered}
 use Rattle.pg_replication.specs.declared.streaming.XLogData.{XLogData}
 use Rattle.pg_replication.specs.declared.streaming.PrimaryKeepalive.{PrimaryKeepalive}
 use Rattle.pg_replication.specs.declared.streaming.StandbyStatusUpdate.{StandbyStatusUpdate}
@@ -50,12 +46,6 @@ shown_progress p = p.processed
 abbrev pub Answer : Type 0
 Answer = Result ReplicationMessage ProtocolFault
 
--- what follows the letter is read by its line to a value of this case, or has a fault
-pub record Reads {A V : Type 0} (case : A → ReplicationMessage) (line : Format V) (shown : A → V) (message : List ℕ) (result : Answer) : Type 0 where
-  pub answer : Result A ProtocolFault
-  pub reads : ReadsAfter line shown message 1 answer
-  pub is : MatchResult answer (λ value. result ≡ Ok (case value)) (λ fault. result ≡ Err fault)
-
 abbrev pub ReadsKind : ReplicationKind → List ℕ → Answer → Type 0
 ReadsKind kinds.XLogData message result = Reads messages.XLogData page.xlog_data shown_xlog_data message result
 ReadsKind kinds.PrimaryKeepalive message result = Reads messages.PrimaryKeepalive page.primary_keepalive shown_keepalive message result
@@ -66,28 +56,5 @@ ReadsKind kinds.Manifest message result = Reads messages.Manifest page.manifest 
 ReadsKind kinds.BackupData message result = Reads messages.BackupData page.backup_data shown_backup_data message result
 ReadsKind kinds.Progress message result = Reads messages.Progress page.progress shown_progress message result
 
--- the kind whose letter stands at the front, and what is read as it
-pub record ReadsKnown (message : List ℕ) (result : Answer) : Type 0 where
-  pub kind : ReplicationKind
-  pub lettered : be_u8.Reads message (replication_letter kind) (drop 1 message)
-  pub reads : ReadsKind kind message result
-
--- no kind has the letter at the front
-pub record IsUnknown (message : List ℕ) (result : Answer) : Type 0 where
-  pub letter : ℕ
-  pub stands : be_u8.Reads message letter (drop 1 message)
-  pub none : IsNoLetter letter
-  pub is : result ≡ Err (UnknownMessageType letter)
-
--- no letter is there
-pub record LacksLetter (message : List ℕ) (result : Answer) : Type 0 where
-  pub fault : ProtocolFault
-  pub short : IsShort message 0 1 fault
-  pub is : result ≡ Err fault
-
 abbrev pub ReadsReplication : List ℕ → Answer → Type 0
-ReadsReplication message result = ReadsKnown message result ⊎ (IsUnknown message result ⊎ LacksLetter message result)
-
--- refused for its length
-abbrev pub IsTooLong : List ℕ → Answer → Type 0
-IsTooLong message result = result ≡ Err (BodyTooLong (length message))
+ReadsReplication message result = ReadsLettered replication_letter ReadsKind message result

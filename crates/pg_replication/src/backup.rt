@@ -7,12 +7,11 @@ ghost use Rattle.pg_format.specs.declared.replication.ReplicationKind.TheVariant
 ghost use Rattle.pg_server.specs.Backend.Message.{Replication};
 ghost use Rattle.pg_replication.specs.ReplicationMessage.{shown_new_archive, shown_manifest, shown_backup_data, shown_progress};
 
-use pg_server::backend::BackendText;
-use pg_server::backend::NulEnded;
 use pg_base::ProtocolFault;
 use pg_base::io::MAX_BODY;
 use pg_base::io::part::{Byte, Nothing, Number64, Slice, Then};
 use pg_format::field::fields_from;
+use pg_server::backend::{BackendText, NulEnded};
 
 /// An archive of a backup begins, in the format ustar. A NUL in a text is refused with `TextHoldsNul`.
 /// Documentation: "Streaming Replication Protocol", BASE_BACKUP, new archive (B).

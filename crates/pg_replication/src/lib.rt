@@ -3,6 +3,7 @@
 #![tactic(auto)]
 
 mod backup;
+pub mod logical;
 mod replication_message;
 mod streaming;
 

@@ -1,7 +1,8 @@
 //! Any message of replication.
 
 ghost use Rattle.std.specs.Prelude.{◌≤◌, ◌<◌, length};
-ghost use Rattle.pg_replication.specs.ReplicationMessage.{ReadsReplication, ReadsKind, IsTooLong};
+ghost use Rattle.pg_replication.specs.Lettered.{IsTooLong};
+ghost use Rattle.pg_replication.specs.ReplicationMessage.{ReadsReplication, ReadsKind};
 
 use crate::{
     BackupData, HotStandbyFeedback, Manifest, NewArchive, PrimaryKeepalive, Progress,

@@ -7,11 +7,11 @@ ghost use Rattle.pg_format.specs.declared.replication.ReplicationKind.TheVariant
 ghost use Rattle.pg_server.specs.Backend.Message.{Replication};
 ghost use Rattle.pg_replication.specs.ReplicationMessage.{shown_xlog_data, shown_keepalive, shown_status_update, shown_feedback};
 
-use pg_server::backend::BackendText;
 use pg_base::ProtocolFault;
 use pg_base::io::MAX_BODY;
 use pg_base::io::part::{Byte, Number32, Number64, Slice, Then};
 use pg_format::field::{Flag, Signed64, fields_from};
+use pg_server::backend::BackendText;
 
 /// A piece of the log. Documentation: "Streaming Replication Protocol", XLogData (B).
 #[derive(Clone, Copy, Debug, PartialEq, Eq)]

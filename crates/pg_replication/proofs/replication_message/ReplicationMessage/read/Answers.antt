@@ -13,4 +13,4 @@ returns-in-Some-clause-read c =
 
 pub returns-in-None-clause-read : goal.returns-in-None-clause-read
 returns-in-None-clause-read c =
-    λ _. inr (inl (record { letter = c.in_ok-letter.letter; stands = c.in_ok-letter.ensures.found; none = c.in-None.ensures.unknown; is = refl }))
+    λ _. inr (inl (record { letter_there = c.in_ok-letter.letter; stands = c.in_ok-letter.ensures.found; none = c.in-None.ensures.unknown; is = refl }))

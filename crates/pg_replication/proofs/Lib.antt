@@ -1,0 +1,3 @@
+pub mod LogicalLemmas
+pub mod LogicalListedLemmas
+pub mod LogicalTupleLemmas

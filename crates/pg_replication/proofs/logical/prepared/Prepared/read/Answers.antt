@@ -1,0 +1,7 @@
+use Rattle.std.proofs.lemmas.Result.{err_from_is_err_and}
+use Rattle.pg_replication.proofs.logical.prepared.Prepared.read.Goals as goal
+
+pub returns-in_err-flags : goal.returns-in_err-flags
+returns-in_err-flags c =
+    let p = err_from_is_err_and c.from_residual.result c.from_residual.ensures.1 in
+    rw (p.1, p.2) c.in_err-flags.ensures

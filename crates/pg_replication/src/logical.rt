@@ -1,0 +1,33 @@
+//! What a server streams of the changes of its tables, as its plugin pgoutput writes it, of the versions 1 to 3 of the
+//! protocol: read from the content of an XLogData, or from a row of `pg_logical_slot_get_binary_changes`. Nothing is
+//! read by asking for memory.
+
+mod change;
+mod column;
+mod columns;
+mod datum;
+mod fields;
+mod logical_message;
+mod logical_stream;
+mod old;
+mod prepared;
+mod relation;
+mod relations;
+mod stream;
+mod transaction;
+mod tuple;
+
+pub use change::{Delete, Insert, Truncate, Update};
+pub use column::Column;
+pub use columns::Columns;
+pub use datum::Datum;
+pub use logical_message::LogicalMessage;
+pub use logical_stream::LogicalStream;
+pub use old::Old;
+pub use pg_format::LogicalKind;
+pub use prepared::{BeginPrepare, Prepared, RollbackPrepared};
+pub use relation::{Relation, TypeName};
+pub use relations::Relations;
+pub use stream::{StreamAbort, StreamCommit, StreamStart, StreamStop};
+pub use transaction::{Begin, Commit, Message, Origin};
+pub use tuple::Tuple;

@@ -1,0 +1,150 @@
+//! The changes of tables.
+
+ghost use Rattle.std.specs.Prelude.{◌≤◌, length};
+ghost use Rattle.pg_format.specs.Format.Places.{ReadsAfter};
+ghost use Rattle.pg_format.specs.Logical as page;
+ghost use Rattle.pg_replication.specs.Logical.{shown_insert, shown_update, shown_delete, shown_truncate};
+
+use crate::logical::fields::streamed_fields;
+use crate::logical::old::{NewLetter, OldOrNone};
+use crate::logical::relations::Truncated;
+use crate::logical::{Old, Relations, Tuple};
+use pg_base::ProtocolFault;
+use pg_base::io::MAX_BODY;
+use pg_base::io::part::{Number32, Then};
+
+/// A new row. Documentation: "Logical Replication Message Formats", Insert.
+#[derive(Clone, Copy)]
+pub struct Insert<'a> {
+    /// The transaction's number, where it is streamed.
+    pub transaction: Option<u32>,
+    /// The number of the table, as its [`Relation`](crate::logical::Relation) has it.
+    pub relation: u32,
+    /// The new row.
+    pub new: Tuple<'a>,
+}
+
+impl<'a> Insert<'a> {
+    /// Reads what follows the letter, which stands before an offset of a message.
+    pub(crate) fn read(
+        message: &'a [u8],
+        at: usize,
+        streamed: bool,
+    ) -> Result<Insert<'a>, ProtocolFault>
+        requires within { at ≤ length message.now }
+        requires short { length message.now ≤ MAX_BODY }
+        ensures { ReadsAfter (page.insert streamed) shown_insert message.now at result }
+    {
+        let (transaction, Then(Number32(relation), Then(NewLetter, new))) = streamed_fields::<
+            Then<Number32, Then<NewLetter, Tuple<'a>>>,
+        >(message, at, streamed)?;
+        Ok(Insert {
+            transaction,
+            relation,
+            new,
+        })
+    }
+}
+
+/// A row that is changed. Documentation: "Logical Replication Message Formats", Update.
+#[derive(Clone, Copy)]
+pub struct Update<'a> {
+    /// The transaction's number, where it is streamed.
+    pub transaction: Option<u32>,
+    /// The number of the table, as its [`Relation`](crate::logical::Relation) has it.
+    pub relation: u32,
+    /// The row before the change, or its key: where the key is changed, or the replica identity is FULL.
+    pub old: Option<Old<'a>>,
+    /// The row after the change.
+    pub new: Tuple<'a>,
+}
+
+type UpdateFields<'a> = Then<Number32, Then<OldOrNone<'a>, Then<NewLetter, Tuple<'a>>>>;
+
+impl<'a> Update<'a> {
+    /// Reads what follows the letter, which stands before an offset of a message.
+    pub(crate) fn read(
+        message: &'a [u8],
+        at: usize,
+        streamed: bool,
+    ) -> Result<Update<'a>, ProtocolFault>
+        requires within { at ≤ length message.now }
+        requires short { length message.now ≤ MAX_BODY }
+        ensures { ReadsAfter (page.update streamed) shown_update message.now at result }
+    {
+        let (transaction, fields) = streamed_fields::<UpdateFields<'a>>(message, at, streamed)?;
+        let Then(Number32(relation), Then(OldOrNone(old), Then(NewLetter, new))) = fields;
+        Ok(Update {
+            transaction,
+            relation,
+            old,
+            new,
+        })
+    }
+}
+
+/// A row that is deleted. Documentation: "Logical Replication Message Formats", Delete.
+#[derive(Clone, Copy)]
+pub struct Delete<'a> {
+    /// The transaction's number, where it is streamed.
+    pub transaction: Option<u32>,
+    /// The number of the table, as its [`Relation`](crate::logical::Relation) has it.
+    pub relation: u32,
+    /// The row, or its key.
+    pub old: Old<'a>,
+}
+
+impl<'a> Delete<'a> {
+    /// Reads what follows the letter, which stands before an offset of a message.
+    pub(crate) fn read(
+        message: &'a [u8],
+        at: usize,
+        streamed: bool,
+    ) -> Result<Delete<'a>, ProtocolFault>
+        requires within { at ≤ length message.now }
+        requires short { length message.now ≤ MAX_BODY }
+        ensures { ReadsAfter (page.delete streamed) shown_delete message.now at result }
+    {
+        let (transaction, Then(Number32(relation), old)) = streamed_fields::<
+            Then<Number32, Old<'a>>,
+        >(message, at, streamed)?;
+        Ok(Delete {
+            transaction,
+            relation,
+            old,
+        })
+    }
+}
+
+/// Tables that are emptied. Documentation: "Logical Replication Message Formats", Truncate.
+#[derive(Clone, Copy)]
+pub struct Truncate<'a> {
+    /// The transaction's number, where it is streamed.
+    pub transaction: Option<u32>,
+    /// Bits: 1 for CASCADE, 2 for RESTART IDENTITY.
+    pub options: u8,
+    /// The numbers of the tables.
+    pub relations: Relations<'a>,
+}
+
+impl<'a> Truncate<'a> {
+    /// Reads what follows the letter, which stands before an offset of a message.
+    pub(crate) fn read(
+        message: &'a [u8],
+        at: usize,
+        streamed: bool,
+    ) -> Result<Truncate<'a>, ProtocolFault>
+        requires within { at ≤ length message.now }
+        requires short { length message.now ≤ MAX_BODY }
+        ensures { ReadsAfter (page.truncate streamed) shown_truncate message.now at result }
+    {
+        let (transaction, Truncated(options, relations)) = streamed_fields::<Truncated<'a>>(
+            message, at, streamed,
+        )?;
+        Ok(Truncate {
+            transaction,
+            options,
+            relations,
+        })
+    }
+}

@@ -1,0 +1,68 @@
+//! The value of a column.
+
+ghost use Rattle.std.specs.Prelude.{◌≤◌, length, IfErr};
+ghost use Rattle.pg_format.specs.Format.Places.{BreaksAt, ReadsAt};
+ghost use Rattle.pg_format.specs.Logical as page;
+ghost use Rattle.pg_replication.specs.Logical.Tuple.{shown_datum};
+
+use pg_base::ProtocolFault;
+use pg_base::io::{MAX_BODY, u8_at};
+use pg_format::field::SizedBytes;
+use pg_format::items::Item;
+
+const NULL: u8 = b'n';
+
+const UNCHANGED: u8 = b'u';
+
+const TEXT: u8 = b't';
+
+const BINARY: u8 = b'b';
+
+/// The value of a column. Documentation: "Logical Replication Message Formats", TupleData.
+#[derive(Clone, Copy, Debug, PartialEq, Eq)]
+pub enum Datum<'a> {
+    /// NULL, or in a key a column that isn't part of it.
+    Null,
+    /// A large value that wasn't changed, and isn't sent.
+    Unchanged,
+    /// The value as text.
+    Text(&'a [u8]),
+    /// The value in the binary format of its type.
+    Binary(&'a [u8]),
+}
+
+impl<'a> Item<'a> for Datum<'a> {
+    ghost Shown = { page.Datum };
+
+    ghost shown = { shown_datum };
+
+    ghost format = { page.datum };
+
+    #[inline(always)]
+    fn item_at(body: &'a [u8], at: usize) -> Result<(Datum<'a>, usize), ProtocolFault> {
+        let letter = u8_at(body, at)?;
+        datum_by(letter, body, at + 1)
+    }
+}
+
+// What follows a letter, at an offset.
+fn datum_by(letter: u8, body: &[u8], at: usize) -> Result<(Datum<'_>, usize), ProtocolFault>
+    requires within { at ≤ length body.now }
+    requires short { length body.now ≤ MAX_BODY }
+    ensures datum { ReadsAt (page.datum_by letter) shown_datum body.now at result }
+    ensures broken { IfErr result (BreaksAt (page.datum_by letter) body.now at) }
+{
+    match letter {
+        NULL => Ok((Datum::Null, at)),
+        UNCHANGED => Ok((Datum::Unchanged, at)),
+        TEXT => {
+            let (SizedBytes(value), end) = SizedBytes::item_at(body, at)?;
+            Ok((Datum::Text(value), end))
+        }
+        BINARY => {
+            let (SizedBytes(value), end) = SizedBytes::item_at(body, at)?;
+            Ok((Datum::Binary(value), end))
+        }
+        other => Err(ProtocolFault::UnknownMessageType(other)),
+    }
+}

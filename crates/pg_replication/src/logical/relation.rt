@@ -1,0 +1,99 @@
+//! The tables and the types that the changes speak of.
+
+ghost use Rattle.std.specs.Prelude.{◌≤◌, length};
+ghost use Rattle.pg_format.specs.Format.Places.{ReadsAfter};
+ghost use Rattle.pg_format.specs.Logical as page;
+ghost use Rattle.pg_replication.specs.Logical.{shown_relation, shown_type_name};
+
+use crate::logical::Columns;
+use crate::logical::fields::streamed_fields;
+use pg_base::ProtocolFault;
+use pg_base::io::MAX_BODY;
+use pg_base::io::part::{Byte, Number32, Then};
+use pg_server::backend::NulEnded;
+
+/// A table and its columns, before the first change of it and where they are others than before. Documentation:
+/// "Logical Replication Message Formats", Relation.
+#[derive(Clone, Copy)]
+pub struct Relation<'a> {
+    /// The transaction's number, where it is streamed.
+    pub transaction: Option<u32>,
+    /// The number of the table, by which changes name it.
+    pub relation: u32,
+    /// The table's schema: empty for `pg_catalog`.
+    pub schema: &'a [u8],
+    /// The table's name.
+    pub name: &'a [u8],
+    /// What is sent of a row before its change, as `pg_class.relreplident` has it: `d`, `n`, `f` or `i`.
+    pub replica_identity: u8,
+    /// The table's columns, without those that are generated.
+    pub columns: Columns<'a>,
+}
+
+type RelationFields<'a> = Then<
+    Number32,
+    Then<NulEnded<'a>, Then<NulEnded<'a>, Then<Byte, Columns<'a>>>>,
+>;
+
+impl<'a> Relation<'a> {
+    /// Reads what follows the letter, which stands before an offset of a message.
+    pub(crate) fn read(
+        message: &'a [u8],
+        at: usize,
+        streamed: bool,
+    ) -> Result<Relation<'a>, ProtocolFault>
+        requires within { at ≤ length message.now }
+        requires short { length message.now ≤ MAX_BODY }
+        ensures { ReadsAfter (page.relation streamed) shown_relation message.now at result }
+    {
+        let (transaction, fields) = streamed_fields::<RelationFields<'a>>(message, at, streamed)?;
+        let Then(Number32(relation), Then(NulEnded(schema), Then(NulEnded(name), fields))) = fields;
+        let Then(Byte(replica_identity), columns) = fields;
+        Ok(Relation {
+            transaction,
+            relation,
+            schema,
+            name,
+            replica_identity,
+            columns,
+        })
+    }
+}
+
+/// The name of a type that isn't built in, before the first table with a column of it. Documentation: "Logical
+/// Replication Message Formats", Type.
+#[derive(Clone, Copy, Debug, PartialEq, Eq)]
+pub struct TypeName<'a> {
+    /// The transaction's number, where it is streamed.
+    pub transaction: Option<u32>,
+    /// The number of the type, by which columns name it.
+    pub type_id: u32,
+    /// The type's schema: empty for `pg_catalog`.
+    pub schema: &'a [u8],
+    /// The type's name.
+    pub name: &'a [u8],
+}
+
+impl<'a> TypeName<'a> {
+    /// Reads what follows the letter, which stands before an offset of a message.
+    pub(crate) fn read(
+        message: &'a [u8],
+        at: usize,
+        streamed: bool,
+    ) -> Result<TypeName<'a>, ProtocolFault>
+        requires within { at ≤ length message.now }
+        requires short { length message.now ≤ MAX_BODY }
+        ensures { ReadsAfter (page.type_name streamed) shown_type_name message.now at result }
+    {
+        let (transaction, Then(Number32(type_id), Then(NulEnded(schema), NulEnded(name)))) =
+            streamed_fields::<Then<Number32, Then<NulEnded<'a>, NulEnded<'a>>>>(
+                message, at, streamed,
+            )?;
+        Ok(TypeName {
+            transaction,
+            type_id,
+            schema,
+            name,
+        })
+    }
+}

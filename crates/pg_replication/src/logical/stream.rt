@@ -1,0 +1,117 @@
+//! The messages around the parts of a transaction that is streamed while it is open.
+
+ghost use Rattle.std.specs.Prelude.{◌≤◌, length};
+ghost use Rattle.pg_format.specs.Format.Places.{ReadsAfter};
+ghost use Rattle.pg_format.specs.Logical as page;
+ghost use Rattle.pg_replication.specs.Logical.{shown_stream_start, shown_stream_stop, shown_stream_commit, shown_stream_abort};
+
+use pg_base::ProtocolFault;
+use pg_base::io::MAX_BODY;
+use pg_base::io::part::{Byte, Nothing, Number32, Number64, Then};
+use pg_format::field::{Flag, Signed64, fields_from};
+
+/// Messages of a streamed transaction follow, up to the [`StreamStop`]. Documentation: "Logical Replication Message Formats", Stream Start.
+#[derive(Clone, Copy, Debug, PartialEq, Eq)]
+pub struct StreamStart {
+    /// The transaction's number.
+    pub transaction: u32,
+    /// Whether they are the first of the transaction.
+    pub is_first: bool,
+}
+
+impl StreamStart {
+    /// Reads what follows the letter, which stands before an offset of a message.
+    pub(crate) fn read(message: &[u8], at: usize) -> Result<StreamStart, ProtocolFault>
+        requires within { at ≤ length message.now }
+        requires short { length message.now ≤ MAX_BODY }
+        ensures { ReadsAfter page.stream_start shown_stream_start message.now at result }
+    {
+        let Then(Number32(transaction), Flag(is_first)) = fields_from::<Then<Number32, Flag>>(
+            message, at,
+        )?;
+        Ok(StreamStart {
+            transaction,
+            is_first,
+        })
+    }
+}
+
+/// The end of the messages that follow a [`StreamStart`]. Documentation: "Logical Replication Message Formats", Stream Stop.
+#[derive(Clone, Copy, Debug, PartialEq, Eq)]
+pub struct StreamStop;
+
+impl StreamStop {
+    /// Reads what follows the letter, which stands before an offset of a message.
+    pub(crate) fn read(message: &[u8], at: usize) -> Result<StreamStop, ProtocolFault>
+        requires within { at ≤ length message.now }
+        requires short { length message.now ≤ MAX_BODY }
+        ensures { ReadsAfter page.stream_stop shown_stream_stop message.now at result }
+    {
+        let Nothing = fields_from::<Nothing>(message, at)?;
+        Ok(StreamStop)
+    }
+}
+
+/// A streamed transaction is committed. Documentation: "Logical Replication Message Formats", Stream Commit.
+#[derive(Clone, Copy, Debug, PartialEq, Eq)]
+pub struct StreamCommit {
+    /// The transaction's number.
+    pub transaction: u32,
+    /// Without a meaning yet: 0.
+    pub flags: u8,
+    /// Where the commit is, in bytes of the log.
+    pub lsn: u64,
+    /// Where the transaction ends.
+    pub end_lsn: u64,
+    /// When it was committed, in microseconds since the beginning of the year 2000.
+    pub clock: i64,
+}
+
+type StreamCommitFields = Then<Number32, Then<Byte, Then<Number64, Then<Number64, Signed64>>>>;
+
+impl StreamCommit {
+    /// Reads what follows the letter, which stands before an offset of a message.
+    pub(crate) fn read(message: &[u8], at: usize) -> Result<StreamCommit, ProtocolFault>
+        requires within { at ≤ length message.now }
+        requires short { length message.now ≤ MAX_BODY }
+        ensures { ReadsAfter page.stream_commit shown_stream_commit message.now at result }
+    {
+        let Then(
+            Number32(transaction),
+            Then(Byte(flags), Then(Number64(lsn), Then(Number64(end_lsn), Signed64(clock)))),
+        ) = fields_from::<StreamCommitFields>(message, at)?;
+        Ok(StreamCommit {
+            transaction,
+            flags,
+            lsn,
+            end_lsn,
+            clock,
+        })
+    }
+}
+
+/// A streamed transaction is undone, or a part of it. Documentation: "Logical Replication Message Formats", Stream Abort.
+#[derive(Clone, Copy, Debug, PartialEq, Eq)]
+pub struct StreamAbort {
+    /// The transaction's number.
+    pub transaction: u32,
+    /// The part that is undone: the number of the subtransaction, or of the transaction where all is.
+    pub subtransaction: u32,
+}
+
+impl StreamAbort {
+    /// Reads what follows the letter, which stands before an offset of a message.
+    pub(crate) fn read(message: &[u8], at: usize) -> Result<StreamAbort, ProtocolFault>
+        requires within { at ≤ length message.now }
+        requires short { length message.now ≤ MAX_BODY }
+        ensures { ReadsAfter page.stream_abort shown_stream_abort message.now at result }
+    {
+        let Then(Number32(transaction), Number32(subtransaction)) = fields_from::<
+            Then<Number32, Number32>,
+        >(message, at)?;
+        Ok(StreamAbort {
+            transaction,
+            subtransaction,
+        })
+    }
+}
