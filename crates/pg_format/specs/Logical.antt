@@ -313,6 +313,10 @@ in_change_stream streamed logical.CommitPrepared = means prepared
 in_change_stream streamed logical.RollbackPrepared = means rollback_prepared
 in_change_stream streamed logical.StreamPrepare = means prepared
 
+-- the same as a format
+abbrev pub change : (streamed : Bool) (kind : LogicalKind) → Format (in_change_stream streamed kind).Value
+change streamed kind = (in_change_stream streamed kind).format
+
 -- the letter of a kind
 abbrev pub logical_letter : LogicalKind → ℕ
 logical_letter logical.Begin = 66

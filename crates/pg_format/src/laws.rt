@@ -6,7 +6,7 @@ ghost use Rattle.std.specs.Prelude.{Bool};
 ghost use Rattle.pg_base.specs.declared.format.BackendMessageFormat.{BackendMessageFormat};
 ghost use Rattle.pg_base.specs.declared.format.FrontendMessageFormat.{FrontendMessageFormat};
 ghost use Rattle.pg_format.specs.Format.{Lawful, Canonical, Total};
-ghost use Rattle.pg_format.specs.Logical.{in_change_stream};
+ghost use Rattle.pg_format.specs.Logical.{change};
 ghost use Rattle.pg_format.specs.Replication.{in_copy_data};
 ghost use Rattle.pg_format.specs.declared.logical.LogicalKind.{LogicalKind};
 ghost use Rattle.pg_format.specs.declared.replication.ReplicationKind.{ReplicationKind};
@@ -63,6 +63,6 @@ pub fn messages_of_replication()
 /// The same of what follows the letter in a message of logical replication, in a streamed transaction and outside of one.
 #[tactic(auto, using(crate::proofs::FormatLaws::Logical::lawful_in_change_stream, crate::proofs::FormatLaws::Logical::total_in_change_stream))]
 pub fn messages_of_logical_replication()
-    ensures lawful { (streamed : Bool) (kind : LogicalKind) → Lawful (in_change_stream streamed kind).format }
-    ensures total { (streamed : Bool) (kind : LogicalKind) → Total (in_change_stream streamed kind).format }
+    ensures lawful { (streamed : Bool) (kind : LogicalKind) → Lawful (change streamed kind) }
+    ensures total { (streamed : Bool) (kind : LogicalKind) → Total (change streamed kind) }
 {}

@@ -12,7 +12,7 @@ ghost use Rattle.pg_format.specs.Format.{Means, IsFaultOf};
 ghost use Rattle.pg_format.specs.Messages.{from_server, from_client, backend_key, function_call_response, negotiate_protocol_version, text, sasl_initial_response, sasl_response, first_message, opening, tls, gssapi};
 ghost use Rattle.pg_format.specs.Examples.{piece_of_a_log, keepalive_that_asks, update_of_three_positions, feedback_of_two_transactions, archive_of_a_tablespace, progress_of_258_bytes, progress_and_a_byte};
 ghost use Rattle.pg_format.specs.Examples.{begin_739, message_to_ab, commit_of_begin, origin_far, table_of_a_column, type_mood, insert_of_four_values, update_of_a_key, update_without_the_old, delete_of_a_row, truncate_of_two, stream_of_739, stream_commit_739, stream_abort_740, begin_of_g, prepare_of_g, rollback_of_g, delete_of_a_new_row};
-ghost use Rattle.pg_format.specs.Logical.{delete, in_change_stream, logical_letter};
+ghost use Rattle.pg_format.specs.Logical.{change, delete, logical_letter};
 ghost use Rattle.pg_format.specs.declared.logical.LogicalKind.TheVariants as logical;
 ghost use Rattle.pg_format.specs.Replication.{standby_status_update, hot_standby_feedback, progress, in_copy_data, replication_letter};
 ghost use Rattle.pg_format.specs.declared.replication.ReplicationKind.TheVariants as kinds;
@@ -171,26 +171,26 @@ pub fn examples_of_replication()
 
 /// The messages of logical replication, in a streamed transaction and outside of one.
 pub fn examples_of_logical_replication()
-    ensures begin_739 { IsExample (in_change_stream false logical.Begin).format begin_739 }
-    ensures message_to_ab { IsExample (in_change_stream true logical.Message).format message_to_ab }
-    ensures commit_of_begin { IsExample (in_change_stream false logical.Commit).format commit_of_begin }
-    ensures origin_far { IsExample (in_change_stream true logical.Origin).format origin_far }
-    ensures table_of_a_column { IsExample (in_change_stream false logical.Relation).format table_of_a_column }
-    ensures type_mood { IsExample (in_change_stream false logical.TypeName).format type_mood }
-    ensures insert_of_four_values { IsExample (in_change_stream false logical.Insert).format insert_of_four_values }
-    ensures update_of_a_key { IsExample (in_change_stream true logical.Update).format update_of_a_key }
-    ensures update_without_the_old { IsExample (in_change_stream false logical.Update).format update_without_the_old }
-    ensures delete_of_a_row { IsExample (in_change_stream false logical.Delete).format delete_of_a_row }
-    ensures truncate_of_two { IsExample (in_change_stream false logical.Truncate).format truncate_of_two }
-    ensures stream_of_739 { IsExample (in_change_stream false logical.StreamStart).format stream_of_739 }
-    ensures stream_commit_739 { IsExample (in_change_stream false logical.StreamCommit).format stream_commit_739 }
-    ensures stream_abort_740 { IsExample (in_change_stream false logical.StreamAbort).format stream_abort_740 }
-    ensures begin_of_g { IsExample (in_change_stream false logical.BeginPrepare).format begin_of_g }
-    ensures prepare_of_g { IsExample (in_change_stream false logical.Prepare).format prepare_of_g }
-    ensures rollback_of_g { IsExample (in_change_stream false logical.RollbackPrepared).format rollback_of_g }
-    ensures stream_stop { Means (in_change_stream false logical.StreamStop).format [] tt }
-    ensures commit_prepared { IsExample (in_change_stream false logical.CommitPrepared).format prepare_of_g }
-    ensures stream_prepare { IsExample (in_change_stream false logical.StreamPrepare).format prepare_of_g }
+    ensures begin_739 { IsExample (change false logical.Begin) begin_739 }
+    ensures message_to_ab { IsExample (change true logical.Message) message_to_ab }
+    ensures commit_of_begin { IsExample (change false logical.Commit) commit_of_begin }
+    ensures origin_far { IsExample (change true logical.Origin) origin_far }
+    ensures table_of_a_column { IsExample (change false logical.Relation) table_of_a_column }
+    ensures type_mood { IsExample (change false logical.TypeName) type_mood }
+    ensures insert_of_four_values { IsExample (change false logical.Insert) insert_of_four_values }
+    ensures update_of_a_key { IsExample (change true logical.Update) update_of_a_key }
+    ensures update_without_the_old { IsExample (change false logical.Update) update_without_the_old }
+    ensures delete_of_a_row { IsExample (change false logical.Delete) delete_of_a_row }
+    ensures truncate_of_two { IsExample (change false logical.Truncate) truncate_of_two }
+    ensures stream_of_739 { IsExample (change false logical.StreamStart) stream_of_739 }
+    ensures stream_commit_739 { IsExample (change false logical.StreamCommit) stream_commit_739 }
+    ensures stream_abort_740 { IsExample (change false logical.StreamAbort) stream_abort_740 }
+    ensures begin_of_g { IsExample (change false logical.BeginPrepare) begin_of_g }
+    ensures prepare_of_g { IsExample (change false logical.Prepare) prepare_of_g }
+    ensures rollback_of_g { IsExample (change false logical.RollbackPrepared) rollback_of_g }
+    ensures stream_stop { Means (change false logical.StreamStop) [] tt }
+    ensures commit_prepared { IsExample (change false logical.CommitPrepared) prepare_of_g }
+    ensures stream_prepare { IsExample (change false logical.StreamPrepare) prepare_of_g }
     ensures delete_of_a_new_row { IsFaultExample (delete false) delete_of_a_new_row }
 {}
 

@@ -1,11 +1,8 @@
 //! The fields of a message whose transaction may be streamed.
 
 ghost use Rattle.std.specs.Prelude.{◌≤◌, length};
-ghost use Rattle.pg_format.specs.Format.Ends.{exactly};
 ghost use Rattle.pg_format.specs.Format.Places.{ReadsAfter};
-ghost use Rattle.pg_format.specs.Format.Sequences.{◌⨾◌};
-ghost use Rattle.pg_format.specs.Logical.{transaction};
-ghost use Rattle.pg_replication.specs.Logical.Fields.{with_transaction};
+ghost use Rattle.pg_replication.specs.Logical.Fields.{rest_of, with_transaction};
 
 use pg_base::ProtocolFault;
 use pg_base::io::MAX_BODY;
@@ -22,7 +19,7 @@ pub(crate) fn streamed_fields<'a, F: Item<'a> + Copy>(
 ) -> Result<(Option<u32>, F), ProtocolFault>
     requires within { at ≤ length message.now }
     requires short { length message.now ≤ MAX_BODY }
-    ensures { ReadsAfter (exactly (transaction streamed ⨾ F.format)) (with_transaction F.shown) message.now at result }
+    ensures { ReadsAfter (rest_of streamed F.format) (with_transaction F.shown) message.now at result }
 {
     if streamed {
         let Then(Number32(transaction), fields) = fields_from::<Then<Number32, F>>(message, at)?;
