@@ -3,8 +3,7 @@
 //! [`write`](crate::backend::write), by a client too.
 
 pub use pg_format::{ReplicationKind, field};
-pub use pg_replication::logical;
 pub use pg_replication::{
     BackupData, HotStandbyFeedback, Manifest, NewArchive, PrimaryKeepalive, Progress,
-    ReplicationMessage, StandbyStatusUpdate, XLogData,
+    ReplicationMessage, StandbyStatusUpdate, XLogData, logical,
 };
