@@ -18,7 +18,7 @@ def laid_out(name, out):
     """A crate of programs.txt in a folder of its own, whose sources a compiler reads."""
     crate = crates.benched()[name]
     shutil.rmtree(out / name / "src", ignore_errors=True)
-    unproved.copy(crate.folder / "src", out / name / "src")
+    unproved.copy_crate(crate, out / name / "src")
     return crates.Crate(name, crate.is_static, crate.names, out / name)
 
 

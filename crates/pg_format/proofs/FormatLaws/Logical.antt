@@ -89,19 +89,19 @@ lawful_id = u32
 pub total_id : Total be_u32
 total_id = total_unsigned 4
 
-pub lawful_column : Lawful column
-lawful_column =
+pub lawful_table_column : Lawful column
+lawful_table_column =
     lawful_record_of _ (λ a b e i. record { flags = (e i).0; name = (e i).1.0; type_id = (e i).1.1.0; type_modifier = (e i).1.1.1 }) (u8 l⨾ lawful_until_nul l⨾ u32 l⨾ lawful_signed 4 tt)
 
-pub total_column : Total column
-total_column =
+pub total_table_column : Total column
+total_table_column =
     total_record_of _ (λ a. record { flags = a.0; name = a.1.0; type_id = a.1.1.0; type_modifier = a.1.1.1 }) (λ a. refl) (total_unsigned 1 t⨾ total_until_nul t⨾ total_unsigned 4 t⨾ total_signed 4)
 
 lawful_columns : Lawful (counted column)
-lawful_columns = lawful_counted lawful_column
+lawful_columns = lawful_counted lawful_table_column
 
 total_columns : Total (counted column)
-total_columns = total_counted total_column
+total_columns = total_counted total_table_column
 
 lawful_truncated : Lawful truncated
 lawful_truncated = lawful_mapped (λ v. v.1) with_count (lawful_dep_pair (λ n. be_u8 ⨾ times n be_u32) u32 (λ n. u8 l⨾ lawful_times u32 n))
