@@ -8,7 +8,8 @@ use Rattle.pg_format.specs.Replication as page
 use Rattle.pg_format.specs.Replication.{replication_letter}
 use Rattle.pg_format.specs.declared.replication.ReplicationKind.{ReplicationKind}
 use Rattle.pg_format.specs.declared.replication.ReplicationKind.TheVariants as kinds
-use Rattle.pg_replication.specs.ReplicationMessage.{Answer, Reads, ReadsKind, ReadsReplication, shown_xlog_data, shown_new_archive}
+use Rattle.pg_replication.specs.Lettered.{Reads}
+use Rattle.pg_replication.specs.ReplicationMessage.{Answer, ReadsKind, ReadsReplication, shown_xlog_data, shown_new_archive}
 use Rattle.pg_replication.specs.declared.replication_message.ReplicationMessage.{ReplicationMessage}
 use Rattle.pg_replication.specs.declared.replication_message.ReplicationMessage.TheVariants as messages
 use Rattle.pg_c.specs.Place.{bytes_in}

@@ -2,7 +2,7 @@
 
 ghost use Rattle.std.specs.Prelude.{◌≡◌, ◌==◌, ◌≤◌, length};
 ghost use Rattle.std.specs.Iterator.{YieldsFirstBy, item_count};
-ghost use Rattle.pg_format.proofs.FormatLaws.Logical.{total_column};
+ghost use Rattle.pg_format.proofs.FormatLaws.Logical.{total_table_column};
 ghost use Rattle.pg_format.specs.Received.{max_body};
 ghost use Rattle.pg_replication.specs.Logical.Listed.{values_in};
 
@@ -18,7 +18,7 @@ pub struct Columns<'a> {
     bytes: &'a [u8],
     left: usize,
     ghost short: { length bytes.now ≤ max_body },
-    ghost whole: { length (values_in total_column left bytes.now) ≡ left },
+    ghost whole: { length (values_in total_table_column left bytes.now) ≡ left },
 }
 
 impl<'a> Columns<'a> {
