@@ -2,7 +2,6 @@
 pub mod Ends
 pub mod FromClient
 pub mod FromServer
-pub mod Kinds
 pub mod Lists
 pub mod Logical
 pub mod Nullable

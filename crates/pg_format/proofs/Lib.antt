@@ -3,4 +3,5 @@ pub mod ExamplesLemmas
 pub mod FieldLemmas
 pub mod FormatLaws
 pub mod ItemsLemmas
+pub mod ListedLemmas
 pub mod TextLemmas

@@ -11,7 +11,7 @@ use Rattle.pg_format.specs.Logical.{null, unchanged, text, binary, key, whole}
 use Rattle.pg_format.specs.Notices.{Field}
 use Rattle.pg_format.specs.Messages.{from_server, from_client, BackendKey, Bind, Cancel, Column, CopyResponse, Execute, First, FunctionCall, Negotiation, Notification, Parse, SaslInitial, Setting, Targeted, opening, cancelling}
 use Rattle.pg_format.specs.Replication.{XLogData, PrimaryKeepalive, StandbyStatusUpdate, HotStandbyFeedback, NewArchive}
-use Rattle.pg_format.specs.Tables.{Authentication, ok, cleartext_password, md5_password, sasl, sasl_continue, sasl_final, statement, portal}
+use Rattle.pg_format.specs.Tables.{Authentication, ok, cleartext_password, md5_password, sasl, sasl_continue, sasl_final, AnyAuthentication, known_method, gss_continue, other_method, statement, portal}
 
 -- the bytes of a body, and the value that they mean
 pub record Example (A : Type 0) : Type 0 where
@@ -82,6 +82,21 @@ end_of_sasl = record {
   bytes = 0 ∷ 0 ∷ 0 ∷ 12 ∷ codes "e=other";
   value = sasl_final (codes "e=other");
 }
+
+-- what follows the number of GSSContinue is its data
+abbrev pub data_of_gss : Example AnyAuthentication
+data_of_gss = record { bytes = 0 ∷ 0 ∷ 0 ∷ 8 ∷ 7 ∷ 0 ∷ 9 ∷ []; value = gss_continue (7 ∷ 0 ∷ 9 ∷ []) }
+
+-- one of the six methods above, among all
+abbrev pub request_for_md5_among_all : Example AnyAuthentication
+request_for_md5_among_all = record {
+  bytes = request_for_md5.bytes;
+  value = known_method request_for_md5.value;
+}
+
+-- a method that there is not
+abbrev pub request_by_method_13 : Example AnyAuthentication
+request_by_method_13 = record { bytes = 0 ∷ 0 ∷ 0 ∷ 13 ∷ 7 ∷ []; value = other_method 13 (7 ∷ []) }
 
 -- ---- columns and rows
 

@@ -5,9 +5,11 @@ pub mod Format
 pub mod Items
 pub mod Keyed
 pub mod Lawful
+pub mod Listed
 pub mod Logical
 pub mod Messages
 pub mod Notices
+pub mod Protocol
 pub mod Received
 pub mod Replication
 pub mod Sasl

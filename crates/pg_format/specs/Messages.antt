@@ -16,6 +16,7 @@ use Rattle.pg_format.specs.Format.Lists.{times, counted, counted_least, counted_
 use Rattle.pg_format.specs.Format.Nullable.{cell, value}
 use Rattle.pg_format.specs.Notices.{Field, notice_fault}
 pub use Rattle.pg_format.specs.Tables.{Authentication, ok, cleartext_password, md5_password, sasl, sasl_continue, sasl_final, method_number, salt_of, mechanisms_of, continued, finished}
+pub use Rattle.pg_format.specs.Tables.{is_asked_by, AnyAuthentication, known_method, kerberos_v5, scm_credential, gss, gss_continue, sspi, other_method, any_method_number, known_of, gss_continued, content_of}
 pub use Rattle.pg_format.specs.Tables.{Target, statement, portal, target_of, target_letter, Status, idle, transaction, error, status_of, status_letter, table, table_number, attribute, attribute_number}
 use Rattle.pg_format.specs.Sasl.{first_message_fault, final_message_fault}
 
@@ -38,6 +39,24 @@ with_method request = (method_number request, request)
 
 abbrev pub authentication : Format Authentication
 authentication = loosely (mapped (λ v. v.1) with_method (dep_pair be_u32 asked_by))
+
+-- AuthenticationKerberosV5 (B), AuthenticationSCMCredential (B), AuthenticationGSS (B), AuthenticationGSSContinue (B) and
+-- AuthenticationSSPI (B), beside those above; and any other method, with what follows its number
+abbrev pub asked_by_any : ℕ → Format AnyAuthentication
+asked_by_any method =
+    choose (method == 2) (success kerberos_v5)
+    (choose (method == 6) (success scm_credential)
+    (choose (method == 7) (success gss)
+    (choose (method == 8) (case_of gss_continue gss_continued remaining)
+    (choose (method == 9) (success sspi)
+    (choose (is_asked_by method) (case_of known_method known_of (asked_by method))
+    (case_of (other_method method) content_of remaining))))))
+
+abbrev pub with_any_method : AnyAuthentication → ℕ × AnyAuthentication
+with_any_method request = (any_method_number request, request)
+
+abbrev pub any_authentication : Format AnyAuthentication
+any_authentication = loosely (mapped (λ v. v.1) with_any_method (dep_pair be_u32 asked_by_any))
 
 -- BackendKeyData (B)
 pub record BackendKey : Type 0 where
@@ -156,6 +175,10 @@ function_call_response = loosely cell
 -- GSSENCRequest (F), after its code
 abbrev pub gss_enc_request : Format (Unit {0})
 gss_enc_request = empty
+
+-- GSSResponse (F)
+abbrev pub gss_response : Format (List ℕ)
+gss_response = remaining
 
 -- NegotiateProtocolVersion (B): the newest version of the server, and the options that it doesn't know. The
 -- documentation speaks of the minor version alone, in four bytes. Servers send both halves of the version there, as a

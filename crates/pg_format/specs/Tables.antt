@@ -1,6 +1,6 @@
 -- What a part of a message stands for, by the tables of the documentation's "Message Formats": methods of
 -- authentication, letters, and numbers whose 0 is of none.
-use Rattle.std.specs.Prelude.{ℕ, zero, ◌==◌, ℤ, pos, List, Option, Some, None, if◌then◌else◌}
+use Rattle.std.specs.Prelude.{ℕ, zero, ◌==◌, ◌||◌, Bool, ℤ, pos, List, Option, Some, None, if◌then◌else◌}
 
 -- AuthenticationOk (B) and the requests after it: the number of a method, and what it asks
 pub data Authentication : Type 0 where
@@ -34,6 +34,42 @@ continued other = None
 abbrev pub finished : Authentication → Option (List ℕ)
 finished (sasl_final message) = Some message
 finished other = None
+
+-- whether one of these methods has the number
+abbrev pub is_asked_by : ℕ → Bool
+is_asked_by method = (method == 0) || ((method == 3) || ((method == 5) || ((method == 10) || ((method == 11) || (method == 12)))))
+
+-- AuthenticationKerberosV5 (B), AuthenticationSCMCredential (B), AuthenticationGSS (B), AuthenticationGSSContinue (B) and
+-- AuthenticationSSPI (B), beside those above; and any other method by its number, with what follows that
+pub data AnyAuthentication : Type 0 where
+  known_method : Authentication → AnyAuthentication
+  kerberos_v5 : AnyAuthentication
+  scm_credential : AnyAuthentication
+  gss : AnyAuthentication
+  gss_continue : List ℕ → AnyAuthentication
+  sspi : AnyAuthentication
+  other_method : ℕ → List ℕ → AnyAuthentication
+
+abbrev pub any_method_number : AnyAuthentication → ℕ
+any_method_number (known_method request) = method_number request
+any_method_number kerberos_v5 = 2
+any_method_number scm_credential = 6
+any_method_number gss = 7
+any_method_number (gss_continue content) = 8
+any_method_number sspi = 9
+any_method_number (other_method method content) = method
+
+abbrev pub known_of : AnyAuthentication → Option Authentication
+known_of (known_method request) = Some request
+known_of request = None
+
+abbrev pub gss_continued : AnyAuthentication → Option (List ℕ)
+gss_continued (gss_continue content) = Some content
+gss_continued request = None
+
+abbrev pub content_of : AnyAuthentication → Option (List ℕ)
+content_of (other_method method content) = Some content
+content_of request = None
 
 -- Close (F) and Describe (F)
 pub data Target : Type 0 where

@@ -5,9 +5,10 @@ ghost use Rattle.pg_format.specs.Format.Ends.{exactly};
 ghost use Rattle.pg_format.specs.Format.Places.{ReadsAfter};
 
 use crate::items::Item;
+use crate::text::text_at;
 use pg_base::ProtocolFault;
-use pg_base::io::part::{Byte, Nothing, Number32, Number64, Part, Slice, Then};
-use pg_base::io::{MAX_BODY, Sink, bytes_at, i32_at, i64_at, u8_at, u32_at, u64_at};
+use pg_base::io::part::{Nothing, Number32, Number64, Part, Slice, Then};
+use pg_base::io::{Ended, MAX_BODY, Sink, bytes_at, i16_at, i32_at, i64_at, u8_at, u32_at, u64_at};
 
 /// The fields that a body of at most [`MAX_BODY`] bytes has from an offset on. Nothing may follow them, else the
 /// body is refused with `BodyTooLong` from there on.
@@ -40,7 +41,32 @@ impl<'a, A: Item<'a> + Copy, B: Item<'a> + Copy> Item<'a> for Then<A, B> {
     }
 }
 
-impl<'a> Item<'a> for Byte {
+/// A number of one byte.
+#[derive(Clone, Copy)]
+pub struct Number8(pub u8);
+
+impl Part for Number8 {
+    ghost use Rattle.pg_format.specs.Field.{number8};
+
+    ghost part = { λ it. number8 it.0 };
+
+    #[inline(always)]
+    fn len(&self) -> usize {
+        1
+    }
+
+    #[inline(always)]
+    fn fault(&self) -> Option<ProtocolFault> {
+        None
+    }
+
+    #[inline(always)]
+    fn put<S: Sink>(&self, sink: &mut S) {
+        sink.put_u8(self.0);
+    }
+}
+
+impl<'a> Item<'a> for Number8 {
     ghost use Rattle.std.specs.Prelude.{ℕ};
     ghost use Rattle.pg_format.specs.Format.Parts.{be_u8};
 
@@ -51,8 +77,8 @@ impl<'a> Item<'a> for Byte {
     ghost format = { be_u8 };
 
     #[inline(always)]
-    fn item_at(body: &'a [u8], at: usize) -> Result<(Byte, usize), ProtocolFault> {
-        Ok((Byte(u8_at(body, at)?), at + 1))
+    fn item_at(body: &'a [u8], at: usize) -> Result<(Number8, usize), ProtocolFault> {
+        Ok((Number8(u8_at(body, at)?), at + 1))
     }
 }
 
@@ -203,9 +229,50 @@ impl<'a> Item<'a> for Flag {
     }
 }
 
+/// A signed number of two bytes.
+#[derive(Clone, Copy)]
+pub struct Signed16(pub i16);
+
+impl<'a> Item<'a> for Signed16 {
+    ghost use Rattle.std.specs.Prelude.{ℤ};
+    ghost use Rattle.pg_format.specs.Format.Parts.{be_i16};
+
+    ghost Shown = { ℤ };
+
+    ghost shown = { λ it. it.0 };
+
+    ghost format = { be_i16 };
+
+    #[inline(always)]
+    fn item_at(body: &'a [u8], at: usize) -> Result<(Signed16, usize), ProtocolFault> {
+        Ok((Signed16(i16_at(body, at)?), at + 2))
+    }
+}
+
 /// A signed number of four bytes.
 #[derive(Clone, Copy)]
 pub struct Signed32(pub i32);
+
+impl Part for Signed32 {
+    ghost use Rattle.pg_format.specs.Field.{signed32};
+
+    ghost part = { λ it. signed32 it.0 };
+
+    #[inline(always)]
+    fn len(&self) -> usize {
+        4
+    }
+
+    #[inline(always)]
+    fn fault(&self) -> Option<ProtocolFault> {
+        None
+    }
+
+    #[inline(always)]
+    fn put<S: Sink>(&self, sink: &mut S) {
+        sink.put_u32(self.0.cast_unsigned());
+    }
+}
 
 impl<'a> Item<'a> for Signed32 {
     ghost use Rattle.std.specs.Prelude.{ℤ};
@@ -227,6 +294,29 @@ impl<'a> Item<'a> for Signed32 {
 #[derive(Clone, Copy)]
 pub struct SizedBytes<'a>(pub &'a [u8]);
 
+impl Part for SizedBytes<'_> {
+    ghost use Rattle.pg_base.specs.Part.{bytes};
+    ghost use Rattle.pg_format.specs.Logical.{sized};
+
+    ghost part = { λ it. bytes (sized.Writes it.0.now) };
+
+    #[inline(always)]
+    fn len(&self) -> usize {
+        self.0.len().saturating_add(4)
+    }
+
+    #[inline(always)]
+    fn fault(&self) -> Option<ProtocolFault> {
+        None
+    }
+
+    #[inline(always)]
+    fn put<S: Sink>(&self, sink: &mut S) {
+        sink.put_u32(self.0.len() as u32);
+        sink.put_slice(self.0);
+    }
+}
+
 impl<'a> Item<'a> for SizedBytes<'a> {
     ghost use Rattle.std.specs.Prelude.{ℕ, List};
     ghost use Rattle.pg_format.specs.Logical.{sized};
@@ -242,5 +332,22 @@ impl<'a> Item<'a> for SizedBytes<'a> {
         let length = u32_at(body, at)? as usize;
         let bytes = bytes_at(body, at + 4, length)?;
         Ok((SizedBytes(bytes), at + 4 + length))
+    }
+}
+
+impl<'a> Item<'a> for Ended<&'a [u8]> {
+    ghost use Rattle.std.specs.Prelude.{ℕ, List};
+    ghost use Rattle.pg_format.specs.Format.Parts.{until_nul};
+
+    ghost Shown = { List ℕ };
+
+    ghost shown = { λ it. it.0.now };
+
+    ghost format = { until_nul };
+
+    #[inline(always)]
+    fn item_at(body: &'a [u8], at: usize) -> Result<(Ended<&'a [u8]>, usize), ProtocolFault> {
+        let (text, end) = text_at(body, at)?;
+        Ok((Ended(text), end))
     }
 }

@@ -10,18 +10,21 @@ ghost use Rattle.pg_format.specs.Logical.{change};
 ghost use Rattle.pg_format.specs.Replication.{in_copy_data};
 ghost use Rattle.pg_format.specs.declared.logical.LogicalKind.{LogicalKind};
 ghost use Rattle.pg_format.specs.declared.replication.ReplicationKind.{ReplicationKind};
-ghost use Rattle.pg_format.specs.Messages.{from_server, from_client, backend_key, first_message, function_call_response, negotiate_protocol_version, sasl_initial_response};
+ghost use Rattle.pg_format.specs.Messages.{from_server, from_client, any_authentication, backend_key, first_message, function_call_response, negotiate_protocol_version, sasl_initial_response};
 
 /// A body from a server means one value or has one fault, never both and never neither; and what is
 /// written of a value is read as it.
-#[tactic(auto, using(crate::proofs::FormatLaws::Kinds::lawful_server, crate::proofs::FormatLaws::Kinds::total_server))]
+#[tactic(auto, using(crate::proofs::FormatLaws::FromServer::lawful_server, crate::proofs::FormatLaws::FromServer::total_server))]
 pub fn messages_from_a_server()
     ensures lawful { (kind : BackendMessageFormat) → Lawful (from_server kind).format }
     ensures total { (kind : BackendMessageFormat) → Total (from_server kind).format }
 {}
 
-/// The same of the messages from a server that aren't of a kind, and of a key of protocol 3.2.
+/// The same of a request for authentication by any method, of a key of protocol 3.2, and of the messages from a
+/// server that aren't of a kind. A CopyBothResponse has the format of a CopyInResponse.
 pub fn other_messages_from_a_server()
+    ensures lawful_request { Lawful any_authentication }
+    ensures total_request { Total any_authentication }
     ensures lawful_key { Lawful backend_key }
     ensures total_key { Total backend_key }
     ensures lawful_call { Lawful function_call_response }
@@ -31,7 +34,7 @@ pub fn other_messages_from_a_server()
 {}
 
 /// The same of a body from a client, in which each value has one spelling.
-#[tactic(auto, using(crate::proofs::FormatLaws::Kinds::lawful_client, crate::proofs::FormatLaws::Kinds::canonical_client, crate::proofs::FormatLaws::Kinds::total_client))]
+#[tactic(auto, using(crate::proofs::FormatLaws::FromClient::lawful_client, crate::proofs::FormatLaws::FromClient::canonical_client, crate::proofs::FormatLaws::FromClient::total_client))]
 pub fn messages_from_a_client()
     ensures lawful { (kind : FrontendMessageFormat) → Lawful (from_client kind).format }
     ensures canonical { (kind : FrontendMessageFormat) → Canonical (from_client kind).format }

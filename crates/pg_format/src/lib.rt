@@ -8,11 +8,13 @@ pub mod field;
 pub mod items;
 pub mod laws;
 mod logical;
+mod protocol;
 mod received;
 mod replication;
 pub mod text;
 pub mod value;
 
 pub use logical::LogicalKind;
+pub use protocol::ProtocolMessageKind;
 pub use received::{BackendMessage, ReceivedMessage};
 pub use replication::ReplicationKind;

@@ -4,10 +4,12 @@ use Rattle.std.proofs.Common.{refl, sym, ◌∙◌, inl, inr, arith}
 use Rattle.std.proofs.lemmas.Bool.{eqb-true}
 use Rattle.pg_base.specs.Reading.{BeginsWith, Text}
 use Rattle.pg_base.specs.declared.error.ProtocolFault.TheVariants.{UnknownMessageType, UnknownCode}
+use Rattle.pg_base.specs.declared.format.FrontendMessageFormat.{FrontendMessageFormat}
+use Rattle.pg_base.specs.declared.format.FrontendMessageFormat.TheVariants as frontend
 use Rattle.pg_format.specs.Format.{Lawful, Canonical, Total, IsRead, IsBroken}
 use Rattle.pg_format.specs.Format.Lists.{until_zero}
-use Rattle.pg_format.specs.Messages.{format_codes, bind, empty, Target, statement, portal, target_of, target_letter, targeted, execute, function_call, parse, text, sasl_initial_response, sasl_response, setting, opening, cancelling, tls, gssapi, settings_of, cancelled, asks_tls, asks_gssapi, by_code, with_code, first_message}
-use Rattle.pg_format.proofs.FormatLaws.Parts.{lawful_until_nul, canonical_until_nul, total_until_nul, lawful_unsigned, canonical_unsigned, total_unsigned, lawful_remaining, canonical_remaining, lawful_one_of, canonical_one_of, total_one_of, lawful_success, canonical_success, total_success, lawful_fail_before, total_fail_before}
+use Rattle.pg_format.specs.Messages.{format_codes, bind, empty, Target, statement, portal, target_of, target_letter, targeted, execute, function_call, parse, text, sasl_initial_response, sasl_response, setting, opening, cancelling, tls, gssapi, settings_of, cancelled, asks_tls, asks_gssapi, by_code, with_code, first_message, from_client}
+use Rattle.pg_format.proofs.FormatLaws.Parts.{lawful_until_nul, canonical_until_nul, total_until_nul, lawful_unsigned, canonical_unsigned, total_unsigned, lawful_remaining, canonical_remaining, total_remaining, lawful_one_of, canonical_one_of, total_one_of, lawful_success, canonical_success, total_success, lawful_fail_before, total_fail_before}
 use Rattle.pg_format.proofs.FormatLaws.Sequences.{◌l⨾◌, ◌c⨾◌, ◌t⨾◌, lawful_dep_pair, total_dep_pair, lawful_record_of, canonical_record_of, total_record_of, lawful_mapped, total_mapped, lawful_case_of, total_case_of, lawful_choose, total_choose}
 use Rattle.pg_format.proofs.FormatLaws.Tests.{lawful_only, Takes}
 use Rattle.pg_format.proofs.FormatLaws.Ends.{lawful_exactly, canonical_exactly, total_exactly}
@@ -181,3 +183,53 @@ lawful_first_message = lawful_mapped (λ v. v.1) with_code (lawful_dep_pair by_c
 
 pub total_first_message : Total first_message
 total_first_message = total_mapped (λ v. v.1) with_code (total_dep_pair by_code (total_unsigned 4) total_by_code)
+
+-- ---- by the kind of message
+
+pub lawful_client : (kind : FrontendMessageFormat) → Lawful (from_client kind).format
+lawful_client frontend.Bind = lawful_bind
+lawful_client frontend.Close = lawful_targeted
+lawful_client frontend.Describe = lawful_targeted
+lawful_client frontend.Execute = lawful_execute
+lawful_client frontend.Flush = lawful_empty
+lawful_client frontend.FunctionCall = lawful_function_call
+lawful_client frontend.Parse = lawful_parse
+lawful_client frontend.Query = lawful_text
+lawful_client frontend.Sync = lawful_empty
+lawful_client frontend.Terminate = lawful_empty
+lawful_client frontend.CopyDone = lawful_empty
+lawful_client frontend.CopyData = lawful_remaining
+lawful_client frontend.CopyFail = lawful_text
+lawful_client frontend.PasswordPolymorphic = lawful_remaining
+
+pub canonical_client : (kind : FrontendMessageFormat) → Canonical (from_client kind).format
+canonical_client frontend.Bind = canonical_bind
+canonical_client frontend.Close = canonical_targeted
+canonical_client frontend.Describe = canonical_targeted
+canonical_client frontend.Execute = canonical_execute
+canonical_client frontend.Flush = canonical_empty
+canonical_client frontend.FunctionCall = canonical_function_call
+canonical_client frontend.Parse = canonical_parse
+canonical_client frontend.Query = canonical_text
+canonical_client frontend.Sync = canonical_empty
+canonical_client frontend.Terminate = canonical_empty
+canonical_client frontend.CopyDone = canonical_empty
+canonical_client frontend.CopyData = canonical_remaining
+canonical_client frontend.CopyFail = canonical_text
+canonical_client frontend.PasswordPolymorphic = canonical_remaining
+
+pub total_client : (kind : FrontendMessageFormat) → Total (from_client kind).format
+total_client frontend.Bind = total_bind
+total_client frontend.Close = total_targeted
+total_client frontend.Describe = total_targeted
+total_client frontend.Execute = total_execute
+total_client frontend.Flush = total_empty
+total_client frontend.FunctionCall = total_function_call
+total_client frontend.Parse = total_parse
+total_client frontend.Query = total_text
+total_client frontend.Sync = total_empty
+total_client frontend.Terminate = total_empty
+total_client frontend.CopyDone = total_empty
+total_client frontend.CopyData = total_remaining
+total_client frontend.CopyFail = total_text
+total_client frontend.PasswordPolymorphic = total_remaining

@@ -3,6 +3,8 @@ use Rattle.std.specs.Prelude.{◌≡◌, ◌≢◌, ℕ, ◌*◌, ◌==◌, ℤ,
 use Rattle.std.proofs.Common.{refl, arith, inl, inr}
 use Rattle.std.proofs.lemmas.Bool.{cases_eq}
 use Rattle.pg_base.specs.declared.error.ProtocolFault.TheVariants.{UnknownStatus, UnknownAuthentication, NotUtf8}
+use Rattle.pg_base.specs.declared.format.BackendMessageFormat.{BackendMessageFormat}
+use Rattle.pg_base.specs.declared.format.BackendMessageFormat.TheVariants as backend
 use Rattle.pg_format.specs.Format.{Lawful, Total}
 use Rattle.pg_format.specs.Format.Parts.{until_nul, be_u8, be_u32, be_i16}
 use Rattle.pg_format.specs.Format.Sequences.{◌⨾◌}
@@ -10,7 +12,7 @@ use Rattle.pg_format.specs.Format.Tests.{only}
 use Rattle.pg_format.specs.Format.Lists.{many}
 use Rattle.pg_format.specs.Notices.{Field, notice_fault}
 use Rattle.pg_format.specs.Sasl.{first_message_fault, final_message_fault}
-use Rattle.pg_format.specs.Messages.{ok, cleartext_password, md5_password, sasl, sasl_continue, sasl_final, salt_of, mechanisms_of, continued, finished, mechanism_names, asked_by, with_method, authentication, key_fault, backend_key_data, backend_key, no_body, columns_of, column_codes, copy_response, data_row, field, function_call_response, version, negotiate_protocol_version, notice, notification, parameter_description, parameter_status, Status, idle, transaction, error, status_of, status_letter, ready_for_query, table, table_number, attribute, attribute_number, numbers, column, row_description}
+use Rattle.pg_format.specs.Messages.{ok, cleartext_password, md5_password, sasl, sasl_continue, sasl_final, salt_of, mechanisms_of, continued, finished, mechanism_names, asked_by, with_method, authentication, known_method, kerberos_v5, scm_credential, gss, gss_continue, sspi, other_method, known_of, gss_continued, content_of, is_asked_by, asked_by_any, with_any_method, any_authentication, key_fault, backend_key_data, backend_key, no_body, columns_of, column_codes, copy_response, data_row, field, function_call_response, version, negotiate_protocol_version, notice, notification, parameter_description, parameter_status, from_server, Status, idle, transaction, error, status_of, status_letter, ready_for_query, table, table_number, attribute, attribute_number, numbers, column, row_description}
 use Rattle.pg_format.proofs.FormatLaws.Parts.{lawful_until_nul, total_until_nul, lawful_unsigned, total_unsigned, lawful_signed, total_signed, lawful_bytes_of, total_bytes_of, lawful_remaining, total_remaining, lawful_one_of, total_one_of, lawful_success, total_success, lawful_fail_before, total_fail_before}
 use Rattle.pg_format.proofs.FormatLaws.Sequences.{◌l⨾◌, ◌t⨾◌, lawful_dep_pair, total_dep_pair, lawful_record_of, total_record_of, lawful_mapped, total_mapped, lawful_case_of, total_case_of, lawful_choose, total_choose}
 use Rattle.pg_format.proofs.FormatLaws.Tests.{lawful_utf8, total_utf8, utf8_or_not, lawful_checked, total_checked, lawful_only, lawful_with_room, total_with_room, Takes}
@@ -72,6 +74,32 @@ lawful_authentication = lawful_loosely (lawful_mapped (λ v. v.1) with_method (l
 
 pub total_authentication : Total authentication
 total_authentication = total_loosely (total_mapped (λ v. v.1) with_method (total_dep_pair asked_by (total_unsigned 4) total_asked_by))
+
+lawful_asked_by_any : (method : ℕ) → Lawful (asked_by_any method)
+lawful_asked_by_any method =
+    lawful_choose (method == 2) (lawful_success kerberos_v5)
+    (lawful_choose (method == 6) (lawful_success scm_credential)
+    (lawful_choose (method == 7) (lawful_success gss)
+    (lawful_choose (method == 8) (lawful_case_of gss_continue gss_continued lawful_remaining)
+    (lawful_choose (method == 9) (lawful_success sspi)
+    (lawful_choose (is_asked_by method) (lawful_case_of known_method known_of (lawful_asked_by method))
+    (lawful_case_of (other_method method) content_of lawful_remaining))))))
+
+total_asked_by_any : (method : ℕ) → Total (asked_by_any method)
+total_asked_by_any method =
+    total_choose (method == 2) (total_success kerberos_v5)
+    (total_choose (method == 6) (total_success scm_credential)
+    (total_choose (method == 7) (total_success gss)
+    (total_choose (method == 8) (total_case_of gss_continue gss_continued total_remaining)
+    (total_choose (method == 9) (total_success sspi)
+    (total_choose (is_asked_by method) (total_case_of known_method known_of (total_asked_by method))
+    (total_case_of (other_method method) content_of total_remaining))))))
+
+pub lawful_any_authentication : Lawful any_authentication
+lawful_any_authentication = lawful_loosely (lawful_mapped (λ v. v.1) with_any_method (lawful_dep_pair asked_by_any u32 lawful_asked_by_any))
+
+pub total_any_authentication : Total any_authentication
+total_any_authentication = total_loosely (total_mapped (λ v. v.1) with_any_method (total_dep_pair asked_by_any (total_unsigned 4) total_asked_by_any))
 
 pub lawful_backend_key_data : Lawful backend_key_data
 lawful_backend_key_data = lawful_loosely (lawful_record_of _ (λ a b e i. record { process_id = (e i).0; secret_key = (e i).1 }) (u32 l⨾ u32))
@@ -221,3 +249,51 @@ lawful_row_description = lawful_loosely (lawful_counted_least 19 column_takes la
 
 pub total_row_description : Total row_description
 total_row_description = total_loosely (total_counted_least total_column 19)
+
+-- ---- by the kind of message
+
+pub lawful_server : (kind : BackendMessageFormat) → Lawful (from_server kind).format
+lawful_server backend.Authentication = lawful_authentication
+lawful_server backend.BackendKeyData = lawful_backend_key_data
+lawful_server backend.BindComplete = lawful_no_body
+lawful_server backend.CloseComplete = lawful_no_body
+lawful_server backend.CommandComplete = lawful_remaining
+lawful_server backend.CopyData = lawful_remaining
+lawful_server backend.CopyDone = lawful_no_body
+lawful_server backend.CopyInResponse = lawful_copy_response
+lawful_server backend.CopyOutResponse = lawful_copy_response
+lawful_server backend.DataRow = lawful_data_row
+lawful_server backend.EmptyQueryResponse = lawful_no_body
+lawful_server backend.ErrorResponse = lawful_notice
+lawful_server backend.NoData = lawful_no_body
+lawful_server backend.NoticeResponse = lawful_notice
+lawful_server backend.NotificationResponse = lawful_notification
+lawful_server backend.ParameterDescription = lawful_parameter_description
+lawful_server backend.ParameterStatus = lawful_parameter_status
+lawful_server backend.ParseComplete = lawful_no_body
+lawful_server backend.PortalSuspended = lawful_no_body
+lawful_server backend.ReadyForQuery = lawful_ready_for_query
+lawful_server backend.RowDescription = lawful_row_description
+
+pub total_server : (kind : BackendMessageFormat) → Total (from_server kind).format
+total_server backend.Authentication = total_authentication
+total_server backend.BackendKeyData = total_backend_key_data
+total_server backend.BindComplete = total_no_body
+total_server backend.CloseComplete = total_no_body
+total_server backend.CommandComplete = total_remaining
+total_server backend.CopyData = total_remaining
+total_server backend.CopyDone = total_no_body
+total_server backend.CopyInResponse = total_copy_response
+total_server backend.CopyOutResponse = total_copy_response
+total_server backend.DataRow = total_data_row
+total_server backend.EmptyQueryResponse = total_no_body
+total_server backend.ErrorResponse = total_notice
+total_server backend.NoData = total_no_body
+total_server backend.NoticeResponse = total_notice
+total_server backend.NotificationResponse = total_notification
+total_server backend.ParameterDescription = total_parameter_description
+total_server backend.ParameterStatus = total_parameter_status
+total_server backend.ParseComplete = total_no_body
+total_server backend.PortalSuspended = total_no_body
+total_server backend.ReadyForQuery = total_ready_for_query
+total_server backend.RowDescription = total_row_description

@@ -7,16 +7,16 @@ ghost use Rattle.pg_base.specs.declared.error.ProtocolFault.TheVariants.{Unknown
 ghost use Rattle.pg_base.specs.declared.format.BackendMessageFormat.TheVariants as backend;
 ghost use Rattle.pg_base.specs.declared.format.FrontendMessageFormat.TheVariants as frontend;
 ghost use Rattle.pg_format.specs.Examples.{IsExample, IsFaultExample, IsServerExample, IsClientExample, IsWrittenExample, IgnoresABody, RefusesABody};
-ghost use Rattle.pg_format.specs.Examples.{request_for_nothing, request_for_a_password, request_for_md5, request_for_sasl, challenge_of_sasl, end_of_sasl, column_of_a_table, column_of_no_table, copy_of_two_columns, copy_of_no_columns, row_of_three_values, key_of_four_bytes, tag_of_an_insert, three_bytes, error_of_three_fields, notice_of_three_fields, news_of_jobs, two_types, setting_of_the_time_zone, two_unknown_options, key_of_five_bytes, bind_of_three_values, statement_s, portal_p, portal_without_a_name, portal_with_a_limit, call_with_an_argument, statement_with_a_type, text_of_a_query, text_of_a_failure, mechanism_with_data, mechanism_without_data, mechanism_with_a_bad_length, startup_of_ann, startup_and_a_byte, startup_without_a_value, cancel_by_four_bytes, cancel_by_256_bytes, cancel_by_three_bytes, cancel_by_257_bytes, severity_inf};
+ghost use Rattle.pg_format.specs.Examples.{request_for_nothing, request_for_a_password, request_for_md5, request_for_sasl, challenge_of_sasl, end_of_sasl, data_of_gss, request_for_md5_among_all, request_by_method_13, column_of_a_table, column_of_no_table, copy_of_two_columns, copy_of_no_columns, row_of_three_values, key_of_four_bytes, tag_of_an_insert, three_bytes, error_of_three_fields, notice_of_three_fields, news_of_jobs, two_types, setting_of_the_time_zone, two_unknown_options, key_of_five_bytes, bind_of_three_values, statement_s, portal_p, portal_without_a_name, portal_with_a_limit, call_with_an_argument, statement_with_a_type, text_of_a_query, text_of_a_failure, mechanism_with_data, mechanism_without_data, mechanism_with_a_bad_length, startup_of_ann, startup_and_a_byte, startup_without_a_value, cancel_by_four_bytes, cancel_by_256_bytes, cancel_by_three_bytes, cancel_by_257_bytes, severity_inf};
 ghost use Rattle.pg_format.specs.Format.{Means, IsFaultOf};
-ghost use Rattle.pg_format.specs.Messages.{from_server, from_client, backend_key, function_call_response, negotiate_protocol_version, text, sasl_initial_response, sasl_response, first_message, opening, tls, gssapi};
+ghost use Rattle.pg_format.specs.Messages.{from_server, from_client, any_authentication, backend_key, copy_response, function_call_response, gss_response, negotiate_protocol_version, text, sasl_initial_response, sasl_response, first_message, opening, tls, gssapi};
 ghost use Rattle.pg_format.specs.Examples.{piece_of_a_log, keepalive_that_asks, update_of_three_positions, feedback_of_two_transactions, archive_of_a_tablespace, progress_of_258_bytes, progress_and_a_byte};
 ghost use Rattle.pg_format.specs.Examples.{begin_739, message_to_ab, commit_of_begin, origin_far, table_of_a_column, type_mood, insert_of_four_values, update_of_a_key, update_without_the_old, delete_of_a_row, truncate_of_two, stream_of_739, stream_commit_739, stream_abort_740, begin_of_g, prepare_of_g, rollback_of_g, delete_of_a_new_row};
 ghost use Rattle.pg_format.specs.Logical.{change, delete, logical_letter};
 ghost use Rattle.pg_format.specs.declared.logical.LogicalKind.TheVariants as logical;
 ghost use Rattle.pg_format.specs.Replication.{standby_status_update, hot_standby_feedback, progress, in_copy_data, replication_letter};
 ghost use Rattle.pg_format.specs.declared.replication.ReplicationKind.TheVariants as kinds;
-ghost use Rattle.pg_format.specs.Tables.{ok, cleartext_password, md5_password, sasl, sasl_continue, sasl_final, method_number, idle, transaction, error};
+ghost use Rattle.pg_format.specs.Tables.{ok, cleartext_password, md5_password, sasl, sasl_continue, sasl_final, method_number, kerberos_v5, scm_credential, gss, sspi, idle, transaction, error};
 
 /// The six methods of authentication, by their numbers.
 pub fn examples_of_authentication()
@@ -32,6 +32,18 @@ pub fn examples_of_authentication()
     ensures sasl_is_10 { method_number (sasl []) ≡ 10 }
     ensures continued_is_11 { method_number (sasl_continue []) ≡ 11 }
     ensures finished_is_12 { method_number (sasl_final []) ≡ 12 }
+{}
+
+/// The methods of Kerberos, of SCM credentials, of GSSAPI with its data, and of SSPI; one of the six above, and one that
+/// there is not.
+pub fn examples_of_any_authentication()
+    ensures kerberos_v5 { Means any_authentication (0 ∷ 0 ∷ 0 ∷ 2 ∷ []) kerberos_v5 }
+    ensures scm_credential { Means any_authentication (0 ∷ 0 ∷ 0 ∷ 6 ∷ []) scm_credential }
+    ensures gss { Means any_authentication (0 ∷ 0 ∷ 0 ∷ 7 ∷ []) gss }
+    ensures gss_continue { IsExample any_authentication data_of_gss }
+    ensures sspi { Means any_authentication (0 ∷ 0 ∷ 0 ∷ 9 ∷ []) sspi }
+    ensures one_of_the_six { IsExample any_authentication request_for_md5_among_all }
+    ensures of_no_method { IsExample any_authentication request_by_method_13 }
 {}
 
 /// The letters of a session's status: `I`, `T` and `E`.
@@ -70,9 +82,10 @@ pub fn examples_from_a_server()
     ensures portal_suspended { Means (from_server backend.PortalSuspended).format [] tt }
 {}
 
-/// Messages from a server without a kind: the result of a call, NULL, and the version of a server with options that it
-/// doesn't know; and a key of five bytes.
+/// Messages from a server without a kind: what is copied both ways, the result of a call, NULL, and the version of a server
+/// with options that it doesn't know; and a key of five bytes.
 pub fn examples_of_other_messages()
+    ensures copied_both { IsExample copy_response copy_of_no_columns }
     ensures called { Means function_call_response (0 ∷ 0 ∷ 0 ∷ 2 ∷ 9 ∷ 0 ∷ []) (Some (9 ∷ 0 ∷ [])) }
     ensures called_null { Means function_call_response (255 ∷ 255 ∷ 255 ∷ 255 ∷ []) None }
     ensures negotiated { IsExample negotiate_protocol_version two_unknown_options }
@@ -102,6 +115,7 @@ pub fn examples_from_a_client()
     ensures sasl_initial_none { IsExample sasl_initial_response mechanism_without_data }
     ensures sasl_initial_length { IsFaultExample sasl_initial_response mechanism_with_a_bad_length }
     ensures sasl_response { Means sasl_response (codes "c=biws") (codes "c=biws") }
+    ensures gss_response { IsExample gss_response three_bytes }
 {}
 
 /// Messages without a tag: their numbers, two minor versions, and keys of 4 and of 256 bytes; 3 or 257 are a fault, and

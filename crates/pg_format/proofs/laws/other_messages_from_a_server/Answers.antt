@@ -1,6 +1,12 @@
 use Rattle.pg_format.proofs.FormatLaws.FromServer as server
 use Rattle.pg_format.proofs.laws.other_messages_from_a_server.Goals as goal
 
+pub returns-clause-lawful_request : goal.returns-clause-lawful_request
+returns-clause-lawful_request c = server.lawful_any_authentication
+
+pub returns-clause-total_request : goal.returns-clause-total_request
+returns-clause-total_request c = server.total_any_authentication
+
 pub returns-clause-lawful_key : goal.returns-clause-lawful_key
 returns-clause-lawful_key c = server.lawful_backend_key
 

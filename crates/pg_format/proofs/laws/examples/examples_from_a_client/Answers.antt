@@ -74,3 +74,6 @@ returns-clause-sasl_initial_length c =
 
 pub returns-clause-sasl_response : goal.returns-clause-sasl_response
 returns-clause-sasl_response c = lawful_sasl_response.written (codes "c=biws") [] refl
+
+pub returns-clause-gss_response : goal.returns-clause-gss_response
+returns-clause-gss_response c = lawful_remaining.written three_bytes.value [] refl
