@@ -3,6 +3,7 @@ pub mod CountedLemmas
 pub mod ExecuteLemmas
 pub mod FrontendMessageLemmas
 pub mod MessageLemmas
+pub mod NulLemmas
 pub mod PageLemmas
 pub mod PagePartsLemmas
 pub mod ParseLemmas

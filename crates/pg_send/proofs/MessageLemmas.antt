@@ -14,7 +14,7 @@ use Rattle.pg_base.proofs.CuttingLemmas.{parts_at}
 use Rattle.pg_base.proofs.ReadingLemmas.{one_text}
 use Rattle.pg_format.specs.Format.{Canonical, AreBytes, Means}
 use Rattle.pg_format.proofs.FormatLaws.FromClient as client
-use Rattle.pg_format.proofs.FormatLaws.Kinds.{canonical_client}
+use Rattle.pg_format.proofs.FormatLaws.FromClient.{canonical_client}
 use Rattle.pg_format.proofs.FormatLaws.Parts.{canonical_remaining}
 use Rattle.pg_send.specs.Bind.{bind_count_fault}
 use Rattle.pg_send.specs.Counted.{too_many}
@@ -178,10 +178,6 @@ round_trips m f r k =
 pub round_trips_if_ok : (m : Message) (a : Result (Unit {0}) Error) → IsAnswer (fault m) a → OnOk a (IsInRange m) → OnOk a (CanRoundTrip m → RoundTrips m)
 round_trips_if_ok m (Ok u) h r = λ k. round_trips m (accepted_fits (fault m) u h) r k
 round_trips_if_ok m (Err e) h r = tt
-
-pub round_trips_where_ok : (m : Message) (a : Result (Unit {0}) Error) → OnOk a (fault m ≡ None) → IsInRange m → OnOk a (CanRoundTrip m → RoundTrips m)
-round_trips_where_ok m (Ok u) f r = λ k. round_trips m f r k
-round_trips_where_ok m (Err e) f r = tt
 
 -- one frame has one body
 one_body : (a b : ℕ) (x y : List ℕ) → frame a x ≡ frame b y → x ≡ y

@@ -2,14 +2,12 @@
 use Rattle.std.proofs.Common.{◌≡◌, ℕ, ◌^◌, List, length, Option, Some, None, refl}
 use Rattle.std.specs.Option.{option_or}
 use Rattle.pg_base.specs.declared.error.ProtocolFault.TheVariants.{TooManyParamFormats, TooManyResultFormats, BadParams}
-use Rattle.pg_base.specs.Id.{statement_prefix}
-use Rattle.pg_base.specs.Naming.{Free, Numbered}
+use Rattle.pg_base.specs.Naming.{Free}
 use Rattle.pg_base.specs.Part.{both, both_from_last, number16, number32, name}
 use Rattle.pg_format.specs.Messages as page
 use Rattle.pg_send.specs.Composed.{IsBodyOf}
-use Rattle.pg_send.specs.Counted.{codes, types, too_many}
+use Rattle.pg_send.specs.Counted.{codes, too_many}
 use Rattle.pg_send.specs.FunctionCall.{function_call_law}
-use Rattle.pg_send.specs.Parse.{ParseFields, parse_law}
 use Rattle.pg_send.specs.RawBind.{raw_bind_law}
 use Rattle.pg_send.specs.Values.{values}
 
@@ -30,8 +28,3 @@ function_call_of_parts f formats e =
     let arguments = too_many (λ _. BadParams) (length f.arguments) in
     let limits = too_many TooManyParamFormats (length f.formats) in
     rw e (record { text = refl; fault = λ i. option_or limits (or_none arguments i); range = λ it. record { object_id = it.0; formats = it.1.0; result_format = it.1.1.1 } })
-
--- a Parse with this list of types
-pub parse_of_parts : (p : ParseFields) (numbers : List ℕ) → numbers ≡ p.param_types
-    → IsBodyOf (both (name (Numbered statement_prefix p.statement)) (both (name (Free p.query)) (types numbers))) (parse_law p)
-parse_of_parts p numbers e = rw e (record { text = refl; fault = refl; range = λ it. record { statement = it.0; param_types = it.1.1 } })

@@ -1,29 +1,16 @@
--- Whether bytes are just so many values, and whether a text holds a NUL.
-use Rattle.std.proofs.Common.{◌≡◌, ℕ, ◌+◌, ◌-◌, ◌<◌, ◌≤◌, eqb, suc, zero, pos, negsuc, inl, inr, true, List, [], ◌∷◌, ◌++◌, length, take, drop, get_or, refl, sym, ap, ◌∙◌, arith, append_assoc, length-append, ℤ, int_lt, Some, None}
-use Rattle.std.proofs.lemmas.Bool.{eqb-true, eq-eqb}
+-- Whether bytes are just so many values.
+use Rattle.std.proofs.Common.{◌≡◌, ℕ, ◌+◌, ◌-◌, ◌<◌, ◌≤◌, suc, zero, pos, negsuc, inl, inr, true, List, [], ◌∷◌, ◌++◌, length, take, drop, refl, sym, ap, ◌∙◌, arith, append_assoc, length-append, ℤ, int_lt, Some, None}
 use Rattle.std.proofs.lemmas.List.{append-nil, take-append-drop, take_all, length-take, length-drop}
 use Rattle.std.specs.Int.{w32, FitsUnsignedBits}
 use Rattle.std.proofs.lemmas.Int.{to_z-of_z, ints}
 use lib.IntN.{nat_abs}
 use mir.Val.{SFits, to_z, of_z}
-use Rattle.memchr.specs.Find.{Nowhere, Passes, is_byte}
 use Rattle.pg_base.specs.Cutting.{max_length}
 use Rattle.pg_base.specs.Numbers.{be32}
-use Rattle.pg_base.specs.Reading.{Signed, HoldsNo, Value, Values}
+use Rattle.pg_base.specs.Reading.{Signed, Value, Values}
 use Rattle.pg_send.specs.Values.{value_text}
 use Rattle.pg_base.proofs.CuttingLemmas.{parts_at, int_be32}
-use Rattle.pg_base.proofs.ReadingLemmas.{holds_no}
 use Rattle.pg_base.proofs.RoundTripLemmas.{one_value, value_before}
-
--- ---- a NUL
-
-pub nowhere_holds_no : (byte : ℕ) (bytes : List ℕ) → Nowhere (Passes (is_byte byte) bytes) 0 (length bytes) → HoldsNo byte bytes
-nowhere_holds_no byte bytes h = holds_no byte bytes (λ k lt e. h k (omega arith) lt (eq-eqb (get_or bytes k 0) byte e))
-
-pub holds_at : (byte : ℕ) (bytes : List ℕ) (k : ℕ) → k < length bytes → eqb (get_or bytes k 0) byte ≡ true → HoldsNo byte bytes → ⊥
-holds_at byte [] k lt is h = omega (arith, lt)
-holds_at byte (b ∷ bytes) zero lt is h = h.0 (eqb-true b byte is)
-holds_at byte (b ∷ bytes) (suc k) lt is h = holds_at byte bytes k (omega (arith, lt)) is h.1
 
 -- ---- a value
 

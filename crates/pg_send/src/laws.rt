@@ -15,12 +15,14 @@ ghost use Rattle.pg_send.specs.Target.{Target, target_value};
 
 /// Two messages of one kind with one frame are one message, where both are within the limits, have
 /// their numbers in range and can make the round trip.
+#[tactic(auto, using(crate::proofs::MessageLemmas::one_of_kind))]
 pub fn frames_are_distinct()
     ensures { (m n : Message) → IfReadable m (IfReadable n (AreOneIfAlike m n)) }
 {}
 
 /// The page means one value by a message: the body is what is written of it, and a reader takes bytes apart
 /// into the message exactly where they mean it.
+#[tactic(auto, using(crate::proofs::MessageLemmas::one, crate::proofs::MessageLemmas::written, crate::proofs::MessageLemmas::read))]
 pub fn messages_are_of_the_page()
     ensures one { (m : Message) (v w : (line m).Value) → Meant m v → Meant m w → v ≡ w }
     ensures written { (m : Message) → IfReadable m (AreBytes (body m) → IsWrittenOfPage m) }

@@ -11,6 +11,8 @@ mod flush;
 mod frontend_message;
 mod function_call;
 mod gss_enc_request;
+mod gss_response;
+mod nul;
 mod parse;
 mod password;
 mod query;
@@ -44,6 +46,7 @@ pub use frontend_message::{
 };
 pub use function_call::FunctionCall;
 pub use gss_enc_request::GssEncRequest;
+pub use gss_response::GssResponse;
 pub use parse::{Parse, ParseParts};
 pub use password::Password;
 pub use pg_base::io::{CopyData, CopyDone};

@@ -82,6 +82,7 @@ impl FrontendMessage for Password<'_> {
 }
 
 // The least power of two that holds a length, so that the room doesn't tell it.
+#[tactic(auto, using(crate::proofs::PowerLemmas::power_over_is))]
 fn power_over(len: usize) -> usize
     ensures { result ≡ power_over len }
 {

@@ -5,7 +5,7 @@ ghost use Rattle.pg_send.specs.RawBind.{raw_bind_law, raw_bind_fields};
 use crate::message::bind::BindParts;
 use crate::message::composed::Composed;
 use crate::message::counted::{Codes, ParamFormats, ResultFormats};
-use crate::message::round_trip::check_ended;
+use crate::message::round_trip::check_name;
 use crate::message::values::{AsValue, Each};
 use pg_base::io::Ended;
 use pg_base::io::part::{Then, ThenFirst};
@@ -53,8 +53,8 @@ impl<'a, V: AsValue + Drop> Composed for RawBind<'a, V> {
     // Refused with `TextHoldsNul` where a name holds a NUL.
     #[inline(always)]
     fn check(&self) -> Result<(), ProtocolFault> {
-        check_ended(self.portal)?;
-        check_ended(self.statement)
+        check_name(self.portal)?;
+        check_name(self.statement)
     }
 
     #[inline(always)]

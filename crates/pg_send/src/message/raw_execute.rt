@@ -3,7 +3,7 @@
 ghost use Rattle.pg_send.specs.RawExecute.{raw_execute_law, raw_execute_fields};
 
 use crate::message::composed::Composed;
-use crate::message::round_trip::check_ended;
+use crate::message::round_trip::check_name;
 use pg_base::io::Ended;
 use pg_base::io::part::{Number32, Then};
 use pg_base::{FrontendMessageFormat, ProtocolFault};
@@ -37,7 +37,7 @@ impl<'a> Composed for RawExecute<'a> {
     // Refused with `TextHoldsNul` where its name holds a NUL.
     #[inline(always)]
     fn check(&self) -> Result<(), ProtocolFault> {
-        check_ended(self.portal)
+        check_name(self.portal)
     }
 
     #[inline(always)]

@@ -5,7 +5,7 @@ ghost use Rattle.pg_send.specs.RawParse.{raw_parse_law, raw_parse_fields};
 use crate::message::composed::Composed;
 use crate::message::counted::{TypeNumber, Types};
 use crate::message::parse::ParseParts;
-use crate::message::round_trip::check_ended;
+use crate::message::round_trip::{check_ended, check_name};
 use pg_base::io::part::Then;
 use pg_base::io::{Ended, Oid};
 use pg_base::{FrontendMessageFormat, ProtocolFault};
@@ -41,7 +41,7 @@ impl<'a, T: TypeNumber + Drop> Composed for RawParse<'a, T> {
     // Refused with `TextHoldsNul` where its name or its query holds a NUL.
     #[inline(always)]
     fn check(&self) -> Result<(), ProtocolFault> {
-        check_ended(self.statement)?;
+        check_name(self.statement)?;
         check_ended(self.query)
     }
 

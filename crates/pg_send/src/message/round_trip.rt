@@ -4,7 +4,7 @@ ghost use Rattle.std.specs.Prelude.{◌≡◌, ◌↔◌, ℕ, List, [], IsTrue,
 ghost use Rattle.pg_base.specs.declared.error.ProtocolFault.TheVariants.{TextHoldsNul, BadParams};
 ghost use Rattle.pg_base.specs.Reading.{HoldsNo, Value, Values};
 
-use memchr::memchr;
+use crate::message::nul::holds_no_nul;
 use pg_base::ProtocolFault;
 use pg_base::io::i32_at;
 
@@ -20,19 +20,28 @@ pub fn check_text(text: &str) -> Result<(), ProtocolFault>
     check_ended(text.as_bytes())
 }
 
-/// Refuses bytes that are to end at a NUL, and hold one, with `TextHoldsNul`. No bytes aren't searched.
+/// Refuses bytes that are to end at a NUL, and hold one, with `TextHoldsNul`.
 #[inline(always)]
 pub fn check_ended(bytes: &[u8]) -> Result<(), ProtocolFault>
     ensures ok { OnOk result (HoldsNo 0 bytes.now) }
     ensures fault { IfErr result (λ fault. (fault ≡ TextHoldsNul) × ¬ (HoldsNo 0 bytes.now)) }
 {
-    if bytes.is_empty() {
+    if holds_no_nul(bytes) {
         return Ok(());
     }
-    match memchr(0, bytes) {
-        Some(_) => Err(ProtocolFault::TextHoldsNul),
-        None => Ok(()),
+    Err(ProtocolFault::TextHoldsNul)
+}
+
+/// As [`check_ended`], of a name, which is often empty and isn't searched then.
+#[inline(always)]
+pub fn check_name(name: &[u8]) -> Result<(), ProtocolFault>
+    ensures ok { OnOk result (HoldsNo 0 name.now) }
+    ensures fault { IfErr result (λ fault. (fault ≡ TextHoldsNul) × ¬ (HoldsNo 0 name.now)) }
+{
+    if name.is_empty() {
+        return Ok(());
     }
+    check_ended(name)
 }
 
 /// Refuses bytes that are not just so many parameter values with `BadParams`.

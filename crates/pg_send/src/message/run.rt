@@ -19,6 +19,7 @@ use std::alloc::Global;
 /// doesn't hold, for all that is left to add; where the second is refused, each message asks for its
 /// own. Where room for the answers is refused, the call is `OutOfMemory` and changes nothing; no
 /// messages need none.
+#[tactic(auto, using(crate::proofs::RunLemmas::written_back, crate::proofs::RunLemmas::run_by_tag))]
 pub fn encode_all(
     alloc: Global,
     messages: &[TaggedMessage<'_>],
