@@ -157,13 +157,6 @@ pub record LeftText (text rest : List ℕ) (len : ℕ) : Type 0 where
   pub within : len + length rest ≤ length text
   pub are : IsBytes text → IsBytes rest
 
-prepend_none : (o : Option (List ℕ)) → o ≡ prepend_known [] o
-prepend_none None = refl
-prepend_none (Some bytes) = refl
-
-pub all_left : (text : List ℕ) → LeftText text text 0
-all_left text = record { front = []; many = refl; is = prepend_none (base64_of text); within = omega arith; are = λ bytes. bytes }
-
 prepend_twice : (xs ys : List ℕ) (o : Option (List ℕ)) → prepend_known xs (prepend_known ys o) ≡ prepend_known (xs ++ ys) o
 prepend_twice xs ys None = refl
 prepend_twice xs ys (Some zs) = ap Some (sym (append_assoc xs ys zs))

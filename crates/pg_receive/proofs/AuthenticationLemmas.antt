@@ -1,24 +1,22 @@
 -- Authentication requests: what follows the number of a method.
 use Rattle.std.specs.Prelude.{◌≡◌, ◌≢◌, ℕ, List, [], ◌∷◌, length, Option, Some, None, Err, IsUtf8}
 use Rattle.std.proofs.Common.{refl, ◌∙◌, inr, drop}
-use Rattle.std.proofs.lemmas.Bool.{ne_eqb}
 use Rattle.std.proofs.lemmas.Str.{IsUtf8-from_is_utf8, is_utf8-from_IsUtf8}
 use Rattle.pg_base.specs.Decode.{Decodes}
 use Rattle.pg_base.specs.declared.error.Error.{Error}
 use Rattle.pg_base.specs.declared.error.Error.TheVariants.{Protocol, OutOfMemory}
 use Rattle.pg_base.specs.declared.error.ProtocolFault.{ProtocolFault}
-use Rattle.pg_base.specs.declared.error.ProtocolFault.TheVariants.{UnknownAuthentication}
 use Rattle.pg_format.specs.Format.{Means, IsFaultOf}
 use Rattle.pg_format.specs.Format.Parts.{until_nul, be_u32}
 use Rattle.pg_format.specs.Format.Lists.{AreInOrder}
 use Rattle.pg_format.specs.Format.Tests.{only}
 use Rattle.pg_format.specs.Messages as page
-use Rattle.pg_format.specs.Sasl.{first_message_fault, final_message_fault}
+use Rattle.pg_format.specs.Sasl.{first_message_fault}
 use Rattle.pg_format.proofs.FormatLaws.Whole.{meaning_or_fault}
 use Rattle.pg_receive.specs.Authentication.Mechanisms.{BeginsWithName, AreMechanisms, mechanisms_in}
 use Rattle.pg_receive.specs.Authentication.SaslContinue.{ContinueValue, challenge_in, challenges, lawful_challenges, ChallengeNeedsNoMemory}
 use Rattle.pg_receive.specs.Authentication.Shown.{continue_shown, authentication_shown}
-use Rattle.pg_receive.specs.Authentication.SaslFinal.{verifier_in, verifiers, VerifierNeedsNoMemory}
+use Rattle.pg_receive.specs.Authentication.SaslFinal.{verifiers, VerifierNeedsNoMemory}
 use Rattle.pg_receive.specs.Authentication.{sasl_continue, sasl_final, value_of, requests, RequestNeedsNoMemory}
 use Rattle.pg_receive.proofs.AuthenticationMechanismsLemmas.{are_mechanisms}
 
@@ -31,12 +29,6 @@ challenge_breaks bytes fault is = inr (record { value = bytes; rest = []; reads 
 pub challenge_copied : (bytes : List ℕ) (v : ContinueValue) → Means challenges bytes v → ¬ ChallengeNeedsNoMemory bytes
 challenge_copied bytes v means broken = meaning_or_fault lawful_challenges bytes v broken.0 means broken.1
 
-pub verifier_means : (bytes v : List ℕ) → final_message_fault bytes ≡ None → v ≡ verifier_in bytes → Means verifiers bytes v
-verifier_means bytes v clean is = (bytes, ((refl, refl), clean), is)
-
-pub verifier_breaks : (bytes : List ℕ) (fault : ProtocolFault) → final_message_fault bytes ≡ Some fault → IsFaultOf verifiers bytes fault
-verifier_breaks bytes fault is = inr (record { value = bytes; rest = []; reads = (refl, refl); is = is })
-
 -- ---- after the number of a method
 
 pub request_means : (body : List ℕ) (method : ℕ) (rest : List ℕ) (request : page.Authentication) (more : List ℕ) → be_u32.Reads body method rest → (page.asked_by method).Reads rest request more → Means requests body (value_of request)
@@ -44,10 +36,6 @@ request_means body method rest request more p q = (request, (more, ((method, req
 
 pub request_breaks : (body : List ℕ) (method : ℕ) (rest : List ℕ) (fault : ProtocolFault) → be_u32.Reads body method rest → (page.asked_by method).Breaks (length body) rest fault → IsFaultOf requests body fault
 request_breaks body method rest fault p q = inr (record { value = method; mid = rest; reads = p; breaks = q })
-
--- a number of no method
-pub unknown_method : (method len : ℕ) (rest : List ℕ) → method ≢ 0 → method ≢ 3 → method ≢ 5 → method ≢ 10 → method ≢ 11 → method ≢ 12 → (page.asked_by method).Breaks len rest (UnknownAuthentication method)
-unknown_method method len rest a b c d e f = rw (ne_eqb method 0 a, ne_eqb method 3 b, ne_eqb method 5 c, ne_eqb method 10 d, ne_eqb method 11 e, ne_eqb method 12 f) refl
 
 -- the names of mechanisms, as the page reads them
 abbrev IsName : List ℕ → Type 0

@@ -2,23 +2,19 @@
 use Rattle.std.proofs.Common.{◌≡◌, ◌≢◌, ℕ, ◌*◌, ◌≤◌, List, [], ◌∷◌, Some, length, true, false, inl, inr, refl, arith}
 use Rattle.std.proofs.lemmas.Bool.{cases_Bool}
 use Rattle.std.specs.Str.{is_utf8}
-use Rattle.pg_base.specs.Reading.{HoldsNo, Text}
+use Rattle.pg_base.specs.Reading.{Text}
 use Rattle.pg_receive.specs.Authentication.Mechanisms.{is_name, name_of, mechanisms_in, BeginsWithName, AreMechanisms, raw_name_of, raw_mechanisms_in}
 use Rattle.pg_receive.specs.Layout.{name}
 use Rattle.pg_format.specs.EndedTexts.{AreInOrder}
-use Rattle.pg_format.proofs.EndedTextsLemmas.{IsMeaning, meanings_clean, meanings_none, meanings_begin, meanings_are, only_meanings, half_as_many}
+use Rattle.pg_format.proofs.EndedTextsLemmas.{IsMeaning, meanings_none, meanings_begin, meanings_are, only_meanings, half_as_many}
 
 name_passes : (name : List ℕ) → name ≢ [] → is_utf8 name ≡ true → is_name name ≡ true
 name_passes [] nonempty utf8 = absurd (nonempty refl)
 name_passes (byte ∷ bytes) nonempty utf8 = utf8
 
-pub not_a_name : (text : List ℕ) → is_utf8 text ≡ false → is_name text ≡ false
+not_a_name : (text : List ℕ) → is_utf8 text ≡ false → is_name text ≡ false
 not_a_name [] h = refl
 not_a_name (byte ∷ bytes) h = h
-
-pub empty_is_no_name : (text : List ℕ) → length text ≡ 0 → is_name text ≡ false
-empty_is_no_name [] h = refl
-empty_is_no_name (byte ∷ bytes) h = absurd (omega (arith, h))
 
 begins_name : (bytes text rest name : List ℕ) → Text bytes text rest → name_of text ≡ Some name → BeginsWithName bytes name rest
 begins_name bytes [] rest name h e = cc e
@@ -41,14 +37,18 @@ name_meaning = record {
 pub mechanisms_at : (bytes name rest : List ℕ) → BeginsWithName bytes name rest → mechanisms_in bytes ≡ name ∷ mechanisms_in rest
 mechanisms_at bytes name rest h = meanings_begin name_of BeginsWithName name_meaning bytes name rest h
 
-pub no_mechanisms_clean : (bytes : List ℕ) → HoldsNo 0 bytes → mechanisms_in bytes ≡ []
-no_mechanisms_clean bytes h = meanings_clean name_of bytes h
-
-pub no_mechanisms_text : (bytes text rest : List ℕ) → Text bytes text rest → is_name text ≡ false → mechanisms_in bytes ≡ []
-no_mechanisms_text bytes text rest h e = meanings_none name_of bytes text rest h (rw e refl)
-
 pub are_mechanisms : (bytes : List ℕ) → AreMechanisms bytes (mechanisms_in bytes)
 are_mechanisms bytes = meanings_are name_of BeginsWithName name_meaning bytes
+
+none_in_front : (bytes : List ℕ) (names : List (List ℕ)) → AreMechanisms bytes names → ((found rest : List ℕ) → ¬ name.Reads bytes found rest) → names ≡ []
+none_in_front bytes [] h none = refl
+none_in_front bytes (found ∷ names) h none = absurd (none found h.0 (h.1.text, h.1.nonempty))
+
+pub no_name_is_read : (bytes : List ℕ) → ((found rest : List ℕ) → ¬ name.Reads bytes found rest) → mechanisms_in bytes ≡ []
+no_name_is_read bytes none = none_in_front bytes (mechanisms_in bytes) (are_mechanisms bytes) none
+
+pub no_utf8_is_read : (bytes found rest : List ℕ) → name.Reads bytes found rest → is_utf8 found ≡ false → mechanisms_in bytes ≡ []
+no_utf8_is_read bytes found rest h e = meanings_none name_of bytes found rest h.0 (rw (not_a_name found e) refl)
 
 pub one_mechanisms : (bytes : List ℕ) (names : List (List ℕ)) → AreMechanisms bytes names → names ≡ mechanisms_in bytes
 one_mechanisms bytes names h = only_meanings name_of BeginsWithName name_meaning bytes names h

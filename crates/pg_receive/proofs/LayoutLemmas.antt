@@ -6,7 +6,7 @@ use Rattle.std.proofs.Math.Seq.{drop-length}
 use Rattle.pg_base.specs.declared.error.ProtocolFault.{ProtocolFault}
 use Rattle.pg_base.specs.Error.{IsShort}
 use Rattle.pg_base.specs.Numbers.{num, int}
-use Rattle.pg_base.specs.Reading.{HoldsNo, BeginsWith}
+use Rattle.pg_base.specs.Reading.{BeginsWith}
 use Rattle.pg_base.proofs.NumbersLemmas.{number_at, signed_at, wide_enough}
 use Rattle.pg_format.specs.Format.{Format, IsFaultOf}
 use Rattle.pg_format.specs.Format.Lists.{times, counted_least, until_zero}
@@ -63,14 +63,8 @@ signed_there width body at fits =
 abbrev pub Passed : {A : Type 0} → Format A → List ℕ → ℕ → ℕ → Type 0
 Passed {A} g body first at = (n : ℕ) × (items : List A) × IsReadAt (times n g) body first items at
 
-pub none_passed : {A : Type 0} (g : Format A) (body : List ℕ) (at : ℕ) → at ≤ length body → Passed g body at at
-none_passed g body at within = (0, [], none_at g body at within)
-
 pub one_passed : {A : Type 0} (g : Format A) (body : List ℕ) (first at end : ℕ) (item : A) → Passed g body first at → IsReadAt g body at item end → Passed g body first end
 one_passed g body first at end item p q = (p.0 + 1, p.1 ++ item ∷ [], one_more_at g body p.0 first at end p.1 item p.2 q)
-
-pub list_ends : {A : Type 0} (g : Format A) (body : List ℕ) (first at end : ℕ) → Passed g body first at → drop at body ≡ 0 ∷ drop end body → end ≤ length body → EndsAt (until_zero g) body first end
-list_ends g body first at end p stop within = record { value = p.1; read = record { within = within; reads = record { mid = drop at body; are_read = p.2.reads.1; ends = stop } } }
 
 pub list_breaks : {A : Type 0} (g : Format A) (body : List ℕ) (first at : ℕ) (fault : ProtocolFault) → Passed g body first at → ¬ (BeginsWith 0 (drop at body)) → BreaksAt g body at fault → BreaksAt (until_zero g) body first fault
 list_breaks g body first at fault p goes_on breaks = record { some = p.1; mid = drop at body; are_read = p.2.reads.1; goes_on = goes_on; breaks = breaks }
@@ -78,10 +72,6 @@ list_breaks g body first at fault p goes_on breaks = record { some = p.1; mid = 
 none_goes_on : (bytes : List ℕ) → length bytes < 1 → ¬ (BeginsWith 0 bytes)
 none_goes_on [] few = λ e. e
 none_goes_on (byte ∷ bytes) few = absurd (omega (arith, few))
-
-pub clean_goes_on : (bytes : List ℕ) → HoldsNo 0 bytes → ¬ (BeginsWith 0 bytes)
-clean_goes_on [] clean = λ e. e
-clean_goes_on (byte ∷ bytes) clean = clean.0
 
 -- ---- fields
 

@@ -1,13 +1,16 @@
+pub mod AuthenticationAnyLemmas
 pub mod AuthenticationBase64BytesLemmas
 pub mod AuthenticationLemmas
 pub mod AuthenticationMechanismsLemmas
 pub mod AuthenticationSaslItemsLemmas
 pub mod CommandCompleteLemmas
 pub mod CopyLemmas
+pub mod CopyResponseRefLemmas
 pub mod CountedItemsLemmas
 pub mod DataRowLemmas
 pub mod DecimalLemmas
 pub mod LayoutLemmas
+pub mod NegotiateProtocolVersionLemmas
 pub mod ResponseFieldsLemmas
 pub mod ResponseLemmas
 pub mod ResponseOnlyFieldLemmas

@@ -1,4 +1,5 @@
 -- What an authentication request says to a client: of SASL data, what its items say.
+pub mod Any
 pub mod Base64Bytes
 pub mod Mechanisms
 pub mod Raw

@@ -1,13 +1,25 @@
--- What decoding a message by its kind answers.
-use Rattle.std.specs.Prelude.{◌≡◌, Result, Err, IsOkAnd, MatchResult}
+-- What decoding a message by its kind answers, and what borrowing one does.
+use Rattle.std.specs.Prelude.{◌≡◌, ℕ, List, Result, Ok, Err, IfOk, IfErr, IsOkAnd, MatchResult}
+use Rattle.std.specs.Borrow.{Bor}
 use Rattle.pg_base.specs.declared.error.Error.{Error}
+use Rattle.pg_base.specs.declared.error.ProtocolFault.{ProtocolFault}
 use Rattle.pg_base.specs.declared.format.BackendMessageFormat.{BackendMessageFormat}
 use Rattle.pg_base.specs.declared.format.BackendMessageFormat.TheVariants as formats
+use Rattle.pg_format.specs.Format.{Format, ReadsAs}
+use Rattle.pg_format.specs.Items.{Reading, IsCountFault, Begins}
+use Rattle.pg_format.specs.Messages as page
 use Rattle.pg_format.specs.Received.Message.{DecodesMessage}
 use Rattle.pg_format.specs.declared.received.BackendMessage.{Ghosts}
 use Rattle.pg_format.specs.declared.received.ReceivedMessage.{ReceivedMessage}
+use Rattle.pg_receive.specs.BackendKeyData.{key_shown}
+use Rattle.pg_receive.specs.Notification.{notification_borrowed}
+use Rattle.pg_receive.specs.ParameterStatus.{setting_borrowed}
+use Rattle.pg_receive.specs.ReadyForQuery.{ready_shown}
+use Rattle.pg_receive.specs.Response.Fields.{fields_in}
 use Rattle.pg_receive.specs.declared.message.server_message.ServerMessage.{ServerMessage}
 use Rattle.pg_receive.specs.declared.message.server_message.ServerMessage.TheVariants as messages
+use Rattle.pg_receive.specs.declared.message.server_message.ServerMessageRef.{ServerMessageRef}
+use Rattle.pg_receive.specs.declared.message.server_message.ServerMessageRef.TheVariants as borrowed
 use Rattle.pg_receive.specs.contracts.message.authentication.AuthenticationBackendMessage.TheImpl as authentication
 use Rattle.pg_receive.specs.contracts.message.backend_key_data.BackendKeyDataBackendMessage.TheImpl as backend_key_data
 use Rattle.pg_receive.specs.contracts.message.command_complete.CommandCompleteBackendMessage.TheImpl as command_complete
@@ -58,3 +70,51 @@ Decodes formats.ParseComplete Gives message result = IsOkAnd result (Gives messa
 Decodes formats.PortalSuspended Gives message result = IsOkAnd result (Gives messages.PortalSuspended)
 Decodes formats.ReadyForQuery Gives message result = DecodesBy ready_for_query.ghosts (λ value. Gives (messages.ReadyForQuery value)) message result
 Decodes formats.RowDescription Gives message result = DecodesBy row_description.ghosts (λ value. Gives (messages.RowDescription value)) message result
+
+-- ---- borrowed
+
+abbrev pub Answer : Type 0
+Answer = Result ServerMessageRef ProtocolFault
+
+-- the body is read by its format to a value of this case, or has a fault
+pub record Reads {A V M : Type 0} (case : A → M) (format : Format V) (shown : A → V) (body : List ℕ) (result : Result M ProtocolFault) : Type 0 where
+  pub answer : Result A ProtocolFault
+  pub reads : ReadsAs format shown body answer
+  pub is : MatchResult answer (λ value. result ≡ Ok (case value)) (λ fault. result ≡ Err fault)
+
+-- the items of the body, of at least so many bytes each, are about to be read, or the body can't hold them
+pub record ReadsItems (case : Reading → ServerMessageRef) (least : ℕ) (body : List ℕ) (result : Answer) : Type 0 where
+  pub answer : Result Reading ProtocolFault
+  pub value : IfOk answer (Begins least body)
+  pub fault : IfErr answer (IsCountFault least body)
+  pub is : MatchResult answer (λ value. result ≡ Ok (case value)) (λ fault. result ≡ Err fault)
+
+-- the body is given as it is
+pub record Gives (case : Bor (List ℕ) → ServerMessageRef) (body : List ℕ) (result : Answer) : Type 0 where
+  pub given : Bor (List ℕ)
+  pub whole : given.now ≡ body
+  pub is : result ≡ Ok (case given)
+
+-- what borrowing a message of this kind from its body answers
+abbrev pub Borrows : BackendMessageFormat → List ℕ → Answer → Type 0
+Borrows formats.Authentication body result = Gives borrowed.Authentication body result
+Borrows formats.BackendKeyData body result = Reads borrowed.BackendKeyData page.backend_key_data key_shown body result
+Borrows formats.BindComplete body result = result ≡ Ok borrowed.BindComplete
+Borrows formats.CloseComplete body result = result ≡ Ok borrowed.CloseComplete
+Borrows formats.CommandComplete body result = Gives borrowed.CommandComplete body result
+Borrows formats.CopyData body result = Gives borrowed.CopyData body result
+Borrows formats.CopyDone body result = result ≡ Ok borrowed.CopyDone
+Borrows formats.CopyInResponse body result = Gives borrowed.CopyInResponse body result
+Borrows formats.CopyOutResponse body result = Gives borrowed.CopyOutResponse body result
+Borrows formats.DataRow body result = ReadsItems borrowed.DataRow 4 body result
+Borrows formats.EmptyQueryResponse body result = result ≡ Ok borrowed.EmptyQueryResponse
+Borrows formats.ErrorResponse body result = result ≡ Ok (borrowed.ErrorResponse (fields_in body))
+Borrows formats.NoData body result = result ≡ Ok borrowed.NoData
+Borrows formats.NoticeResponse body result = result ≡ Ok (borrowed.NoticeResponse (fields_in body))
+Borrows formats.NotificationResponse body result = Reads borrowed.NotificationResponse page.notification notification_borrowed body result
+Borrows formats.ParameterDescription body result = Gives borrowed.ParameterDescription body result
+Borrows formats.ParameterStatus body result = Reads borrowed.ParameterStatus page.parameter_status setting_borrowed body result
+Borrows formats.ParseComplete body result = result ≡ Ok borrowed.ParseComplete
+Borrows formats.PortalSuspended body result = result ≡ Ok borrowed.PortalSuspended
+Borrows formats.ReadyForQuery body result = Reads borrowed.ReadyForQuery page.ready_for_query ready_shown body result
+Borrows formats.RowDescription body result = ReadsItems borrowed.RowDescription 19 body result

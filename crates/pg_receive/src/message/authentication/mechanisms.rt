@@ -49,16 +49,13 @@ impl<'a> Iterator for SaslMechanisms<'a> {
 
 /// The name of a mechanism at the front of some bytes, and what follows its NUL. Nothing where the list
 /// ends: at an empty name, one that is not UTF-8, or one without a NUL.
-#[tactic(auto, using(crate::proofs::AuthenticationMechanismsLemmas::no_mechanisms_clean, crate::proofs::AuthenticationMechanismsLemmas::no_mechanisms_text, crate::proofs::AuthenticationMechanismsLemmas::not_a_name, crate::proofs::AuthenticationMechanismsLemmas::empty_is_no_name))]
+#[tactic(auto, using(crate::proofs::AuthenticationMechanismsLemmas::no_name_is_read, crate::proofs::AuthenticationMechanismsLemmas::no_utf8_is_read))]
 pub fn split_name(bytes: &[u8]) -> Option<(&str, &[u8])>
     ensures found { IfSome result (λ name. BeginsWithName bytes.now name.0.now name.1.now) }
     ensures none { IfNone result (mechanisms_in bytes.now ≡ []) }
 {
-    let (text, rest) = split_text(bytes)?;
-    if text.is_empty() {
-        return None;
-    }
-    Some((utf8_text(text)?, rest))
+    let (name, rest) = split_raw_name(bytes)?;
+    Some((utf8_text(name)?, rest))
 }
 
 /// The name of a mechanism at the front of some bytes, as [`split_name`], but of any bytes. Nothing where

@@ -1,5 +1,6 @@
 //! What the server asks of a client that opens a session.
 
+mod any;
 mod authentication_ref;
 mod base64_bytes;
 mod mechanisms;
@@ -18,6 +19,7 @@ ghost use Rattle.pg_receive.specs.Authentication.Mechanisms.{mechanisms_in};
 ghost use Rattle.pg_receive.specs.Authentication.{AuthenticationValue, value_of, requests, RequestNeedsNoMemory};
 
 use crate::message::BackendMessage;
+pub use any::AnyAuthenticationRef;
 pub use authentication_ref::AuthenticationRef;
 pub use base64_bytes::Base64Bytes;
 use bytes::Bytes;

@@ -38,15 +38,15 @@ impl<'a> QuickItem<'a> for Cell<'a> {
     fn item_until(body: &'a [u8], at: usize, last: usize) -> Option<(Cell<'a>, usize)> {
         let start = at + CELL_LENGTH;
         let length = BigEndian::read_i32(&body[at..start]);
-        // Every negative length says NULL.
+        let end = start + length.cast_unsigned() as usize;
+        if end <= last {
+            return Some((Cell(Some(&body[start..end])), end));
+        }
+        // Every negative length says NULL; without its sign it is beyond any body.
         if length < 0 {
             return Some((Cell(None), start));
         }
-        let end = start + length.cast_unsigned() as usize;
-        if end > last {
-            return None;
-        }
-        Some((Cell(Some(&body[start..end])), end))
+        None
     }
 }
 

@@ -60,6 +60,8 @@ impl<'a> ColumnReader<'a> {
     }
 
     /// The next column; or nothing where none is left. After a fault the reader is as it was.
+    // Inlined, so that the column isn't copied on its way.
+    #[inline(always)]
     pub fn next_column(&mut self) -> Result<Option<FieldRef<'a>>, ProtocolFault>
         ensures column { GivesNext column column_of_ref self.old self.new result }
         ensures fault { IfErr result (NextBreaks column self.old self.new) }

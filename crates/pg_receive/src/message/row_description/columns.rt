@@ -148,6 +148,8 @@ impl<'a> Iterator for Columns<'a> {
 /// The column that begins at an offset of the body of a RowDescription, and the offset after it.
 /// The body has at most [`MAX_BODY`] bytes, and the offset is at most its length. Refused with
 /// `MissingNul` or `NotUtf8` for its name, and with `Short` where its numbers aren't whole.
+// Inlined, so that the column isn't copied on its way.
+#[inline(always)]
 pub fn column_at(body: &[u8], at: usize) -> Result<(FieldRef<'_>, usize), ProtocolFault>
     requires within { at ≤ length body.now }
     requires short { length body.now ≤ MAX_BODY }

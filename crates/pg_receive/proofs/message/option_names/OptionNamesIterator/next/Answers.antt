@@ -1,0 +1,26 @@
+use Rattle.std.proofs.Common.{◌≡◌, suc, ◌-◌, length, arith}
+use Rattle.pg_format.specs.Received.{max_body}
+use Rattle.pg_format.proofs.FormatLaws.Parts.{lawful_until_nul, total_until_nul}
+use Rattle.pg_format.proofs.ListedLemmas.{first_and_others, from_index, none_is_broken, short_after}
+use Rattle.pg_receive.proofs.message.option_names.OptionNamesIterator.next.Goals as goal
+
+pub returns-in_default-clause-steps : goal.returns-in_default-clause-steps
+returns-in_default-clause-steps c =
+    let list = c.args.self.now in
+    let more : list.left ≡ suc (list.left - 1) = omega (arith, c.if-self-eq0.false) in
+    absurd (none_is_broken lawful_until_nul total_until_nul (list.left - 1) list.left (length list.bytes.now) list.bytes.now c.in_default.field-0 more list.whole c.in_default.ensures.broken)
+
+pub invariant_of-self : goal.invariant_of-self
+invariant_of-self c =
+    let list = c.args.self.now in
+    let more : list.left ≡ suc (list.left - 1) = omega (arith, c.if-self-eq0.false) in
+    record {
+      short = short_after max_body c.in-Ok.end list.bytes.now _ (from_index c.in-Ok.end list.bytes.now) list.short;
+      whole = (first_and_others lawful_until_nul total_until_nul list.left list.bytes.now _ c.in-Ok.end c.in-Ok.field-0-0.0.now (from_index c.in-Ok.end list.bytes.now) more list.whole c.in-Ok.ensures.item).1;
+    }
+
+pub returns-clause-steps : goal.returns-clause-steps
+returns-clause-steps c =
+    let list = c.args.self.now in
+    let more : list.left ≡ suc (list.left - 1) = omega (arith, c.if-self-eq0.false) in
+    (first_and_others lawful_until_nul total_until_nul list.left list.bytes.now _ c.in-Ok.end c.in-Ok.field-0-0.0.now (from_index c.in-Ok.end list.bytes.now) more list.whole c.in-Ok.ensures.item).0
