@@ -2,6 +2,7 @@ pub mod FrontendFrameLemmas
 pub mod FrontendPiecesLemmas
 pub mod FrontendReaderLemmas
 pub mod PiecesLemmas
+pub mod ProtocolFrameLemmas
 pub mod RelayHeadLemmas
 pub mod RelayLemmas
 pub mod RelayMessagesLemmas

@@ -11,11 +11,6 @@ use Rattle.pg_frames.specs.declared.relay.event.FrameBytes.{FrameBytes}
 use Rattle.pg_frames.specs.declared.relay.event.Step.{Step}
 use Rattle.pg_frames.proofs.RelayHeadLemmas.{head_positive, head_front, head_stays, one_head, head_fits, low_fits, low_stays, low_has_no_head}
 
--- where nothing is held, the front of a piece is passed on
-pub conserved_here : (held piece bytes rest : List ℕ) → held ≡ [] → piece ≡ bytes ++ rest → held ++ piece ≡ bytes ++ [] ++ rest
-conserved_here held piece bytes rest e f =
-    ap (λ (l : List ℕ). l ++ piece) e ∙ f ∙ ap (λ (l : List ℕ). l ++ rest) (sym (append-nil bytes))
-
 -- the front of a piece is added to what is held
 pub conserved_joined : (held piece bytes new rest : List ℕ) → new ≡ held ++ bytes → piece ≡ bytes ++ rest → held ++ piece ≡ new ++ rest
 conserved_joined held piece bytes new rest e f = rw (e, f) (sym (append_assoc held bytes rest))
@@ -46,9 +41,6 @@ frame_here state piece bytes rest tag count next h e counts n =
 pub parts_here : (wants : ℕ → ℕ → Bool) (state : Expects) (piece bytes rest : List ℕ) (count : ℕ) → IsForParts wants state piece count → piece ≡ bytes ++ rest → head_length state ≤ length bytes → IsForParts wants state bytes count
 parts_here wants state piece bytes rest count p e least =
     record { tag = p.tag; head = head_front state bytes rest p.tag count least (rw e at p.head); unwanted = p.unwanted }
-
-pub fate_of_parts_fits : (wants : ℕ → ℕ → Bool) (state : Expects) (bytes : List ℕ) (count : ℕ) → IsForParts wants state bytes count → (head_length state ≤ length bytes) × (head_length state ≤ count)
-fate_of_parts_fits wants state bytes count p = head_fits state bytes p.tag count p.head
 
 -- a frame that isn't whole has more bytes than are held
 pub unfinished_counts : (limit : ℕ) (state : Expects) (held : List ℕ) (tag : Option ℕ) (count : ℕ) → IsUnfinished limit state held → HasHead state held tag count → length held < count
@@ -139,18 +131,6 @@ takes_held wants limit state held l piece bytes rest new missing between joined 
       conserved = conserved_joined held piece bytes new rest joined e;
       limit = refl;
       comes = record { between = between; expects = refl; unfinished = unfinished; taken = taken; left = between };
-      goes_on = λ more. omega (arith, longer, counts, some, more);
-    }
-
--- the last bytes of a whole frame
-pub takes_frame_joined : (wants : ℕ → ℕ → Bool) (limit : ℕ) (state : Expects) (held : List ℕ) (l : ℕ) (piece bytes : List ℕ) (b : FrameBytes) (rest none : List ℕ) (tag : Option ℕ) (count : ℕ) (next : Expects) (missing : ℕ) → l ≡ 0 → none ≡ [] → bytes_of b ≡ held ++ bytes → piece ≡ bytes ++ rest → 0 < missing → length bytes ≡ min missing (length piece) → IsForWhole wants limit state (bytes_of b) tag count → count ≡ length (bytes_of b) → IsNext state (bytes_of b) next → Takes wants (relay_at limit state held l) piece (Frame tag b) rest (relay_at limit next none l)
-takes_frame_joined wants limit state held l piece bytes b rest none tag count next missing between nothing joined e some counts w whole follows =
-    let longer : length piece ≡ length bytes + length rest = omega (arith, ap length e, length-append bytes rest) in
-    let all : held ++ piece ≡ bytes_of b ++ none ++ rest = rw nothing (conserved_whole held piece bytes (bytes_of b) rest joined e) in
-    record {
-      conserved = all;
-      limit = refl;
-      comes = record { between = between; is_frame = record { head = rw (← whole) w.head; follows = follows }; taken = rw (← whole) w.taken; nothing = nothing; left = between };
       goes_on = λ more. omega (arith, longer, counts, some, more);
     }
 

@@ -106,18 +106,6 @@ passed_fed wanted Answers start first bytes out user relay piece p = record {
   part = p.part;
 }
 
--- a piece of which nothing is left is taken
-passed_all : {U : Type 0} (wanted : U → ℕ → ℕ → Bool) (Answers : U → Option ℕ → List ℕ → Answer → List ℕ → U → Type 0) (start : Expects) (first : U) (bytes out : List ℕ) (user : U) (relay : Relaying) (rest : List ℕ) → rest ≡ [] → HasPassed wanted Answers start first bytes out user (with_held relay rest) → HasPassed wanted Answers start first bytes out user relay
-passed_all wanted Answers start first bytes out user relay rest e p = record {
-  came = p.came;
-  sent = p.sent;
-  given = p.given;
-  relayed = p.relayed;
-  bytes_are = p.bytes_are ∙ ap (λ (l : List ℕ). bytes_in p.came ++ (p.given ++ l)) (ap (λ (l : List ℕ). relay.held ++ l) e ∙ append-nil relay.held);
-  out_is = p.out_is;
-  part = p.part;
-}
-
 -- what goes out for a step is the same after any bytes
 puts_added : {U : Type 0} (Answers : U → Option ℕ → List ℕ → Answer → List ℕ → U → Type 0) (user : U) (state : Expects) (event : Event) (next : Expects) (later : U) (old new : List ℕ) → PutsOut Answers user state event next later old new → HasAdded old new (λ (more : List ℕ). (sent : List ℕ) → PutsOut Answers user state event next later sent (sent ++ more))
 puts_added Answers user state (Frame tag frame) next later old new p = record {
@@ -147,14 +135,6 @@ added_step wanted Answers user relay piece old out by at rest event after new la
           let went : sent ++ (p.added ++ puts.added) ≡ (sent ++ p.added) ++ puts.added = sym (append_assoc sent p.added puts.added) in
           rw went (passed_step wanted Answers start first (before ++ piece) (sent ++ p.added) by at rest event after new later ((sent ++ p.added) ++ puts.added) (p.are start first before sent q) t (puts.are (sent ++ p.added)));
     }
-
--- a piece of which nothing is left has passed
-pub added_all : {U : Type 0} (wanted : U → ℕ → ℕ → Bool) (Answers : U → Option ℕ → List ℕ → Answer → List ℕ → U → Type 0) (user : U) (relay : Relaying) (piece old out : List ℕ) (by : U) (at : Relaying) (rest : List ℕ) → rest ≡ [] → HasAdded old out (PassesOn wanted Answers user relay piece by (with_held at rest)) → HasAdded old out (PassesOn wanted Answers user relay piece by at)
-added_all wanted Answers user relay piece old out by at rest e p = record {
-  added = p.added;
-  adds = p.adds;
-  are = λ start first before sent q. passed_all wanted Answers start first (before ++ piece) (sent ++ p.added) by at rest e (p.are start first before sent q);
-}
 
 -- nothing has passed where nothing came
 pub added_none : {U : Type 0} (wanted : U → ℕ → ℕ → Bool) (Answers : U → Option ℕ → List ℕ → Answer → List ℕ → U → Type 0) (user : U) (relay : Relaying) (out : List ℕ) → HasAdded out out (PassesOn wanted Answers user relay [] user relay)

@@ -2,6 +2,7 @@ pub mod Frame
 pub mod Frontend
 pub mod Laws
 pub mod Pieces
+pub mod ProtocolFrame
 pub mod Reader
 pub mod Relay
 pub mod Stream

@@ -1,6 +1,8 @@
 //! What follows of streams from what a stream is, for whoever proves more: the contract of each
 //! function is a law. Those of clones call the clone; the others do nothing.
 
+pub mod protocol;
+
 ghost use Rattle.std.specs.Prelude.{◌≡◌, ◌++◌, Ok};
 ghost use Rattle.pg_frames.specs.Laws.{IsReadOneWay, ReadsAll, StreamsCompose, NeverBoth, FaultIsNeither, HasOneFault, FaultStays, ReadingsAgree};
 ghost use Rattle.pg_frames.specs.Pieces.{IsRead};
