@@ -101,6 +101,7 @@ fits (message.RowDescription columns) e r h =
     let both = neither (too_many max_unsigned (length columns)) (nul_fault holds) (parts (message.RowDescription columns) e) in
     let count = few max_unsigned (length columns) both.0 in
     (((omega (arith, count), (refl, columns_fit columns [] (no_nul_fault holds both.1) r h)), refl), refl)
+fits (message.XLogContent piece content_fault) e r h = (tt, fits_replication contents.XLogData piece refl r)
 
 lawful : (m : Message) → Lawful (law_of m).line
 lawful (message.Authentication request) = server.lawful_authentication
@@ -120,6 +121,7 @@ lawful (message.Raw tag bytes) = lawful_remaining
 lawful (message.ReadyForQuery ready) = server.lawful_ready_for_query
 lawful (message.Replication kind value) = lawful_replication kind
 lawful (message.RowDescription columns) = server.lawful_row_description
+lawful (message.XLogContent piece content_fault) = lawful_replication contents.XLogData
 
 -- what fits is read back, and nothing else is
 pub own_message : (m : Message) → fault (law_of m) ≡ None → (law_of m).IsInRange → IsRead m

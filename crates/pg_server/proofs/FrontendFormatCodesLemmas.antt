@@ -6,10 +6,10 @@ use Rattle.pg_format.specs.Format.Lists.{AreRead}
 use Rattle.pg_format.specs.Format.Parts.{be_u16}
 use Rattle.pg_server.specs.Frontend.Lists.{codes_in}
 
-pub length-codes_in : (bytes : List ℕ) → length (codes_in bytes) ≡ length bytes / 2
-length-codes_in [] = refl
-length-codes_in (a ∷ []) = refl
-length-codes_in (a ∷ b ∷ bytes) = omega (arith, length-codes_in bytes)
+pub length_codes_in : (bytes : List ℕ) → length (codes_in bytes) ≡ length bytes / 2
+length_codes_in [] = refl
+length_codes_in (a ∷ []) = refl
+length_codes_in (a ∷ b ∷ bytes) = omega (arith, length_codes_in bytes)
 
 -- twice as many bytes are read as so many codes
 pub codes_are_read : (bytes rest : List ℕ) (n : ℕ) → length bytes ≡ 2 * n → (length (codes_in bytes) ≡ n) × AreRead be_u16 (bytes ++ rest) (codes_in bytes) rest

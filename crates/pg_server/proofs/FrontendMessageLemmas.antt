@@ -3,10 +3,8 @@ use Rattle.std.proofs.Common.{◌≡◌, ℕ, ◌-◌, List, [], length, take, d
 use Rattle.std.proofs.lemmas.List.{take_all, drop_all}
 use Rattle.pg_base.specs.declared.error.ProtocolFault.{ProtocolFault}
 use Rattle.pg_base.specs.declared.error.ProtocolFault.TheVariants.{BodyTooLong}
-use Rattle.pg_base.proofs.ReadingLemmas.{number_fits}
 use Rattle.pg_format.specs.Format.{Format}
 use Rattle.pg_format.specs.Format.Ends.{Trails, exactly}
-use Rattle.pg_format.specs.Format.Parts.{be_u32}
 use Rattle.pg_format.specs.Format.Places.{IsReadAt}
 use Rattle.pg_format.specs.Format.Sequences.{BreaksAfter, ◌⨾◌}
 use Rattle.pg_server.specs.declared.frontend.error.FrontendFault.{FrontendFault}
@@ -37,7 +35,3 @@ pub trailing : (body : List ℕ) (at : ℕ) (fault : FrontendFault) → TrailsAt
 trailing body at fault p =
     let place : at ≡ length body - length (drop at body) = omega (arith, p.some, length-drop at body) in
     (BodyTooLong at, rw p.is refl, record { some = omega (arith, p.some, length-drop at body); is = ap BodyTooLong place })
-
--- a code has four bytes
-pub code_ends : (body : List ℕ) (code end : ℕ) → IsReadAt be_u32 body 0 code end → end ≡ 4
-code_ends body code end p = omega (arith, p.within, number_fits 4 (drop 0 body) code (drop end body) p.reads, length-drop 0 body, length-drop end body)

@@ -10,9 +10,9 @@ use Rattle.pg_format.specs.Format.Places.{IsReadAt}
 use Rattle.pg_format.proofs.FormatLaws.Nullable.{lawful_value}
 use Rattle.pg_server.specs.Frontend.Lists.{value_of, rest_of, first_value, after_first, values_in, HoldsValues}
 
-pub length-values_in : (n : ℕ) (bytes : List ℕ) → length (values_in n bytes) ≡ n
-length-values_in zero bytes = refl
-length-values_in (suc n) bytes = ap suc (length-values_in n (after_first bytes))
+pub length_values_in : (n : ℕ) (bytes : List ℕ) → length (values_in n bytes) ≡ n
+length_values_in zero bytes = refl
+length_values_in (suc n) bytes = ap suc (length_values_in n (after_first bytes))
 
 -- ---- what is read is what the bytes hold
 

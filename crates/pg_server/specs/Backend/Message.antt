@@ -12,6 +12,7 @@ use Rattle.pg_format.specs.Format.{Format, Means}
 use Rattle.pg_format.specs.Format.Parts.{remaining}
 use Rattle.pg_format.specs.Format.Parts.{FitsSigned}
 use Rattle.pg_format.specs.Messages as page
+use Rattle.pg_format.specs.Replication as logged
 use Rattle.pg_format.specs.Replication.{in_copy_data, replication}
 use Rattle.pg_format.specs.declared.replication.ReplicationKind.{ReplicationKind}
 use Rattle.pg_format.specs.declared.replication.ReplicationKind.TheVariants as contents
@@ -50,6 +51,7 @@ pub data Message : Type 0 where
   ReadyForQuery : ReadyForQueryText → Message
   Replication : (kind : ReplicationKind) → (in_copy_data kind).Value → Message
   RowDescription : List page.Column → Message
+  XLogContent : logged.XLogData → Option ProtocolFault → Message
 
 -- the process that serves a session, and its secret key
 abbrev pub key_data_of : ℕ → List ℕ → Message
@@ -93,7 +95,7 @@ abbrev pub of_kind : {V : Type 0} → BackendMessageFormat → Format V → V �
 of_kind kind line value part_fault IsInRange = by_line (backend_tag kind) line value part_fault IsInRange
 
 -- Of a CommandComplete the page has the whole body for what it says, with the NUL. A COPY's count is signed. 86 is
--- `V`, and 118 is `v`.
+-- `V`, and 118 is `v`. The content of an XLogContent is made of parts, which may have a fault.
 abbrev pub law_of : Message → Law
 law_of (Authentication request) = of_kind formats.Authentication page.authentication request (names_fault request) (IsSalted request)
 law_of (BackendKeyData key) = of_kind formats.BackendKeyData page.backend_key key (page.key_fault (length key.secret_key)) (key.process_id < 2 ^ 32)
@@ -115,6 +117,7 @@ law_of (RowDescription columns) =
     of_kind formats.RowDescription page.row_description columns
     (option_or (too_many max_unsigned (length columns)) (nul_fault (list_any (λ (column : page.Column). holds_nul column.name) columns)))
     (All IsColumnInRange columns)
+law_of (XLogContent piece content_fault) = of_kind formats.CopyData (replication contents.XLogData) piece content_fault (IsReplicationInRange contents.XLogData piece)
 
 -- ---- what its law says of a message
 

@@ -72,6 +72,7 @@ impl<I: Item, T: AsItem<I>> Part for Items<'_, I, T> {
         len
     }
 
+    #[tactic(auto, using(crate::proofs::BackendItemLemmas::any_at, crate::proofs::BackendItemLemmas::broken))]
     fn fault(&self) -> Option<ProtocolFault> {
         for item in self.1 {
             if item.as_item().parts().fault().is_some() {

@@ -33,6 +33,7 @@ impl<'a> Model for FormatCodes<'a> {
 
 impl<'a> FormatCodes<'a> {
     /// How many codes are left.
+    #[tactic(auto, using(crate::proofs::FrontendFormatCodesLemmas::length_codes_in))]
     pub fn len(&self) -> usize
         ensures { result ≡ length self.now }
     {

@@ -34,6 +34,7 @@ impl<'a> Model for ParameterTypes<'a> {
 
 impl<'a> ParameterTypes<'a> {
     /// How many types are left.
+    #[tactic(auto, using(crate::proofs::FrontendParameterTypesLemmas::length_types_in))]
     pub fn len(&self) -> usize
         ensures { result ≡ length self.now }
     {

@@ -36,6 +36,7 @@ impl<'a> Model for Values<'a> {
 
 impl<'a> Values<'a> {
     /// How many values are left.
+    #[tactic(auto, using(crate::proofs::FrontendValuesLemmas::length_values_in))]
     pub fn len(&self) -> usize
         ensures { result ≡ length self.now }
     {
