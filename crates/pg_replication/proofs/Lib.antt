@@ -1,3 +1,4 @@
 pub mod LogicalLemmas
 pub mod LogicalListedLemmas
+pub mod LogicalTextLemmas
 pub mod LogicalTupleLemmas

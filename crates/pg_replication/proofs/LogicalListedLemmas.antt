@@ -1,67 +1,85 @@
--- A list that is walked in its bytes has the values that were read.
-use Rattle.std.specs.Prelude.{◌≡◌, ℕ, zero, suc, ◌+◌, ◌-◌, ◌≤◌, List, [], ◌∷◌, length, drop, ◌⊎◌}
-use Rattle.std.proofs.Common.{refl, ap, ◌∙◌, arith, inl, inr, length-drop}
+-- A list of what a message has, and then of what a caller gave, is walked and written item by item.
+use Rattle.std.specs.Prelude.{◌≡◌, ℕ, ◌+◌, ◌^◌, ◌<◌, ◌||◌, Bool, true, false, List, [], ◌∷◌, ◌++◌, map, length, drop, All, Option, is_some}
+use Rattle.std.proofs.Common.{refl, sym, ap, ◌∙◌, arith, append_assoc, length-append}
+use Rattle.std.specs.List.{flat_map, list_any}
+use Rattle.std.proofs.lemmas.List.{append-nil, length-map}
+use Rattle.std.proofs.lemmas.List.Elements.{All-cons}
+use Rattle.pg_base.specs.Part.{saturated}
 use Rattle.pg_base.specs.declared.error.ProtocolFault.{ProtocolFault}
-use Rattle.pg_format.specs.Format.{Format, Lawful, Total, IsRead, IsBroken}
-use Rattle.pg_format.specs.Format.Lists.{AreRead, times, counted}
-use Rattle.pg_format.specs.Format.Parts.{be_u8, be_u16, be_u32}
+use Rattle.pg_format.specs.Format.{Format, Total}
+use Rattle.pg_format.specs.Format.Lists.{times}
+use Rattle.pg_format.specs.Format.Parts.{be_u8, be_u32}
 use Rattle.pg_format.specs.Format.Places.{IsReadAt}
-use Rattle.pg_format.specs.Items.{Reading}
+use Rattle.pg_format.specs.Listed.{values_in}
 use Rattle.pg_format.specs.Logical.{truncated}
-use Rattle.pg_replication.specs.Logical.Listed.{value_and, values_in}
+use Rattle.pg_server.specs.Backend.Item.{nul_fault}
+use Rattle.pg_server.proofs.BackendItemLemmas.{neither_is}
+use Rattle.pg_replication.specs.Logical.Listed.{listed}
 
-module _ {A : Type 0} {g : Format A} (lawful : Lawful g) (total : Total g) where
-  one_first : (n : ℕ) (bytes rest : List ℕ) (a : A) (found : IsRead g bytes ⊎ IsBroken g 0 bytes) → g.Reads bytes a rest → value_and g bytes (values_in total n) found ≡ a ∷ values_in total n rest
-  one_first n bytes rest a (inl q) p = let one = lawful.one_value bytes q.1 rest q.0 a q.2 p in rw (one.0, one.1) refl
-  one_first n bytes rest a (inr q) p = absurd (lawful.never_both 0 bytes rest a q.0 p q.1)
+-- ---- values of a message, and items of a caller after them
 
-  -- the first of the values, and the others
-  pub first_of : (n : ℕ) (bytes rest : List ℕ) (a : A) → g.Reads bytes a rest → values_in total (suc n) bytes ≡ a ∷ values_in total n rest
-  first_of n bytes rest a p = one_first n bytes rest a (total.decides 0 bytes) p
+module _ {I A : Type 0} {g : Format A} (total : Total g) (shown : I → A) where
+  pub listed_len : (left : ℕ) (bytes : List ℕ) (given : List I) → length (values_in total left bytes) ≡ left → length (listed total shown left bytes given) ≡ left + length given
+  listed_len left bytes given whole = omega (arith, length-append (values_in total left bytes) (map shown given), length-map given shown, whole)
 
-  -- what is read is what the bytes hold
-  pub values_in-read : (n : ℕ) (bytes : List ℕ) (items : List A) (rest : List ℕ) → length items ≡ n → AreRead g bytes items rest → values_in total n bytes ≡ items
-  values_in-read zero bytes [] rest l p = refl
-  values_in-read zero bytes (a ∷ items) rest l p = absurd (omega (arith, l))
-  values_in-read (suc n) bytes [] rest l p = absurd (omega (arith, l))
-  values_in-read (suc n) bytes (a ∷ items) rest l p = first_of n bytes p.0 a p.1 ∙ ap (λ (l : List A). a ∷ l) (values_in-read n p.0 items rest (omega (arith, l)) p.2)
+  -- where none of a message is left, a caller's first and others
+  pub given_first : (left : ℕ) (bytes : List ℕ) (item : I) (given more : List I) → left ≡ 0 → given ≡ item ∷ more → listed total shown left bytes given ≡ shown item ∷ map shown more
+  given_first left bytes item given more e f = rw (e, f) refl
 
-  none_first : (n len : ℕ) (bytes : List ℕ) (fault : ProtocolFault) (found : IsRead g bytes ⊎ IsBroken g 0 bytes) → length (value_and g bytes (values_in total n) found) ≡ suc n → g.Breaks len bytes fault → ⊥
-  none_first n len bytes fault (inl q) whole p = lawful.never_both len bytes q.1 q.0 fault q.2 p
-  none_first n len bytes fault (inr q) whole p = omega (arith, whole)
+  pub given_none : (left : ℕ) (bytes : List ℕ) (given : List I) → left ≡ 0 → given ≡ [] → listed total shown left bytes given ≡ []
+  given_none left bytes given e f = rw (e, f) refl
 
-  -- where all values are there, none is broken
-  pub none_is_broken : (n left len : ℕ) (bytes : List ℕ) (fault : ProtocolFault) → left ≡ suc n → length (values_in total left bytes) ≡ left → g.Breaks len bytes fault → ⊥
-  none_is_broken n left len bytes fault more whole p = none_first n len bytes fault (total.decides 0 bytes) (rw more at whole) p
+  -- a message's first and others
+  pub listed_first : (left n : ℕ) (bytes x : List ℕ) (given : List I) (a : A) → values_in total left bytes ≡ a ∷ values_in total n x → listed total shown left bytes given ≡ a ∷ listed total shown n x given
+  listed_first left n bytes x given a e = ap (λ (l : List A). l ++ map shown given) e
 
-  -- a step: the first value, and the others, which are all there
-  pub first_and_others : (left : ℕ) (bytes x : List ℕ) (end : ℕ) (a : A) → x ≡ drop end bytes → left ≡ suc (left - 1) → length (values_in total left bytes) ≡ left → IsReadAt g bytes 0 a end
-      → (values_in total left bytes ≡ a ∷ values_in total (left - 1) x) × (length (values_in total (left - 1) x) ≡ left - 1)
-  first_and_others left bytes x end a e more whole p =
-      let read : g.Reads bytes a x = rw e p.reads in
-      let first : values_in total (suc (left - 1)) bytes ≡ a ∷ values_in total (left - 1) x = first_of (left - 1) bytes x a read in
-      let same : values_in total left bytes ≡ values_in total (suc (left - 1)) bytes = ap (λ (n : ℕ). values_in total n bytes) more in
-      (same ∙ first, omega (arith, ap length (same ∙ first), whole, more))
+  pub listed_alone : (left : ℕ) (bytes : List ℕ) → listed total shown left bytes [] ≡ values_in total left bytes
+  listed_alone left bytes = append-nil (values_in total left bytes)
 
-  -- so many values that are read are those of the list, and it has them all
-  pub listed_stand : (reading : Reading) (body x : List ℕ) (at n end : ℕ) (items : List A) → reading ≡ record { body = body; at = at; left = n } → x ≡ drop at body
-      → IsReadAt (times reading.left g) reading.body reading.at items end → IsReadAt (times n g) body at (values_in total n x) end × (length (values_in total n x) ≡ n)
-  listed_stand reading body x at n end items e f p =
-      let read : IsReadAt (times n g) body at items end = rw e at p in
-      let same : values_in total n (drop at body) ≡ items = values_in-read n (drop at body) items (drop end body) read.reads.0 read.reads.1 in
-      let all : values_in total n x ≡ items = ap (λ (l : List ℕ). values_in total n l) f ∙ same in
-      rw all (read, read.reads.0)
+-- ---- items that are written
 
-  -- the same after their count
-  pub counted_stand : (reading : Reading) (body x : List ℕ) (at n m end : ℕ) (items : List A) → reading ≡ record { body = body; at = at + 2; left = n } → x ≡ drop (at + 2) body → n ≡ m
-      → be_u16.Reads (drop at body) m (drop (at + 2) body) → IsReadAt (times reading.left g) reading.body reading.at items end → IsReadAt (counted g) body at (values_in total n x) end
-  counted_stand reading body x at n m end items e f counts count p =
-      let all = (listed_stand reading body x (at + 2) n end items e f p).0 in
-      record { within = all.within; reads = ((n, values_in total n x), record { mid = drop (at + 2) body; first = rw counts count; second = all.reads }, refl) }
+module _ {N : Type 0} (spell : N → List ℕ) (one : N) (all rest : List N) (is : all ≡ one ∷ rest) where
+  -- the length of the first and of the others
+  pub first_length : length (flat_map spell all) ≡ length (spell one) + length (flat_map spell rest)
+  first_length = rw is (length-append (spell one) (flat_map spell rest))
 
--- what follows an offset is no longer
-pub short_after : (most at : ℕ) (bytes x : List ℕ) → x ≡ drop at bytes → length bytes ≤ most → length x ≤ most
-short_after most at bytes x e short = rw e (omega (arith, short, length-drop at bytes))
+  pub length_step : (len next whole : ℕ) → saturated (len + length (flat_map spell all)) ≡ whole → next ≡ saturated (len + saturated (length (spell one))) → saturated (next + length (flat_map spell rest)) ≡ whole
+  length_step len next whole same more = omega (arith, first_length, same, more)
+
+  pub written_step : (mid new whole : List ℕ) → mid ++ flat_map spell all ≡ whole → new ≡ mid ++ spell one → new ++ flat_map spell rest ≡ whole
+  written_step mid new whole same more =
+      ap (λ (l : List ℕ). l ++ flat_map spell rest) more ∙ append_assoc mid (spell one) (flat_map spell rest) ∙ ap (λ (l : List N). mid ++ flat_map spell l) (sym is) ∙ same
+
+module _ {N : Type 0} (test : N → Bool) (one : N) (all rest : List N) (is : all ≡ one ∷ rest) where
+  any_step : list_any test all ≡ (test one || list_any test rest)
+  any_step = rw is refl
+
+  -- none passes: neither does the first, nor one of the others
+  pub none_step : list_any test all ≡ false → (test one ≡ false) × (list_any test rest ≡ false)
+  none_step e = neither_is (test one) (list_any test rest) (sym any_step ∙ e)
+
+  -- where the first doesn't pass, the others decide
+  pub passed_over : test one ≡ false → list_any test rest ≡ list_any test all
+  passed_over e = sym (any_step ∙ ap (λ b. b || list_any test rest) e)
+
+  pub passes : test one ≡ true → list_any test all ≡ true
+  passes e = any_step ∙ ap (λ b. b || list_any test rest) e
+
+-- what has no fault isn't broken
+pub unbroken : (holds : Bool) (fault : Option ProtocolFault) → fault ≡ nul_fault holds → is_some fault ≡ false → holds ≡ false
+unbroken true fault is none = absurd (let clash : true ≡ false = ap is_some (sym is) ∙ none in cc)
+unbroken false fault is none = refl
+
+-- all are so where the first is and the others are
+pub all_step : {N : Type 0} (P : N → Type 0) (one : N) (all rest : List N) → all ≡ one ∷ rest → P one → All P rest → All P all
+all_step P one all rest is first others = rw is (All-cons P one rest first others)
+
+-- nothing is left
+pub length_end : {N : Type 0} (spell : N → List ℕ) (all : List N) (len whole : ℕ) → all ≡ [] → saturated (len + length (flat_map spell all)) ≡ whole → len < 2 ^ 64 → len ≡ whole
+length_end {N = N} spell all len whole none same small = omega (arith, ap (λ (l : List N). length (flat_map spell l)) none, same, small)
+
+pub written_end : {N : Type 0} (spell : N → List ℕ) (all : List N) (mid whole : List ℕ) → all ≡ [] → mid ++ flat_map spell all ≡ whole → mid ≡ whole
+written_end {N = N} spell all mid whole none same = sym (append-nil mid) ∙ ap (λ (l : List N). mid ++ flat_map spell l) (sym none) ∙ same
 
 -- the options and the tables of a Truncate
 pub truncated_stand : (body : List ℕ) (at n options end : ℕ) (ids : List ℕ) → be_u32.Reads (drop at body) n (drop (at + 4) body) → be_u8.Reads (drop (at + 4) body) options (drop (at + 4 + 1) body)

@@ -5,6 +5,8 @@ pub mod Listed
 pub mod Old
 pub mod Relations
 pub mod Tuple
+pub mod LogicalText
+pub mod XLogMessage
 use Rattle.std.specs.Prelude.{ℕ, Bool, true, false, List, Result, Ok, option_map}
 use Rattle.pg_base.specs.declared.error.ProtocolFault.{ProtocolFault}
 use Rattle.pg_format.specs.Logical as page

@@ -4,10 +4,10 @@ use Rattle.pg_format.specs.Logical as page
 use Rattle.pg_format.proofs.FormatLaws.Logical.{total_table_column}
 use Rattle.pg_replication.specs.declared.logical.column.Column.{Column}
 use Rattle.pg_replication.specs.declared.logical.columns.Columns.{Columns}
-use Rattle.pg_replication.specs.Logical.Listed.{values_in}
+use Rattle.pg_replication.specs.Logical.Listed.{listed}
 
 abbrev pub shown_column : Column → page.Column
 shown_column it = record { flags = it.flags; name = it.name.now; type_id = it.type_id; type_modifier = it.type_modifier }
 
 abbrev pub columns_shown : Columns → List page.Column
-columns_shown columns = values_in total_table_column columns.left columns.bytes.now
+columns_shown columns = listed total_table_column shown_column columns.left columns.bytes.now columns.given.now

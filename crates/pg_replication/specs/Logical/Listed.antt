@@ -1,14 +1,16 @@
--- The values of a list that is walked in its bytes.
-use Rattle.std.specs.Prelude.{ℕ, zero, suc, List, [], ◌∷◌, ◌⊎◌}
-use Rattle.std.proofs.Common.{inl, inr}
-use Rattle.pg_format.specs.Format.{Format, Total, IsRead, IsBroken}
+-- The values of a list that is walked: in its bytes, and then in what a caller gives.
+use Rattle.std.specs.Prelude.{◌≡◌, ℕ, Bool, List, ◌∷◌, ◌++◌, map}
+use Rattle.pg_base.specs.Part.{PartLaw}
+use Rattle.pg_format.specs.Format.{Format, Total}
+use Rattle.pg_format.specs.Listed.{values_in}
+use Rattle.pg_server.specs.Backend.Item.{IsItemPart}
 
--- the value that is read, and what follows it; nothing where it is broken
-abbrev pub value_and : {A : Type 0} (g : Format A) (bytes : List ℕ) → (List ℕ → List A) → IsRead g bytes ⊎ IsBroken g 0 bytes → List A
-value_and g bytes more (inl read) = read.0 ∷ more read.1
-value_and g bytes more (inr broken) = []
+-- the values of so many at the front of some bytes, and those of some items
+abbrev pub listed : {I A : Type 0} {g : Format A} → Total g → (I → A) → ℕ → List ℕ → List I → List A
+listed total shown left bytes given = values_in total left bytes ++ map shown given
 
--- so many values at the front of some bytes, or those before the first that is broken
-abbrev pub values_in : {A : Type 0} {g : Format A} → Total g → ℕ → List ℕ → List A
-values_in total zero bytes = []
-values_in {g = g} total (suc n) bytes = value_and g bytes (values_in total n) (total.decides 0 bytes)
+-- a part is that of the first of some values, and the others follow
+pub record IsFirst {V : Type 0} (format : Format V) (is_broken : V → Bool) (IsInRange : V → Type 0) (all rest : List V) (part : PartLaw) : Type 0 where
+  pub value : V
+  pub first : all ≡ value ∷ rest
+  pub parts : IsItemPart format is_broken IsInRange value part

@@ -5,7 +5,7 @@ ghost use Rattle.pg_format.specs.Format.Places.{ReadsAfter};
 ghost use Rattle.pg_format.specs.Logical as page;
 ghost use Rattle.pg_replication.specs.Logical.{shown_insert, shown_update, shown_delete, shown_truncate};
 
-use crate::logical::fields::streamed_fields;
+use crate::logical::fields::{Fields, Transaction, streamed_fields};
 use crate::logical::old::{NewLetter, OldOrNone};
 use crate::logical::relations::Truncated;
 use crate::logical::{Old, Relations, Tuple};
@@ -24,6 +24,8 @@ pub struct Insert<'a> {
     pub new: Tuple<'a>,
 }
 
+type InsertFields<'a> = Then<Number32, Then<NewLetter, Tuple<'a>>>;
+
 impl<'a> Insert<'a> {
     /// Reads what follows the letter, which stands before an offset of a message.
     pub(crate) fn read(
@@ -36,13 +38,27 @@ impl<'a> Insert<'a> {
         ensures { ReadsAfter (page.insert streamed) shown_insert message.now at result }
     {
         let (transaction, Then(Number32(relation), Then(NewLetter, new))) = streamed_fields::<
-            Then<Number32, Then<NewLetter, Tuple<'a>>>,
+            InsertFields<'a>,
         >(message, at, streamed)?;
         Ok(Insert {
             transaction,
             relation,
             new,
         })
+    }
+}
+
+impl<'a> Fields for Insert<'a> {
+    ghost use Rattle.pg_replication.specs.Logical.LogicalText.{insert_part};
+
+    type Parts = Then<Transaction, InsertFields<'a>>;
+
+    ghost law = { insert_part };
+
+    #[inline(always)]
+    fn parts(&self) -> Self::Parts {
+        let fields = Then(Number32(self.relation), Then(NewLetter, self.new));
+        Then(Transaction(self.transaction), fields)
     }
 }
 
@@ -83,6 +99,23 @@ impl<'a> Update<'a> {
     }
 }
 
+impl<'a> Fields for Update<'a> {
+    ghost use Rattle.pg_replication.specs.Logical.LogicalText.{update_part};
+
+    type Parts = Then<Transaction, UpdateFields<'a>>;
+
+    ghost law = { update_part };
+
+    #[inline(always)]
+    fn parts(&self) -> Self::Parts {
+        let rows = Then(OldOrNone(self.old), Then(NewLetter, self.new));
+        Then(
+            Transaction(self.transaction),
+            Then(Number32(self.relation), rows),
+        )
+    }
+}
+
 /// A row that is deleted. Documentation: "Logical Replication Message Formats", Delete.
 #[derive(Clone, Copy)]
 pub struct Delete<'a> {
@@ -116,6 +149,22 @@ impl<'a> Delete<'a> {
     }
 }
 
+impl<'a> Fields for Delete<'a> {
+    ghost use Rattle.pg_replication.specs.Logical.LogicalText.{delete_part};
+
+    type Parts = Then<Transaction, Then<Number32, Old<'a>>>;
+
+    ghost law = { delete_part };
+
+    #[inline(always)]
+    fn parts(&self) -> Self::Parts {
+        Then(
+            Transaction(self.transaction),
+            Then(Number32(self.relation), self.old),
+        )
+    }
+}
+
 /// Tables that are emptied. Documentation: "Logical Replication Message Formats", Truncate.
 #[derive(Clone, Copy)]
 pub struct Truncate<'a> {
@@ -146,5 +195,21 @@ impl<'a> Truncate<'a> {
             options,
             relations,
         })
+    }
+}
+
+impl<'a> Fields for Truncate<'a> {
+    ghost use Rattle.pg_replication.specs.Logical.LogicalText.{truncate_part};
+
+    type Parts = Then<Transaction, Truncated<'a>>;
+
+    ghost law = { truncate_part };
+
+    #[inline(always)]
+    fn parts(&self) -> Self::Parts {
+        Then(
+            Transaction(self.transaction),
+            Truncated(self.options, self.relations),
+        )
     }
 }

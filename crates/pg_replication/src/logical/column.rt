@@ -4,10 +4,10 @@ ghost use Rattle.pg_format.specs.Logical as page;
 ghost use Rattle.pg_replication.specs.Logical.Columns.{shown_column};
 
 use pg_base::ProtocolFault;
-use pg_base::io::part::{Byte, Number32, Then};
-use pg_format::field::Signed32;
+use pg_base::io::part::{Number32, Then};
+use pg_format::field::{Number8, Signed32};
 use pg_format::items::Item;
-use pg_server::backend::NulEnded;
+use pg_server::backend::{self, NulEnded};
 
 /// A column of a table. Documentation: "Logical Replication Message Formats", Relation.
 #[derive(Clone, Copy, Debug, PartialEq, Eq)]
@@ -22,7 +22,8 @@ pub struct Column<'a> {
     pub type_modifier: i32,
 }
 
-type ColumnFields<'a> = Then<Byte, Then<NulEnded<'a>, Then<Number32, Signed32>>>;
+/// What is said of a column, as it stands in a message.
+pub type ColumnFields<'a> = Then<Number8, Then<NulEnded<'a>, Then<Number32, Signed32>>>;
 
 impl<'a> Item<'a> for Column<'a> {
     ghost Shown = { page.Column };
@@ -34,7 +35,7 @@ impl<'a> Item<'a> for Column<'a> {
     fn item_at(body: &'a [u8], at: usize) -> Result<(Column<'a>, usize), ProtocolFault> {
         let (fields, end) = <ColumnFields<'a>>::item_at(body, at)?;
         let Then(
-            Byte(flags),
+            Number8(flags),
             Then(NulEnded(name), Then(Number32(type_id), Signed32(type_modifier))),
         ) = fields;
         let column = Column {
@@ -44,5 +45,27 @@ impl<'a> Item<'a> for Column<'a> {
             type_modifier,
         };
         Ok((column, end))
+    }
+}
+
+impl<'a> backend::Item for Column<'a> {
+    type Parts = ColumnFields<'a>;
+
+    ghost use Rattle.pg_replication.specs.Logical.LogicalText.{has_nul, IsColumnInRange};
+
+    ghost Value = { page.Column };
+
+    ghost value = { shown_column };
+
+    ghost format = { page.column };
+
+    ghost is_broken = { has_nul };
+
+    ghost IsInRange = { IsColumnInRange };
+
+    #[inline(always)]
+    fn parts(&self) -> ColumnFields<'a> {
+        let type_fields = Then(Number32(self.type_id), Signed32(self.type_modifier));
+        Then(Number8(self.flags), Then(NulEnded(self.name), type_fields))
     }
 }

@@ -1,41 +1,59 @@
 //! The columns of a table.
 
-ghost use Rattle.std.specs.Prelude.{◌≡◌, ◌==◌, ◌≤◌, length};
+ghost use Rattle.std.specs.Prelude.{◌≡◌, ◌==◌, ◌^◌, ◌<◌, ◌≤◌, length, map};
 ghost use Rattle.std.specs.Iterator.{YieldsFirstBy, item_count};
 ghost use Rattle.pg_format.proofs.FormatLaws.Logical.{total_table_column};
 ghost use Rattle.pg_format.specs.Received.{max_body};
-ghost use Rattle.pg_replication.specs.Logical.Listed.{values_in};
+ghost use Rattle.pg_format.specs.Listed.{values_in};
 
 use crate::logical::Column;
+use crate::logical::column::ColumnFields;
+use crate::logical::listed::{Each, Listed};
 use pg_base::ProtocolFault;
-use pg_base::io::u16_at;
+use pg_base::io::part::{Part, Then};
+use pg_base::io::{Sink, u16_at};
 use pg_format::items::{Item, Items, Nothing};
+use pg_server::backend::{self, Count};
 
-/// The columns of a table in order, borrowed from their message. A copy is walked on its own.
+/// The columns of a table in order, borrowed from their message or from a caller. A copy is walked on its own.
 #[derive(Clone, Copy)]
 pub struct Columns<'a> {
-    // From the next column on.
+    // Those of a message, from the next column on.
     bytes: &'a [u8],
     left: usize,
+    // Those of a caller, after them.
+    given: &'a [Column<'a>],
     ghost short: { length bytes.now ≤ max_body },
     ghost whole: { length (values_in total_table_column left bytes.now) ≡ left },
+    ghost few: { left < 2 ^ 32 },
 }
 
 impl<'a> Columns<'a> {
-    ghost use Rattle.pg_replication.specs.Logical.Columns.{columns_shown};
+    ghost use Rattle.pg_replication.specs.Logical.Columns.{columns_shown, shown_column};
+
+    /// These columns, to be written.
+    pub fn of(given: &'a [Column<'a>]) -> Columns<'a>
+        ensures { columns_shown result ≡ map shown_column given.now }
+    {
+        Columns {
+            bytes: &[],
+            left: 0,
+            given,
+        }
+    }
 
     /// How many columns are left.
     pub fn len(&self) -> usize
         ensures { result ≡ length (columns_shown self.now) }
     {
-        self.left
+        self.left + self.given.len()
     }
 
     /// Whether no columns are left.
     pub fn is_empty(&self) -> bool
         ensures { result ≡ (length (columns_shown self.now) == 0) }
     {
-        self.left == 0
+        self.len() == 0
     }
 }
 
@@ -50,7 +68,9 @@ impl<'a> Iterator for Columns<'a> {
 
     fn next(&mut self) -> Option<Column<'a>> {
         if self.left == 0 {
-            return None;
+            let (column, given) = self.given.split_first()?;
+            *self = Columns::of(given);
+            return Some(*column);
         }
         let Ok((column, end)) = Column::item_at(self.bytes, 0) else {
             return None;
@@ -58,6 +78,7 @@ impl<'a> Iterator for Columns<'a> {
         *self = Columns {
             bytes: &self.bytes[end..],
             left: self.left - 1,
+            given: self.given,
         };
         Some(column)
     }
@@ -79,7 +100,56 @@ impl<'a> Item<'a> for Columns<'a> {
         let left = usize::from(u16_at(body, at)?);
         let items = Items::begin_at(body, at + 2, left);
         let end = items.read_all::<Column, Nothing>(&mut Nothing)?;
-        let bytes = &body[at + 2..];
-        Ok((Columns { bytes, left }, end))
+        let columns = Columns {
+            bytes: &body[at + 2..],
+            left,
+            given: &[],
+        };
+        Ok((columns, end))
+    }
+}
+
+impl<'a> Listed for Columns<'a> {
+    ghost use Rattle.pg_format.specs.Logical as page;
+    ghost use Rattle.pg_replication.specs.Logical.Columns.{columns_shown};
+    ghost use Rattle.pg_replication.specs.Logical.LogicalText.{has_nul, IsColumnInRange};
+
+    type Parts = ColumnFields<'a>;
+
+    ghost Value = { page.Column };
+
+    ghost values = { columns_shown };
+
+    ghost format = { page.column };
+
+    ghost is_broken = { has_nul };
+
+    ghost IsInRange = { IsColumnInRange };
+
+    #[inline(always)]
+    fn step(&mut self) -> Option<ColumnFields<'a>> {
+        match self.next() {
+            Some(column) => Some(backend::Item::parts(&column)),
+            None => None,
+        }
+    }
+}
+
+impl Part for Columns<'_> {
+    ghost use Rattle.pg_replication.specs.Logical.Columns.{columns_shown};
+    ghost use Rattle.pg_replication.specs.Logical.LogicalText.{columns_part};
+
+    ghost part = { λ it. columns_part (columns_shown it) };
+
+    fn len(&self) -> usize {
+        Then(Count(self.len()), Each(*self)).len()
+    }
+
+    fn fault(&self) -> Option<ProtocolFault> {
+        Then(Count(self.len()), Each(*self)).fault()
+    }
+
+    fn put<S: Sink>(&self, sink: &mut S) {
+        Then(Count(self.len()), Each(*self)).put(sink);
     }
 }

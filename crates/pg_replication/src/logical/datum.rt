@@ -6,9 +6,11 @@ ghost use Rattle.pg_format.specs.Logical as page;
 ghost use Rattle.pg_replication.specs.Logical.Tuple.{shown_datum};
 
 use pg_base::ProtocolFault;
+use pg_base::io::part::{Byte, Either, Then};
 use pg_base::io::{MAX_BODY, u8_at};
 use pg_format::field::SizedBytes;
 use pg_format::items::Item;
+use pg_server::backend;
 
 const NULL: u8 = b'n';
 
@@ -39,6 +41,7 @@ impl<'a> Item<'a> for Datum<'a> {
     ghost format = { page.datum };
 
     #[inline(always)]
+    #[tactic(auto, using(crate::proofs::LogicalTupleLemmas::lettered_reads))]
     fn item_at(body: &'a [u8], at: usize) -> Result<(Datum<'a>, usize), ProtocolFault> {
         let letter = u8_at(body, at)?;
         datum_by(letter, body, at + 1)
@@ -64,5 +67,34 @@ fn datum_by(letter: u8, body: &[u8], at: usize) -> Result<(Datum<'_>, usize), Pr
             Ok((Datum::Binary(value), end))
         }
         other => Err(ProtocolFault::UnknownMessageType(other)),
+    }
+}
+
+/// The letter, and the value where one is sent.
+pub type DatumParts<'a> = Either<Byte, Then<Byte, SizedBytes<'a>>>;
+
+impl<'a> backend::Item for Datum<'a> {
+    type Parts = DatumParts<'a>;
+
+    ghost use Rattle.std.specs.Prelude.{false};
+
+    ghost Value = { page.Datum };
+
+    ghost value = { shown_datum };
+
+    ghost format = { page.datum };
+
+    ghost is_broken = { λ _. false };
+
+    ghost IsInRange = { λ _. Unit {0} };
+
+    #[inline(always)]
+    fn parts(&self) -> DatumParts<'a> {
+        match *self {
+            Datum::Null => Either::First(Byte(NULL)),
+            Datum::Unchanged => Either::First(Byte(UNCHANGED)),
+            Datum::Text(value) => Either::Second(Then(Byte(TEXT), SizedBytes(value))),
+            Datum::Binary(value) => Either::Second(Then(Byte(BINARY), SizedBytes(value))),
+        }
     }
 }

@@ -7,7 +7,8 @@ ghost use Rattle.pg_replication.specs.Logical.Old.{shown_old};
 
 use crate::logical::Tuple;
 use pg_base::ProtocolFault;
-use pg_base::io::{MAX_BODY, u8_at};
+use pg_base::io::part::Part;
+use pg_base::io::{MAX_BODY, Sink, u8_at};
 use pg_format::items::Item;
 
 const KEY: u8 = b'K';
@@ -32,6 +33,7 @@ impl<'a> Item<'a> for Old<'a> {
 
     ghost format = { page.old_tuple };
 
+    #[tactic(auto, using(crate::proofs::LogicalTupleLemmas::lettered_reads))]
     fn item_at(body: &'a [u8], at: usize) -> Result<(Old<'a>, usize), ProtocolFault> {
         let letter = u8_at(body, at)?;
         old_by(letter, body, at + 1)
@@ -95,11 +97,91 @@ impl<'a> Item<'a> for NewLetter {
     ghost format = { letter 78 };
 
     #[inline(always)]
+    #[tactic(auto, using(crate::proofs::LogicalTupleLemmas::letter_stands, crate::proofs::LogicalTupleLemmas::letter_breaks))]
     fn item_at(body: &'a [u8], at: usize) -> Result<(NewLetter, usize), ProtocolFault> {
         let letter = u8_at(body, at)?;
         if letter == NEW {
             return Ok((NewLetter, at + 1));
         }
         Err(ProtocolFault::UnknownMessageType(letter))
+    }
+}
+
+impl Part for Old<'_> {
+    ghost use Rattle.pg_replication.specs.Logical.LogicalText.{old_part};
+
+    ghost part = { λ it. old_part (shown_old it) };
+
+    fn len(&self) -> usize {
+        match self {
+            Old::Key(tuple) | Old::Whole(tuple) => Part::len(tuple).saturating_add(1),
+        }
+    }
+
+    fn fault(&self) -> Option<ProtocolFault> {
+        match self {
+            Old::Key(tuple) | Old::Whole(tuple) => tuple.fault(),
+        }
+    }
+
+    fn put<S: Sink>(&self, sink: &mut S) {
+        match self {
+            Old::Key(tuple) => {
+                sink.put_u8(KEY);
+                tuple.put(sink);
+            }
+            Old::Whole(tuple) => {
+                sink.put_u8(WHOLE);
+                tuple.put(sink);
+            }
+        }
+    }
+}
+
+impl Part for OldOrNone<'_> {
+    ghost use Rattle.std.specs.Prelude.{option_map};
+    ghost use Rattle.pg_replication.specs.Logical.LogicalText.{old_or_none_part};
+
+    ghost part = { λ it. old_or_none_part (option_map shown_old it.0) };
+
+    fn len(&self) -> usize {
+        match &self.0 {
+            Some(old) => old.len(),
+            None => 0,
+        }
+    }
+
+    fn fault(&self) -> Option<ProtocolFault> {
+        match &self.0 {
+            Some(old) => old.fault(),
+            None => None,
+        }
+    }
+
+    fn put<S: Sink>(&self, sink: &mut S) {
+        if let Some(old) = &self.0 {
+            old.put(sink);
+        }
+    }
+}
+
+impl Part for NewLetter {
+    ghost use Rattle.pg_base.specs.Part.{byte};
+
+    ghost part = { λ _. byte 78 };
+
+    #[inline(always)]
+    fn len(&self) -> usize {
+        1
+    }
+
+    #[inline(always)]
+    fn fault(&self) -> Option<ProtocolFault> {
+        None
+    }
+
+    #[inline(always)]
+    fn put<S: Sink>(&self, sink: &mut S) {
+        sink.put_u8(NEW);
     }
 }

@@ -5,10 +5,11 @@ ghost use Rattle.pg_format.specs.Format.Places.{ReadsAfter};
 ghost use Rattle.pg_format.specs.Logical as page;
 ghost use Rattle.pg_replication.specs.Logical.{shown_begin_prepare, shown_prepared, shown_rollback_prepared};
 
+use crate::logical::fields::Fields;
 use pg_base::ProtocolFault;
 use pg_base::io::MAX_BODY;
-use pg_base::io::part::{Byte, Number32, Number64, Then};
-use pg_format::field::{Signed64, fields_from};
+use pg_base::io::part::{Number32, Number64, Then};
+use pg_format::field::{Number8, Signed64, fields_from};
 use pg_server::backend::NulEnded;
 
 /// A transaction begins that is prepared. Documentation: "Logical Replication Message Formats", Begin Prepare.
@@ -55,6 +56,21 @@ impl<'a> BeginPrepare<'a> {
     }
 }
 
+impl<'a> Fields for BeginPrepare<'a> {
+    ghost use Rattle.pg_replication.specs.Logical.LogicalText.{begin_prepare_part};
+
+    type Parts = BeginPrepareFields<'a>;
+
+    ghost law = { begin_prepare_part };
+
+    #[inline(always)]
+    fn parts(&self) -> Self::Parts {
+        let named = Then(Number32(self.transaction), NulEnded(self.gid));
+        let end = Then(Number64(self.end_lsn), Then(Signed64(self.clock), named));
+        Then(Number64(self.lsn), end)
+    }
+}
+
 /// A transaction is prepared, or a prepared one is committed. Documentation: "Logical Replication Message Formats", Prepare, Commit Prepared, Stream Prepare.
 #[derive(Clone, Copy, Debug, PartialEq, Eq)]
 pub struct Prepared<'a> {
@@ -73,7 +89,7 @@ pub struct Prepared<'a> {
 }
 
 type PreparedFields<'a> = Then<
-    Byte,
+    Number8,
     Then<Number64, Then<Number64, Then<Signed64, Then<Number32, NulEnded<'a>>>>>,
 >;
 
@@ -85,7 +101,7 @@ impl<'a> Prepared<'a> {
         ensures { ReadsAfter page.prepared shown_prepared message.now at result }
     {
         let Then(
-            Byte(flags),
+            Number8(flags),
             Then(
                 Number64(lsn),
                 Then(
@@ -102,6 +118,21 @@ impl<'a> Prepared<'a> {
             transaction,
             gid,
         })
+    }
+}
+
+impl<'a> Fields for Prepared<'a> {
+    ghost use Rattle.pg_replication.specs.Logical.LogicalText.{prepared_part};
+
+    type Parts = PreparedFields<'a>;
+
+    ghost law = { prepared_part };
+
+    #[inline(always)]
+    fn parts(&self) -> Self::Parts {
+        let named = Then(Number32(self.transaction), NulEnded(self.gid));
+        let end = Then(Number64(self.end_lsn), Then(Signed64(self.clock), named));
+        Then(Number8(self.flags), Then(Number64(self.lsn), end))
     }
 }
 
@@ -125,7 +156,7 @@ pub struct RollbackPrepared<'a> {
 }
 
 type RollbackPreparedFields<'a> = Then<
-    Byte,
+    Number8,
     Then<Number64, Then<Number64, Then<Signed64, Then<Signed64, Then<Number32, NulEnded<'a>>>>>>,
 >;
 
@@ -137,7 +168,7 @@ impl<'a> RollbackPrepared<'a> {
         ensures { ReadsAfter page.rollback_prepared shown_rollback_prepared message.now at result }
     {
         let Then(
-            Byte(flags),
+            Number8(flags),
             Then(
                 Number64(prepare_end_lsn),
                 Then(
@@ -158,5 +189,27 @@ impl<'a> RollbackPrepared<'a> {
             transaction,
             gid,
         })
+    }
+}
+
+impl<'a> Fields for RollbackPrepared<'a> {
+    ghost use Rattle.pg_replication.specs.Logical.LogicalText.{rollback_prepared_part};
+
+    type Parts = RollbackPreparedFields<'a>;
+
+    ghost law = { rollback_prepared_part };
+
+    #[inline(always)]
+    fn parts(&self) -> Self::Parts {
+        let named = Then(Number32(self.transaction), NulEnded(self.gid));
+        let clocks = Then(
+            Signed64(self.prepare_clock),
+            Then(Signed64(self.rollback_clock), named),
+        );
+        let ends = Then(
+            Number64(self.prepare_end_lsn),
+            Then(Number64(self.rollback_end_lsn), clocks),
+        );
+        Then(Number8(self.flags), ends)
     }
 }

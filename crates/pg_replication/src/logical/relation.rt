@@ -6,10 +6,11 @@ ghost use Rattle.pg_format.specs.Logical as page;
 ghost use Rattle.pg_replication.specs.Logical.{shown_relation, shown_type_name};
 
 use crate::logical::Columns;
-use crate::logical::fields::streamed_fields;
+use crate::logical::fields::{Fields, Transaction, streamed_fields};
 use pg_base::ProtocolFault;
 use pg_base::io::MAX_BODY;
-use pg_base::io::part::{Byte, Number32, Then};
+use pg_base::io::part::{Number32, Then};
+use pg_format::field::Number8;
 use pg_server::backend::NulEnded;
 
 /// A table and its columns, before the first change of it and where they are others than before. Documentation:
@@ -32,7 +33,7 @@ pub struct Relation<'a> {
 
 type RelationFields<'a> = Then<
     Number32,
-    Then<NulEnded<'a>, Then<NulEnded<'a>, Then<Byte, Columns<'a>>>>,
+    Then<NulEnded<'a>, Then<NulEnded<'a>, Then<Number8, Columns<'a>>>>,
 >;
 
 impl<'a> Relation<'a> {
@@ -48,7 +49,7 @@ impl<'a> Relation<'a> {
     {
         let (transaction, fields) = streamed_fields::<RelationFields<'a>>(message, at, streamed)?;
         let Then(Number32(relation), Then(NulEnded(schema), Then(NulEnded(name), fields))) = fields;
-        let Then(Byte(replica_identity), columns) = fields;
+        let Then(Number8(replica_identity), columns) = fields;
         Ok(Relation {
             transaction,
             relation,
@@ -57,6 +58,24 @@ impl<'a> Relation<'a> {
             replica_identity,
             columns,
         })
+    }
+}
+
+impl<'a> Fields for Relation<'a> {
+    ghost use Rattle.pg_replication.specs.Logical.LogicalText.{relation_part};
+
+    type Parts = Then<Transaction, RelationFields<'a>>;
+
+    ghost law = { relation_part };
+
+    #[inline(always)]
+    fn parts(&self) -> Self::Parts {
+        let columns = Then(Number8(self.replica_identity), self.columns);
+        let names = Then(NulEnded(self.schema), Then(NulEnded(self.name), columns));
+        Then(
+            Transaction(self.transaction),
+            Then(Number32(self.relation), names),
+        )
     }
 }
 
@@ -74,6 +93,8 @@ pub struct TypeName<'a> {
     pub name: &'a [u8],
 }
 
+type TypeNameFields<'a> = Then<Number32, Then<NulEnded<'a>, NulEnded<'a>>>;
+
 impl<'a> TypeName<'a> {
     /// Reads what follows the letter, which stands before an offset of a message.
     pub(crate) fn read(
@@ -86,14 +107,29 @@ impl<'a> TypeName<'a> {
         ensures { ReadsAfter (page.type_name streamed) shown_type_name message.now at result }
     {
         let (transaction, Then(Number32(type_id), Then(NulEnded(schema), NulEnded(name)))) =
-            streamed_fields::<Then<Number32, Then<NulEnded<'a>, NulEnded<'a>>>>(
-                message, at, streamed,
-            )?;
+            streamed_fields::<TypeNameFields<'a>>(message, at, streamed)?;
         Ok(TypeName {
             transaction,
             type_id,
             schema,
             name,
         })
+    }
+}
+
+impl<'a> Fields for TypeName<'a> {
+    ghost use Rattle.pg_replication.specs.Logical.LogicalText.{type_name_part};
+
+    type Parts = Then<Transaction, TypeNameFields<'a>>;
+
+    ghost law = { type_name_part };
+
+    #[inline(always)]
+    fn parts(&self) -> Self::Parts {
+        let names = Then(NulEnded(self.schema), NulEnded(self.name));
+        Then(
+            Transaction(self.transaction),
+            Then(Number32(self.type_id), names),
+        )
     }
 }

@@ -1,31 +1,46 @@
 //! The tables of a Truncate.
 
-ghost use Rattle.std.specs.Prelude.{◌≡◌, ◌==◌, ◌≤◌, length, IfErr};
+ghost use Rattle.std.specs.Prelude.{◌≡◌, ◌==◌, ◌^◌, ◌<◌, ◌≤◌, length, IfErr};
 ghost use Rattle.std.specs.Iterator.{YieldsFirstBy, item_count};
 ghost use Rattle.pg_format.specs.Format.Lists.{times};
 ghost use Rattle.pg_format.specs.Format.Parts.{be_u32};
 ghost use Rattle.pg_format.specs.Format.Places.{BreaksAt, ReadsAt};
 ghost use Rattle.pg_format.proofs.FormatLaws.Logical.{total_id};
 ghost use Rattle.pg_format.specs.Received.{max_body};
-ghost use Rattle.pg_replication.specs.Logical.Listed.{values_in};
+ghost use Rattle.pg_format.specs.Listed.{values_in};
 
+use crate::logical::listed::{Each, Listed};
 use pg_base::ProtocolFault;
-use pg_base::io::part::Number32;
-use pg_base::io::{MAX_BODY, u8_at, u32_at};
+use pg_base::io::part::{Number32, Part};
+use pg_base::io::{MAX_BODY, Sink, u8_at, u32_at};
 use pg_format::items::{Item, Items, Nothing};
 
-/// The numbers of tables in order, borrowed from their message. A copy is walked on its own.
+/// The numbers of tables in order, borrowed from their message or from a caller. A copy is walked on its own.
 #[derive(Clone, Copy)]
 pub struct Relations<'a> {
-    // From the next table on.
+    // Those of a message, from the next table on.
     bytes: &'a [u8],
     left: usize,
+    // Those of a caller, after them.
+    given: &'a [u32],
     ghost short: { length bytes.now ≤ max_body },
     ghost whole: { length (values_in total_id left bytes.now) ≡ left },
+    ghost few: { left < 2 ^ 32 },
 }
 
 impl<'a> Relations<'a> {
     ghost use Rattle.pg_replication.specs.Logical.Relations.{relation_ids};
+
+    /// These tables, to be written.
+    pub fn of(given: &'a [u32]) -> Relations<'a>
+        ensures { relation_ids result ≡ given.now }
+    {
+        Relations {
+            bytes: &[],
+            left: 0,
+            given,
+        }
+    }
 
     /// So many tables at an offset of a message, and the offset after them.
     pub(crate) fn read(
@@ -35,27 +50,32 @@ impl<'a> Relations<'a> {
     ) -> Result<(Relations<'a>, usize), ProtocolFault>
         requires within { at ≤ length message.now }
         requires short { length message.now ≤ MAX_BODY }
+        requires few { left < 2 ^ 32 }
         ensures tables { ReadsAt (times left be_u32) relation_ids message.now at result }
         ensures broken { IfErr result (BreaksAt (times left be_u32) message.now at) }
     {
         let items = Items::begin_at(message, at, left);
         let end = items.read_all::<Number32, Nothing>(&mut Nothing)?;
-        let bytes = &message[at..];
-        Ok((Relations { bytes, left }, end))
+        let relations = Relations {
+            bytes: &message[at..],
+            left,
+            given: &[],
+        };
+        Ok((relations, end))
     }
 
     /// How many tables are left.
     pub fn len(&self) -> usize
         ensures { result ≡ length (relation_ids self.now) }
     {
-        self.left
+        self.left + self.given.len()
     }
 
     /// Whether no tables are left.
     pub fn is_empty(&self) -> bool
         ensures { result ≡ (length (relation_ids self.now) == 0) }
     {
-        self.left == 0
+        self.len() == 0
     }
 }
 
@@ -70,7 +90,9 @@ impl<'a> Iterator for Relations<'a> {
 
     fn next(&mut self) -> Option<u32> {
         if self.left == 0 {
-            return None;
+            let (id, given) = self.given.split_first()?;
+            *self = Relations::of(given);
+            return Some(*id);
         }
         let Ok((Number32(id), end)) = Number32::item_at(self.bytes, 0) else {
             return None;
@@ -78,6 +100,7 @@ impl<'a> Iterator for Relations<'a> {
         *self = Relations {
             bytes: &self.bytes[end..],
             left: self.left - 1,
+            given: self.given,
         };
         Some(id)
     }
@@ -103,5 +126,51 @@ impl<'a> Item<'a> for Truncated<'a> {
         let options = u8_at(body, at + 4)?;
         let (relations, end) = Relations::read(body, at + 5, count)?;
         Ok((Truncated(options, relations), end))
+    }
+}
+
+impl<'a> Listed for Relations<'a> {
+    ghost use Rattle.std.specs.Prelude.{ℕ, false};
+    ghost use Rattle.pg_replication.specs.Logical.Relations.{relation_ids};
+
+    type Parts = Number32;
+
+    ghost Value = { ℕ };
+
+    ghost values = { relation_ids };
+
+    ghost format = { be_u32 };
+
+    ghost is_broken = { λ _. false };
+
+    ghost IsInRange = { λ n. n < 2 ^ 32 };
+
+    #[inline(always)]
+    fn step(&mut self) -> Option<Number32> {
+        match self.next() {
+            Some(id) => Some(Number32(id)),
+            None => None,
+        }
+    }
+}
+
+impl Part for Truncated<'_> {
+    ghost use Rattle.pg_replication.specs.Logical.Relations.{relation_ids};
+    ghost use Rattle.pg_replication.specs.Logical.LogicalText.{truncated_part};
+
+    ghost part = { λ it. truncated_part (it.0, relation_ids it.1) };
+
+    fn len(&self) -> usize {
+        Each(self.1).len().saturating_add(5)
+    }
+
+    fn fault(&self) -> Option<ProtocolFault> {
+        None
+    }
+
+    fn put<S: Sink>(&self, sink: &mut S) {
+        sink.put_u32(self.1.len() as u32);
+        sink.put_u8(self.0);
+        Each(self.1).put(sink);
     }
 }

@@ -5,10 +5,11 @@ ghost use Rattle.pg_format.specs.Format.Places.{ReadsAfter};
 ghost use Rattle.pg_format.specs.Logical as page;
 ghost use Rattle.pg_replication.specs.Logical.{shown_stream_start, shown_stream_stop, shown_stream_commit, shown_stream_abort};
 
+use crate::logical::fields::Fields;
 use pg_base::ProtocolFault;
 use pg_base::io::MAX_BODY;
-use pg_base::io::part::{Byte, Nothing, Number32, Number64, Then};
-use pg_format::field::{Flag, Signed64, fields_from};
+use pg_base::io::part::{Nothing, Number32, Number64, Then};
+use pg_format::field::{Flag, Number8, Signed64, fields_from};
 
 /// Messages of a streamed transaction follow, up to the [`StreamStop`]. Documentation: "Logical Replication Message Formats", Stream Start.
 #[derive(Clone, Copy, Debug, PartialEq, Eq)]
@@ -36,6 +37,19 @@ impl StreamStart {
     }
 }
 
+impl Fields for StreamStart {
+    ghost use Rattle.pg_replication.specs.Logical.LogicalText.{stream_start_part};
+
+    type Parts = Then<Number32, Flag>;
+
+    ghost law = { stream_start_part };
+
+    #[inline(always)]
+    fn parts(&self) -> Self::Parts {
+        Then(Number32(self.transaction), Flag(self.is_first))
+    }
+}
+
 /// The end of the messages that follow a [`StreamStart`]. Documentation: "Logical Replication Message Formats", Stream Stop.
 #[derive(Clone, Copy, Debug, PartialEq, Eq)]
 pub struct StreamStop;
@@ -49,6 +63,19 @@ impl StreamStop {
     {
         let Nothing = fields_from::<Nothing>(message, at)?;
         Ok(StreamStop)
+    }
+}
+
+impl Fields for StreamStop {
+    ghost use Rattle.pg_replication.specs.Logical.LogicalText.{stream_stop_part};
+
+    type Parts = Nothing;
+
+    ghost law = { stream_stop_part };
+
+    #[inline(always)]
+    fn parts(&self) -> Self::Parts {
+        Nothing
     }
 }
 
@@ -67,7 +94,7 @@ pub struct StreamCommit {
     pub clock: i64,
 }
 
-type StreamCommitFields = Then<Number32, Then<Byte, Then<Number64, Then<Number64, Signed64>>>>;
+type StreamCommitFields = Then<Number32, Then<Number8, Then<Number64, Then<Number64, Signed64>>>>;
 
 impl StreamCommit {
     /// Reads what follows the letter, which stands before an offset of a message.
@@ -78,7 +105,7 @@ impl StreamCommit {
     {
         let Then(
             Number32(transaction),
-            Then(Byte(flags), Then(Number64(lsn), Then(Number64(end_lsn), Signed64(clock)))),
+            Then(Number8(flags), Then(Number64(lsn), Then(Number64(end_lsn), Signed64(clock)))),
         ) = fields_from::<StreamCommitFields>(message, at)?;
         Ok(StreamCommit {
             transaction,
@@ -87,6 +114,21 @@ impl StreamCommit {
             end_lsn,
             clock,
         })
+    }
+}
+
+impl Fields for StreamCommit {
+    ghost use Rattle.pg_replication.specs.Logical.LogicalText.{stream_commit_part};
+
+    type Parts = StreamCommitFields;
+
+    ghost law = { stream_commit_part };
+
+    #[inline(always)]
+    fn parts(&self) -> Self::Parts {
+        let end = Then(Number64(self.end_lsn), Signed64(self.clock));
+        let commit = Then(Number8(self.flags), Then(Number64(self.lsn), end));
+        Then(Number32(self.transaction), commit)
     }
 }
 
@@ -113,5 +155,18 @@ impl StreamAbort {
             transaction,
             subtransaction,
         })
+    }
+}
+
+impl Fields for StreamAbort {
+    ghost use Rattle.pg_replication.specs.Logical.LogicalText.{stream_abort_part};
+
+    type Parts = Then<Number32, Number32>;
+
+    ghost law = { stream_abort_part };
+
+    #[inline(always)]
+    fn parts(&self) -> Self::Parts {
+        Then(Number32(self.transaction), Number32(self.subtransaction))
     }
 }

@@ -5,11 +5,11 @@ ghost use Rattle.pg_format.specs.Format.Places.{ReadsAfter};
 ghost use Rattle.pg_format.specs.Logical as page;
 ghost use Rattle.pg_replication.specs.Logical.{shown_begin, shown_message, shown_commit, shown_origin};
 
-use crate::logical::fields::streamed_fields;
+use crate::logical::fields::{Fields, Transaction, streamed_fields};
 use pg_base::ProtocolFault;
 use pg_base::io::MAX_BODY;
-use pg_base::io::part::{Byte, Number32, Number64, Then};
-use pg_format::field::{Signed64, SizedBytes, fields_from};
+use pg_base::io::part::{Number32, Number64, Then};
+use pg_format::field::{Number8, Signed64, SizedBytes, fields_from};
 use pg_server::backend::NulEnded;
 
 /// A transaction begins. Documentation: "Logical Replication Message Formats", Begin.
@@ -41,6 +41,22 @@ impl Begin {
     }
 }
 
+impl Fields for Begin {
+    ghost use Rattle.pg_replication.specs.Logical.LogicalText.{begin_part};
+
+    type Parts = Then<Number64, Then<Signed64, Number32>>;
+
+    ghost law = { begin_part };
+
+    #[inline(always)]
+    fn parts(&self) -> Self::Parts {
+        Then(
+            Number64(self.final_lsn),
+            Then(Signed64(self.clock), Number32(self.transaction)),
+        )
+    }
+}
+
 /// A message that a program wrote to the log. Documentation: "Logical Replication Message Formats", Message.
 #[derive(Clone, Copy, Debug, PartialEq, Eq)]
 pub struct Message<'a> {
@@ -56,7 +72,7 @@ pub struct Message<'a> {
     pub content: &'a [u8],
 }
 
-type MessageFields<'a> = Then<Byte, Then<Number64, Then<NulEnded<'a>, SizedBytes<'a>>>>;
+type MessageFields<'a> = Then<Number8, Then<Number64, Then<NulEnded<'a>, SizedBytes<'a>>>>;
 
 impl<'a> Message<'a> {
     /// Reads what follows the letter, which stands before an offset of a message.
@@ -71,7 +87,7 @@ impl<'a> Message<'a> {
     {
         let (
             transaction,
-            Then(Byte(flags), Then(Number64(lsn), Then(NulEnded(prefix), SizedBytes(content)))),
+            Then(Number8(flags), Then(Number64(lsn), Then(NulEnded(prefix), SizedBytes(content)))),
         ) = streamed_fields::<MessageFields<'a>>(message, at, streamed)?;
         Ok(Message {
             transaction,
@@ -80,6 +96,22 @@ impl<'a> Message<'a> {
             prefix,
             content,
         })
+    }
+}
+
+impl<'a> Fields for Message<'a> {
+    ghost use Rattle.pg_replication.specs.Logical.LogicalText.{message_part};
+
+    type Parts = Then<Transaction, MessageFields<'a>>;
+
+    ghost law = { message_part };
+
+    #[inline(always)]
+    fn parts(&self) -> Self::Parts {
+        let content = SizedBytes(self.content);
+        let text = Then(NulEnded(self.prefix), content);
+        let fields = Then(Number8(self.flags), Then(Number64(self.lsn), text));
+        Then(Transaction(self.transaction), fields)
     }
 }
 
@@ -96,7 +128,7 @@ pub struct Commit {
     pub clock: i64,
 }
 
-type CommitFields = Then<Byte, Then<Number64, Then<Number64, Signed64>>>;
+type CommitFields = Then<Number8, Then<Number64, Then<Number64, Signed64>>>;
 
 impl Commit {
     /// Reads what follows the letter, which stands before an offset of a message.
@@ -105,7 +137,7 @@ impl Commit {
         requires short { length message.now ≤ MAX_BODY }
         ensures { ReadsAfter page.commit shown_commit message.now at result }
     {
-        let Then(Byte(flags), Then(Number64(lsn), Then(Number64(end_lsn), Signed64(clock)))) =
+        let Then(Number8(flags), Then(Number64(lsn), Then(Number64(end_lsn), Signed64(clock)))) =
             fields_from::<CommitFields>(message, at)?;
         Ok(Commit {
             flags,
@@ -113,6 +145,25 @@ impl Commit {
             end_lsn,
             clock,
         })
+    }
+}
+
+impl Fields for Commit {
+    ghost use Rattle.pg_replication.specs.Logical.LogicalText.{commit_part};
+
+    type Parts = CommitFields;
+
+    ghost law = { commit_part };
+
+    #[inline(always)]
+    fn parts(&self) -> Self::Parts {
+        Then(
+            Number8(self.flags),
+            Then(
+                Number64(self.lsn),
+                Then(Number64(self.end_lsn), Signed64(self.clock)),
+            ),
+        )
     }
 }
 
@@ -136,5 +187,18 @@ impl<'a> Origin<'a> {
             message, at,
         )?;
         Ok(Origin { lsn, name })
+    }
+}
+
+impl<'a> Fields for Origin<'a> {
+    ghost use Rattle.pg_replication.specs.Logical.LogicalText.{origin_part};
+
+    type Parts = Then<Number64, NulEnded<'a>>;
+
+    ghost law = { origin_part };
+
+    #[inline(always)]
+    fn parts(&self) -> Self::Parts {
+        Then(Number64(self.lsn), NulEnded(self.name))
     }
 }

@@ -1,42 +1,60 @@
 //! The values of a row.
 
-ghost use Rattle.std.specs.Prelude.{◌≡◌, ◌==◌, ◌≤◌, length, slice_get, option_map};
+ghost use Rattle.std.specs.Prelude.{◌≡◌, ◌==◌, ◌^◌, ◌<◌, ◌≤◌, length, map, slice_get, option_map};
 ghost use Rattle.std.specs.Iterator.{YieldsFirstBy, item_count};
 ghost use Rattle.pg_format.proofs.FormatLaws.Logical.{total_datum};
 ghost use Rattle.pg_format.specs.Received.{max_body};
-ghost use Rattle.pg_replication.specs.Logical.Listed.{values_in};
+ghost use Rattle.pg_format.specs.Listed.{values_in};
 
 use crate::logical::Datum;
+use crate::logical::datum::DatumParts;
+use crate::logical::listed::{Each, Listed};
 use pg_base::ProtocolFault;
-use pg_base::io::u16_at;
+use pg_base::io::part::{Part, Then};
+use pg_base::io::{Sink, u16_at};
 use pg_format::items::{Item, Items, Nothing};
+use pg_server::backend::{self, Count};
 
-/// The values of the columns of a row in order, borrowed from their message. Documentation: "Logical Replication
-/// Message Formats", TupleData. A copy is walked on its own.
+/// The values of the columns of a row in order, borrowed from their message or from a caller. Documentation: "Logical
+/// Replication Message Formats", TupleData. A copy is walked on its own.
 #[derive(Clone, Copy)]
 pub struct Tuple<'a> {
-    // From the next value on.
+    // Those of a message, from the next value on.
     bytes: &'a [u8],
     left: usize,
+    // Those of a caller, after them.
+    given: &'a [Datum<'a>],
     ghost short: { length bytes.now ≤ max_body },
     ghost whole: { length (values_in total_datum left bytes.now) ≡ left },
+    ghost few: { left < 2 ^ 32 },
 }
 
 impl<'a> Tuple<'a> {
     ghost use Rattle.pg_replication.specs.Logical.Tuple.{datums, shown_datum};
 
+    /// These values, to be written.
+    pub fn of(given: &'a [Datum<'a>]) -> Tuple<'a>
+        ensures { datums result ≡ map shown_datum given.now }
+    {
+        Tuple {
+            bytes: &[],
+            left: 0,
+            given,
+        }
+    }
+
     /// How many values are left.
     pub fn len(&self) -> usize
         ensures { result ≡ length (datums self.now) }
     {
-        self.left
+        self.left + self.given.len()
     }
 
     /// Whether no values are left.
     pub fn is_empty(&self) -> bool
         ensures { result ≡ (length (datums self.now) == 0) }
     {
-        self.left == 0
+        self.len() == 0
     }
 
     /// The value at a position, counted from those that are left, where there is one. It goes over the values in front
@@ -60,7 +78,9 @@ impl<'a> Iterator for Tuple<'a> {
 
     fn next(&mut self) -> Option<Datum<'a>> {
         if self.left == 0 {
-            return None;
+            let (value, given) = self.given.split_first()?;
+            *self = Tuple::of(given);
+            return Some(*value);
         }
         let Ok((value, end)) = Datum::item_at(self.bytes, 0) else {
             return None;
@@ -68,6 +88,7 @@ impl<'a> Iterator for Tuple<'a> {
         *self = Tuple {
             bytes: &self.bytes[end..],
             left: self.left - 1,
+            given: self.given,
         };
         Some(value)
     }
@@ -89,7 +110,56 @@ impl<'a> Item<'a> for Tuple<'a> {
         let left = usize::from(u16_at(body, at)?);
         let items = Items::begin_at(body, at + 2, left);
         let end = items.read_all::<Datum, Nothing>(&mut Nothing)?;
-        let bytes = &body[at + 2..];
-        Ok((Tuple { bytes, left }, end))
+        let tuple = Tuple {
+            bytes: &body[at + 2..],
+            left,
+            given: &[],
+        };
+        Ok((tuple, end))
+    }
+}
+
+impl<'a> Listed for Tuple<'a> {
+    ghost use Rattle.std.specs.Prelude.{false};
+    ghost use Rattle.pg_format.specs.Logical as page;
+    ghost use Rattle.pg_replication.specs.Logical.Tuple.{datums};
+
+    type Parts = DatumParts<'a>;
+
+    ghost Value = { page.Datum };
+
+    ghost values = { datums };
+
+    ghost format = { page.datum };
+
+    ghost is_broken = { λ _. false };
+
+    ghost IsInRange = { λ _. Unit {0} };
+
+    #[inline(always)]
+    fn step(&mut self) -> Option<DatumParts<'a>> {
+        match self.next() {
+            Some(value) => Some(backend::Item::parts(&value)),
+            None => None,
+        }
+    }
+}
+
+impl Part for Tuple<'_> {
+    ghost use Rattle.pg_replication.specs.Logical.Tuple.{datums};
+    ghost use Rattle.pg_replication.specs.Logical.LogicalText.{tuple_part};
+
+    ghost part = { λ it. tuple_part (datums it) };
+
+    fn len(&self) -> usize {
+        Then(Count(self.len()), Each(*self)).len()
+    }
+
+    fn fault(&self) -> Option<ProtocolFault> {
+        Then(Count(self.len()), Each(*self)).fault()
+    }
+
+    fn put<S: Sink>(&self, sink: &mut S) {
+        Then(Count(self.len()), Each(*self)).put(sink);
     }
 }

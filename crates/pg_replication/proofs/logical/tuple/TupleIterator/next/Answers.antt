@@ -3,7 +3,8 @@ use Rattle.pg_format.specs.Received.{max_body}
 use Rattle.pg_format.proofs.FormatLaws.Logical.{lawful_datum, total_datum}
 use Rattle.pg_server.proofs.FrontendMessageLemmas.{from_index}
 use Rattle.pg_replication.specs.Logical.Tuple.{shown_datum}
-use Rattle.pg_replication.proofs.LogicalListedLemmas.{first_and_others, none_is_broken, short_after}
+use Rattle.pg_format.proofs.ListedLemmas.{first_and_others, none_is_broken, short_after}
+use Rattle.pg_replication.proofs.LogicalListedLemmas.{listed_first}
 use Rattle.pg_replication.proofs.logical.tuple.TupleIterator.next.Goals as goal
 
 pub returns-in_default-clause-steps : goal.returns-in_default-clause-steps
@@ -18,6 +19,7 @@ invariant_of-self c =
     let more : list.left ≡ suc (list.left - 1) = omega (arith, c.if-self-eq0.false) in
     record {
       short = short_after max_body c.in-Ok.end list.bytes.now _ (from_index c.in-Ok.end list.bytes.now) list.short;
+      few = omega (arith, list.few);
       whole = (first_and_others lawful_datum total_datum list.left list.bytes.now _ c.in-Ok.end (shown_datum c.in-Ok.value) (from_index c.in-Ok.end list.bytes.now) more list.whole c.in-Ok.ensures.item).1;
     }
 
@@ -25,4 +27,5 @@ pub returns-clause-steps : goal.returns-clause-steps
 returns-clause-steps c =
     let list = c.args.self.now in
     let more : list.left ≡ suc (list.left - 1) = omega (arith, c.if-self-eq0.false) in
+    listed_first total_datum shown_datum list.left (list.left - 1) list.bytes.now _ list.given.now (shown_datum c.in-Ok.value)
     (first_and_others lawful_datum total_datum list.left list.bytes.now _ c.in-Ok.end (shown_datum c.in-Ok.value) (from_index c.in-Ok.end list.bytes.now) more list.whole c.in-Ok.ensures.item).0
