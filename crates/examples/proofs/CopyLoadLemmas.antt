@@ -55,10 +55,6 @@ copied_part most rows rest old new part after newer c e k n cut =
       };
     }
 
-pub copied_all : (most : ℕ) (rows rest old new : List ℕ) → Copied most rows rest old new → rest ≡ [] → AddsCopyOf most rows old new
-copied_all most rows rest old new c e =
-    subst (λ (xs : List ℕ). AddsCopyOf most xs old new) (sym (c.splits ∙ (ap (λ (xs : List ℕ). c.taken ++ xs) e ∙ append-nil c.taken))) c.copies
-
 -- what holds anyway holds where a call is refused
 pub on_err_anyway : {A E : Type 0} (result : Result A E) (P : Type 0) → P → OnErr result P
 on_err_anyway (Ok x) P p = tt

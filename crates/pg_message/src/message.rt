@@ -19,9 +19,10 @@ pub use pg_receive::message::{
 pub use pg_send::message::{
     Bind, BindValues, BodyOf, CODE_LENGTH, CancelRequest, Close, CopyFail, CopyFailRef, Describe,
     EncodeMessage, Execute, Flush, Framed, FrontendMessage, FunctionCall, GssEncRequest,
-    PROTOCOL_VERSION, Parse, Password, Query, RawBind, RawClose, RawDescribe, RawExecute, RawParse,
-    SaslInitial, SaslInitialResponse, SaslResponse, SslRequest, Startup, Sync, TaggedMessage,
-    Terminate, encode_all, encode_frame, encode_strict, put_if_fits, write_frame,
+    GssResponse, PROTOCOL_VERSION, Parse, Password, Query, RawBind, RawClose, RawDescribe,
+    RawExecute, RawParse, SaslInitial, SaslInitialResponse, SaslResponse, SslRequest, Startup,
+    Sync, TaggedMessage, Terminate, encode_all, encode_frame, encode_strict, put_if_fits,
+    write_frame,
 };
 
 // What a message to the server is made of.
@@ -34,4 +35,12 @@ pub use pg_send::message::{
 pub use pg_receive::message::{
     AuthenticationRef, AuthenticationSaslContinueRef, AuthenticationSaslFinalRef, Base64Bytes,
     split_raw_name,
+};
+
+// The whole protocol, with the messages and methods that sqlx-postgres doesn't know.
+pub use pg_format::ProtocolMessageKind;
+pub use pg_frames::{ProtocolFrame, next_protocol_frame};
+pub use pg_receive::message::{
+    AnyAuthenticationRef, ColumnFormats, CopyResponseRef, FunctionCallResponseRef,
+    NegotiateProtocolVersionRef, OptionNames, ProtocolMessageRef,
 };
