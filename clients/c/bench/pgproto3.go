@@ -1,5 +1,5 @@
 // How long pgproto3, the messages of Go's driver pgx, takes to read the bodies that `read_bench bodies` prints, and to
-// write the rows of `put_bench rows`. Prints for each the nanoseconds of the library, its own, and the quotient: medians
+// write the rows of `put_bench rows`; and how long Go takes to read the messages of `logical_bench bodies`. Prints for each the nanoseconds of the library, its own, and the quotient: medians
 // of processor time.
 package main
 
@@ -19,8 +19,8 @@ import (
 const rounds, times = 101, 20000
 
 // A message of each kind, which is used again for each body, as pgproto3's own Backend does.
-var messages = map[string]pgproto3.FrontendMessage{
-	"B": &pgproto3.Bind{}, "P": &pgproto3.Parse{}, "E": &pgproto3.Execute{},
+var messages = map[string]interface{ Decode([]byte) error }{
+	"B": &pgproto3.Bind{}, "P": &pgproto3.Parse{}, "E": &pgproto3.Execute{}, "I": &insertMessage{},
 }
 
 func fail(why error) {
@@ -52,7 +52,7 @@ func measure(work func()) float64 {
 }
 
 // How long one reading of a body takes.
-func measureReading(message pgproto3.FrontendMessage, body []byte) float64 {
+func measureReading(message interface{ Decode([]byte) error }, body []byte) float64 {
 	return measure(func() {
 		if err := message.Decode(body); err != nil {
 			fail(err)
@@ -97,7 +97,7 @@ func main() {
 	for input := bufio.NewScanner(os.Stdin); input.Scan(); {
 		lines = append(lines, input.Text())
 	}
-	fmt.Print("\n| message | the library, ns | pgproto3, ns | quotient |\n|---|---|---|---|\n")
+	fmt.Print("\n| message | the library, ns | Go, ns | quotient |\n|---|---|---|---|\n")
 	for _, line := range lines {
 		compare(line)
 	}

@@ -386,6 +386,72 @@ typedef struct {
     size_t content_len;
 } pgmsg_replication_text;
 
+/* What a server streams of the changes of its tables, by the letter that it begins with
+ * (PostgreSQL's documentation, "Logical Replication Message Formats"). `B`, Begin: the
+ * `transaction`, whose commit is at `lsn`. `M`, Message: its position `lsn`, its prefix in `name`,
+ * its `content`, and `flags` of 1 where it is a part of its transaction. `C`, Commit: its position
+ * `lsn`, and the transaction's end `end_lsn`. `O`, Origin: the `name` of the server that the
+ * transaction came from, and its commit's `lsn` there. `R`, Relation: a table's number `relation`,
+ * its `schema`, which is empty for pg_catalog, its `name`, the letter of its `replica_identity`,
+ * and its `columns`, for `pgmsg_read_table_columns`. `Y`, Type: a type's number `type_id`, its
+ * `schema` and its `name`. `I`, Insert: the table `relation` and the `new_row`. `U`, Update: the
+ * same, and an `old_letter` of `K` where `old_row` has the old key, `O` where it has the old row,
+ * and 0 where there is none. `D`, Delete: the table and such an `old_row`. Rows are for
+ * `pgmsg_read_tuple`. `T`, Truncate: the numbers of the tables `relations`, for `pgmsg_read_types`,
+ * and in `flags` 1 for CASCADE and 2 for RESTART IDENTITY. `S`, Stream Start: the `transaction` of
+ * the messages up to the Stream Stop, and whether they are the first of it. `E`: Stream Stop. `c`,
+ * Stream Commit: the `transaction`, and what a Commit has. `A`, Stream Abort: the `transaction`,
+ * and the `subtransaction` that is undone, which is the same where all is. `b`, Begin Prepare, `P`,
+ * Prepare, `K`, Commit Prepared, and `p`, Stream Prepare: the `transaction`, its GID in `name`, the
+ * position `lsn` of the prepare or the commit, and the `end_lsn` of the transaction or its commit.
+ * `r`, Rollback Prepared: the `transaction`, its GID in `name`, its `end_lsn`, and the
+ * `rollback_end_lsn` and `rollback_clock` of its rollback. `clock` is when a transaction was
+ * committed or prepared, in microseconds since the beginning of the year 2000; positions count the
+ * bytes of the log. `has_transaction` says that there is a `transaction`: between a Stream Start
+ * and a Stream Stop `M`, `R`, `Y`, `I`, `U`, `D` and `T` have one too. What a message hasn't is 0,
+ * false or empty. */
+typedef struct {
+    uint8_t letter;
+    bool has_transaction;
+    uint32_t transaction;
+    uint32_t subtransaction;
+    uint8_t flags;
+    bool is_first;
+    uint64_t lsn;
+    uint64_t end_lsn;
+    uint64_t rollback_end_lsn;
+    int64_t clock;
+    int64_t rollback_clock;
+    uint32_t relation;
+    uint32_t type_id;
+    uint8_t replica_identity;
+    pgmsg_span schema;
+    pgmsg_span name;
+    pgmsg_span content;
+    pgmsg_list columns;
+    pgmsg_list relations;
+    uint8_t old_letter;
+    pgmsg_list old_row;
+    pgmsg_list new_row;
+} pgmsg_logical;
+
+/* The value of a column in a row that changes. `kind` is `n` for NULL, and in a key for a column
+ * that isn't part of it, `u` for a large value that wasn't changed and isn't sent, `t` for a
+ * `value` as text, and `b` for one in the binary format of its type. A `value` of the first two is
+ * empty. */
+typedef struct {
+    uint8_t kind;
+    pgmsg_span value;
+} pgmsg_datum;
+
+/* A column of a table whose rows change. `flags` are 1 where it is a part of the key, else 0. */
+typedef struct {
+    uint8_t flags;
+    pgmsg_span name;
+    uint32_t type_id;
+    int32_t type_modifier;
+} pgmsg_table_column;
+
 /* One direction of a connection that is passed on. Set `limit` to the most bytes of a message that
  * is taken whole, `left` to 0, and `is_first` where a client's first message comes next;
  * `pgmsg_relay_next` moves the last two on. */
@@ -676,9 +742,10 @@ ptrdiff_t pgmsg_read_function_call(const uint8_t *body, size_t body_len, pgmsg_c
 size_t pgmsg_read_codes(const uint8_t *body, size_t body_len, pgmsg_list list, uint16_t *codes,
     size_t codes_len);
 
-/* The types of the parameters in a list that `pgmsg_read_parse` gave of this body: how many there
- * are, 0 where the list isn't in the body. As many as there is room for are written. A type is 0
- * where the server is to find it. */
+/* The types of the parameters in a list that `pgmsg_read_parse` gave of this body, or the numbers
+ * of the tables in one that `pgmsg_read_logical` gave: how many there are, 0 where the list isn't
+ * in the body. As many as there is room for are written. A type is 0 where the server is to find
+ * it. */
 size_t pgmsg_read_types(const uint8_t *body, size_t body_len, pgmsg_list list, uint32_t *types,
     size_t types_len);
 
@@ -776,6 +843,26 @@ int32_t pgmsg_read_replication(const uint8_t *content, size_t content_len,
  * message that is longer than a length field can say with PGMSG_MESSAGE_TOO_LONG. */
 ptrdiff_t pgmsg_put_replication(const pgmsg_replication_text *message, uint8_t *out,
     size_t out_len);
+
+/* What the content of an XLogData of a logical slot says, or a row of
+ * `pg_logical_slot_get_binary_changes`, in the versions 1 to 3 of the protocol. `streamed` is the
+ * caller's, false before the first message of a slot, and passed with each in order: a Stream Start
+ * sets it, and a Stream Stop clears it. Places are in `content`. 0, or why it is refused: of a
+ * letter of no kind, of a row or of a value with PGMSG_UNKNOWN_MESSAGE_TYPE, and where bytes follow
+ * the last part of a message with PGMSG_BODY_TOO_LONG. */
+int32_t pgmsg_read_logical(const uint8_t *content, size_t content_len, bool *streamed,
+    pgmsg_logical *message, pgmsg_fault *fault);
+
+/* The values of a row that `pgmsg_read_logical` gave of this content: how many there are. As many
+ * as there is room for are written; the rest are read too. A row that it gave is not refused. */
+ptrdiff_t pgmsg_read_tuple(const uint8_t *content, size_t content_len, pgmsg_list list,
+    pgmsg_datum *values, size_t values_len, pgmsg_fault *fault);
+
+/* The columns of a table that `pgmsg_read_logical` gave of this content: how many there are. As
+ * many as there is room for are written; the rest are read too. A list that it gave is not
+ * refused. */
+ptrdiff_t pgmsg_read_table_columns(const uint8_t *content, size_t content_len, pgmsg_list list,
+    pgmsg_table_column *columns, size_t columns_len, pgmsg_fault *fault);
 
 /* What is at the front of a stream that is passed on: 1 for a whole message that is wanted whole,
  * or a first one; 2 for the next bytes of one that isn't; 0 where more bytes are needed. Messages

@@ -207,3 +207,37 @@ SAME(offsetof(pgmsg_replication_text, location), 104);
 SAME(offsetof(pgmsg_replication_text, location_len), 112);
 SAME(offsetof(pgmsg_replication_text, content), 120);
 SAME(offsetof(pgmsg_replication_text, content_len), 128);
+
+SAME(sizeof(pgmsg_logical), 192);
+SAME(offsetof(pgmsg_logical, letter), 0);
+SAME(offsetof(pgmsg_logical, has_transaction), 1);
+SAME(offsetof(pgmsg_logical, transaction), 4);
+SAME(offsetof(pgmsg_logical, subtransaction), 8);
+SAME(offsetof(pgmsg_logical, flags), 12);
+SAME(offsetof(pgmsg_logical, is_first), 13);
+SAME(offsetof(pgmsg_logical, lsn), 16);
+SAME(offsetof(pgmsg_logical, end_lsn), 24);
+SAME(offsetof(pgmsg_logical, rollback_end_lsn), 32);
+SAME(offsetof(pgmsg_logical, clock), 40);
+SAME(offsetof(pgmsg_logical, rollback_clock), 48);
+SAME(offsetof(pgmsg_logical, relation), 56);
+SAME(offsetof(pgmsg_logical, type_id), 60);
+SAME(offsetof(pgmsg_logical, replica_identity), 64);
+SAME(offsetof(pgmsg_logical, schema), 72);
+SAME(offsetof(pgmsg_logical, name), 88);
+SAME(offsetof(pgmsg_logical, content), 104);
+SAME(offsetof(pgmsg_logical, columns), 120);
+SAME(offsetof(pgmsg_logical, relations), 136);
+SAME(offsetof(pgmsg_logical, old_letter), 152);
+SAME(offsetof(pgmsg_logical, old_row), 160);
+SAME(offsetof(pgmsg_logical, new_row), 176);
+
+SAME(sizeof(pgmsg_datum), 24);
+SAME(offsetof(pgmsg_datum, kind), 0);
+SAME(offsetof(pgmsg_datum, value), 8);
+
+SAME(sizeof(pgmsg_table_column), 32);
+SAME(offsetof(pgmsg_table_column, flags), 0);
+SAME(offsetof(pgmsg_table_column, name), 8);
+SAME(offsetof(pgmsg_table_column, type_id), 24);
+SAME(offsetof(pgmsg_table_column, type_modifier), 28);

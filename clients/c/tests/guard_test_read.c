@@ -1,6 +1,24 @@
 /* Messages from the server, at pages that can't be touched. */
 #include "guard_test.h"
 
+/* The lists of two bodies, each behind a letter. */
+static const pgmsg_list three_values = {1, 3}, two_columns = {1, 2};
+
+/* Whether a message is streamed, before it is read. */
+static bool streamed;
+
+static bool *outside(void)
+{
+    streamed = false;
+    return &streamed;
+}
+
+static bool *within(void)
+{
+    streamed = true;
+    return &streamed;
+}
+
 /* Each call that reads, by a body and its length. */
 #define CALLS(CALL)                                                                                        \
     CALL(frame, pgmsg_next_frame(body, len, ONE(pgmsg_frame), fault))                                      \
@@ -26,6 +44,10 @@
     CALL(negotiation, pgmsg_read_negotiate_version(body, len, ONE(pgmsg_negotiation), ITEMS(pgmsg_span), fault)) \
     CALL(ready, pgmsg_read_ready(body, len, fault))                                                        \
     CALL(replication, pgmsg_read_replication(body, len, ONE(pgmsg_replication), fault))                    \
+    CALL(logical, pgmsg_read_logical(body, len, outside(), ONE(pgmsg_logical), fault))                     \
+    CALL(logical_streamed, pgmsg_read_logical(body, len, within(), ONE(pgmsg_logical), fault))             \
+    CALL(tuple, pgmsg_read_tuple(body, len, three_values, ITEMS(pgmsg_datum), fault))                      \
+    CALL(table_columns, pgmsg_read_table_columns(body, len, two_columns, ITEMS(pgmsg_table_column), fault)) \
     CALL(copy_response, pgmsg_read_copy_response(body, len, ONE(pgmsg_copy_response), ITEMS(int16_t), fault)) \
     CALL(authentication, pgmsg_read_authentication(body, len, ONE(pgmsg_authentication), fault))           \
     CALL(mechanisms, (ptrdiff_t)pgmsg_read_mechanisms(body, len, ITEMS(pgmsg_span)))                       \
@@ -71,6 +93,16 @@ static const struct body samples[] = {
     BODY(replication, "m"),
     BODY(replication, "d" "tar"),
     BODY(replication, "p" "\0\0\0\0\0\0\0\1"),
+    BODY(logical, "B" "\0\0\0\0\0\0\0\1" "\0\0\0\0\0\0\0\2" "\0\0\0\3"),
+    BODY(logical, "R" "\0\0\0\1" "public\0" "t\0" "d" "\0\1" "\1" "id\0" "\0\0\0\27" "\377\377\377\377"),
+    BODY(logical, "U" "\0\0\0\1" "K" "\0\2" "t\0\0\0\1" "a" "n" "N" "\0\2" "b\0\0\0\1" "a" "u"),
+    BODY(logical, "r" "\0" "\0\0\0\0\0\0\0\1" "\0\0\0\0\0\0\0\2" "\0\0\0\0\0\0\0\3" "\0\0\0\0\0\0\0\4" "\0\0\0\5" "gid\0"),
+    BODY(logical_streamed, "M" "\0\0\0\1" "\1" "\0\0\0\0\0\0\0\1" "prefix\0" "\0\0\0\2" "ab"),
+    BODY(logical_streamed, "I" "\0\0\0\1" "\0\0\0\2" "N" "\0\2" "t\0\0\0\1" "a" "n"),
+    BODY(logical_streamed, "D" "\0\0\0\1" "\0\0\0\2" "O" "\0\1" "t\0\0\0\2" "ab"),
+    BODY(logical_streamed, "T" "\0\0\0\1" "\0\0\0\2" "\3" "\0\0\0\4" "\0\0\0\5"),
+    BODY(tuple, "N" "t\0\0\0\2" "ab" "n" "b\0\0\0\0"),
+    BODY(table_columns, "d" "\1" "id\0" "\0\0\0\27" "\377\377\377\377" "\0" "n\0" "\0\0\0\31" "\0\0\0\24"),
     BODY(authentication, "\0\0\0\5" "\1\2\3\4"),
     BODY(mechanisms, "\0\0\0\12" "SCRAM-SHA-256\0" "\351\0" "\0"),
     BODY(challenge, "\0\0\0\13" "r=abc,s=AQID,i=8192"),

@@ -2,6 +2,9 @@ pub mod ClientFramesLemmas
 pub mod ClientLemmas
 pub mod ClientStartupLemmas
 pub mod ClientValuesLemmas
+pub mod LogicalGivenLemmas
+pub mod LogicalListsLemmas
+pub mod LogicalPlacesLemmas
 pub mod PlaceLemmas
 pub mod ReadAuthenticationLemmas
 pub mod ReadFieldsLemmas

@@ -39,9 +39,9 @@ pub extern "C" fn pgmsg_read_codes(body: &[u8], list: PgmsgList, codes: &mut [u1
     list.count
 }
 
-/// The types of the parameters in a list that `pgmsg_read_parse` gave of this body: how many there are, 0
-/// where the list isn't in the body. As many as there is room for are written. A type is 0 where the
-/// server is to find it.
+/// The types of the parameters in a list that `pgmsg_read_parse` gave of this body, or the numbers of the
+/// tables in one that `pgmsg_read_logical` gave: how many there are, 0 where the list isn't in the body. As
+/// many as there is room for are written. A type is 0 where the server is to find it.
 #[unsafe(no_mangle)]
 pub extern "C" fn pgmsg_read_types(body: &[u8], list: PgmsgList, types: &mut [u32]) -> usize
     ensures count { HasList 4 body.now list → result ≡ list.count }

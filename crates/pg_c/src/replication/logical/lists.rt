@@ -1,0 +1,228 @@
+//! The lists of a message of logical replication: the values of a row, and the columns of a table.
+
+ghost use Rattle.std.specs.Prelude.{◌≡◌, ◌+◌, ◌≤◌, ◌<ℤ◌, ◌≤ℤ◌, ℕ, pos, List, length, Option};
+ghost use Rattle.std.specs.Prelude.{OnOk, OnErr, IfErr};
+ghost use Rattle.pg_format.specs.Format.{Format};
+ghost use Rattle.pg_format.specs.Format.Places.{BreaksAt};
+ghost use Rattle.pg_format.specs.Logical.{datum, column};
+ghost use Rattle.pg_format.specs.Received.{max_body};
+ghost use Rattle.pg_replication.specs.Logical.Columns.{shown_column};
+ghost use Rattle.pg_replication.specs.Logical.Tuple.{shown_datum};
+ghost use Rattle.pg_c.specs.Place.{nowhere, span_of};
+ghost use Rattle.pg_c.specs.Read.{IfRead, IsBodyFault};
+ghost use Rattle.pg_c.specs.Replication.Logical.Lists.{datum_in, column_in, IsPlaceOf, PlacesAt};
+ghost use Rattle.pg_c.specs.Replication.Logical.Lists.{CountsList, GivesFrontOf, BreaksList};
+ghost use Rattle.pg_c.specs.Replication.Logical.Lists.{LacksList, RefusesList, IsNotThere};
+ghost use Rattle.pg_c.specs.Replication.Logical.Lists.{ReadsDatums, ReadsTableColumns};
+ghost use Rattle.pg_c.specs.Replication.Logical.Lists.{GivesDatums, GivesTableColumns};
+
+use crate::place::{NOWHERE, PgmsgList, PgmsgSpan, span};
+use crate::read::check_body;
+use crate::refusal::{PgmsgFault, report};
+use pg_base::ProtocolFault;
+use pg_base::io::{MAX_BODY, bytes_at};
+use pg_format::items::Item;
+use pg_replication::logical::{Column, Datum};
+use std::alloc::Global;
+
+// The bytes before a value: its letter and its length.
+const BEFORE_VALUE: usize = 5;
+
+/// The value of a column in a row that changes. `kind` is `n` for NULL, and in a key for a column that isn't part of
+/// it, `u` for a large value that wasn't changed and isn't sent, `t` for a `value` as text, and `b` for one in the
+/// binary format of its type. A `value` of the first two is empty.
+#[repr(C)]
+#[derive(Clone, Copy)]
+pub struct PgmsgDatum {
+    pub kind: u8,
+    pub value: PgmsgSpan,
+}
+
+/// A column of a table whose rows change. `flags` are 1 where it is a part of the key, else 0.
+#[repr(C)]
+#[derive(Clone, Copy)]
+pub struct PgmsgTableColumn {
+    pub flags: u8,
+    pub name: PgmsgSpan,
+    pub type_id: u32,
+    pub type_modifier: i32,
+}
+
+/// The values of a row that `pgmsg_read_logical` gave of this content: how many there are. As many as there is room for
+/// are written; the rest are read too. A row that it gave is not refused.
+#[unsafe(no_mangle)]
+pub extern "C" fn pgmsg_read_tuple(
+    alloc: Global,
+    content: &[u8],
+    list: PgmsgList,
+    values: &mut [PgmsgDatum],
+    fault: &mut PgmsgFault,
+) -> isize
+    ensures values { IfRead result (ReadsDatums content.now list values.old values.new) }
+    ensures there { result <ℤ pos 0 → IsNotThere datum list content.now }
+    ensures fault { RefusesList datum list content.now fault.old fault.new result }
+    ensures within { pos 0 ≤ℤ result → length content.now ≤ max_body }
+    ensures front { result <ℤ pos 0 → GivesDatums content.now list values.old values.new }
+    ensures untouched { pos 0 ≤ℤ result → fault.new ≡ fault.old }
+{
+    match read_list::<PgmsgDatum>(content, list, values) {
+        Ok(()) => list.count as isize,
+        Err(why) => report(alloc, why.into(), fault) as isize,
+    }
+}
+
+/// The columns of a table that `pgmsg_read_logical` gave of this content: how many there are. As many as there is room
+/// for are written; the rest are read too. A list that it gave is not refused.
+#[unsafe(no_mangle)]
+pub extern "C" fn pgmsg_read_table_columns(
+    alloc: Global,
+    content: &[u8],
+    list: PgmsgList,
+    columns: &mut [PgmsgTableColumn],
+    fault: &mut PgmsgFault,
+) -> isize
+    ensures columns { IfRead result (ReadsTableColumns content.now list columns.old columns.new) }
+    ensures there { result <ℤ pos 0 → IsNotThere column list content.now }
+    ensures fault { RefusesList column list content.now fault.old fault.new result }
+    ensures within { pos 0 ≤ℤ result → length content.now ≤ max_body }
+    ensures front { result <ℤ pos 0 → GivesTableColumns content.now list columns.old columns.new }
+    ensures untouched { pos 0 ≤ℤ result → fault.new ≡ fault.old }
+{
+    match read_list::<PgmsgTableColumn>(content, list, columns) {
+        Ok(()) => list.count as isize,
+        Err(why) => report(alloc, why.into(), fault) as isize,
+    }
+}
+
+// An item of a list, as its place.
+trait Place: Copy {
+    ghost Shown: { Type 0 };
+
+    /// What its bytes mean.
+    ghost format: { Format Shown };
+
+    /// The item that the place says of some bytes.
+    ghost item_in: { List ℕ → Self → Option Shown };
+
+    /// The place of the item at an offset, and the offset after it.
+    fn place_at(content: &[u8], at: usize) -> Result<(Self, usize), ProtocolFault>
+        requires within { at ≤ length content.now }
+        requires short { length content.now ≤ MAX_BODY }
+        ensures place { PlacesAt format item_in content.now at result }
+        ensures broken { IfErr result (BreaksAt format content.now at) };
+}
+
+// Gives the items of a list, as far as there is room for them.
+fn read_list<P: Place>(content: &[u8], list: PgmsgList, to: &mut [P]) -> Result<(), ProtocolFault>
+    ensures small { OnOk result (list.count ≤ length content.now) }
+    ensures within { OnOk result (length content.now ≤ max_body) }
+    ensures items { OnOk result (CountsList P.format P.item_in content.now list to.old to.new) }
+    ensures fault { IfErr result (IsBodyFault (BreaksList P.format list) content.now) }
+    ensures front { OnErr result (GivesFrontOf P.format P.item_in content.now list to.old to.new) }
+{
+    check_list(content, list)?;
+    let mut at = list.at;
+    for index in 0..list.count {
+        let (place, end) = P::place_at(content, at)?;
+        if index < to.len() {
+            to[index] = place;
+        }
+        at = end;
+    }
+    Ok(())
+}
+
+// Whether the content can have so many items there, each of which has a byte at least.
+fn check_list(content: &[u8], list: PgmsgList) -> Result<(), ProtocolFault>
+    ensures fits { OnOk result (list.at + list.count ≤ length content.now) }
+    ensures within { OnOk result (length content.now ≤ max_body) }
+    ensures fault { IfErr result (IsBodyFault (LacksList list) content.now) }
+{
+    check_body(content)?;
+    if list.at > content.len() {
+        return Err(ProtocolFault::Short {
+            at: list.at,
+            needed: list.count,
+            got: 0,
+        });
+    }
+    bytes_at(content, list.at, list.count)?;
+    Ok(())
+}
+
+impl Place for PgmsgDatum {
+    ghost use Rattle.pg_format.specs.Logical.{Datum};
+
+    ghost Shown = { Datum };
+
+    ghost format = { datum };
+
+    ghost item_in = { datum_in };
+
+    fn place_at(content: &[u8], at: usize) -> Result<(PgmsgDatum, usize), ProtocolFault> {
+        let (value, end) = Datum::item_at(content, at)?;
+        Ok((place_of_datum(at, &value), end))
+    }
+}
+
+// The place of the value that begins at an offset.
+fn place_of_datum(at: usize, value: &Datum<'_>) -> PgmsgDatum
+    requires { at ≤ MAX_BODY }
+    ensures { IsPlaceOf datum datum_in at (shown_datum value.now) result }
+{
+    match value {
+        Datum::Null => unsent(b'n'),
+        Datum::Unchanged => unsent(b'u'),
+        Datum::Text(text) => sent(b't', at, text),
+        Datum::Binary(bytes) => sent(b'b', at, bytes),
+    }
+}
+
+// A value that isn't sent.
+fn unsent(kind: u8) -> PgmsgDatum
+    ensures { result ≡ record { kind = kind; value = nowhere } }
+{
+    PgmsgDatum {
+        kind,
+        value: NOWHERE,
+    }
+}
+
+// A value after its letter and its length.
+fn sent(kind: u8, at: usize, value: &[u8]) -> PgmsgDatum
+    requires { at ≤ MAX_BODY }
+    ensures { result ≡ record { kind = kind; value = span_of (at + 5) value.now } }
+{
+    PgmsgDatum {
+        kind,
+        value: span(at + BEFORE_VALUE, value),
+    }
+}
+
+impl Place for PgmsgTableColumn {
+    ghost use Rattle.pg_format.specs.Logical as page;
+
+    ghost Shown = { page.Column };
+
+    ghost format = { column };
+
+    ghost item_in = { column_in };
+
+    fn place_at(content: &[u8], at: usize) -> Result<(PgmsgTableColumn, usize), ProtocolFault> {
+        let (read, end) = Column::item_at(content, at)?;
+        Ok((place_of_column(at, &read), end))
+    }
+}
+
+// The place of the column that begins at an offset.
+fn place_of_column(at: usize, read: &Column<'_>) -> PgmsgTableColumn
+    requires { at ≤ MAX_BODY }
+    ensures { IsPlaceOf column column_in at (shown_column read.now) result }
+{
+    PgmsgTableColumn {
+        flags: read.flags,
+        name: span(at + 1, read.name),
+        type_id: read.type_id,
+        type_modifier: read.type_modifier,
+    }
+}

@@ -1,0 +1,8 @@
+//! What a server streams of the changes of its tables, as its plugin pgoutput writes it.
+//!
+//! A message is read whole, and its rows, columns and tables are then read of it by calls of their own.
+
+mod change;
+pub mod lists;
+pub mod read;
+mod transaction;
