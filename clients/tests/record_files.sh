@@ -144,6 +144,7 @@ test_taped_encryption() {
     printf '\26\3\1\2\0' >&3
     same 'TLS that is not asked for ends the connection' "$(timeout 10 cat <&3; echo $?)" 0
     exec 3>&-
+    await grep -q 'begins with TLS' "$work/errors.record"
     stop_recording
     same 'the recorder says so' "$(grep -c 'begins with TLS' "$work/errors.record")" 1
     start_taping "$tape" -h 127.0.0.1 --encryption

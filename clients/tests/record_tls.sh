@@ -67,6 +67,8 @@ test_refused_servers() {
     refuses_server 'an unknown root' 'certificate is refused' -h localhost --sslmode verify-ca --sslrootcert "$work/authority/other.crt"
     refuses_server 'require, and roots that are named' 'certificate is refused' -h localhost --sslmode require \
         --sslrootcert "$work/authority/other.crt"
+    SSL_CERT_FILE=$trusted.crt refuses_server 'roots that are named, and no others of the system' 'certificate is refused' \
+        -h localhost --sslmode verify-ca --sslrootcert "$work/authority/other.crt"
     start_taping "$work/refused.tape" -h 127.0.0.1 --sslmode verify-ca --sslrootcert "$trusted.crt"
     same 'TLS with the server: verify-ca takes another host' "$(query_through "$its_encryption")" t
     stop_recording
@@ -93,6 +95,65 @@ test_no_encryption() {
 
 is_plain() {
     ! is_encrypted
+}
+
+# Has the server take sessions of a user over TLS alone, and of another one without it alone.
+split_users() {
+    local rules=$server_folder/data/pg_hba.conf
+    as_owner cp "$rules" "$rules.kept"
+    as_owner tee "$rules" > /dev/null << 'RULES'
+local all all trust
+hostssl all only_tls 127.0.0.1/32 trust
+hostnossl all only_plain 127.0.0.1/32 trust
+RULES
+    sql 'CREATE ROLE only_tls LOGIN; CREATE ROLE only_plain LOGIN; CREATE ROLE nobody LOGIN; SELECT pg_reload_conf()' > /dev/null
+    await refuses_tcp
+}
+
+refuses_tcp() {
+    ! PGHOST=127.0.0.1 "$bin/psql" -X -c 'SELECT 7'
+}
+
+# Whether a session of a user is encrypted, through a program at a port.
+encryption_of() {
+    PGUSER=$2 at_port "$1" "$bin/psql" -X -q -A -t -c "$its_encryption" "${@:3}" 2>&1
+}
+
+# Modes with another way for sessions that the server refuses in the first one.
+test_other_ways() {
+    local mode tape
+    split_users
+    for mode in allow prefer; do
+        tape=$work/$mode.tape
+        start_taping "$tape" -h localhost --sslmode "$mode"
+        same "TLS with the server: $mode has both ways" \
+            "$(encryption_of "$record_port" only_tls) $(encryption_of "$record_port" only_plain)" 't f'
+        same "TLS with the server: $mode, refused in both ways, shows what the server says" \
+            "$(encryption_of "$record_port" nobody | grep -c 'no pg_hba.conf entry')" 1
+        stop_taping "$tape"
+        read_back "sslmode $mode" "$tape"
+        same "sslmode $mode: a session that is asked for twice is recorded once" \
+            "$(count_records O) $(grep -a -o -e 'user.only_' -e 'user.nobody' "$tape" | wc -l)" '3 3'
+        start_replay "$tape"
+        same "sslmode $mode, replayed" "$(encryption_of "$replay_port" only_tls) $(encryption_of "$replay_port" only_plain)" 't f'
+        stop_replay
+        start_replay "$tape" --record-missing -h localhost -p "$PGPORT" --sslmode "$mode"
+        same "sslmode $mode: a replay passes on what is missing, and all of a session" \
+            "$(encryption_of "$replay_port" only_tls -c 'SELECT 8' | tr '\n' ' ')$(PGAPPNAME=other encryption_of "$replay_port" only_plain)" 't 8 f'
+        stop_replay
+    done
+    refuses_user disable only_tls
+    refuses_user require only_plain
+    as_owner mv "$server_folder/data/pg_hba.conf.kept" "$server_folder/data/pg_hba.conf"
+    sql 'SELECT pg_reload_conf()' > /dev/null
+    await is_encrypted
+}
+
+# A mode with one way, in which the server refuses a user.
+refuses_user() {
+    start_taping "$work/refused.tape" -h localhost --sslmode "$1"
+    same "TLS with the server: $1 has one way" "$(encryption_of "$record_port" "$2" | grep -c 'no pg_hba.conf entry')" 1
+    stop_recording
 }
 
 # Channel binding: dropped where a client can't bind to the server's certificate, and kept where both have it.
@@ -173,5 +234,6 @@ test_record_tls() {
     test_binding
     test_handshakes
     test_counted_cancel
+    test_other_ways
     test_no_encryption
 }

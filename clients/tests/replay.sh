@@ -191,6 +191,23 @@ test_replay_pgbench() {
     both_ways 'pgbench-that-connects' '' bash -c 'pgbench_without_times -C -t 20'
 }
 
+# Tools whose jobs take what is next at any of their connections.
+test_replay_jobs() {
+    local number keys= tables=() folder=$work/jobs
+    for number in {1..6}; do
+        sql "CREATE TABLE job_$number AS SELECT i AS id, md5(i::text) FROM generate_series(1, 500) AS i"
+        keys+="; ALTER TABLE job_$number ADD PRIMARY KEY (id)"
+        tables+=(-t "job_$number")
+    done
+    # Without keys, for which pg_restore sets its tablespace once on each connection that gets one of them.
+    "$bin/pg_dump" -Fd "${tables[@]}" -f "$folder"
+    both_ways 'pg_restore-of-3-jobs' '' "$bin/pg_restore" -j 3 --clean --if-exists -d postgres "$folder"
+    same 'record: pg_restore of 3 jobs restores all' "$(sql 'SELECT count(*) FROM job_1, job_6 WHERE job_1.id = job_6.id')" 500
+    sql "$keys"
+    both_ways 'vacuumdb-of-3-jobs' '' "$bin/vacuumdb" -j 3 "${tables[@]}" postgres
+    both_ways 'reindexdb-of-3-jobs' '' "$bin/reindexdb" -j 3 "${tables[@]}" postgres
+}
+
 # Debian's drivers for its Python, where they are there.
 test_replay_python() {
     local driver
@@ -244,6 +261,7 @@ test_replay() {
     begin_slow_openings
     test_replay_psql
     test_replay_pgbench
+    test_replay_jobs
     test_replay_python
     test_replay_tokio_postgres
     test_replay_notify

@@ -15,6 +15,8 @@ use tokio::io::{AsyncReadExt, AsyncWriteExt};
 use tokio::net::{lookup_host, TcpStream, UnixStream};
 use tokio_openssl::SslStream;
 
+/// The tag of an ErrorResponse.
+const ERROR: u8 = b'E';
 /// How long a Unix socket with a full queue isn't tried again.
 const PAUSE: Duration = Duration::from_millis(50);
 
@@ -23,7 +25,8 @@ pub struct Upstream {
     address: Address,
     place: Place,
     mode: SslMode,
-    connector: SslConnector,
+    /// What encrypts, where the mode ever does.
+    connector: Option<SslConnector>,
 }
 
 /// The addresses of a host, or a path.
@@ -51,50 +54,98 @@ impl Upstream {
                 Place::Tcp(host.clone(), found.collect())
             }
         };
-        let connector = connector(mode, roots)?;
+        let encrypts = mode != SslMode::Disable;
+        let connector = encrypts.then(|| connector(mode, roots)).transpose()?;
         Ok(Upstream { address, place, mode, connector })
     }
 
     /// A connection, encrypted as the mode has it.
     pub async fn connect(&self) -> Result<Stream> {
-        let refused = || format!("no connection to {}", self.address);
-        let (host, all) = match &self.place {
-            Place::Unix(path) => return connect_unix(path).await.with_context(refused),
-            Place::Tcp(host, all) => (host, all),
-        };
-        let dial = || async {
-            let stream = TcpStream::connect(&all[..]).await.with_context(refused)?;
-            tune(&stream);
-            Ok(stream)
-        };
+        let dialled = self.dial().await?;
         match self.mode {
-            SslMode::Disable => dial().await.map(Stream::Tcp),
-            SslMode::Prefer => match self.encrypt(host, dial().await?).await {
+            SslMode::Disable | SslMode::Allow => Ok(dialled),
+            SslMode::Prefer => match self.encrypt(dialled).await {
                 // As libpq does, once more without.
-                Err(_) => dial().await.map(Stream::Tcp),
+                Err(_) => self.dial().await,
                 encrypted => encrypted,
             },
-            _ => self.encrypt(host, dial().await?).await.with_context(refused),
+            _ => self.encrypt(dialled).await,
         }
     }
 
+    /// Whether the mode has another way than that of a connection, for a session that the server refuses over it.
+    pub fn has_other_way(&self, refused: &Stream) -> bool {
+        match self.mode {
+            SslMode::Allow => matches!(refused, Stream::Tcp(_)),
+            SslMode::Prefer => refused.is_tls(),
+            _ => false,
+        }
+    }
+
+    /// Says a Startup over a connection. Where the server refuses the session and the mode has another way, says it over another
+    /// connection. Gives the connection, and what the server has answered so far.
+    pub async fn start(&self, mut server: Stream, startup: &[u8]) -> Result<(Stream, Vec<u8>)> {
+        let mut answer = Vec::new();
+        say(&mut server, startup).await?;
+        if self.has_other_way(&server) {
+            server.read_buf(&mut answer).await?;
+            if answer.first() == Some(&ERROR) {
+                answer.clear();
+                server = self.connect_otherwise().await?;
+                say(&mut server, startup).await?;
+            }
+        }
+        Ok((server, answer))
+    }
+
+    /// A connection in the other way of the mode.
+    async fn connect_otherwise(&self) -> Result<Stream> {
+        let dialled = self.dial().await?;
+        match self.mode {
+            SslMode::Allow => self.encrypt(dialled).await,
+            _ => Ok(dialled),
+        }
+    }
+
+    /// A connection that isn't encrypted.
+    async fn dial(&self) -> Result<Stream> {
+        let dialled = match &self.place {
+            Place::Unix(path) => connect_unix(path).await,
+            Place::Tcp(_, all) => connect_tcp(all).await,
+        };
+        dialled.with_context(|| format!("no connection to {}", self.address))
+    }
+
+    /// The same connection, encrypted; one over a Unix socket stays as it is.
+    async fn encrypt(&self, dialled: Stream) -> Result<Stream> {
+        let encrypted = match (dialled, &self.place, &self.connector) {
+            (Stream::Tcp(stream), Place::Tcp(host, _), Some(connector)) => {
+                self.ask(host, stream, connector).await
+            }
+            (other, ..) => return Ok(other),
+        };
+        encrypted.with_context(|| format!("no connection to {}", self.address))
+    }
+
     /// Asks a server for TLS, and takes its certificate.
-    async fn encrypt(&self, host: &str, mut stream: TcpStream) -> Result<Stream> {
+    async fn ask(
+        &self,
+        host: &str,
+        mut stream: TcpStream,
+        connector: &SslConnector,
+    ) -> Result<Stream> {
         let mut request = Vec::new();
         Message::SslRequest.write(&mut request)?;
         stream.write_all(&request).await?;
         // One byte and no more: what follows is the handshake's (CVE-2021-23222).
         match stream.read_u8().await? {
             b'S' => {}
-            b'N' if self.mode == SslMode::Prefer => return Ok(Stream::Tcp(stream)),
+            b'N' if !self.mode.requires() => return Ok(Stream::Tcp(stream)),
             b'N' => bail!("the server has no TLS"),
             _ => bail!("the server doesn't answer a request for TLS"),
         }
-        let ssl = self
-            .connector
-            .configure()?
-            .verify_hostname(self.mode == SslMode::VerifyFull)
-            .into_ssl(host)?;
+        let verifies_host = self.mode == SslMode::VerifyFull;
+        let ssl = connector.configure()?.verify_hostname(verifies_host).into_ssl(host)?;
         let mut tls = SslStream::new(ssl, stream)?;
         let connected = Pin::new(&mut tls).connect().await;
         connected.with_context(|| match tls.ssl().verify_result() {
@@ -103,6 +154,17 @@ impl Upstream {
         })?;
         Ok(Stream::Tls(Box::new(tls)))
     }
+}
+
+async fn say(server: &mut Stream, bytes: &[u8]) -> io::Result<()> {
+    server.write_all(bytes).await?;
+    server.flush().await
+}
+
+async fn connect_tcp(all: &[SocketAddr]) -> io::Result<Stream> {
+    let stream = TcpStream::connect(all).await?;
+    tune(&stream);
+    Ok(Stream::Tcp(stream))
 }
 
 /// Connects once the queue of a socket has room.

@@ -3,14 +3,17 @@
 use crate::{Failure, Status};
 use clap::ValueEnum;
 use openssl::ssl::{SslConnector, SslMethod, SslMode as Mode, SslVerifyMode, SslVersion};
+use openssl::x509::store::X509StoreBuilder;
 use std::path::{Path, PathBuf};
 
-/// Whether the connection to the server is encrypted, as libpq's `sslmode`, which has `allow` besides.
+/// Whether the connection to the server is encrypted, as libpq's `sslmode`.
 #[derive(Clone, Copy, Debug, PartialEq, Eq, ValueEnum)]
 pub enum SslMode {
     /// Never.
     Disable,
-    /// Where the server can.
+    /// Where the server refuses the session without.
+    Allow,
+    /// Where the server can, and doesn't refuse the session with it.
     Prefer,
     /// Always. The server's certificate is verified as by verify-ca where there is a file of roots.
     Require,
@@ -30,6 +33,11 @@ fn usual_roots() -> Option<PathBuf> {
 }
 
 impl SslMode {
+    /// Whether no connection is taken without encryption.
+    pub(crate) fn requires(self) -> bool {
+        self.verifies() || self == SslMode::Require
+    }
+
     fn verifies(self) -> bool {
         matches!(self, SslMode::VerifyCa | SslMode::VerifyFull)
     }
@@ -49,6 +57,11 @@ pub(crate) fn connector(mode: SslMode, roots: Option<&Path>) -> Result<SslConnec
     let is_system = roots == Some(Path::new(SYSTEM));
     let file = roots.map(Path::to_owned).or_else(usual_roots);
     let file = file.filter(|file| !is_system && file.exists());
+    if !is_system {
+        // A connector begins with the roots of the system.
+        let none = X509StoreBuilder::new().map_err(fail)?.build();
+        builder.set_cert_store(none);
+    }
     if let Some(file) = &file {
         builder
             .set_ca_file(file)

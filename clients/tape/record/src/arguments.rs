@@ -136,7 +136,7 @@ mod tests {
             &["--print", "file", "-o", "other"],
             &["--cert", "own.crt", "0"],
             &["--encryption", "--sslmode", "require", "0"],
-            &["--sslmode", "allow", "0"],
+            &["--sslmode", "always", "0"],
         ] {
             assert!(parsed(wrong).is_err(), "{wrong:?}");
         }

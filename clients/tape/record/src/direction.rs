@@ -1,109 +1,164 @@
 //! One way of a connection.
 
 use crate::framer::{Found, Framer};
-use crate::tape::{Over, Tape};
 use bytes::{Buf, BytesMut};
+use net::Stream;
 use pgmsg::backend::Authentication;
 use pgmsg::Fault;
 use recording::{Kind, Side, MESSAGE_HEAD};
-use std::future::{poll_fn, Future};
+use std::future::Future;
 use std::io;
-use tokio::io::{AsyncRead, AsyncReadExt, AsyncWrite, AsyncWriteExt};
-use tokio::sync::OnceCell;
+use std::pin::Pin;
+use std::task::{ready, Context, Poll};
+use tokio::io::{AsyncReadExt, AsyncWrite};
 
 /// The room for bytes at first, which is kept where nothing comes, and at most.
 const ROOM: usize = 2 << 10;
 const ROOM_MOST: usize = 64 << 10;
 
 /// What passes from one side to the other.
-pub struct Direction<'s> {
-    pub tape: &'s Tape,
-    pub connection: u32,
-    pub side: Side,
-    /// The side that ended first.
-    pub first_end: &'s OnceCell<Side>,
+pub struct Direction {
+    side: Side,
     /// `None` where bytes are encrypted, and pass unread.
-    pub framer: Option<Framer>,
+    framer: Option<Framer>,
     /// Mechanisms with channel binding are taken out of the server's offer.
-    pub drops_binding: bool,
+    drops_binding: bool,
+    /// What came and hasn't passed, and how many of these bytes may, since they are recorded.
+    held: BytesMut,
+    passing: usize,
+    /// The room for what comes next.
+    room: usize,
+    /// What is found in the bytes that came last, if they were looked at.
+    found: Found,
+    is_new: bool,
+    /// The side has ended.
+    pub has_ended: bool,
+    /// The other side takes nothing any more.
+    pub is_refused: bool,
+    is_closed: bool,
 }
 
-impl Direction<'_> {
-    /// Passes on what comes until it ends or can't be written, after some bytes that came before; each once it is
-    /// recorded. The end is passed on too.
-    pub async fn pass(
-        &mut self,
-        from: &mut (impl AsyncRead + Unpin),
-        to: &mut (impl AsyncWrite + Unpin),
+impl Direction {
+    /// The direction from a side on, after some bytes that came before.
+    pub fn new(
+        side: Side,
+        framer: Option<Framer>,
+        drops_binding: bool,
         before: &[u8],
-    ) -> Result<(), Over> {
-        let (mut held, mut room) = (BytesMut::from(before), ROOM);
-        let (mut found, mut has_ended) = (Found::default(), false);
-        loop {
-            let count = match &mut self.framer {
-                Some(framer) => framer.scan(&held, has_ended, &mut found),
-                None => held.len(),
-            };
-            if count > 0 {
-                self.record(&held, &found).await?;
-                if self.write(to, &held[..count], &found).await.is_err() {
-                    let _ = self.first_end.set(other(self.side));
-                    return Ok(());
-                }
-                held.advance(count);
-            }
-            if has_ended {
-                let _ = to.shutdown().await;
-                return Ok(());
-            }
-            let count = read(from, &mut held, &mut room).await;
-            if count == 0 {
-                has_ended = true;
-                let _ = self.first_end.set(self.side);
-            }
+    ) -> Direction {
+        Direction {
+            side,
+            framer,
+            drops_binding,
+            held: BytesMut::from(before),
+            passing: 0,
+            room: ROOM,
+            found: Found::default(),
+            is_new: true,
+            has_ended: false,
+            is_refused: false,
+            is_closed: false,
         }
     }
 
-    async fn record(&self, bytes: &[u8], found: &Found) -> Result<(), Over> {
-        match &found.pieces[..] {
-            [] => Ok(()),
-            [piece] => {
-                let records = [(piece.kind, &bytes[piece.range.clone()])];
-                self.tape.take(self.connection, &records).await
-            }
-            pieces => {
-                let record_of = |it: &crate::framer::Piece| (it.kind, &bytes[it.range.clone()]);
-                let records: Vec<(Kind, &[u8])> = pieces.iter().map(record_of).collect();
-                self.tape.take(self.connection, &records).await
-            }
+    /// Whether nothing passes any more.
+    pub fn is_over(&self) -> bool {
+        self.is_refused || self.is_closed
+    }
+
+    /// Looks at what is new, which may pass once it is recorded.
+    pub fn look(&mut self) {
+        if !std::mem::take(&mut self.is_new) {
+            self.found.clear();
+        } else if let Some(framer) = &mut self.framer {
+            self.passing = framer.scan(&self.held, self.has_ended, &mut self.found);
+        } else {
+            self.passing = self.held.len();
         }
     }
 
-    /// Writes bytes, in which a list of mechanisms may lose those with channel binding.
-    async fn write(
-        &self,
-        to: &mut (impl AsyncWrite + Unpin),
-        bytes: &[u8],
-        found: &Found,
-    ) -> io::Result<()> {
-        let mut rest = 0;
-        for range in found.mechanisms.iter().filter(|_| self.drops_binding) {
-            let offer = without_binding(&bytes[range.clone()]).unwrap_or_default();
+    /// The records of what is new.
+    pub fn records(&self) -> impl Iterator<Item = (Kind, &[u8])> {
+        self.found.pieces.iter().map(|piece| (piece.kind, &self.held[piece.range.clone()]))
+    }
+
+    /// Takes mechanisms with channel binding out of what may pass, where that is asked for.
+    pub fn drop_binding(&mut self) {
+        // The last list first, so that the places of the others stay.
+        for range in self.found.mechanisms.iter().rev().filter(|_| self.drops_binding) {
+            let offer = without_binding(&self.held[range.clone()]).unwrap_or_default();
             if !offer.is_empty() {
-                to.write_all(&bytes[rest..range.start]).await?;
-                to.write_all(&offer).await?;
-                rest = range.end;
+                self.passing -= range.len() - offer.len();
+                let rest = self.held.split_off(range.end);
+                self.held.truncate(range.start);
+                self.held.extend_from_slice(&offer);
+                self.held.unsplit(rest);
             }
         }
-        to.write_all(&bytes[rest..]).await?;
-        to.flush().await
+    }
+
+    /// Passes on what may pass, and the end after it; then reads. Ready where something is new, or nothing passes any more.
+    pub fn poll(&mut self, cx: &mut Context<'_>, from: &mut Stream, to: &mut Stream) -> Poll<()> {
+        if self.is_over() {
+            return Poll::Pending;
+        }
+        self.is_refused = ready!(self.poll_write(cx, to)).is_err();
+        if self.is_refused {
+            return Poll::Ready(());
+        }
+        if self.has_ended {
+            let _ = ready!(Pin::new(to).poll_shutdown(cx));
+            self.is_closed = true;
+            return Poll::Ready(());
+        }
+        self.has_ended = ready!(self.poll_read(cx, from)) == 0;
+        self.is_new = true;
+        Poll::Ready(())
+    }
+
+    fn poll_write(&mut self, cx: &mut Context<'_>, to: &mut Stream) -> Poll<io::Result<()>> {
+        while self.passing > 0 {
+            let count = ready!(Pin::new(&mut *to).poll_write(cx, &self.held[..self.passing]))?;
+            if count == 0 {
+                return Poll::Ready(Err(io::ErrorKind::WriteZero.into()));
+            }
+            self.held.advance(count);
+            self.passing -= count;
+        }
+        Pin::new(to).poll_flush(cx)
+    }
+
+    /// Reads once, and gives how many bytes came: none at the end, or where the connection broke. The room grows while it is
+    /// filled, and isn't held while nothing comes.
+    fn poll_read(&mut self, cx: &mut Context<'_>, from: &mut Stream) -> Poll<usize> {
+        let before = self.held.len();
+        self.held.reserve(self.room.saturating_sub(before).max(1));
+        let polled = {
+            let read = from.read_buf(&mut self.held);
+            tokio::pin!(read);
+            read.poll(cx)
+        };
+        if polled.is_pending() && before == 0 && self.held.capacity() > ROOM {
+            self.held = BytesMut::new();
+        }
+        let count = ready!(polled).unwrap_or(0);
+        self.room = match before + count {
+            len if len >= self.room => (4 * self.room).min(ROOM_MOST),
+            len if len < ROOM / 2 => ROOM,
+            _ => self.room,
+        };
+        Poll::Ready(count)
     }
 }
 
-fn other(side: Side) -> Side {
-    match side {
-        Side::Client => Side::Server,
-        Side::Server => Side::Client,
+/// The side that ended first of those that have, where one has.
+pub fn first_end(up: &Direction, down: &Direction) -> Option<Side> {
+    if up.has_ended || down.is_refused {
+        Some(up.side)
+    } else if down.has_ended || up.is_refused {
+        Some(down.side)
+    } else {
+        None
     }
 }
 
@@ -116,29 +171,4 @@ fn without_binding(message: &[u8]) -> Result<Vec<u8>, Fault> {
         Authentication::Sasl(left.into()).write(&mut offer)?;
     }
     Ok(offer)
-}
-
-/// Reads once, and gives how many bytes came: none at the end, or where the connection broke. The room grows while it is
-/// filled, and isn't held while nothing comes.
-async fn read(from: &mut (impl AsyncRead + Unpin), held: &mut BytesMut, room: &mut usize) -> usize {
-    let before = held.len();
-    let read = poll_fn(|cx| {
-        held.reserve(room.saturating_sub(before).max(1));
-        let polled = {
-            let read = from.read_buf(held);
-            tokio::pin!(read);
-            read.poll(cx)
-        };
-        if polled.is_pending() && before == 0 && held.capacity() > ROOM {
-            *held = BytesMut::new();
-        }
-        polled
-    });
-    let count = read.await.unwrap_or(0);
-    *room = match before + count {
-        len if len >= *room => (4 * *room).min(ROOM_MOST),
-        len if len < ROOM / 2 => ROOM,
-        _ => *room,
-    };
-    count
 }

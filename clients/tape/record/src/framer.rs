@@ -27,6 +27,13 @@ pub struct Found {
     pub mechanisms: Vec<Range<usize>>,
 }
 
+impl Found {
+    pub fn clear(&mut self) {
+        self.pieces.clear();
+        self.mechanisms.clear();
+    }
+}
+
 /// Follows one direction of a connection.
 #[derive(Debug)]
 pub struct Framer {
@@ -76,29 +83,25 @@ impl Framer {
     /// message of which too little is there, which is less than `MECHANISMS_MOST` bytes. At the end of the direction all
     /// are taken.
     pub fn scan(&mut self, bytes: &[u8], is_end: bool, found: &mut Found) -> usize {
-        found.pieces.clear();
-        found.mechanisms.clear();
+        found.clear();
         let (mut at, mut shown) = (0, 0);
         while at < bytes.len() && !self.is_broken {
-            if self.left > 0 {
-                at += self.skip(bytes.len() - at);
-                shown = if self.is_hidden { at } else { shown };
-                self.is_hidden &= self.left > 0;
-                continue;
-            }
-            match self.look(&bytes[at..], at, found) {
-                Front::Short => break,
-                Front::Broken => self.is_broken = true,
-                Front::Shown(length) => self.left = length,
-                Front::Hidden(length) => {
-                    self.push(found, shown..at);
-                    found.pieces.push(Piece {
-                        kind: Kind::LeftOut(self.side),
-                        range: at..at + MESSAGE_HEAD,
-                    });
-                    (self.left, self.is_hidden) = (length, true);
+            if self.left == 0 {
+                match self.look(&bytes[at..], at, found) {
+                    Front::Short => break,
+                    Front::Broken => self.is_broken = true,
+                    Front::Shown(length) => self.left = length,
+                    Front::Hidden(length) => {
+                        self.push(found, shown..at);
+                        let range = at..at + MESSAGE_HEAD;
+                        found.pieces.push(Piece { kind: Kind::LeftOut(self.side), range });
+                        (self.left, self.is_hidden) = (length, true);
+                    }
                 }
             }
+            at += self.skip(bytes.len() - at);
+            shown = if self.is_hidden { at } else { shown };
+            self.is_hidden &= self.left > 0;
         }
         if self.is_broken || is_end {
             at = bytes.len();

@@ -3,6 +3,7 @@
 #![forbid(unsafe_code)]
 
 mod arguments;
+mod call;
 mod direction;
 mod encryption;
 mod framer;
@@ -19,6 +20,7 @@ mod tape;
 mod mutants;
 
 pub use pass::{pass, Begin, Link};
+pub use session::NoLink;
 pub use tape::{Over, Tape};
 
 use arguments::Arguments;

@@ -1,15 +1,16 @@
 //! The passing of both directions of a connection.
 
-use crate::direction::Direction;
+use crate::call::Call;
+use crate::direction::{first_end, Direction};
 use crate::framer::{decoder_of, Framer};
+use crate::session::{NoLink, OPENING};
 use crate::tape::{Over, Tape};
-use net::Stream;
+use net::{Stream, Upstream};
 use pgmsg::Decoder;
 use recording::{Kind, Side};
-use std::future::Future;
+use std::future::poll_fn;
 use std::time::Duration;
-use tokio::io::{split, AsyncRead, AsyncReadExt};
-use tokio::sync::OnceCell;
+use tokio::io::{AsyncRead, AsyncReadExt};
 use tokio::time::timeout;
 
 /// How long a client may take to hang up after the server did.
@@ -35,40 +36,92 @@ pub enum Begin {
     Encrypted,
 }
 
-/// Passes both ways in one task, and records what passes as a connection that was opened, until the server has ended and its
-/// last words are passed on. Passwords may be left out.
+impl Link {
+    /// Where the server may be asked again in another way, passes on the Startup of so many bytes that the client has said, and
+    /// takes the answer.
+    pub async fn start(
+        self,
+        upstream: &Upstream,
+        tape: &Tape,
+        number: u32,
+        length: usize,
+    ) -> Result<Link, NoLink> {
+        if !upstream.has_other_way(&self.server) {
+            return Ok(self);
+        }
+        let (startup, rest) = self.from_client.split_at(length);
+        tape.take(number, &[(Kind::Bytes(Side::Client), startup)]).await?;
+        let (server, from_server) = timeout(OPENING, upstream.start(self.server, startup))
+            .await
+            .map_err(|_| NoLink::late())?
+            .map_err(|why| NoLink::Unreachable(format!("{why:#}")))?;
+        let (client, from_client) = (self.client, rest.to_vec());
+        Ok(Link { client, server, from_client, from_server, begin: Begin::Open })
+    }
+}
+
+/// Passes both ways, and records what passes as a connection that was opened, until the server has ended and its last words are
+/// passed on. Passwords may be left out.
 pub async fn pass(tape: &Tape, number: u32, leaves_out: bool, link: Link) -> Result<(), Over> {
-    let first_end = OnceCell::new();
     let drops_binding = drops_binding(&link);
     if link.begin == Begin::Encrypted {
         tape.take(number, &[(Kind::Encrypted, &[])]).await?;
     }
-    let framer = |side| match link.begin {
+    let direction = |side, before: &[u8]| {
+        let framer = decoder(side, link.begin);
+        let framer = framer.map(|it| Framer::of(it, side, leaves_out, drops_binding));
+        Direction::new(side, framer, drops_binding, before)
+    };
+    let mut up = direction(Side::Client, &link.from_client);
+    let mut down = direction(Side::Server, &link.from_server);
+    let (mut client, mut server, mut first) = (link.client, link.server, None);
+    // To read from TLS may be to write, and the other way round.
+    let calls = !client.is_tls() && !server.is_tls();
+    let (mut up_call, mut down_call) = (Call::new(calls), Call::new(calls));
+    while !down.is_over() {
+        up.look();
+        down.look();
+        record(tape, number, &up, &down).await?;
+        down.drop_binding();
+        poll_fn(|cx| {
+            let came = up_call.poll(cx, |cx| up.poll(cx, &mut client, &mut server));
+            let answered = down_call.poll(cx, |cx| down.poll(cx, &mut server, &mut client));
+            if came.is_ready() {
+                came
+            } else {
+                answered
+            }
+        })
+        .await;
+        first = first.or_else(|| first_end(&up, &down));
+    }
+    tape.close_connection(number, first.unwrap_or(Side::Server)).await?;
+    // A socket that is closed before it is read to its end may take back what was written to it.
+    let _ = timeout(CLOSING, discard(&mut client)).await;
+    Ok(())
+}
+
+/// Records what is new, most often one record.
+async fn record(tape: &Tape, number: u32, up: &Direction, down: &Direction) -> Result<(), Over> {
+    let mut records = up.records().chain(down.records());
+    match (records.next(), records.next()) {
+        (None, _) => Ok(()),
+        (Some(one), None) => tape.take(number, &[one]).await,
+        (Some(first), Some(second)) => {
+            let all: Vec<_> = [first, second].into_iter().chain(records).collect();
+            tape.take(number, &all).await
+        }
+    }
+}
+
+/// What cuts the messages of a side, where they can be read.
+fn decoder(side: Side, begin: Begin) -> Option<Decoder> {
+    match begin {
         Begin::First => Some(decoder_of(side)),
         Begin::Open if side == Side::Client => Some(Decoder::of_open_client()),
         Begin::Open => Some(Decoder::of_server()),
         Begin::Encrypted => None,
-    };
-    let direction = |side| Direction {
-        tape,
-        connection: number,
-        side,
-        first_end: &first_end,
-        framer: framer(side).map(|it| Framer::of(it, side, leaves_out, drops_binding)),
-        drops_binding,
-    };
-    let (mut up, mut down) = (direction(Side::Client), direction(Side::Server));
-    let (mut client_in, mut client_out) = split(link.client);
-    let (mut server_in, mut server_out) = split(link.server);
-    {
-        let up = up.pass(&mut client_in, &mut server_out, &link.from_client);
-        let down = down.pass(&mut server_in, &mut client_out, &link.from_server);
-        until_second(up, down).await?;
     }
-    tape.close_connection(number, first_end.get().copied().unwrap_or(Side::Server)).await?;
-    // A socket that is closed before it is read to its end may take back what was written to it.
-    let _ = timeout(CLOSING, discard(&mut client_in)).await;
-    Ok(())
 }
 
 /// Whether mechanisms with channel binding can't be offered: they bind to the server's certificate, and the client would
@@ -76,24 +129,6 @@ pub async fn pass(tape: &Tape, number: u32, leaves_out: bool, link: Link) -> Res
 fn drops_binding(link: &Link) -> bool {
     let (theirs, ours) = (link.server.peer_certificate(), link.client.own_certificate());
     theirs.is_some() && theirs != ours
-}
-
-/// Waits for the second of two, beside which the first goes on while it can.
-async fn until_second(
-    first: impl Future<Output = Result<(), Over>>,
-    second: impl Future<Output = Result<(), Over>>,
-) -> Result<(), Over> {
-    tokio::pin!(first, second);
-    let mut has_ended = false;
-    loop {
-        tokio::select! {
-            ended = &mut second => return ended,
-            ended = &mut first, if !has_ended => {
-                ended?;
-                has_ended = true;
-            }
-        }
-    }
 }
 
 /// Reads until the end what nobody gets.

@@ -40,7 +40,7 @@ impl From<OpenError> for NoLink {
 }
 
 impl NoLink {
-    fn late() -> NoLink {
+    pub fn late() -> NoLink {
         NoLink::Refused("took too long to open its session".to_owned(), Status::Broken)
     }
 }
@@ -101,14 +101,16 @@ impl<'p> Session<'p> {
             () = proxy.run_out(begun) => return Err(NoLink::late()),
         };
         self.count(&opened.first);
-        let Opened { stream, bytes, .. } = opened;
-        Ok(Link {
-            server: self.connect().await?,
-            client: stream,
-            from_client: bytes,
-            from_server: Vec::new(),
-            begin: Begin::First,
-        })
+        let server = self.connect().await?;
+        let Opened { stream: client, bytes: from_client, first, length } = opened;
+        let from_server = Vec::new();
+        let link = Link { client, server, from_client, from_server, begin: Begin::First };
+        match first {
+            FirstMessage::Startup => {
+                link.start(&proxy.upstream, &proxy.tape, self.number, length).await
+            }
+            _ => Ok(link),
+        }
     }
 
     /// Counts a request to cancel.

@@ -2,7 +2,7 @@
 
 use crate::options::{Options, Recorded};
 use net::{Failure, Sayer, Status, Stream, Upstream};
-use pg_record::Tape;
+use pg_record::{Link, NoLink, Tape};
 use recording::{Copy, Damage, Kind, Reader};
 use std::collections::{HashMap, HashSet};
 use std::fs::{self, File, OpenOptions};
@@ -73,6 +73,19 @@ impl Renewal {
     /// A connection to the server.
     pub async fn connect(&self) -> anyhow::Result<Stream> {
         self.upstream.connect().await
+    }
+
+    /// A connection over which this Startup, which is recorded, was said, and what the server has answered so far.
+    pub async fn say(&self, startup: &[u8]) -> anyhow::Result<(Stream, Vec<u8>)> {
+        self.upstream.start(self.connect().await?, startup).await
+    }
+
+    /// The link of a client that has said a Startup of so many bytes, or a request to cancel with 0.
+    pub async fn start(&self, link: Link, number: u32, startup: usize) -> Result<Link, NoLink> {
+        match startup {
+            0 => Ok(link),
+            _ => link.start(&self.upstream, &self.tape, number, startup).await,
+        }
     }
 
     /// Has the recording get a connection of this run.

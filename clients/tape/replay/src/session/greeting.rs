@@ -67,7 +67,7 @@ async fn receive(shared: &Shared, stream: Stream, peer: String) -> Result<Option
         if shared.pool().cancel(cancel.process_id) {
             shared.stirred.notify_waiters();
         } else if let Some(renewal) = &shared.renewal {
-            let _ = pass_all(shared, renewal, &peer, opened.stream, opened.bytes).await;
+            let _ = pass_all(shared, renewal, &peer, opened.stream, (opened.bytes, 0)).await;
         }
         return Ok(None);
     }
@@ -131,7 +131,7 @@ async fn pass_on(shared: &Shared, guest: Guest) -> Result<(), Guest> {
         return Err(guest);
     };
     let Guest { peer, stream, startup, rest } = guest;
-    let said = [&startup[..], &rest].concat();
+    let said = ([&startup[..], &rest].concat(), startup.len());
     match pass_all(shared, renewal, &peer, stream, said).await {
         Ok(()) => Ok(()),
         Err(stream) => Err(Guest { peer, stream, startup, rest }),

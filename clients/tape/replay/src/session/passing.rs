@@ -4,7 +4,7 @@ use super::Session;
 use crate::renewal::Renewal;
 use crate::serve::Shared;
 use net::Stream;
-use pg_record::{pass, Begin, Link};
+use pg_record::{pass, Begin, Link, NoLink};
 use recording::Side;
 
 impl Session<'_> {
@@ -51,13 +51,14 @@ impl Session<'_> {
     }
 }
 
-/// Passes a whole session on to the server, whose client has said these bytes. Gives the client back where there is no server.
+/// Passes a whole session on to the server, whose client has said a Startup of so many bytes and some more, or a request to
+/// cancel. Gives the client back where there is no server.
 pub async fn pass_all(
     shared: &Shared,
     renewal: &Renewal,
     peer: &str,
     client: Stream,
-    from_client: Vec<u8>,
+    (from_client, startup): (Vec<u8>, usize),
 ) -> Result<(), Stream> {
     let server = match renewal.connect().await {
         Ok(server) => server,
@@ -70,7 +71,11 @@ pub async fn pass_all(
         renewal.keep(number);
         let from_server = Vec::new();
         let link = Link { client, server, from_client, from_server, begin: Begin::First };
-        let _ = pass(&renewal.tape, number, true, link).await;
+        match renewal.start(link, number, startup).await {
+            Ok(link) => drop(pass(&renewal.tape, number, true, link).await),
+            Err(NoLink::Unreachable(why)) => shared.tell.say(why),
+            Err(_) => {}
+        }
     }
     Ok(())
 }

@@ -24,7 +24,8 @@ pub struct Taping<'s> {
     renewal: &'s Renewal,
     /// Of the connection in this run.
     pub number: u32,
-    /// What the client said since it heard something. It isn't recorded yet.
+    startup: Vec<u8>,
+    /// What the client said since it heard something, its Startup too. It isn't recorded yet.
     pending: Vec<u8>,
     server: Cutter,
     /// How many ReadyForQuery the client heard, and the tags of the messages that it heard after the last one.
@@ -45,8 +46,9 @@ impl<'s> Taping<'s> {
         startup: &[u8],
     ) -> Result<Taping<'s>, Over> {
         let number = renewal.tape.open(peer).await?;
-        let (pending, server) = (startup.to_vec(), Cutter::of_server());
-        Ok(Taping { renewal, number, pending, server, readies: 0, heard: Vec::new() })
+        let (startup, server) = (startup.to_vec(), Cutter::of_server());
+        let pending = startup.clone();
+        Ok(Taping { renewal, number, startup, pending, server, readies: 0, heard: Vec::new() })
     }
 
     /// Takes what the client says.
@@ -103,24 +105,29 @@ impl<'s> Taping<'s> {
             self.heard.len() <= HEARD_MOST,
             "the client has heard too much of the answer already"
         );
-        let mut server = self.renewal.connect().await?;
-        let rest = {
-            let (mut from, mut to) = split(&mut server);
-            let heard = Heard { readies: self.readies, tags: &self.heard, error: String::new() };
-            let both = async { tokio::try_join!(self.say_again(&mut to), heard.listen(&mut from)) };
-            timeout(PATIENCE, both).await??.1
-        };
+        let (server, rest) = timeout(PATIENCE, self.repeat()).await??;
         Ok((server, rest, std::mem::take(&mut self.pending)))
     }
 
-    /// Says what is recorded of the client, while the server listens: why it left, it says itself.
+    async fn repeat(&self) -> Result<(Stream, Vec<u8>)> {
+        let (mut server, answer) = self.renewal.say(&self.startup).await?;
+        let (mut from, mut to) = split(&mut server);
+        let heard = Heard { readies: self.readies, tags: &self.heard, error: String::new() };
+        let (says, listens) = (self.say_again(&mut to), heard.listen(&mut from, answer));
+        let (_, rest) = tokio::try_join!(says, listens)?;
+        Ok((server, rest))
+    }
+
+    /// Says what is recorded of the client after its Startup, while the server listens: why it left, it says itself.
     async fn say_again(&self, to: &mut (impl AsyncWriteExt + Unpin)) -> Result<()> {
-        let mut recorded = self.renewal.recorded()?;
+        let (mut recorded, mut said) = (self.renewal.recorded()?, self.startup.len());
         while let Some(record) = recorded.read()? {
-            if record.connection == self.number
-                && record.kind == Kind::Bytes(Side::Client)
-                && to.write_all(record.content).await.is_err()
-            {
+            if record.connection != self.number || record.kind != Kind::Bytes(Side::Client) {
+                continue;
+            }
+            let skipped = said.min(record.content.len());
+            said -= skipped;
+            if to.write_all(&record.content[skipped..]).await.is_err() {
                 break;
             }
         }
@@ -137,9 +144,13 @@ struct Heard<'t> {
 }
 
 impl Heard<'_> {
-    /// Reads as much of another server, and gives what came after it.
-    async fn listen(mut self, from: &mut (impl AsyncReadExt + Unpin)) -> Result<Vec<u8>> {
-        let (mut decoder, mut held) = (Decoder::of_server(), Vec::new());
+    /// Reads as much of another server, of which some came before, and gives what came after it.
+    async fn listen(
+        mut self,
+        from: &mut (impl AsyncReadExt + Unpin),
+        mut held: Vec<u8>,
+    ) -> Result<Vec<u8>> {
+        let mut decoder = Decoder::of_server();
         loop {
             let mut at = 0;
             while self.readies > 0 || !self.tags.is_empty() {
