@@ -25,6 +25,7 @@ What is refused is a `Fault`, with a code and words; where no memory is there, i
 """
 
 from . import _library as _library  # first, since it loads what all others import
+from . import logical as logical
 from . import replication as replication
 from ._fast import VERSION as __version__
 from .authentication import (

@@ -93,13 +93,13 @@ def by(name: str, *kinds: type[Kind]) -> dict[int | None, type[Kind]]:
 
 
 class AsText:
-    """A text of a message as a `str`."""
+    """A text of a message or a part of one as a `str`."""
 
     def __init__(self, name: str) -> None:
         self._name = name
         self.__doc__ = f"`{name}` as a `str`."
 
-    def __get__(self, message: Message | None, owner: object = None) -> str:
+    def __get__(self, message: object, owner: object = None) -> str:
         if message is None:
             return self  # type: ignore[return-value]
         return str(getattr(message, self._name), "utf-8")

@@ -5,7 +5,7 @@ from typing import assert_type
 
 from pgmsg import (
     BackendMessage, Bind, ClientStream, CommandComplete, CopyData, DataRow, FrontendMessage, Login, Query, Relay, ServerStream,
-    executions, replication)
+    executions, logical, replication)
 
 
 def read(stream: ClientStream) -> None:
@@ -38,6 +38,19 @@ def replicate(message: CopyData) -> None:
             assert_type((start, content), tuple[int, bytes])
         case replication.PrimaryKeepalive(wants_reply=wants_reply):
             assert_type(wants_reply, bool)
+
+
+def change(stream: logical.LogicalStream, content: bytes) -> None:
+    match stream.read(content):
+        case logical.Relation(columns=columns):
+            assert_type([column.name_text for column in columns], list[str])
+        case logical.Update(relation, logical.Key(old), new, transaction):
+            assert_type((relation, old, new), tuple[int, logical.Row, logical.Row])
+            assert_type(transaction, int | None)
+            for value in new:
+                match value:
+                    case logical.Text() as text:
+                        assert_type((text.value, text.value_text), tuple[bytes, str])
 
 
 def write(login: Login, relay: Relay) -> None:

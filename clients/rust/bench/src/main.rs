@@ -1,7 +1,8 @@
-//! Times pgmsg and the crate with the interface of postgres-protocol on it beside postgres-protocol, by turns in
-//! one process. It prints a row a case: the medians of 31 rounds in nanoseconds a message, and the quotients of
-//! the first two.
+//! Times pgmsg and the crate with the interface of postgres-protocol on it beside postgres-protocol, and pgmsg beside
+//! Rust by hand, by turns in one process. It prints a row a case: the medians of 31 rounds in nanoseconds a message,
+//! and the quotients of all but the last.
 
+mod by_hand;
 mod interface;
 mod ours;
 
@@ -57,21 +58,20 @@ fn median(mut all: Vec<f64>) -> f64 {
 }
 
 /// Takes turns, and prints the row of a case, of which a call has so many messages.
-fn compare(name: &str, messages: u32, mut calls: [&mut dyn FnMut() -> usize; 3]) {
+fn compare<const N: usize>(name: &str, messages: u32, mut calls: [&mut dyn FnMut() -> usize; N]) {
     let given: Vec<_> = calls.iter_mut().map(|call| call()).collect();
     assert!(given.iter().all(|it| *it == given[0]), "{name}: they don't give the same");
     let times = calls.iter_mut().map(|call| times_of(call)).fold(1, u32::max);
-    let mut taken = [vec![], vec![], vec![]];
+    let mut taken = [(); N].map(|()| vec![]);
     for _ in 0..ROUNDS {
         for (call, taken) in calls.iter_mut().zip(&mut taken) {
             taken.push(time_of(call, times) / f64::from(messages));
         }
     }
-    let [ours, drop_in, theirs] = taken.map(median);
-    let (quotient, of_drop_in) = (ours / theirs, drop_in / theirs);
-    println!(
-        "| {name} | {ours:.1} | {drop_in:.1} | {theirs:.1} | {quotient:.2} | {of_drop_in:.2} |"
-    );
+    let taken = taken.map(median);
+    let mut cells: Vec<_> = taken.iter().map(|time| format!("{time:.1}")).collect();
+    cells.extend(taken[..N - 1].iter().map(|time| format!("{:.2}", time / taken[N - 1])));
+    println!("| {name} | {} |", cells.join(" | "));
 }
 
 /// A stream of rows, each of so many cells of 8 bytes.
@@ -124,5 +124,14 @@ fn main() {
             &mut || original::run(&bind, &mut other),
         ];
         compare(&format!("Bind of {name}, Execute and Sync"), 1, calls);
+    }
+    println!("\n| message of a slot | pgmsg, ns | by hand, ns | quotient |");
+    println!("|---|---|---|---|");
+    for length in [8, 200] {
+        let value = [&[b't', 0, 0, 0, length][..], &b"1".repeat(length.into())].concat();
+        let content = [b"I\0\0\x40\x01N\0\x0a", &value.repeat(10)[..]].concat();
+        let calls: [&mut dyn FnMut() -> usize; 2] =
+            [&mut || ours::insert(&content), &mut || by_hand::insert(&content)];
+        compare(&format!("Insert of 10 texts of {length} bytes"), 1, calls);
     }
 }

@@ -3,6 +3,7 @@
 use crate::Query;
 use pgmsg::backend::RowIndex;
 use pgmsg::frontend::{Bind, Execute, Message, Parse};
+use pgmsg::replication::logical::{Datum, LogicalMessage};
 use pgmsg::{Decoder, Format, Next, Value};
 
 /// Reads rows off a stream that is copied into a buffer: the sum of the lengths of all cells.
@@ -50,4 +51,17 @@ pub fn run(query: &Query, out: &mut Vec<u8>) -> usize {
         .and_then(|()| Message::Sync.write(out))
         .expect("three messages");
     out.len()
+}
+
+/// Reads an Insert of a logical slot: the sum of the table's number and the lengths of its values.
+pub fn insert(content: &[u8]) -> usize {
+    let insert = match LogicalMessage::read(content, false).expect("a message") {
+        LogicalMessage::Insert(insert) => insert,
+        other => panic!("{other:?}"),
+    };
+    let lengths = insert.new.iter().map(|value| match value {
+        Datum::Null | Datum::Unchanged => 0,
+        Datum::Text(bytes) | Datum::Binary(bytes) => bytes.len(),
+    });
+    insert.relation as usize + lengths.sum::<usize>()
 }

@@ -282,6 +282,46 @@ impl Default for pgmsg_replication_text {
 }
 #[repr(C)]
 #[derive(Debug, Default, Copy, Clone)]
+pub struct pgmsg_logical {
+    pub letter: u8,
+    pub has_transaction: bool,
+    pub transaction: u32,
+    pub subtransaction: u32,
+    pub flags: u8,
+    pub is_first: bool,
+    pub lsn: u64,
+    pub end_lsn: u64,
+    pub rollback_end_lsn: u64,
+    pub clock: i64,
+    pub rollback_clock: i64,
+    pub relation: u32,
+    pub type_id: u32,
+    pub replica_identity: u8,
+    pub schema: pgmsg_span,
+    pub name: pgmsg_span,
+    pub content: pgmsg_span,
+    pub columns: pgmsg_list,
+    pub relations: pgmsg_list,
+    pub old_letter: u8,
+    pub old_row: pgmsg_list,
+    pub new_row: pgmsg_list,
+}
+#[repr(C)]
+#[derive(Debug, Default, Copy, Clone)]
+pub struct pgmsg_datum {
+    pub kind: u8,
+    pub value: pgmsg_span,
+}
+#[repr(C)]
+#[derive(Debug, Default, Copy, Clone)]
+pub struct pgmsg_table_column {
+    pub flags: u8,
+    pub name: pgmsg_span,
+    pub type_id: u32,
+    pub type_modifier: i32,
+}
+#[repr(C)]
+#[derive(Debug, Default, Copy, Clone)]
 pub struct pgmsg_relay {
     pub limit: usize,
     pub left: usize,
@@ -514,6 +554,18 @@ extern "C" {
     ) -> i32;
     pub fn pgmsg_put_replication(
         message: *const pgmsg_replication_text, out: *mut u8, out_len: usize,
+    ) -> isize;
+    pub fn pgmsg_read_logical(
+        content: *const u8, content_len: usize, streamed: *mut bool, message: *mut pgmsg_logical,
+        fault: *mut pgmsg_fault,
+    ) -> i32;
+    pub fn pgmsg_read_tuple(
+        content: *const u8, content_len: usize, list: pgmsg_list, values: *mut pgmsg_datum,
+        values_len: usize, fault: *mut pgmsg_fault,
+    ) -> isize;
+    pub fn pgmsg_read_table_columns(
+        content: *const u8, content_len: usize, list: pgmsg_list, columns: *mut pgmsg_table_column,
+        columns_len: usize, fault: *mut pgmsg_fault,
     ) -> isize;
     pub fn pgmsg_relay_next(
         relay: *mut pgmsg_relay, wanted: *const u8, stream: *const u8, stream_len: usize,

@@ -3,6 +3,8 @@
 //! PostgreSQL's documentation: "Streaming Replication Protocol". A position counts the bytes of the log, and a
 //! clock the microseconds since the beginning of the year 2000.
 
+pub mod logical;
+
 use crate::answer::part;
 use crate::buffer::Buffer;
 use crate::byte_str::ByteStr;

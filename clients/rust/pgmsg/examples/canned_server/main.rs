@@ -4,7 +4,7 @@
 //! canned_server [PORT]
 //! ```
 //!
-//! Listens on PORT of 127.0.0.1, or a free one, and says which. It trusts everyone.
+//! Listens on PORT of 127.0.0.1, or a free one, and says which. It trusts everyone, and speaks 3.2 to who asks for it.
 
 mod answers;
 mod session;
@@ -27,7 +27,12 @@ fn serve(mut client: TcpStream) -> Result<()> {
         while let Next::Frame(frame) = decoder.next(&stream[done..])? {
             done += frame.bytes.len();
             match Message::read(&frame)? {
-                Message::Terminate | Message::CancelRequest(_) => return Ok(()),
+                Message::Terminate => return Ok(()),
+                Message::CancelRequest(request) => {
+                    let words = if session::is_known(&request) { "names" } else { "doesn't name" };
+                    println!("the request to cancel {words} the session");
+                    return Ok(());
+                }
                 message => session.take(message)?,
             }
         }

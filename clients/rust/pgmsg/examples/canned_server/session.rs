@@ -3,9 +3,9 @@
 use crate::answers::{texts, Answer, Canned, OTHER};
 use crate::Result;
 use pgmsg::backend::Message as Reply;
-use pgmsg::backend::{Authentication, BackendKeyData, NotificationResponse};
-use pgmsg::backend::{ParameterStatus, TransactionStatus};
-use pgmsg::frontend::{Message, Target};
+use pgmsg::backend::{Authentication, BackendKeyData, NegotiateProtocolVersion};
+use pgmsg::backend::{NotificationResponse, ParameterStatus, TransactionStatus};
+use pgmsg::frontend::{CancelRequest, Message, Startup, Target};
 use std::collections::HashMap;
 
 /// The settings that the session says to have.
@@ -17,6 +17,25 @@ const SETTINGS: [(&str, &str); 3] = [
 
 /// The process that the session says to be.
 const PROCESS: u32 = 42;
+
+/// The newest minor version of the protocol that the session speaks.
+const NEWEST: u16 = 2;
+
+/// The session's key, of which a client of a version before 3.2 gets the first four bytes.
+const KEY: [u8; 32] = *b"a key that is no secret, of this";
+
+/// What a client of a version needs to cancel a query of the session.
+fn key_of(minor: u16) -> BackendKeyData<'static> {
+    let secret_key = if minor < NEWEST { &KEY[..4] } else { &KEY };
+    BackendKeyData { process_id: PROCESS, secret_key: secret_key.into() }
+}
+
+/// Whether a request to cancel is of a client that a session gave its key to.
+pub fn is_known(request: &CancelRequest<'_>) -> bool {
+    let CancelRequest { process_id, secret_key } = *request;
+    let keys = [key_of(0), key_of(NEWEST)];
+    keys.contains(&BackendKeyData { process_id, secret_key })
+}
 
 #[derive(Default)]
 pub struct Session {
@@ -31,14 +50,20 @@ pub struct Session {
 }
 
 impl Session {
-    fn greet(&mut self) -> Result<()> {
+    fn greet(&mut self, startup: &Startup<'_>) -> Result<()> {
+        let minor = startup.minor.min(NEWEST);
+        let names = startup.settings.iter().map(|setting| setting.name);
+        let options = names.filter(|name| name.starts_with(b"_pq_.")).collect();
+        let spoken = NegotiateProtocolVersion { minor, options };
+        if minor < startup.minor || !spoken.options.is_empty() {
+            spoken.write(&mut self.out)?;
+        }
         Authentication::Ok.write(&mut self.out)?;
         for (name, value) in SETTINGS {
             let (name, value) = (name.into(), value.into());
             ParameterStatus { name, value }.write(&mut self.out)?;
         }
-        let key = BackendKeyData { process_id: PROCESS, secret_key: (&[1, 2, 3, 4]).into() };
-        key.write(&mut self.out)?;
+        key_of(minor).write(&mut self.out)?;
         self.ready()
     }
 
@@ -52,7 +77,7 @@ impl Session {
 
     pub fn take(&mut self, message: Message<'_>) -> Result<()> {
         match message {
-            Message::Startup(_) => self.greet(),
+            Message::Startup(startup) => self.greet(&startup),
             // No encryption; this byte is no message.
             Message::SslRequest | Message::GssEncRequest => {
                 self.out.push(b'N');
