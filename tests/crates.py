@@ -142,14 +142,10 @@ def kit():
 
 def build(crates, report=lambda crate, done, total: None):
     """Builds those that these crates stand on that are missing or not newer than their sources, beside each other."""
-    below = {it for crate in crates for it in crate.libraries()}
-    left, running = [], {}
-    for crate in sorted(below, key=lambda it: len(it.libraries())):
-        # What stands on a library that is built anew goes with it.
-        if crate.is_older(crate.built() / "format") or not set(left).isdisjoint(crate.libraries()):
-            left.append(crate)
-    total = len(left)
-    with locked([crate.folder for crate in left]), ThreadPoolExecutor(processors()) as pool:
+    with locked([crate.folder for crate in older(crates)]) as held, ThreadPoolExecutor(processors()) as pool:
+        # Another run may have built some of them before it let go of their folders.
+        left, running = [crate for crate in older(crates) if crate.folder in held], {}
+        total = len(left)
         while left or running:
             for crate, jobs in startable(left, running.values()):
                 running[pool.submit(build_one, crate, jobs)] = crate, jobs
@@ -161,6 +157,16 @@ def build(crates, report=lambda crate, done, total: None):
                 report(crate, total - len(left) - len(running), total)
 
 
+def older(crates):
+    """Those that these crates stand on that are missing or not newer than their sources, the lowest first."""
+    found = []
+    for crate in sorted({it for crate in crates for it in crate.libraries()}, key=lambda it: len(it.libraries())):
+        # What stands on a library that is built anew goes with it.
+        if crate.is_older(crate.built() / "format") or not set(found).isdisjoint(crate.libraries()):
+            found.append(crate)
+    return found
+
+
 @contextlib.contextmanager
 def locked(folders):
     """Waits for whatever works in these folders, as each rt does in a crate's, and keeps others out."""
@@ -169,7 +175,7 @@ def locked(folders):
             opened = os.open(folder, os.O_RDONLY)
             held.callback(os.close, opened)
             fcntl.flock(opened, fcntl.LOCK_EX)
-        yield
+        yield folders
 
 
 def startable(left, running):

@@ -9,9 +9,9 @@ import wrong_bodies
 # The commit from which on changes count, and the toolchain: by another logic all are tried again.
 TRIED = crates.TOP / "tests" / "tried"
 
-# Each function has its turn at one of so many commits, with the next of its mutants, and those by hand at one of so many.
-# What has its turn at a commit stands together in the tree: each check has some seconds of its own, so a few of many wrong
-# bodies cost less than many of a few.
+# The functions of each source have their turn at one of so many commits that TRIED names, with the next of their mutants, and
+# wrong bodies by hand at one of so many. What has its turn stands together in the tree: each check has some seconds of its
+# own, so a few of many wrong bodies cost less than many of a few.
 TURNS, TURNS_BY_HAND = 12, 24
 
 
@@ -24,9 +24,10 @@ class Due:
         self.is_all = not is_ancestor(since) or logic_of(toolchain) != logic_of(printed("rt", "version"))
         self.has_self_test = self.is_all or changes.differ(since, "tests")
         if not self.is_all:
-            self.commits = int(changes.git("rev-list", "--count", "HEAD"))
             lines = changes.changed(since)
             self.changed = {crate: changes.Change(crate, since, lines) for crate in crates.known().values()}
+            self.turn = int(changes.git("rev-list", "--count", since, "--", "tests/tried"))
+            self.sources = sources_at(since)
 
     def of(self, wrong):
         """Those that are due, of the wrong bodies of each crate.
@@ -40,22 +41,40 @@ class Due:
         return {crate: [it for it in its if it in share or self.changed[crate].concerns(it)] for crate, its in wrong.items()}
 
     def share_of(self, wrong):
-        """A share of all wrong bodies, another one at each commit."""
+        """A share of all wrong bodies, another one for each commit that TRIED names: what else is committed doesn't choose."""
+        sources = part(self.sources, self.turn, TURNS)
         made, by_hand = {}, []
-        for it in (it for its in wrong.values() for it in its):
-            if isinstance(it, wrong_bodies.Mutant):
+        for crate, it in ((crate, it) for crate, its in wrong.items() for it in its):
+            if not isinstance(it, wrong_bodies.Mutant):
+                by_hand.append((it, 1))
+            elif sources & {f"crates/{crate.name}/{path}" for path in it.changes}:
                 made.setdefault(it.function.name, []).append(it)
-            else:
-                by_hand.append(it)
-        for its in part(list(made.values()), self.commits, TURNS):
-            yield its[self.commits // TURNS % len(its)]
-        yield from part(by_hand, self.commits, TURNS_BY_HAND)
+        for its in made.values():
+            yield its[self.turn // TURNS % len(its)]
+        yield from part(by_hand, self.turn, TURNS_BY_HAND)
 
 
-def part(items, turn, turns):
-    """The part of a list whose turn it is."""
-    turn %= turns
-    return items[len(items) * turn // turns:len(items) * (turn + 1) // turns]
+def sources_at(commit):
+    """The paths of all sources at a commit, each with how many bytes it has."""
+    lines = changes.git("ls-tree", "-r", "--format=%(path) %(objectsize)", commit, "--", "crates").splitlines()
+    return [(path, int(size)) for path, size in map(str.split, lines) if path.endswith(".rt")]
+
+
+def part(sized, turn, turns):
+    """Those that begin in the part of the whole whose turn it is."""
+    whole, begun, found = sum(size for _, size in sized), 0, set()
+    for it, size in sized:
+        if begun * turns // whole == turn % turns:
+            found.add(it)
+        begun += size
+    return found
+
+
+def amiss():
+    """What is wrong with the parts of an example: each stands in one, and those of one part stand together."""
+    sized = [("a", 5), ("b", 1), ("c", 9), ("d", 2), ("e", 1)]
+    found = [sorted(part(sized, turn, 3)) for turn in range(3, 6)]
+    return [] if found == [["a", "b"], ["c"], ["d", "e"]] else [f"tests/due.py: the parts are {found}"]
 
 
 def is_ancestor(commit):

@@ -19,8 +19,8 @@ from wrong_bodies import ACCEPTED, NOT_APPLIED, OF_SHAPE, REFUSED, UNDECIDED, UN
 # How often one that isn't refused is put beside others.
 TURNS = 2
 
-# How many are in a check: each takes some time to start, and a few long ones leave processors idle. They are fewer at the
-# end, where some are tried again.
+# How many are in a check: each takes some time to start, and proves what its functions call, and a few long ones leave
+# processors idle. They are fewer at the end, where some are tried again.
 LEAST, LEAST_AGAIN, MOST = 10, 3, 40
 
 # No more checks at a time than there are processors for, which they leave to whatever else runs.
@@ -108,9 +108,13 @@ class Trial:
             else:
                 left.append(it)
         while left:
-            batches = batches_of(left)
+            # Beside other steps no processor is idle, so the checks are as few as can be, and the others begin with what the
+            # first has proved.
+            is_beside = bool(self.known.proofs)
+            batches = batches_of(left, 1 if is_beside else crates.processors())
+            first = int(is_beside and not self.checks)
             with ThreadPoolExecutor(len(batches)) as pool:
-                left = [it for again in pool.map(self.together, batches) for it in again]
+                left = [it for part in (batches[:first], batches[first:]) for again in pool.map(self.together, part) for it in again]
 
     def check(self, batch, strays=True):
         """The report of a check of the functions that these change, with stray answers or as they are."""
@@ -213,11 +217,11 @@ def verdict_of(it, said):
     return min((said.verdict(owner) for owner in sorted(it.owners)), key=lambda it: order.index(it[0]))
 
 
-def batches_of(wrong):
+def batches_of(wrong, processors):
     """All of them, for a check each: no two that touch in one, and as many checks for each processor."""
-    rounds = math.ceil(len(wrong) / (MOST * crates.processors()))
+    rounds = math.ceil(len(wrong) / (MOST * processors))
     least = LEAST_AGAIN if all(it.turns for it in wrong) else LEAST
-    most = max(least, math.ceil(len(wrong) / (rounds * crates.processors())))
+    most = max(least, math.ceil(len(wrong) / (rounds * processors)))
     others = {it: sum(map(it.touches, wrong)) for it in wrong}
     batches = []
     # What touches most others comes first. Those of a file are together as far as can be, for a check proves also what
