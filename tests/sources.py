@@ -34,7 +34,7 @@ def functions(crate, path, text):
             blocks.pop()
         block, function = BLOCK.match(lines[number]), FUNCTION.match(lines[number])
         if block and (head := head_of(lines, number)):
-            blocks.append((block_name(block[2], head), end_of(lines, number, block[1])))
+            blocks.append((block_name(block[2], head, text), end_of(lines, number, block[1])))
         elif function:
             body = body_of(lines, number, function[1])
             if body is not None:
@@ -107,13 +107,17 @@ def clause_end(lines, number):
     return number
 
 
-def block_name(kind, head):
-    """What a block adds to the names of its functions."""
+def block_name(kind, head, text):
+    """What a block of a source adds to the names of its functions."""
     head = re.sub(r"\bwhere\b.*", "", head.split(kind, 1)[1]).strip()
     parameters, head = parameters_of(head)
     trait, of, item = head.partition(" for ")
     if kind != "impl" or not of:
         return re.match(r"\w+", head)[0]
+    # Reports have the module of a trait too, where its type has two traits of one name.
+    named = re.match(r"\w+::(\w+)", trait)
+    if named and len(re.findall(rf"^impl\b.*\b{named[1]}\b.* for {re.escape(item)} ", text, re.MULTILINE)) > 1:
+        trait = trait.replace("::", " ")
     return (joined(item, parameters) or "Any") + joined(trait, parameters)
 
 

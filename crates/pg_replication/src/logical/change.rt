@@ -24,7 +24,7 @@ pub struct Insert<'a> {
     pub new: Tuple<'a>,
 }
 
-type InsertFields<'a> = Then<Number32, Then<NewLetter, Tuple<'a>>>;
+type InsertParts<'a> = Then<Number32, Then<NewLetter, Tuple<'a>>>;
 
 impl<'a> Insert<'a> {
     /// Reads what follows the letter, which stands before an offset of a message.
@@ -38,7 +38,7 @@ impl<'a> Insert<'a> {
         ensures { ReadsAfter (page.insert streamed) shown_insert message.now at result }
     {
         let (transaction, Then(Number32(relation), Then(NewLetter, new))) = streamed_fields::<
-            InsertFields<'a>,
+            InsertParts<'a>,
         >(message, at, streamed)?;
         Ok(Insert {
             transaction,
@@ -51,7 +51,7 @@ impl<'a> Insert<'a> {
 impl<'a> Fields for Insert<'a> {
     ghost use Rattle.pg_replication.specs.Logical.LogicalText.{insert_part};
 
-    type Parts = Then<Transaction, InsertFields<'a>>;
+    type Parts = Then<Transaction, InsertParts<'a>>;
 
     ghost law = { insert_part };
 
@@ -75,7 +75,7 @@ pub struct Update<'a> {
     pub new: Tuple<'a>,
 }
 
-type UpdateFields<'a> = Then<Number32, Then<OldOrNone<'a>, Then<NewLetter, Tuple<'a>>>>;
+type UpdateParts<'a> = Then<Number32, Then<OldOrNone<'a>, Then<NewLetter, Tuple<'a>>>>;
 
 impl<'a> Update<'a> {
     /// Reads what follows the letter, which stands before an offset of a message.
@@ -88,7 +88,7 @@ impl<'a> Update<'a> {
         requires short { length message.now ≤ MAX_BODY }
         ensures { ReadsAfter (page.update streamed) shown_update message.now at result }
     {
-        let (transaction, fields) = streamed_fields::<UpdateFields<'a>>(message, at, streamed)?;
+        let (transaction, fields) = streamed_fields::<UpdateParts<'a>>(message, at, streamed)?;
         let Then(Number32(relation), Then(OldOrNone(old), Then(NewLetter, new))) = fields;
         Ok(Update {
             transaction,
@@ -102,7 +102,7 @@ impl<'a> Update<'a> {
 impl<'a> Fields for Update<'a> {
     ghost use Rattle.pg_replication.specs.Logical.LogicalText.{update_part};
 
-    type Parts = Then<Transaction, UpdateFields<'a>>;
+    type Parts = Then<Transaction, UpdateParts<'a>>;
 
     ghost law = { update_part };
 

@@ -27,7 +27,7 @@ pub struct BeginPrepare<'a> {
     pub gid: &'a [u8],
 }
 
-type BeginPrepareFields<'a> = Then<
+type BeginPrepareParts<'a> = Then<
     Number64,
     Then<Number64, Then<Signed64, Then<Number32, NulEnded<'a>>>>,
 >;
@@ -45,7 +45,7 @@ impl<'a> BeginPrepare<'a> {
                 Number64(end_lsn),
                 Then(Signed64(clock), Then(Number32(transaction), NulEnded(gid))),
             ),
-        ) = fields_from::<BeginPrepareFields<'a>>(message, at)?;
+        ) = fields_from::<BeginPrepareParts<'a>>(message, at)?;
         Ok(BeginPrepare {
             lsn,
             end_lsn,
@@ -59,7 +59,7 @@ impl<'a> BeginPrepare<'a> {
 impl<'a> Fields for BeginPrepare<'a> {
     ghost use Rattle.pg_replication.specs.Logical.LogicalText.{begin_prepare_part};
 
-    type Parts = BeginPrepareFields<'a>;
+    type Parts = BeginPrepareParts<'a>;
 
     ghost law = { begin_prepare_part };
 
@@ -88,7 +88,7 @@ pub struct Prepared<'a> {
     pub gid: &'a [u8],
 }
 
-type PreparedFields<'a> = Then<
+type PreparedParts<'a> = Then<
     Number8,
     Then<Number64, Then<Number64, Then<Signed64, Then<Number32, NulEnded<'a>>>>>,
 >;
@@ -109,7 +109,7 @@ impl<'a> Prepared<'a> {
                     Then(Signed64(clock), Then(Number32(transaction), NulEnded(gid))),
                 ),
             ),
-        ) = fields_from::<PreparedFields<'a>>(message, at)?;
+        ) = fields_from::<PreparedParts<'a>>(message, at)?;
         Ok(Prepared {
             flags,
             lsn,
@@ -124,7 +124,7 @@ impl<'a> Prepared<'a> {
 impl<'a> Fields for Prepared<'a> {
     ghost use Rattle.pg_replication.specs.Logical.LogicalText.{prepared_part};
 
-    type Parts = PreparedFields<'a>;
+    type Parts = PreparedParts<'a>;
 
     ghost law = { prepared_part };
 
@@ -155,7 +155,7 @@ pub struct RollbackPrepared<'a> {
     pub gid: &'a [u8],
 }
 
-type RollbackPreparedFields<'a> = Then<
+type RollbackPreparedParts<'a> = Then<
     Number8,
     Then<Number64, Then<Number64, Then<Signed64, Then<Signed64, Then<Number32, NulEnded<'a>>>>>>,
 >;
@@ -179,7 +179,7 @@ impl<'a> RollbackPrepared<'a> {
                     ),
                 ),
             ),
-        ) = fields_from::<RollbackPreparedFields<'a>>(message, at)?;
+        ) = fields_from::<RollbackPreparedParts<'a>>(message, at)?;
         Ok(RollbackPrepared {
             flags,
             prepare_end_lsn,
@@ -195,7 +195,7 @@ impl<'a> RollbackPrepared<'a> {
 impl<'a> Fields for RollbackPrepared<'a> {
     ghost use Rattle.pg_replication.specs.Logical.LogicalText.{rollback_prepared_part};
 
-    type Parts = RollbackPreparedFields<'a>;
+    type Parts = RollbackPreparedParts<'a>;
 
     ghost law = { rollback_prepared_part };
 

@@ -31,7 +31,7 @@ pub struct Relation<'a> {
     pub columns: Columns<'a>,
 }
 
-type RelationFields<'a> = Then<
+type RelationParts<'a> = Then<
     Number32,
     Then<NulEnded<'a>, Then<NulEnded<'a>, Then<Number8, Columns<'a>>>>,
 >;
@@ -47,7 +47,7 @@ impl<'a> Relation<'a> {
         requires short { length message.now ≤ MAX_BODY }
         ensures { ReadsAfter (page.relation streamed) shown_relation message.now at result }
     {
-        let (transaction, fields) = streamed_fields::<RelationFields<'a>>(message, at, streamed)?;
+        let (transaction, fields) = streamed_fields::<RelationParts<'a>>(message, at, streamed)?;
         let Then(Number32(relation), Then(NulEnded(schema), Then(NulEnded(name), fields))) = fields;
         let Then(Number8(replica_identity), columns) = fields;
         Ok(Relation {
@@ -64,7 +64,7 @@ impl<'a> Relation<'a> {
 impl<'a> Fields for Relation<'a> {
     ghost use Rattle.pg_replication.specs.Logical.LogicalText.{relation_part};
 
-    type Parts = Then<Transaction, RelationFields<'a>>;
+    type Parts = Then<Transaction, RelationParts<'a>>;
 
     ghost law = { relation_part };
 
@@ -93,7 +93,7 @@ pub struct TypeName<'a> {
     pub name: &'a [u8],
 }
 
-type TypeNameFields<'a> = Then<Number32, Then<NulEnded<'a>, NulEnded<'a>>>;
+type TypeNameParts<'a> = Then<Number32, Then<NulEnded<'a>, NulEnded<'a>>>;
 
 impl<'a> TypeName<'a> {
     /// Reads what follows the letter, which stands before an offset of a message.
@@ -107,7 +107,7 @@ impl<'a> TypeName<'a> {
         ensures { ReadsAfter (page.type_name streamed) shown_type_name message.now at result }
     {
         let (transaction, Then(Number32(type_id), Then(NulEnded(schema), NulEnded(name)))) =
-            streamed_fields::<TypeNameFields<'a>>(message, at, streamed)?;
+            streamed_fields::<TypeNameParts<'a>>(message, at, streamed)?;
         Ok(TypeName {
             transaction,
             type_id,
@@ -120,7 +120,7 @@ impl<'a> TypeName<'a> {
 impl<'a> Fields for TypeName<'a> {
     ghost use Rattle.pg_replication.specs.Logical.LogicalText.{type_name_part};
 
-    type Parts = Then<Transaction, TypeNameFields<'a>>;
+    type Parts = Then<Transaction, TypeNameParts<'a>>;
 
     ghost law = { type_name_part };
 

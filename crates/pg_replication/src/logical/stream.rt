@@ -94,7 +94,7 @@ pub struct StreamCommit {
     pub clock: i64,
 }
 
-type StreamCommitFields = Then<Number32, Then<Number8, Then<Number64, Then<Number64, Signed64>>>>;
+type StreamCommitParts = Then<Number32, Then<Number8, Then<Number64, Then<Number64, Signed64>>>>;
 
 impl StreamCommit {
     /// Reads what follows the letter, which stands before an offset of a message.
@@ -106,7 +106,7 @@ impl StreamCommit {
         let Then(
             Number32(transaction),
             Then(Number8(flags), Then(Number64(lsn), Then(Number64(end_lsn), Signed64(clock)))),
-        ) = fields_from::<StreamCommitFields>(message, at)?;
+        ) = fields_from::<StreamCommitParts>(message, at)?;
         Ok(StreamCommit {
             transaction,
             flags,
@@ -120,7 +120,7 @@ impl StreamCommit {
 impl Fields for StreamCommit {
     ghost use Rattle.pg_replication.specs.Logical.LogicalText.{stream_commit_part};
 
-    type Parts = StreamCommitFields;
+    type Parts = StreamCommitParts;
 
     ghost law = { stream_commit_part };
 

@@ -72,7 +72,7 @@ pub struct Message<'a> {
     pub content: &'a [u8],
 }
 
-type MessageFields<'a> = Then<Number8, Then<Number64, Then<NulEnded<'a>, SizedBytes<'a>>>>;
+type MessageParts<'a> = Then<Number8, Then<Number64, Then<NulEnded<'a>, SizedBytes<'a>>>>;
 
 impl<'a> Message<'a> {
     /// Reads what follows the letter, which stands before an offset of a message.
@@ -88,7 +88,7 @@ impl<'a> Message<'a> {
         let (
             transaction,
             Then(Number8(flags), Then(Number64(lsn), Then(NulEnded(prefix), SizedBytes(content)))),
-        ) = streamed_fields::<MessageFields<'a>>(message, at, streamed)?;
+        ) = streamed_fields::<MessageParts<'a>>(message, at, streamed)?;
         Ok(Message {
             transaction,
             flags,
@@ -102,7 +102,7 @@ impl<'a> Message<'a> {
 impl<'a> Fields for Message<'a> {
     ghost use Rattle.pg_replication.specs.Logical.LogicalText.{message_part};
 
-    type Parts = Then<Transaction, MessageFields<'a>>;
+    type Parts = Then<Transaction, MessageParts<'a>>;
 
     ghost law = { message_part };
 
@@ -128,7 +128,7 @@ pub struct Commit {
     pub clock: i64,
 }
 
-type CommitFields = Then<Number8, Then<Number64, Then<Number64, Signed64>>>;
+type CommitParts = Then<Number8, Then<Number64, Then<Number64, Signed64>>>;
 
 impl Commit {
     /// Reads what follows the letter, which stands before an offset of a message.
@@ -138,7 +138,7 @@ impl Commit {
         ensures { ReadsAfter page.commit shown_commit message.now at result }
     {
         let Then(Number8(flags), Then(Number64(lsn), Then(Number64(end_lsn), Signed64(clock)))) =
-            fields_from::<CommitFields>(message, at)?;
+            fields_from::<CommitParts>(message, at)?;
         Ok(Commit {
             flags,
             lsn,
@@ -151,7 +151,7 @@ impl Commit {
 impl Fields for Commit {
     ghost use Rattle.pg_replication.specs.Logical.LogicalText.{commit_part};
 
-    type Parts = CommitFields;
+    type Parts = CommitParts;
 
     ghost law = { commit_part };
 

@@ -8,7 +8,7 @@ use Rattle.pg_format.specs.Field.{number8, signed64}
 use Rattle.pg_server.specs.Backend.Item.{text_part}
 use Rattle.pg_replication.specs.Logical.LogicalText.{prepared_part}
 use Rattle.pg_replication.specs.declared.logical.prepared.Prepared.{Prepared}
-use Rattle.pg_replication.proofs.logical.prepared.PreparedFieldsImpl.parts.Goals as goal
+use Rattle.pg_replication.proofs.logical.prepared.PreparedFields.parts.Goals as goal
 
 of_parts : (it : Prepared) (clock : ℤ) → clock ≡ it.clock
     → IsSame (both (number8 it.flags) (both (number64 it.lsn) (both (number64 it.end_lsn) (both (signed64 clock) (both (number32 it.transaction) (text_part it.gid.now)))))) (prepared_part it)

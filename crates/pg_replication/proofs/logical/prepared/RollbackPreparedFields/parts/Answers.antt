@@ -8,7 +8,7 @@ use Rattle.pg_format.specs.Field.{number8, signed64}
 use Rattle.pg_server.specs.Backend.Item.{text_part}
 use Rattle.pg_replication.specs.Logical.LogicalText.{rollback_prepared_part}
 use Rattle.pg_replication.specs.declared.logical.prepared.RollbackPrepared.{RollbackPrepared}
-use Rattle.pg_replication.proofs.logical.prepared.RollbackPreparedFieldsImpl.parts.Goals as goal
+use Rattle.pg_replication.proofs.logical.prepared.RollbackPreparedFields.parts.Goals as goal
 
 of_parts : (it : RollbackPrepared) (prepared rolled_back : ℤ) → prepared ≡ it.prepare_clock → rolled_back ≡ it.rollback_clock
     → IsSame (both (number8 it.flags) (both (number64 it.prepare_end_lsn) (both (number64 it.rollback_end_lsn) (both (signed64 prepared) (both (signed64 rolled_back) (both (number32 it.transaction) (text_part it.gid.now)))))))

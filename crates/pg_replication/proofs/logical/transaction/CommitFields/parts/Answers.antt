@@ -7,7 +7,7 @@ use Rattle.pg_base.specs.Tagged.{IsSame}
 use Rattle.pg_format.specs.Field.{number8, signed64}
 use Rattle.pg_replication.specs.Logical.LogicalText.{commit_part}
 use Rattle.pg_replication.specs.declared.logical.transaction.Commit.{Commit}
-use Rattle.pg_replication.proofs.logical.transaction.CommitFieldsImpl.parts.Goals as goal
+use Rattle.pg_replication.proofs.logical.transaction.CommitFields.parts.Goals as goal
 
 of_parts : (it : Commit) (clock : ℤ) → clock ≡ it.clock
     → IsSame (both (number8 it.flags) (both (number64 it.lsn) (both (number64 it.end_lsn) (signed64 clock)))) (commit_part it)

@@ -7,7 +7,7 @@ use Rattle.pg_base.specs.Tagged.{IsSame}
 use Rattle.pg_format.specs.Field.{number8, signed64}
 use Rattle.pg_replication.specs.Logical.LogicalText.{stream_commit_part}
 use Rattle.pg_replication.specs.declared.logical.stream.StreamCommit.{StreamCommit}
-use Rattle.pg_replication.proofs.logical.stream.StreamCommitFieldsImpl.parts.Goals as goal
+use Rattle.pg_replication.proofs.logical.stream.StreamCommitFields.parts.Goals as goal
 
 of_parts : (it : StreamCommit) (clock : ℤ) → clock ≡ it.clock
     → IsSame (both (number32 it.transaction) (both (number8 it.flags) (both (number64 it.lsn) (both (number64 it.end_lsn) (signed64 clock))))) (stream_commit_part it)
