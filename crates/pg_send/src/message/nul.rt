@@ -19,6 +19,9 @@ pub fn holds_no_nul(bytes: &[u8]) -> bool
     if bytes.len() >= 4 {
         return has_none_by::<4>(bytes);
     }
+    if bytes.len() >= 2 {
+        return has_none_by::<2>(bytes);
+    }
     bytes.is_empty() || has_none_by::<1>(bytes)
 }
 

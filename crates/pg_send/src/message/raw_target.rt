@@ -3,7 +3,7 @@
 ghost use Rattle.pg_send.specs.RawTarget.{raw_close_or_describe_law, raw_target_of};
 
 use crate::message::composed::Composed;
-use crate::message::round_trip::check_ended;
+use crate::message::round_trip::check_name;
 use crate::message::target::{PORTAL, STATEMENT};
 use pg_base::io::Ended;
 use pg_base::io::part::{Byte, Then};
@@ -46,7 +46,7 @@ impl<'a, const CLOSES: bool> Composed for RawTargetOf<'a, CLOSES> {
     #[inline(always)]
     fn check(&self) -> Result<(), ProtocolFault> {
         match self {
-            RawTargetOf::Statement(name) | RawTargetOf::Portal(name) => check_ended(name),
+            RawTargetOf::Statement(name) | RawTargetOf::Portal(name) => check_name(name),
         }
     }
 
