@@ -54,8 +54,11 @@ fn sound_len<F: FrontendMessage>(message: &F) -> Result<usize, Error>
     ensures short { IfOk result (λ len. len + 4 ≤ max_length) }
     ensures due { IfErr result (IsDue (F.law message.now)) }
 {
+    // The texts are searched before the length is known, although a limit is refused first: the machine code then keeps the
+    // message over fewer calls.
+    let sound = message.check_round_trip();
     let len = message.checked_body_len()?;
-    message.check_round_trip()?;
+    sound?;
     Ok(len)
 }
 

@@ -77,11 +77,12 @@ pub extern "C" fn pgmsg_put_bind(
 pub extern "C" fn pgmsg_put_describe(kind: u8, name: &[u8], out: &mut [u8]) -> isize
     ensures { PutsTargeted message.RawDescribe kind name.now out.old out.new result }
 {
-    match kind {
-        b'S' => put(&RawDescribe::Statement(name), out),
-        b'P' => put(&RawDescribe::Portal(name), out),
-        _ => UNKNOWN_TARGET as isize,
-    }
+    let target = match kind {
+        b'S' => RawDescribe::Statement(name),
+        b'P' => RawDescribe::Portal(name),
+        _ => return UNKNOWN_TARGET as isize,
+    };
+    put(&target, out)
 }
 
 /// A Close of a prepared statement or a portal, with `kind`, `name` and refusals as in
@@ -90,11 +91,12 @@ pub extern "C" fn pgmsg_put_describe(kind: u8, name: &[u8], out: &mut [u8]) -> i
 pub extern "C" fn pgmsg_put_close(kind: u8, name: &[u8], out: &mut [u8]) -> isize
     ensures { PutsTargeted message.RawClose kind name.now out.old out.new result }
 {
-    match kind {
-        b'S' => put(&RawClose::Statement(name), out),
-        b'P' => put(&RawClose::Portal(name), out),
-        _ => UNKNOWN_TARGET as isize,
-    }
+    let target = match kind {
+        b'S' => RawClose::Statement(name),
+        b'P' => RawClose::Portal(name),
+        _ => return UNKNOWN_TARGET as isize,
+    };
+    put(&target, out)
 }
 
 /// An Execute: runs a portal. `limit` is the most rows to send back, 0 for all of them; a server takes a
