@@ -16,12 +16,14 @@ pub use pg_receive::message::{
     ServerMessage, ServerMessageRef, TransactionStatus, Visitor, cell_at, check_no_body, column_at,
     command_tag, raw_column_at, rows_affected, severity_in, split_field, split_name,
 };
+
+// The messages to the server, one by one and in runs.
 pub use pg_send::message::{
     Bind, BindValues, BodyOf, CODE_LENGTH, CancelRequest, Close, CopyFail, CopyFailRef, Describe,
     EncodeMessage, Execute, Flush, Framed, FrontendMessage, FunctionCall, GssEncRequest,
     GssResponse, PROTOCOL_VERSION, Parse, Password, Query, RawBind, RawClose, RawDescribe,
-    RawExecute, RawParse, SaslInitial, SaslInitialResponse, SaslResponse, SslRequest, Startup,
-    Sync, TaggedMessage, Terminate, encode_all, encode_frame, encode_strict, put_if_fits,
+    RawExecute, RawParse, RawStartup, SaslInitial, SaslInitialResponse, SaslResponse, SslRequest,
+    Startup, Sync, TaggedMessage, Terminate, encode_all, encode_frame, encode_strict, put_if_fits,
     write_frame,
 };
 

@@ -14,6 +14,7 @@ pub mod Password
 pub mod RawBind
 pub mod RawExecute
 pub mod RawParse
+pub mod RawStartup
 pub mod RawTarget
 pub mod Run
 pub mod SaslInitial

@@ -33,6 +33,14 @@ startup_body s =
 abbrev pub startup_text : StartupFields → List ℕ
 startup_text s = be32 (length (startup_body s) + 4) ++ startup_body s
 
+-- the user, the database and each parameter
+abbrev pub named_where_there : List ℕ → Option (List ℕ) → List (List ℕ × List ℕ)
+named_where_there name (Some value) = (name, value) ∷ []
+named_where_there name None = []
+
+abbrev pub all_settings : StartupFields → List (List ℕ × List ℕ)
+all_settings s = named_where_there (codes "user") s.username ++ (named_where_there (codes "database") s.database ++ s.params)
+
 -- a reader gets the setting back: a NUL would end the name or the value, and an empty name the settings
 pub record IsReadable (pair : List ℕ × List ℕ) : Type 0 where
   pub named : 0 < length pair.0

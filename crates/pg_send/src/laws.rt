@@ -2,7 +2,8 @@
 //!
 //! A function without a body states a law, and is there to be proved and not to be called.
 
-ghost use Rattle.std.specs.Prelude.{◌≡◌, ◌≤◌, ◌<◌, ◌+◌, ◌^◌, ℕ, length};
+ghost use Rattle.std.specs.Prelude.{◌≡◌, ◌≤◌, ◌<◌, ◌+◌, ◌^◌, ℕ, List, length};
+ghost use Rattle.std.specs.List.{All};
 ghost use Rattle.pg_format.specs.Format.{AreBytes};
 ghost use Rattle.pg_format.specs.Messages.{Cancel};
 ghost use Rattle.pg_send.specs.Bind.{BindFields};
@@ -11,6 +12,8 @@ ghost use Rattle.pg_send.specs.Execute.{ExecuteFields, execute_value};
 ghost use Rattle.pg_send.specs.Message.{Message, body, line, Meant, IfReadable, HaveOneText, AreOneIfAlike, IsWrittenOfPage, IsReadWhereMeant, HasTextOfRaw, Close, Describe, Execute, Parse, RawClose, RawDescribe, RawExecute, RawParse};
 ghost use Rattle.pg_send.specs.Parse.{ParseFields, parse_value};
 ghost use Rattle.pg_send.specs.Password.{power_over};
+ghost use Rattle.pg_send.specs.RawStartup.{raw_startup_body, IfOpened, StartupIsOfPage, StartupIsReadBack};
+ghost use Rattle.pg_send.specs.Startup.{StartupFields, startup_body, all_settings, IsReadable, StartupCanRoundTrip};
 ghost use Rattle.pg_send.specs.Target.{Target, target_value};
 
 /// Two messages of one kind with one frame are one message, where both are within the limits, have
@@ -43,6 +46,16 @@ pub fn numbers_are_names()
 pub fn cancel_requests_are_read_back()
     ensures length { (c : Cancel) → length_field c ≡ length (cancel_request_body c) + 4 }
     ensures read { (cancel : Cancel) → IfSent cancel (CancelIsReadBack cancel) }
+{}
+
+/// The opening of a session is what the page writes of its version and its settings, and a server reads them,
+/// and nothing else, where it gets the settings back. A Startup is one by the minor version 0, whose settings
+/// begin with the user and the database.
+pub fn startups_are_read_back()
+    ensures written { (m : ℕ) (s : List (List ℕ × List ℕ)) → m < 2 ^ 16 → StartupIsOfPage m s }
+    ensures read { (m : ℕ) (s : List (List ℕ × List ℕ)) → IfOpened m s (StartupIsReadBack m s) }
+    ensures named { (s : StartupFields) → startup_body s ≡ raw_startup_body 0 (all_settings s) }
+    ensures readable { (s : StartupFields) → StartupCanRoundTrip s → All IsReadable (all_settings s) }
 {}
 
 /// The room that is reserved for a password in clear is the least power of two that holds it, so

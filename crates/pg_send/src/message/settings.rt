@@ -42,6 +42,22 @@ impl AsSetting for (&str, &str) {
     }
 }
 
+impl AsSetting for (&[u8], &[u8]) {
+    ghost use Rattle.pg_send.specs.Startup.{setting_of};
+
+    ghost pair = { setting_of };
+
+    #[inline(always)]
+    fn name(&self) -> &[u8] {
+        self.0
+    }
+
+    #[inline(always)]
+    fn value(&self) -> &[u8] {
+        self.1
+    }
+}
+
 /// Settings, each as its name and its value.
 #[derive(Clone, Copy)]
 pub struct Settings<'a, T>(pub &'a [T]);

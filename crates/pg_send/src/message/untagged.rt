@@ -4,10 +4,10 @@ ghost use Rattle.std.specs.Prelude.{◌≡◌, ◌+◌, ◌≤◌, length, IfOk,
 ghost use Rattle.pg_base.specs.BufMut.{prefixed};
 ghost use Rattle.pg_base.specs.Cutting.{max_length};
 ghost use Rattle.pg_base.specs.Tagged.{fault_of};
-ghost use Rattle.pg_send.specs.Untagged.{EncodesUntagged};
+ghost use Rattle.pg_send.specs.Untagged.{EncodesUntagged, WritesUntagged};
 
 use pg_base::io::part::Part;
-use pg_base::io::{Sink, Text, checked_len};
+use pg_base::io::{Sink, Text, checked_len, write_text};
 use pg_base::{Error, ProtocolFault};
 
 /// The length of the whole message, which counts its own four bytes, or the first limit that it breaks.
@@ -32,6 +32,18 @@ pub fn encode_untagged<P: Part>(parts: P, buf: &mut Vec<u8>) -> Result<(), Error
     buf.reserve(len)?;
     Untagged { parts, len }.put(buf);
     Ok(())
+}
+
+/// Writes parts after the length of it all at the front of `out` where it is that long, and gives that
+/// length: a greater one than `out` has says that nothing was written. The first limit that the parts break
+/// leaves `out` as it was.
+pub fn write_untagged<P: Part>(parts: P, out: &mut [u8]) -> Result<usize, ProtocolFault>
+    ensures written { WritesUntagged (P.part parts) out.old out.new result }
+    ensures small { IfOk result (λ len. len ≤ max_length) }
+{
+    let len = untagged_len(&parts)?;
+    write_text(&Untagged { parts, len }, len, out);
+    Ok(len)
 }
 
 /// Parts within the limits, and the length of the whole message in bytes.
