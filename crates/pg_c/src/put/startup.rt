@@ -6,11 +6,8 @@ ghost use Rattle.pg_c.specs.Put.Startup.{name_and_value, IsStartupWritten, PutsS
 
 use crate::refusal::number_of;
 use pg_base::Error;
-use pg_base::io::part::{Byte, Number32, Then};
-use pg_base::io::write_text;
-use pg_send::message::PROTOCOL_VERSION;
-use pg_send::message::settings::{AsSetting, Settings, check_settings};
-use pg_send::message::untagged::{Untagged, untagged_len};
+use pg_send::message::RawStartup;
+use pg_send::message::settings::AsSetting;
 
 /// The name of a setting and its value.
 #[repr(C)]
@@ -57,12 +54,8 @@ fn write_startup(minor: u16, settings: &[PgmsgSetting<'_>], out: &mut [u8]) -> R
     ensures written { IsStartupWritten minor settings.now result out.old out.new }
     ensures small { IfOk result (λ len. len ≤ max_length) }
 {
-    let parts = Then(
-        Number32(PROTOCOL_VERSION + u32::from(minor)),
-        Then(Settings(settings), Byte(0)),
-    );
-    let len = untagged_len(&parts)?;
-    check_settings(settings)?;
-    write_text(&Untagged { parts, len }, len, out);
-    Ok(len)
+    let startup = RawStartup { minor, settings };
+    startup.checked_len()?;
+    startup.check_round_trip()?;
+    Ok(startup.write(out)?)
 }
