@@ -35,8 +35,14 @@ static const pgmsg_field_text fields[] = {
 };
 
 MESSAGE(ok, pgmsg_put_authentication(0, NULL, 0, out, out_len))
+MESSAGE(kerberos, pgmsg_put_authentication(2, NULL, 0, out, out_len))
 MESSAGE(cleartext, pgmsg_put_authentication(3, NULL, 0, out, out_len))
 MESSAGE(md5, pgmsg_put_authentication(5, BYTES("\1\0\376\377"), out, out_len))
+MESSAGE(scm_credential, pgmsg_put_authentication(6, NULL, 0, out, out_len))
+MESSAGE(gss, pgmsg_put_authentication(7, NULL, 0, out, out_len))
+MESSAGE(gss_continue, pgmsg_put_authentication(8, BYTES("`\0\377"), out, out_len))
+MESSAGE(bare_gss_continue, pgmsg_put_authentication(8, NULL, 0, out, out_len))
+MESSAGE(sspi, pgmsg_put_authentication(9, NULL, 0, out, out_len))
 MESSAGE(sasl, pgmsg_put_authentication_sasl(mechanisms, 3, out, out_len))
 MESSAGE(bare_sasl, pgmsg_put_authentication_sasl(mechanisms, 0, out, out_len))
 MESSAGE(sasl_continue, pgmsg_put_authentication(11, BYTES("r=ab\0\377"), out, out_len))
@@ -77,8 +83,14 @@ MESSAGE(bare_notification, pgmsg_put_notification(UINT32_MAX, NULL, 0, NULL, 0, 
 
 static const struct sample samples[] = {
     SAMPLE(ok, "R\0\0\0\10" "\0\0\0\0"),
+    SAMPLE(kerberos, "R\0\0\0\10" "\0\0\0\2"),
     SAMPLE(cleartext, "R\0\0\0\10" "\0\0\0\3"),
     SAMPLE(md5, "R\0\0\0\14" "\0\0\0\5" "\1\0\376\377"),
+    SAMPLE(scm_credential, "R\0\0\0\10" "\0\0\0\6"),
+    SAMPLE(gss, "R\0\0\0\10" "\0\0\0\7"),
+    SAMPLE(gss_continue, "R\0\0\0\13" "\0\0\0\10" "`\0\377"),
+    SAMPLE(bare_gss_continue, "R\0\0\0\10" "\0\0\0\10"),
+    SAMPLE(sspi, "R\0\0\0\10" "\0\0\0\11"),
     SAMPLE(sasl, "R\0\0\0\54" "\0\0\0\12" "SCRAM-SHA-256-PLUS\0" "SCRAM-SHA-256\0" "\377\0" "\0"),
     SAMPLE(bare_sasl, "R\0\0\0\11" "\0\0\0\12" "\0"),
     SAMPLE(sasl_continue, "R\0\0\0\16" "\0\0\0\13" "r=ab\0\377"),

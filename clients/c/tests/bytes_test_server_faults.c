@@ -62,7 +62,9 @@ static void refuse_methods(struct tally *tally)
     for (size_t i = 0; i < sizeof methods / sizeof *methods; i++) {
         uint32_t method = methods[i];
         for (size_t len = 0; len <= sizeof content; len++) {
-            bool is_known = method == 5 ? len == 4 : method == 11 || method == 12 || ((method == 0 || method == 3) && len == 0);
+            bool has_data = method == 8 || method == 11 || method == 12;
+            bool has_none = method == 0 || method == 2 || method == 3 || method == 6 || method == 7 || method == 9;
+            bool is_known = method == 5 ? len == 4 : has_data || (has_none && len == 0);
             REFUSES(tally, is_known ? 9 + (ptrdiff_t)len : PGMSG_UNKNOWN_AUTHENTICATION,
                     pgmsg_put_authentication(method, content, len, out, 8 + len));
         }
@@ -110,6 +112,7 @@ static void refuse_counts(struct tally *tally, const uint8_t *zeros)
 /* The longest messages, and those a byte longer. */
 static void compare_with_longest(struct tally *tally, const uint8_t *data)
 {
+    COMPARES_LONGEST(tally, 9, pgmsg_put_authentication(8, data, n, out, ROOM));
     COMPARES_LONGEST(tally, 9, pgmsg_put_authentication(11, data, n, out, ROOM));
     COMPARES_LONGEST(tally, 9, pgmsg_put_authentication(12, data, n, out, ROOM));
     COMPARES_LONGEST(tally, 5, pgmsg_put_frame('d', data, n, out, ROOM));

@@ -47,7 +47,7 @@ static struct guarded texts, digests, codes, types, values, settings, names, fie
     CALL(function_call, (number, in->codes, in->n, in->values, in->n, 1, out, out_len))                             \
     CALL(copy_data, (in->text, in->n, out, out_len))                                                                \
     CALL(no_body, ("123HISXcns?"[in->n % 11], out, out_len))                                                        \
-    CALL(authentication, ("\0\3\5\13\14?"[in->n % 6], in->text, in->n, out, out_len))                               \
+    CALL(authentication, ("\0\2\3\5\6\7\10\11\13\14?"[in->n % 11], in->text, in->n, out, out_len))                 \
     CALL(authentication_sasl, (in->names, in->n, out, out_len))                                                     \
     CALL(negotiate_version, (number, in->names, in->n, out, out_len))                                               \
     CALL(backend_key_data, (number, in->text, in->n, out, out_len))                                                 \

@@ -9,6 +9,7 @@ use Rattle.pg_format.specs.Format.{Means}
 use Rattle.pg_format.specs.Messages as page
 use Rattle.pg_format.specs.Notices.{Field}
 use Rattle.pg_receive.specs.Authentication.{value_of}
+use Rattle.pg_receive.specs.Authentication.Any.{any_value_of}
 use Rattle.pg_receive.specs.contracts.message.authentication.AuthenticationBackendMessage.TheImpl as authentication
 use Rattle.pg_receive.specs.contracts.message.backend_key_data.BackendKeyDataBackendMessage.TheImpl as backend_key_data
 use Rattle.pg_receive.specs.contracts.message.command_complete.CommandCompleteBackendMessage.TheImpl as command_complete
@@ -35,8 +36,8 @@ use Rattle.pg_server.specs.declared.backend.no_body.NoBodyText.TheVariants as ba
 use Rattle.pg_server.specs.declared.backend.notice.NoticeKind.{NoticeKind}
 use Rattle.pg_server.specs.declared.backend.notice.NoticeKind.TheVariants as kinds
 use Rattle.pg_base.proofs.TaggedLemmas.{len_fits}
-use Rattle.pg_server.proofs.BackendMessageLemmas.{own_message}
-use Rattle.pg_message.specs.Backend.{IsDecoded, IsCopyDecoded, IsBareDecoded, IsNoticeDecoded, IsDecodedBack, noticed, numbered}
+use Rattle.pg_server.proofs.BackendMessageLemmas.{own_message, own_request}
+use Rattle.pg_message.specs.Backend.{IsDecoded, IsCopyDecoded, IsBareDecoded, IsNoticeDecoded, IsDecodedBack, IsAskedBack, noticed, numbered}
 
 small : (m : Message) → fault m ≡ None → 4 + length (body m) ≤ max_length
 small m e = len_fits (law_of m).part_fault (length (body m)) e
@@ -79,21 +80,33 @@ decoded_notice : (kind : NoticeKind) (fields : List Field) → fault (message.No
 decoded_notice kinds.Error fields e is = decoded error_response.ghosts (noticed fields) (message.Notice kinds.Error fields) e refl (fields, is, refl)
 decoded_notice kinds.Notice fields e is = decoded notice_response.ghosts (noticed fields) (message.Notice kinds.Notice fields) e refl (fields, is, refl)
 
-decoded_by_kind : (m : Message) → fault m ≡ None → Means (law_of m).line (body m) (law_of m).value → IsDecodedBack m
-decoded_by_kind (message.Authentication request) e is = decoded authentication.ghosts (value_of request) (message.Authentication request) e refl (request, is, refl)
-decoded_by_kind (message.BackendKeyData key) e is = λ wide. decoded backend_key_data.ghosts (numbered key) (message.BackendKeyData key) e refl (read_key key (body (message.BackendKeyData key)) wide is)
-decoded_by_kind (message.CommandComplete command) e is = decoded command_complete.ghosts _ (message.CommandComplete command) e refl is
-decoded_by_kind (message.CopyData bytes) e is = decoded copy_data.ghosts bytes (message.CopyData bytes) e refl is
-decoded_by_kind (message.CopyResponse direction format codes) e is = decoded_copy direction (message.CopyResponse direction format codes) (response_of format codes) e refl is
-decoded_by_kind (message.DataRow cells) e is = decoded data_row.ghosts cells (message.DataRow cells) e refl is
-decoded_by_kind (message.NoBody kind) e is = decoded_bare kind e is
-decoded_by_kind (message.Notice kind fields) e is = decoded_notice kind fields e is
-decoded_by_kind (message.Notification n) e is = decoded notification.ghosts n (message.Notification n) e refl is
-decoded_by_kind (message.ParameterDescription types) e is = decoded parameter_description.ghosts types (message.ParameterDescription types) e refl is
-decoded_by_kind (message.ParameterStatus setting) e is = decoded parameter_status.ghosts setting (message.ParameterStatus setting) e refl is
-decoded_by_kind (message.ReadyForQuery ready) e is = decoded ready_for_query.ghosts _ (message.ReadyForQuery ready) e refl is
-decoded_by_kind (message.RowDescription columns) e is = decoded row_description.ghosts columns (message.RowDescription columns) e refl is
-decoded_by_kind other e is = tt
+decoded_request : (request : page.AnyAuthentication) → fault (message.Authentication request) ≡ None → IsInRange (message.Authentication request) → IsReadable (message.Authentication request) → IsDecodedBack (message.Authentication request)
+decoded_request (page.known_method request) e r h =
+    decoded authentication.ghosts (value_of request) (message.Authentication (page.known_method request)) e refl (request, own_request request e r h, refl)
+decoded_request other e r h = tt
+
+decoded_by_kind : (m : Message) → fault m ≡ None → IsInRange m → IsReadable m → Means (law_of m).line (body m) (law_of m).value → IsDecodedBack m
+decoded_by_kind (message.Authentication request) e r h is = decoded_request request e r h
+decoded_by_kind (message.BackendKeyData key) e r h is = λ wide. decoded backend_key_data.ghosts (numbered key) (message.BackendKeyData key) e refl (read_key key (body (message.BackendKeyData key)) wide is)
+decoded_by_kind (message.CommandComplete command) e r h is = decoded command_complete.ghosts _ (message.CommandComplete command) e refl is
+decoded_by_kind (message.CopyData bytes) e r h is = decoded copy_data.ghosts bytes (message.CopyData bytes) e refl is
+decoded_by_kind (message.CopyResponse direction format codes) e r h is = decoded_copy direction (message.CopyResponse direction format codes) (response_of format codes) e refl is
+decoded_by_kind (message.DataRow cells) e r h is = decoded data_row.ghosts cells (message.DataRow cells) e refl is
+decoded_by_kind (message.NoBody kind) e r h is = decoded_bare kind e is
+decoded_by_kind (message.Notice kind fields) e r h is = decoded_notice kind fields e is
+decoded_by_kind (message.Notification n) e r h is = decoded notification.ghosts n (message.Notification n) e refl is
+decoded_by_kind (message.ParameterDescription types) e r h is = decoded parameter_description.ghosts types (message.ParameterDescription types) e refl is
+decoded_by_kind (message.ParameterStatus setting) e r h is = decoded parameter_status.ghosts setting (message.ParameterStatus setting) e refl is
+decoded_by_kind (message.ReadyForQuery ready) e r h is = decoded ready_for_query.ghosts _ (message.ReadyForQuery ready) e refl is
+decoded_by_kind (message.RowDescription columns) e r h is = decoded row_description.ghosts columns (message.RowDescription columns) e refl is
+decoded_by_kind other e r h is = tt
 
 pub decoded_back : (m : Message) → fault m ≡ None → IsInRange m → IsReadable m → IsDecodedBack m
-decoded_back m e r h = decoded_by_kind m e (means m e r h)
+decoded_back m e r h = decoded_by_kind m e r h (means m e r h)
+
+pub asked_back : (m : Message) → fault m ≡ None → IsInRange m → IsReadable m → IsAskedBack m
+asked_back (message.Authentication request) e r h = λ read. (
+  (λ p. p.2 ∙ ap any_value_of ((own_message (message.Authentication request) e r h p.0).0 p.1)),
+  (λ is. (request, means (message.Authentication request) e r h, is)),
+)
+asked_back other e r h = tt

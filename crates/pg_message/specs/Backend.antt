@@ -8,6 +8,7 @@ use Rattle.pg_format.specs.Format.{Format, Means}
 use Rattle.pg_format.specs.Messages as page
 use Rattle.pg_format.specs.Notices.{Field, read_part}
 use Rattle.pg_receive.specs.Authentication.{value_of}
+use Rattle.pg_receive.specs.Authentication.Any.{any_value_of, any_requests}
 use Rattle.pg_receive.specs.BackendKeyData.{raw_key_data}
 use Rattle.pg_receive.specs.CommandComplete.{tag_text}
 use Rattle.pg_receive.specs.ParameterStatus.{raw_parameter_status}
@@ -72,7 +73,7 @@ IsNoticeDecoded kinds.Notice notice m = IsDecoded notice_response.ghosts notice 
 
 -- what it says, by the type of its kind; of other kinds nothing is decoded
 abbrev pub IsDecodedBack : Message → Type 0
-IsDecodedBack (message.Authentication request) = IsDecoded authentication.ghosts (value_of request) (message.Authentication request)
+IsDecodedBack (message.Authentication (page.known_method request)) = IsDecoded authentication.ghosts (value_of request) (message.Authentication (page.known_method request))
 IsDecodedBack (message.BackendKeyData key) = length key.secret_key ≡ 4 → IsDecoded backend_key_data.ghosts (numbered key) (message.BackendKeyData key)
 IsDecodedBack (message.CommandComplete command) = IsDecoded command_complete.ghosts (ended command) (message.CommandComplete command)
 IsDecodedBack (message.CopyData bytes) = IsDecoded copy_data.ghosts bytes (message.CopyData bytes)
@@ -92,6 +93,11 @@ IsDecodedBack other = Unit {0}
 -- this body means this value, and no other
 abbrev pub IsMeant : {V : Type 0} → Format V → V → Message → Type 0
 IsMeant {V} line value m = (read : V) → Means line (body m) read ↔ (read ≡ value)
+
+-- what a reader of requests for authentication by any method reads
+abbrev pub IsAskedBack : Message → Type 0
+IsAskedBack (message.Authentication request) = IsMeant any_requests (any_value_of request) (message.Authentication request)
+IsAskedBack other = Unit {0}
 
 -- what it says, where its reader asks for no UTF-8 and tests nothing
 abbrev pub IsReadRaw : Message → Type 0

@@ -19,7 +19,7 @@ use Rattle.pg_format.proofs.FormatLaws.Parts.{lawful_remaining}
 use Rattle.pg_server.specs.Backend.BackendText.{part_of, body, fault}
 use Rattle.pg_server.specs.Backend.Item.{too_many, max_unsigned, max_signed, nul_fault, holds_nul, breaks_names}
 use Rattle.pg_server.specs.Backend.Message as message
-use Rattle.pg_server.specs.Backend.Message.{Message, law_of, IsReadable, IsRead, replication_fault, IsReplicationInRange}
+use Rattle.pg_server.specs.Backend.Message.{Message, law_of, IsInRange, IsReadable, IsRead, replication_fault, IsReplicationInRange}
 use Rattle.pg_server.specs.Backend.Notice.{breaks_fields}
 use Rattle.pg_server.proofs.BackendFitsLemmas.{numbers_fit, codes_fit, cell_fits, cells_fit, texts_fit, few_names, names_fit, fields_fit, columns_fit}
 use Rattle.pg_base.proofs.TaggedLemmas.{len_fits, no_part_fault, no_fault}
@@ -38,15 +38,34 @@ few_options n e =
     let options = be32 (length n.options) ++ flat_map until_nul.Writes n.options in
     few_names n.options (omega (arith, length-append (be16 n.major ++ be16 n.minor) options, small (message.NegotiateProtocolVersion n) e))
 
-fits_request : (request : page.Authentication) → fault (law_of (message.Authentication request)) ≡ None → (law_of (message.Authentication request)).IsInRange → IsReadable (message.Authentication request) → page.authentication.Fits request []
-fits_request page.ok e r h = (((omega arith, refl), refl), refl)
-fits_request page.cleartext_password e r h = (((omega arith, refl), refl), refl)
-fits_request (page.md5_password salt) e r h = (((omega arith, (r, refl)), refl), refl)
-fits_request (page.sasl names) e r h =
-    let free = no_nul_fault (list_any breaks_names names) (parts (message.Authentication (page.sasl names)) e) in
+-- as a request by one of the six methods that sqlx-postgres knows
+fits_known : (request : page.Authentication) → fault (law_of (message.Authentication (page.known_method request))) ≡ None → IsInRange (message.Authentication (page.known_method request)) → IsReadable (message.Authentication (page.known_method request)) → page.authentication.Fits request []
+fits_known page.ok e r h = (((omega arith, refl), refl), refl)
+fits_known page.cleartext_password e r h = (((omega arith, refl), refl), refl)
+fits_known (page.md5_password salt) e r h = (((omega arith, (r, refl)), refl), refl)
+fits_known (page.sasl names) e r h =
+    let free = no_nul_fault (list_any breaks_names names) (parts (message.Authentication (page.known_method (page.sasl names))) e) in
     (((omega arith, ((names_fit names (0 ∷ []) free h, refl), refl)), refl), refl)
-fits_request (page.sasl_continue content) e r h = (((omega arith, ((refl, h), refl)), refl), refl)
-fits_request (page.sasl_final content) e r h = (((omega arith, ((refl, h), refl)), refl), refl)
+fits_known (page.sasl_continue content) e r h = (((omega arith, ((refl, h), refl)), refl), refl)
+fits_known (page.sasl_final content) e r h = (((omega arith, ((refl, h), refl)), refl), refl)
+
+-- as one by any method
+among_all : (request : page.Authentication) → page.authentication.Fits request [] → page.any_authentication.Fits (page.known_method request) []
+among_all page.ok p = (((omega arith, (p.0.0.1, refl)), refl), refl)
+among_all page.cleartext_password p = (((omega arith, (p.0.0.1, refl)), refl), refl)
+among_all (page.md5_password salt) p = (((omega arith, (p.0.0.1, refl)), refl), refl)
+among_all (page.sasl names) p = (((omega arith, (p.0.0.1, refl)), refl), refl)
+among_all (page.sasl_continue content) p = (((omega arith, (p.0.0.1, refl)), refl), refl)
+among_all (page.sasl_final content) p = (((omega arith, (p.0.0.1, refl)), refl), refl)
+
+fits_request : (request : page.AnyAuthentication) → fault (law_of (message.Authentication request)) ≡ None → IsInRange (message.Authentication request) → IsReadable (message.Authentication request) → page.any_authentication.Fits request []
+fits_request (page.known_method request) e r h = among_all request (fits_known request e r h)
+fits_request page.kerberos_v5 e r h = (((omega arith, refl), refl), refl)
+fits_request page.scm_credential e r h = (((omega arith, refl), refl), refl)
+fits_request page.gss e r h = (((omega arith, refl), refl), refl)
+fits_request (page.gss_continue content) e r h = (((omega arith, (refl, refl)), refl), refl)
+fits_request page.sspi e r h = (((omega arith, refl), refl), refl)
+fits_request (page.other_method method content) e r h = absurd r
 
 bit_fits : (set : Bool) → (bit set < 256) × (is_set (bit set) ≡ set)
 bit_fits true = (omega arith, refl)
@@ -104,7 +123,7 @@ fits (message.RowDescription columns) e r h =
 fits (message.XLogContent piece content_fault) e r h = (tt, fits_replication contents.XLogData piece refl r)
 
 lawful : (m : Message) → Lawful (law_of m).line
-lawful (message.Authentication request) = server.lawful_authentication
+lawful (message.Authentication request) = server.lawful_any_authentication
 lawful (message.BackendKeyData key) = server.lawful_backend_key
 lawful (message.CommandComplete command) = lawful_remaining
 lawful (message.CopyData bytes) = lawful_remaining
@@ -132,6 +151,21 @@ own_message m e r h read =
       (λ p. (laws.one_value (body l) [] [] read l.value p itself).0),
       (λ e. rw e itself),
     )
+
+-- the line of the six methods reads a request as the line of all methods does
+same_body : (request : page.Authentication) → page.authentication.Writes request ≡ page.any_authentication.Writes (page.known_method request)
+same_body page.ok = refl
+same_body page.cleartext_password = refl
+same_body (page.md5_password salt) = refl
+same_body (page.sasl names) = refl
+same_body (page.sasl_continue content) = refl
+same_body (page.sasl_final content) = refl
+
+pub own_request : (request : page.Authentication) → fault (law_of (message.Authentication (page.known_method request))) ≡ None → IsInRange (message.Authentication (page.known_method request)) → IsReadable (message.Authentication (page.known_method request))
+    → Means page.authentication (body (law_of (message.Authentication (page.known_method request)))) request
+own_request request e r h =
+    let itself : Means page.authentication (page.authentication.Writes request) request = rw append-nil at (server.lawful_authentication.written request [] (fits_known request e r h)) in
+    rw (same_body request) at itself
 
 -- a message has no fault whose parts were given a length
 pub accepted : (part : PartLaw) (m : Message) (len : ℕ) → IsSame part (part_of (law_of m)) → checked_len (fault_of part) (length part.text) ≡ Ok len → fault (law_of m) ≡ None

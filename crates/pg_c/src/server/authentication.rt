@@ -13,9 +13,19 @@ use pg_server::backend::{AsItem, AuthenticationText, Mechanism, SaslText};
 // The numbers of methods.
 const OK: u32 = 0;
 
+const KERBEROS_V5: u32 = 2;
+
 const CLEARTEXT_PASSWORD: u32 = 3;
 
 const MD5_PASSWORD: u32 = 5;
+
+const SCM_CREDENTIAL: u32 = 6;
+
+const GSS: u32 = 7;
+
+const GSS_CONTINUE: u32 = 8;
+
+const SSPI: u32 = 9;
 
 const SASL_CONTINUE: u32 = 11;
 
@@ -50,8 +60,10 @@ impl<'a> AsItem<Mechanism<'a>> for PgmsgBytes<'a> {
 
 /// A request for authentication, by the number of its method and what follows it. 0 says that the client
 /// is who it says, and 3 asks for its password as it is: nothing follows. 5 asks for the MD5 digest of its
-/// password, with the salt of four bytes that follows. 11 and 12 are the next and the last of a SASL
-/// exchange, whose data follows; 10 begins one, by `pgmsg_put_authentication_sasl`. Of other numbers, or
+/// password, with the salt of four bytes that follows. 7 and 9 begin an exchange of GSSAPI or SSPI, and 2 and
+/// 6 ask for Kerberos V5 and the credentials of a Unix socket, as servers before versions 9.3 and 9.1 do:
+/// nothing follows. 8 is the next of an exchange of GSSAPI or SSPI, 11 and 12 are the next and the last of a
+/// SASL exchange, whose data follows; 10 begins one, by `pgmsg_put_authentication_sasl`. Of other numbers, or
 /// with another count of bytes, it is refused with PGMSG_UNKNOWN_AUTHENTICATION.
 #[unsafe(no_mangle)]
 pub extern "C" fn pgmsg_put_authentication(method: u32, content: &[u8], out: &mut [u8]) -> isize
@@ -69,8 +81,13 @@ fn request_of(method: u32, content: &[u8]) -> Option<AuthenticationText<'_>>
 {
     match (method, content) {
         (OK, []) => Some(AuthenticationText::Ok),
+        (KERBEROS_V5, []) => Some(AuthenticationText::KerberosV5),
         (CLEARTEXT_PASSWORD, []) => Some(AuthenticationText::CleartextPassword),
         (MD5_PASSWORD, &[a, b, c, d]) => Some(AuthenticationText::Md5Password([a, b, c, d])),
+        (SCM_CREDENTIAL, []) => Some(AuthenticationText::ScmCredential),
+        (GSS, []) => Some(AuthenticationText::Gss),
+        (GSS_CONTINUE, _) => Some(AuthenticationText::GssContinue(content)),
+        (SSPI, []) => Some(AuthenticationText::Sspi),
         (SASL_CONTINUE, _) => Some(AuthenticationText::SaslContinue(content)),
         (SASL_FINAL, _) => Some(AuthenticationText::SaslFinal(content)),
         _ => None,

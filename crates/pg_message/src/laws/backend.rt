@@ -2,13 +2,15 @@
 
 ghost use Rattle.std.specs.Prelude.{◌≡◌, None};
 ghost use Rattle.pg_server.specs.Backend.Message.{Message, fault, IsInRange, IsReadable};
-ghost use Rattle.pg_message.specs.Backend.{IsDecodedBack, IsReadRaw};
+ghost use Rattle.pg_message.specs.Backend.{IsDecodedBack, IsAskedBack, IsReadRaw};
 
 /// A message without a fault, of a kind that has a type, is decoded as that type by its tag and body to
-/// what it says, or memory runs out.
-#[tactic(auto, using(crate::proofs::BackendLemmas::decoded_back))]
+/// what it says, or memory runs out. A request for authentication by any method is read as that request,
+/// and as no other.
+#[tactic(auto, using(crate::proofs::BackendLemmas::decoded_back, crate::proofs::BackendLemmas::asked_back))]
 pub fn own_messages_are_decoded()
-    ensures { (m : Message) → fault m ≡ None → IsInRange m → IsReadable m → IsDecodedBack m }
+    ensures asked { (m : Message) → fault m ≡ None → IsInRange m → IsReadable m → IsAskedBack m }
+    ensures decoded { (m : Message) → fault m ≡ None → IsInRange m → IsReadable m → IsDecodedBack m }
 {}
 
 /// Of a message without a fault the readers of texts in any encoding read what it says: fields of a notice

@@ -18,7 +18,7 @@ use Rattle.pg_format.specs.declared.replication.ReplicationKind.{ReplicationKind
 use Rattle.pg_format.specs.declared.replication.ReplicationKind.TheVariants as contents
 use Rattle.pg_format.specs.Notices.{Field, notice_fault}
 use Rattle.pg_format.specs.Sasl.{first_message_fault, final_message_fault}
-use Rattle.pg_server.specs.Backend.Authentication.{names_fault, IsSalted}
+use Rattle.pg_server.specs.Backend.Authentication.{names_fault, IsAskable}
 use Rattle.pg_server.specs.Backend.BackendText as law
 use Rattle.pg_server.specs.Backend.BackendText.{Law}
 use Rattle.pg_server.specs.Backend.Copy.{direction_tag, response_of, IsCopyInRange}
@@ -34,7 +34,7 @@ use Rattle.pg_server.specs.declared.backend.ready_for_query.ReadyForQueryText.{R
 use Rattle.pg_base.specs.Tagged.{checked_len}
 
 pub data Message : Type 0 where
-  Authentication : page.Authentication → Message
+  Authentication : page.AnyAuthentication → Message
   BackendKeyData : page.Cancel → Message
   CommandComplete : List ℕ → Message
   CopyData : List ℕ → Message
@@ -70,7 +70,7 @@ parameter_status_of name value = ParameterStatus (record { name = name; value = 
 
 -- a request for SASL by one of these mechanisms
 abbrev pub sasl_offer_of : List (List ℕ) → Message
-sasl_offer_of mechanisms = Authentication (page.sasl mechanisms)
+sasl_offer_of mechanisms = Authentication (page.known_method (page.sasl mechanisms))
 
 -- ---- in the data of a CopyData
 
@@ -97,7 +97,7 @@ of_kind kind line value part_fault IsInRange = by_line (backend_tag kind) line v
 -- Of a CommandComplete the page has the whole body for what it says, with the NUL. A COPY's count is signed. 86 is
 -- `V`, and 118 is `v`. The content of an XLogContent is made of parts, which may have a fault.
 abbrev pub law_of : Message → Law
-law_of (Authentication request) = of_kind formats.Authentication page.authentication request (names_fault request) (IsSalted request)
+law_of (Authentication request) = of_kind formats.Authentication page.any_authentication request (names_fault request) (IsAskable request)
 law_of (BackendKeyData key) = of_kind formats.BackendKeyData page.backend_key key (page.key_fault (length key.secret_key)) (key.process_id < 2 ^ 32)
 law_of (CommandComplete command) = of_kind formats.CommandComplete page.command_complete (ended command) (text_fault command) (Unit {0})
 law_of (CopyData bytes) = of_kind formats.CopyData page.copy_data bytes None (Unit {0})
@@ -145,10 +145,10 @@ IsInRange m = (law_of m).IsInRange
 
 -- ---- what a reader asks of it beside: texts of UTF-8, and data without a fault of its own
 
-abbrev pub IsRequestReadable : page.Authentication → Type 0
-IsRequestReadable (page.sasl names) = All IsUtf8 names
-IsRequestReadable (page.sasl_continue content) = first_message_fault content ≡ None
-IsRequestReadable (page.sasl_final content) = final_message_fault content ≡ None
+abbrev pub IsRequestReadable : page.AnyAuthentication → Type 0
+IsRequestReadable (page.known_method (page.sasl names)) = All IsUtf8 names
+IsRequestReadable (page.known_method (page.sasl_continue content)) = first_message_fault content ≡ None
+IsRequestReadable (page.known_method (page.sasl_final content)) = final_message_fault content ≡ None
 IsRequestReadable other = Unit {0}
 
 pub record IsSettingReadable (setting : page.Setting) : Type 0 where

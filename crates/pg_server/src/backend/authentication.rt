@@ -15,9 +15,19 @@ use std::marker::PhantomData;
 // The numbers of methods.
 const OK: u32 = 0;
 
+const KERBEROS_V5: u32 = 2;
+
 const CLEARTEXT_PASSWORD: u32 = 3;
 
 const MD5_PASSWORD: u32 = 5;
+
+const SCM_CREDENTIAL: u32 = 6;
+
+const GSS: u32 = 7;
+
+const GSS_CONTINUE: u32 = 8;
+
+const SSPI: u32 = 9;
 
 const SASL_CONTINUE: u32 = 11;
 
@@ -29,16 +39,26 @@ const SASL_FINAL: u32 = 12;
 pub enum AuthenticationText<'a> {
     /// The client is who it says.
     Ok,
+    /// Kerberos V5, as servers before version 9.3 ask.
+    KerberosV5,
     /// Its password as it is.
     CleartextPassword,
     /// The MD5 of its password, with this salt.
     Md5Password([u8; 4]),
+    /// The credentials of a Unix socket, as servers before version 9.1 ask.
+    ScmCredential,
+    /// An exchange of GSSAPI.
+    Gss,
+    /// The next data of an exchange of GSSAPI or SSPI.
+    GssContinue(&'a [u8]),
+    /// An exchange of SSPI.
+    Sspi,
     /// An exchange of SASL by one of these mechanisms, the best first. A name that is empty or holds a
     /// NUL is refused with `TextHoldsNul`.
     Sasl(&'a [&'a [u8]]),
-    /// The next of the exchange.
+    /// The next of an exchange of SASL.
     SaslContinue(&'a [u8]),
-    /// The last of the exchange.
+    /// The last of an exchange of SASL.
     SaslFinal(&'a [u8]),
 }
 
@@ -56,15 +76,21 @@ impl<'a> BackendText for AuthenticationText<'a> {
 
     #[inline(always)]
     fn parts(&self) -> Self::Body {
+        let nothing = Either::First(Slice(&[]));
         match self {
-            AuthenticationText::Ok => Then(Number32(OK), Either::First(Slice(&[]))),
-            AuthenticationText::CleartextPassword => {
-                Then(Number32(CLEARTEXT_PASSWORD), Either::First(Slice(&[])))
-            }
+            AuthenticationText::Ok => Then(Number32(OK), nothing),
+            AuthenticationText::KerberosV5 => Then(Number32(KERBEROS_V5), nothing),
+            AuthenticationText::CleartextPassword => Then(Number32(CLEARTEXT_PASSWORD), nothing),
             AuthenticationText::Md5Password(salt) => Then(
                 Number32(MD5_PASSWORD),
                 Either::Second(Either::First(Salt(*salt))),
             ),
+            AuthenticationText::ScmCredential => Then(Number32(SCM_CREDENTIAL), nothing),
+            AuthenticationText::Gss => Then(Number32(GSS), nothing),
+            AuthenticationText::GssContinue(content) => {
+                Then(Number32(GSS_CONTINUE), Either::First(Slice(content)))
+            }
+            AuthenticationText::Sspi => Then(Number32(SSPI), nothing),
             AuthenticationText::Sasl(names) => {
                 let names = ThenFirst(Items(PhantomData, *names), Byte(0));
                 Then(Number32(SASL), Either::Second(Either::Second(names)))
