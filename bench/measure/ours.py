@@ -6,6 +6,7 @@
 
 import shutil
 import sys
+import tempfile
 from pathlib import Path
 
 sys.path.insert(0, str(Path(__file__).resolve().parent.parent.parent / "tests"))
@@ -14,11 +15,20 @@ import crates
 import unproved
 
 
+def texts(folder):
+    """The sources in a folder, by their paths."""
+    return {file.relative_to(folder): file.read_text() for file in folder.rglob("*.rt")}
+
+
 def laid_out(name, out):
-    """A crate of programs.txt in a folder of its own, whose sources a compiler reads."""
-    crate = crates.benched()[name]
-    shutil.rmtree(out / name / "src", ignore_errors=True)
-    unproved.copy_crate(crate, out / name / "src")
+    """A crate of programs.txt in a folder of its own, whose sources a compiler reads. They are written only where they
+    aren't as they should be, since what was built of older sources is proved and built anew."""
+    crate, src = crates.benched()[name], out / name / "src"
+    with tempfile.TemporaryDirectory() as copy:
+        unproved.copy_crate(crate, Path(copy))
+        if texts(Path(copy)) != texts(src):
+            shutil.rmtree(src, ignore_errors=True)
+            shutil.copytree(copy, src)
     return crates.Crate(name, crate.is_static, crate.names, out / name)
 
 

@@ -7,8 +7,8 @@ from build import BENCH, output
 
 # What stands above each table.
 HEADS = {
-    "times": """Ours over each other's: the median, the first and the last tenth. A ratio above its aim has stars around it.
-The column "before" is of 2026-11-23, when a checksum of the benchmark was timed with the rest.""",
+    "times": """Ours over each other's: the median, the first and the last tenth. A ratio above its aim has stars around it, and
+misses.txt says why.""",
     "strict": "The time of encode_strict over that of encode_all.",
     "instructions": "Instructions a message, counted by callgrind, which can't run Go.",
     "scale": "One size grows, and the rest stays as it is: in a third of the rounds, in one order.",

@@ -28,19 +28,22 @@ def number(value, form="{:.2f}"):
 
 
 def compared(ratios, aim):
-    """A ratio with its spread, bold where it is above the aim."""
+    """A ratio with its spread."""
     if ratios is None:
         return NONE
     middle, low, high = ratios
-    text = f"{middle:.2f}"
-    if aim is not None and round(middle, 2) > aim:
-        text = f"**{text}**"
-    return f"{text} ({low:.2f} to {high:.2f})"
+    return f"{starred(middle, aim)} ({low:.2f} to {high:.2f})"
+
+
+def starred(ratio, aim):
+    """A ratio, with stars around it where it is above its aim."""
+    text = f"{ratio:.2f}"
+    return f"**{text}**" if aim is not None and round(ratio, 2) > aim else text
 
 
 def times_table(rows):
-    """One line for each row, with aims, and what it was before."""
-    heads = ["case", "how", "ns a message", "over the original's", "aim", "before"]
+    """One line for each row, with aims."""
+    heads = ["case", "how", "ns a message", "over the original's", "aim"]
     heads += ["over postgres-protocol's", "aim", "over pgproto3's"]
     lines = []
     for row in rows:
@@ -53,7 +56,6 @@ def times_table(rows):
             f"{row.nanoseconds():.1f}",
             compared(row.over("original"), original),
             number(original),
-            number(aims.BEFORE[row.case].get(row.how)),
             compared(row.over("postgres-protocol"), peer),
             number(peer if has_peer else None),
             compared(row.over("pgproto3"), None),
@@ -94,11 +96,14 @@ def strict_lines(rows):
 
 
 def scale_table(scale, times):
-    """The nanoseconds of a unit: a column for each size."""
+    """The nanoseconds of a unit: a column for each size. A stream in pieces has its aim over the original's."""
     heads = ["side", "how", *map(str, scale.sizes)]
     jobs = dict.fromkeys(job for size in scale.sizes for job in times[size])
     lines = [
         [*job, *(number(times[size].get(job), "{:.3g}") for size in scale.sizes)]
         for job in jobs
     ]
+    if scale.is_piece:
+        ratios = (times[size]["ours", "pieces"] / times[size]["original", "pieces"] for size in scale.sizes)
+        lines.append(["ours over the original's", "", *(starred(ratio, aims.PIECES) for ratio in ratios)])
     return table(heads, lines)

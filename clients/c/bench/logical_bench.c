@@ -1,6 +1,6 @@
 /* How long pgmsg_read_logical and pgmsg_read_tuple take for an Insert, beside C that is written by hand and tests every bound:
  *
- *     logical_bench           prints a line for each shape of a row: nanoseconds of both, and the quotient
+ *     logical_bench           prints a line for each shape of a row
  *     logical_bench bodies    prints of each its words, the letter, the message in hexadecimal digits and the nanoseconds of
  *                             the library, apart by tabs
  */
@@ -164,7 +164,7 @@ static uint64_t measure(const struct shape *shape, bool bodies)
     compare(&content);
     struct turns of = take_turns(by_library, by_hand, &content, TIMES, &sum);
     if (!bodies) {
-        printf("| %s | %.1f | %.1f | %.2f |\n", shape->words, of.library, of.hand, of.library / of.hand);
+        print_turns(of, 1, "C by hand", "read %s", shape->words);
         return sum;
     }
     printf("%s\tI\t", shape->words);
@@ -183,8 +183,6 @@ int main(int argc, char **argv)
     };
     bool bodies = argc == 2 && strcmp(argv[1], "bodies") == 0;
     uint64_t sum = 0;
-    if (!bodies)
-        printf("\n| message of a slot | the library, ns | C by hand, ns | quotient |\n|---|---|---|---|\n");
     for (size_t i = 0; i < sizeof shapes / sizeof *shapes; i++)
         sum += measure(&shapes[i], bodies);
     return sum == 0;

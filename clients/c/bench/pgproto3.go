@@ -1,6 +1,6 @@
 // How long pgproto3, the messages of Go's driver pgx, takes to read the bodies that `read_bench bodies` prints, and to
-// write the rows of `put_bench rows`; and how long Go takes to read the messages of `logical_bench bodies`. Prints for each the nanoseconds of the library, its own, and the quotient: medians
-// of processor time.
+// write the rows of `put_bench rows`; and how long Go takes to read the messages of `logical_bench bodies`. Prints for each
+// a line as those of `print_turns`: medians of processor time.
 package main
 
 import (
@@ -89,7 +89,14 @@ func compare(line string) {
 	} else {
 		own = measureReading(messages[parts[1]], body)
 	}
-	fmt.Printf("| %s | %.1f | %.1f | %.2f |\n", parts[0], library, own, library/own)
+	done, other := fmt.Sprintf("read a client's %s, with its lists", parts[0]), "pgproto3"
+	switch parts[1] {
+	case "D":
+		done = "write " + parts[0]
+	case "I":
+		done, other = "read "+parts[0], "Go by hand"
+	}
+	fmt.Printf("| %s | %.1f | %s | %.1f | %.2f |\n", done, library, other, own, library/own)
 }
 
 func main() {
@@ -97,7 +104,6 @@ func main() {
 	for input := bufio.NewScanner(os.Stdin); input.Scan(); {
 		lines = append(lines, input.Text())
 	}
-	fmt.Print("\n| message | the library, ns | Go, ns | quotient |\n|---|---|---|---|\n")
 	for _, line := range lines {
 		compare(line)
 	}

@@ -1,6 +1,6 @@
 /* How long the calls that put messages take, beside C that is written by hand and refuses the same:
  *
- *     put_bench         prints a line for each message: nanoseconds of both, and the quotient
+ *     put_bench         prints a line for each message
  *     put_bench rows    prints of each row its words, its tag, its body in hexadecimal digits and the nanoseconds that
  *                       the library takes, apart by tabs
  */
@@ -119,10 +119,9 @@ static struct turns measure(const struct message *message, uint64_t *sum)
 static uint64_t print_quotients(void)
 {
     uint64_t sum = 0;
-    printf("\n| message | the library, ns | C by hand, ns | quotient |\n|---|---|---|---|\n");
     for (size_t i = 0; i < sizeof messages / sizeof *messages; i++) {
         struct turns of = measure(&messages[i], &sum);
-        printf("| %s | %.1f | %.1f | %.2f |\n", messages[i].name, of.library, of.hand, of.library / of.hand);
+        print_turns(of, 1, "C by hand", "write %s", messages[i].name);
     }
     return sum;
 }

@@ -1,6 +1,6 @@
 /* How long the calls that read a client's messages take, beside C that is written by hand and refuses the same:
  *
- *     read_bench           prints a line for each message: nanoseconds of both, and the quotient
+ *     read_bench           prints a line for each message
  *     read_bench bodies    prints of each its words, its tag, its body in hexadecimal digits and the nanoseconds that
  *                          the library takes with all its lists, apart by tabs
  */
@@ -224,8 +224,6 @@ int main(int count, char **words)
     bool wants_bodies = count == 2 && strcmp(words[1], "bodies") == 0;
     uint64_t sum = 0;
     memset(bytes, 'x', sizeof bytes);
-    if (!wants_bodies)
-        printf("\n| message of a client | the library, ns | C by hand, ns | quotient |\n|---|---|---|---|\n");
     for (size_t i = 0; i < sizeof messages / sizeof *messages; i++) {
         work.message = &messages[i];
         compare_all(work.message);
@@ -234,7 +232,7 @@ int main(int count, char **words)
         if (wants_bodies)
             print_body(work.message, &work.body, of.library);
         else
-            printf("| %s | %.1f | %.1f | %.2f |\n", work.message->words, of.library, of.hand, of.library / of.hand);
+            print_turns(of, 1, "C by hand", "read a client's %s", work.message->words);
     }
     return sum == 0;
 }

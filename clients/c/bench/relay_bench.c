@@ -4,7 +4,7 @@
  *
  * The stream lies in one buffer, into which a proxy reads a piece of 64 KiB at a time, and what goes out is copied to
  * another place, as write(2) does. Prints a line for each length of the stream, one of which fits into a cache of its
- * processor, and of messages: nanoseconds of a piece by both, and the quotient. */
+ * processor, and of messages. */
 #include "pg_message.h"
 #include "turns.h"
 
@@ -92,8 +92,8 @@ static void compare(struct work *work, uint64_t *sum)
     double pieces = (double)work->stream_len / PIECE;
     make(work);
     struct turns of = take_turns(by_library, by_memcpy, work, (int)(LONGEST_STREAM / work->stream_len), sum);
-    printf("| %zu KiB of %zu bytes, %s | %.0f | %.0f | %.2f |\n", work->stream_len / 1024, work->length,
-           work->is_whole ? "whole" : "in parts", of.library / pieces, of.hand / pieces, of.library / of.hand);
+    print_turns(of, pieces, "memcpy", "pass on 64 KiB, of %zu KiB of %zu bytes, %s", work->stream_len / 1024, work->length,
+                work->is_whole ? "whole" : "in parts");
 }
 
 int main(void)
@@ -104,7 +104,6 @@ int main(void)
     work.stream = malloc(LONGEST_STREAM);
     if (work.stream == NULL)
         return 1;
-    printf("\n| messages passed on | the library, ns for 64 KiB | memcpy, ns | quotient |\n|---|---|---|---|\n");
     for (size_t i = 0; i < 4 * sizeof lengths / sizeof *lengths; i++) {
         work.length = lengths[i / 4];
         work.stream_len = streams[i / 2 % 2];

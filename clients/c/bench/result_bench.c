@@ -4,8 +4,7 @@
  *
  * A process of its own plays the server: it answers each query by the same bytes, over a Unix socket. libpq takes all of
  * them, and keeps every row; by the library each row is read where it came, in pieces of a size. Both look at each cell.
- * Prints a line for each size of a piece, of which libpq's own is the first: nanoseconds of a row by both, of the
- * processor of the side that reads, and the quotient. */
+ * Prints a line for each size of a piece, of which libpq's own is the first. */
 #define _DEFAULT_SOURCE
 
 #include "pg_message.h"
@@ -254,8 +253,7 @@ static void compare(struct work *work, uint64_t *sum)
         exit(1);
     }
     struct turns of = take_turns(by_library, by_libpq, work, 1, sum);
-    printf("| %d rows of %d texts, in pieces of %zu KiB | %.1f | %.1f | %.2f |\n", ROWS, COLUMNS, work->piece / 1024,
-           of.library / ROWS, of.hand / ROWS, of.library / of.hand);
+    print_turns(of, ROWS, "libpq", "read a row of %d texts off a socket, in pieces of %zu KiB", COLUMNS, work->piece / 1024);
 }
 
 int main(void)
@@ -268,7 +266,6 @@ int main(void)
     signal(SIGPIPE, SIG_IGN);
     start_server(folder);
     open_sessions(&work, folder);
-    printf("\n| a result read off a Unix socket | the library, ns a row | libpq, ns a row | quotient |\n|---|---|---|---|\n");
     for (work.piece = 1 << 14; work.piece <= LONGEST_PIECE; work.piece *= 4)
         compare(&work, &sum);
     PQfinish(work.connection);

@@ -1,5 +1,5 @@
 /* How long pgmsg_read_row takes for a row, beside C that is written by hand and tests every bound. Prints a
- * line for each shape of a row: nanoseconds of both, and the quotient. */
+ * line for each shape of a row. */
 #include "pg_message.h"
 #include "turns.h"
 
@@ -96,8 +96,7 @@ static uint64_t measure(const struct shape *shape)
     uint64_t sum = 0;
     row.len = write_row(row.body, shape);
     struct turns of = take_turns(by_library, by_hand, &row, CELLS_A_ROUND / shape->cells, &sum);
-    printf("| %d of %d bytes | %.1f | %.1f | %.2f |\n", shape->cells, shape->len, of.library, of.hand,
-           of.library / of.hand);
+    print_turns(of, 1, "C by hand", "read %d cells of %d bytes", shape->cells, shape->len);
     return sum;
 }
 
@@ -105,7 +104,6 @@ int main(void)
 {
     static const struct shape shapes[] = {{5, 8}, {50, 8}, {50, 200}, {1000, 8}};
     uint64_t sum = 0;
-    printf("\n| cells of a row | pgmsg_read_row, ns | C by hand, ns | quotient |\n|---|---|---|---|\n");
     for (size_t i = 0; i < sizeof shapes / sizeof *shapes; i++)
         sum += measure(&shapes[i]);
     return sum == 0;

@@ -3,6 +3,7 @@
 
 #include "turns.h"
 
+#include <stdarg.h>
 #include <stdio.h>
 #include <stdlib.h>
 #include <time.h>
@@ -44,4 +45,14 @@ struct turns take_turns(timed *library, timed *hand, const void *what, int times
         of_hand[round] = time_of(hand, what, times, sum);
     }
     return (struct turns){.library = median(of_library), .hand = median(of_hand)};
+}
+
+void print_turns(struct turns of, double count, const char *other, const char *words, ...)
+{
+    va_list given;
+    va_start(given, words);
+    printf("| ");
+    vprintf(words, given);
+    va_end(given);
+    printf(" | %.1f | %s | %.1f | %.2f |\n", of.library / count, other, of.hand / count, of.library / of.hand);
 }

@@ -17,4 +17,8 @@ struct turns {
 /* Takes turns, so that both meet the same state of the machine. */
 struct turns take_turns(timed *library, timed *hand, const void *what, int times, uint64_t *sum);
 
+/* Prints a line of the table that `speed` makes: in words what is timed, the nanoseconds of one of `count` of it by the
+ * library, what else was timed, its nanoseconds, and the quotient. */
+void print_turns(struct turns of, double count, const char *other, const char *words, ...);
+
 #endif

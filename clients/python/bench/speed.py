@@ -1,7 +1,7 @@
 """Times what a driver does most beside pure Python and asyncpg, in turns in one process: speed.py [ROUNDS]
 
 PGHOST, PGPORT, PGUSER and PGDATABASE name a server, which says the rows once to asyncpg: its own bytes are what all read.
-The least processor time of each in so many rounds counts.
+The least processor time of each in so many rounds counts, seven where ROUNDS isn't given.
 """
 
 import asyncio
@@ -155,11 +155,11 @@ async def measure(rounds):
 
 
 def show(what, times, count):
-    """Prints a line for each time, and its quotients."""
-    print(f"{what:<32} {'us':>7} {'of pure Python':>15} {'of asyncpg':>11}")
+    """Prints a table with a line for each time, and its quotients."""
+    print(f"\n| {what} | us | over pure Python | over asyncpg |\n|---|---|---|---|")
     for name, taken in times.items():
-        over = [taken / times[other] for other in ("pure Python", "asyncpg")]
-        print(f"{name:<32} {taken / count * 1e6:7.3f} {over[0]:15.2f} {over[1]:11.2f}")
+        over = " | ".join(f"{taken / times[other]:.2f}" for other in ("pure Python", "asyncpg"))
+        print(f"| {name} | {taken / count * 1e6:.3f} | {over} |")
 
 
 def main():
