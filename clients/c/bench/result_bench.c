@@ -71,7 +71,7 @@ static void put_row(struct answer *answer, int number)
 
 static void make_answer(struct answer *answer)
 {
-    static const uint8_t letters[COLUMNS] = "abcde", command[] = "SELECT 100000";
+    static const uint8_t letters[COLUMNS] = {'a', 'b', 'c', 'd', 'e'}, command[] = "SELECT 100000";
     pgmsg_column_text columns[COLUMNS];
     answer->room = (size_t)LONGEST_ROW * (ROWS + 1);
     answer->bytes = malloc(answer->room);
