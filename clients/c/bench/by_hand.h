@@ -11,7 +11,7 @@ struct text {
     size_t len;
 };
 
-ptrdiff_t hand_sync(uint8_t *out, size_t out_len);
+ptrdiff_t hand_no_body(uint8_t tag, uint8_t *out, size_t out_len);
 ptrdiff_t hand_query(struct text query, uint8_t *out, size_t out_len);
 ptrdiff_t hand_copy_data(struct text data, uint8_t *out, size_t out_len);
 ptrdiff_t hand_parse(struct text statement, struct text query, const uint32_t *types, size_t types_len, uint8_t *out,

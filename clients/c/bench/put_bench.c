@@ -41,7 +41,7 @@ typedef ptrdiff_t put(uint8_t *out, size_t out_len);
 
 #define TEXT(text) (text).bytes, (text).len
 
-MESSAGE(sync, pgmsg_put_no_body('S', out, out_len), hand_sync(out, out_len))
+MESSAGE(sync, pgmsg_put_no_body('S', out, out_len), hand_no_body('S', out, out_len))
 MESSAGE(query, pgmsg_put_query(TEXT(query), out, out_len), hand_query(query, out, out_len))
 MESSAGE(copy_data, pgmsg_put_copy_data(TEXT(part), out, out_len), hand_copy_data(part, out, out_len))
 MESSAGE(parse, pgmsg_put_parse(TEXT(name), TEXT(query), types, 8, out, out_len),

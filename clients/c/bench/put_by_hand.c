@@ -73,10 +73,14 @@ static bool is_utf8(struct text text)
     return true;
 }
 
-ptrdiff_t hand_sync(uint8_t *out, size_t out_len)
+ptrdiff_t hand_no_body(uint8_t tag, uint8_t *out, size_t out_len)
 {
+    switch (tag) {
+    case '1': case '2': case '3': case 'H': case 'I': case 'S': case 'X': case 'c': case 'n': case 's': break;
+    default: return PGMSG_UNKNOWN_MESSAGE_TYPE;
+    }
     if (out_len >= HEADER)
-        add_header(out, 'S', 0);
+        add_header(out, (char)tag, 0);
     return HEADER;
 }
 
