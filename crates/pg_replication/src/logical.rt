@@ -23,7 +23,7 @@ mod xlog_message;
 pub use change::{Delete, Insert, Truncate, Update};
 pub use column::Column;
 pub use columns::Columns;
-pub use datum::Datum;
+pub use datum::{Datum, DatumText};
 pub use logical_message::LogicalMessage;
 pub use logical_stream::LogicalStream;
 pub use old::Old;

@@ -9,7 +9,8 @@ use pg_format::field::{Number8, Signed32};
 use pg_format::items::Item;
 use pg_server::backend::{self, NulEnded};
 
-/// A column of a table. Documentation: "Logical Replication Message Formats", Relation.
+/// A column of a table, in the layout of C. Documentation: "Logical Replication Message Formats", Relation.
+#[repr(C)]
 #[derive(Clone, Copy, Debug, PartialEq, Eq)]
 pub struct Column<'a> {
     /// 1 where the column is a part of the key, else 0.

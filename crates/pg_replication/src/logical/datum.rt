@@ -1,9 +1,9 @@
 //! The value of a column.
 
-ghost use Rattle.std.specs.Prelude.{◌≤◌, length, IfErr};
+ghost use Rattle.std.specs.Prelude.{◌≡◌, ◌≤◌, length, None, IfErr};
 ghost use Rattle.pg_format.specs.Format.Places.{BreaksAt, ReadsAt};
 ghost use Rattle.pg_format.specs.Logical as page;
-ghost use Rattle.pg_replication.specs.Logical.Tuple.{shown_datum};
+ghost use Rattle.pg_replication.specs.Logical.Tuple.{shown_datum, shown_text, kind_fault, kinds_fault};
 
 use pg_base::ProtocolFault;
 use pg_base::io::part::{Byte, Either, Then};
@@ -31,6 +31,68 @@ pub enum Datum<'a> {
     Text(&'a [u8]),
     /// The value in the binary format of its type.
     Binary(&'a [u8]),
+}
+
+/// A value as it is written, in the layout of C, so that rows of C are walked where they are. `kind` is `n` for
+/// [`Datum::Null`], `u` for [`Datum::Unchanged`], `t` for [`Datum::Text`], and `b` for [`Datum::Binary`].
+#[repr(C)]
+#[derive(Clone, Copy, Debug, PartialEq, Eq)]
+pub struct DatumText<'a> {
+    /// The letter of its kind.
+    pub kind: u8,
+    /// Its bytes; those of the first two kinds aren't looked at.
+    pub value: &'a [u8],
+}
+
+impl<'a> DatumText<'a> {
+    /// This value, to be written.
+    pub fn of(datum: Datum<'a>) -> DatumText<'a>
+        ensures known { kind_fault result ≡ None }
+        ensures shown { shown_text result ≡ shown_datum datum.entry }
+    {
+        let (kind, value): (u8, &'a [u8]) = match datum {
+            Datum::Null => (NULL, &[]),
+            Datum::Unchanged => (UNCHANGED, &[]),
+            Datum::Text(value) => (TEXT, value),
+            Datum::Binary(value) => (BINARY, value),
+        };
+        DatumText { kind, value }
+    }
+
+    // `UnknownMessageType` for another kind.
+    fn fault(&self) -> Option<ProtocolFault>
+        ensures { result ≡ kind_fault self.now }
+    {
+        match self.kind {
+            NULL | UNCHANGED | TEXT | BINARY => None,
+            other => Some(ProtocolFault::UnknownMessageType(other)),
+        }
+    }
+
+    /// The value, where its kind is known.
+    pub(crate) fn datum(&self) -> Datum<'a>
+        ensures { shown_datum result ≡ shown_text self.now }
+    {
+        match self.kind {
+            NULL => Datum::Null,
+            UNCHANGED => Datum::Unchanged,
+            TEXT => Datum::Text(self.value),
+            _ => Datum::Binary(self.value),
+        }
+    }
+}
+
+/// The fault of the first value of another kind.
+pub(crate) fn kinds_fault(given: &[DatumText<'_>]) -> Option<ProtocolFault>
+    ensures { result ≡ kinds_fault given.now }
+{
+    for value in given {
+        let fault = value.fault();
+        if fault.is_some() {
+            return fault;
+        }
+    }
+    None
 }
 
 impl<'a> Item<'a> for Datum<'a> {

@@ -1,6 +1,6 @@
 //! How a message of logical replication is written.
 
-ghost use Rattle.std.specs.Prelude.{◌≡◌, ◌≤◌, ◌++◌, length, None, OnOk};
+ghost use Rattle.std.specs.Prelude.{◌≡◌, ◌≤◌, ◌++◌, length, None, OnOk, IfOk};
 ghost use Rattle.pg_base.specs.Cutting.{max_length};
 ghost use Rattle.pg_base.specs.Part.{saturated};
 ghost use Rattle.pg_base.specs.Sink.{HasRoom};
@@ -98,6 +98,7 @@ impl LogicalMessage<'_> {
     /// says that nothing was written. A fault leaves `out` as it was.
     pub fn write(&self, out: &mut [u8]) -> Result<usize, ProtocolFault>
         ensures written { IsContentWritten self.now out.old out.new result }
+        ensures small { IfOk result (λ len. len ≤ max_length) }
     {
         let len = checked_len(self)?;
         write_text(self, len, out);

@@ -6,9 +6,9 @@ ghost use Rattle.pg_format.proofs.FormatLaws.Logical.{total_datum};
 ghost use Rattle.pg_format.specs.Received.{max_body};
 ghost use Rattle.pg_format.specs.Listed.{values_in};
 
-use crate::logical::Datum;
-use crate::logical::datum::DatumParts;
+use crate::logical::datum::{DatumParts, kinds_fault};
 use crate::logical::listed::{Each, Listed};
+use crate::logical::{Datum, DatumText};
 use pg_base::ProtocolFault;
 use pg_base::io::part::{Part, Then};
 use pg_base::io::{Sink, u16_at};
@@ -23,18 +23,28 @@ pub struct Tuple<'a> {
     bytes: &'a [u8],
     left: usize,
     // Those of a caller, after them.
-    given: &'a [Datum<'a>],
+    given: &'a [DatumText<'a>],
     ghost short: { length bytes.now ≤ max_body },
     ghost whole: { length (values_in total_datum left bytes.now) ≡ left },
     ghost few: { left < 2 ^ 32 },
 }
 
 impl<'a> Tuple<'a> {
-    ghost use Rattle.pg_replication.specs.Logical.Tuple.{datums, shown_datum};
+    ghost use Rattle.pg_replication.specs.Logical.Tuple.{datums, shown_datum, shown_text, kinds_fault, IsMade};
 
-    /// These values, to be written.
-    pub fn of(given: &'a [Datum<'a>]) -> Tuple<'a>
-        ensures { datums result ≡ map shown_datum given.now }
+    /// These values, to be written. One of another kind than the four is refused with `UnknownMessageType`.
+    pub fn of(given: &'a [DatumText<'a>]) -> Result<Tuple<'a>, ProtocolFault>
+        ensures { IsMade datums (kinds_fault given.now) (map shown_text given.now) result }
+    {
+        match kinds_fault(given) {
+            None => Ok(Tuple::given(given)),
+            Some(fault) => Err(fault),
+        }
+    }
+
+    // Values whose kinds are known.
+    fn given(given: &'a [DatumText<'a>]) -> Tuple<'a>
+        ensures { datums result ≡ map shown_text given.now }
     {
         Tuple {
             bytes: &[],
@@ -79,8 +89,8 @@ impl<'a> Iterator for Tuple<'a> {
     fn next(&mut self) -> Option<Datum<'a>> {
         if self.left == 0 {
             let (value, given) = self.given.split_first()?;
-            *self = Tuple::of(given);
-            return Some(*value);
+            *self = Tuple::given(given);
+            return Some(value.datum());
         }
         let Ok((value, end)) = Datum::item_at(self.bytes, 0) else {
             return None;

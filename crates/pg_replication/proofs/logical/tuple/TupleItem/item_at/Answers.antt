@@ -2,7 +2,7 @@ use Rattle.std.proofs.Common.{◌+◌, arith}
 use Rattle.pg_format.specs.Received.{max_body}
 use Rattle.pg_format.proofs.FormatLaws.Logical.{lawful_datum, total_datum}
 use Rattle.pg_server.proofs.FrontendMessageLemmas.{from_index}
-use Rattle.pg_replication.specs.Logical.Tuple.{shown_datum}
+use Rattle.pg_replication.specs.Logical.Tuple.{shown_text}
 use Rattle.pg_format.proofs.ListedLemmas.{listed_stand, counted_stand, short_after}
 use Rattle.pg_replication.proofs.LogicalListedLemmas.{listed_alone}
 use Rattle.pg_replication.proofs.logical.tuple.TupleItem.item_at.Goals as goal
@@ -20,5 +20,5 @@ invariant_of-tuple c =
 pub returns-clause-item : goal.returns-clause-item
 returns-clause-item c =
     let body = c.args.body.now in
-    rw (listed_alone total_datum shown_datum c.from-left.result _)
+    rw (listed_alone total_datum shown_text c.from-left.result _)
     (counted_stand lawful_datum total_datum c.begin_at-items.result body _ c.args.at c.from-left.result c.in_ok-u16_at.field-0 c.in_ok-end.end _ c.begin_at-items.ensures (from_index (c.args.at + 2) body) (omega (arith, c.from-left.ensures)) c.in_ok-u16_at.ensures.found c.in_ok-end.ensures.all.read)

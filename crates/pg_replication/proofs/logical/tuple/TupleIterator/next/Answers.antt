@@ -2,7 +2,7 @@ use Rattle.std.proofs.Common.{◌≡◌, suc, ◌-◌, length, arith}
 use Rattle.pg_format.specs.Received.{max_body}
 use Rattle.pg_format.proofs.FormatLaws.Logical.{lawful_datum, total_datum}
 use Rattle.pg_server.proofs.FrontendMessageLemmas.{from_index}
-use Rattle.pg_replication.specs.Logical.Tuple.{shown_datum}
+use Rattle.pg_replication.specs.Logical.Tuple.{shown_datum, shown_text}
 use Rattle.pg_format.proofs.ListedLemmas.{first_and_others, none_is_broken, short_after}
 use Rattle.pg_replication.proofs.LogicalListedLemmas.{listed_first}
 use Rattle.pg_replication.proofs.logical.tuple.TupleIterator.next.Goals as goal
@@ -27,5 +27,5 @@ pub returns-clause-steps : goal.returns-clause-steps
 returns-clause-steps c =
     let list = c.args.self.now in
     let more : list.left ≡ suc (list.left - 1) = omega (arith, c.if-self-eq0.false) in
-    listed_first total_datum shown_datum list.left (list.left - 1) list.bytes.now _ list.given.now (shown_datum c.in-Ok.value)
+    listed_first total_datum shown_text list.left (list.left - 1) list.bytes.now _ list.given.now (shown_datum c.in-Ok.value)
     (first_and_others lawful_datum total_datum list.left list.bytes.now _ c.in-Ok.end (shown_datum c.in-Ok.value) (from_index c.in-Ok.end list.bytes.now) more list.whole c.in-Ok.ensures.item).0
