@@ -452,6 +452,58 @@ typedef struct {
     int32_t type_modifier;
 } pgmsg_table_column;
 
+/* The value of a column in a row that is written. `kind` is as in `pgmsg_datum`; the `value` of an
+ * `n` or a `u` isn't looked at. */
+typedef struct {
+    uint8_t kind;
+    const uint8_t *value;
+    size_t value_len;
+} pgmsg_datum_text;
+
+/* A column of a table that is written. `flags` are as in `pgmsg_table_column`. */
+typedef struct {
+    uint8_t flags;
+    const uint8_t *name;
+    size_t name_len;
+    uint32_t type_id;
+    int32_t type_modifier;
+} pgmsg_table_column_text;
+
+/* A message of logical replication that is written: its letter, and its parts as `pgmsg_logical`
+ * has them, with lists in arrays. `old_values` are those of an `old_row`, and `values` those of a
+ * `new_row`. What is no part of it is passed over. */
+typedef struct {
+    uint8_t letter;
+    bool has_transaction;
+    uint32_t transaction;
+    uint32_t subtransaction;
+    uint8_t flags;
+    bool is_first;
+    uint64_t lsn;
+    uint64_t end_lsn;
+    uint64_t rollback_end_lsn;
+    int64_t clock;
+    int64_t rollback_clock;
+    uint32_t relation;
+    uint32_t type_id;
+    uint8_t replica_identity;
+    const uint8_t *schema;
+    size_t schema_len;
+    const uint8_t *name;
+    size_t name_len;
+    const uint8_t *content;
+    size_t content_len;
+    const pgmsg_table_column_text *columns;
+    size_t columns_len;
+    const uint32_t *relations;
+    size_t relations_len;
+    uint8_t old_letter;
+    const pgmsg_datum_text *old_values;
+    size_t old_values_len;
+    const pgmsg_datum_text *values;
+    size_t values_len;
+} pgmsg_logical_text;
+
 /* One direction of a connection that is passed on. Set `limit` to the most bytes of a message that
  * is taken whole, `left` to 0, and `is_first` where a client's first message comes next;
  * `pgmsg_relay_next` moves the last two on. */
@@ -865,6 +917,14 @@ ptrdiff_t pgmsg_read_tuple(const uint8_t *content, size_t content_len, pgmsg_lis
  * refused. */
 ptrdiff_t pgmsg_read_table_columns(const uint8_t *content, size_t content_len, pgmsg_list list,
     pgmsg_table_column *columns, size_t columns_len, pgmsg_fault *fault);
+
+/* A message of logical replication, as the content of an XLogData, which `pgmsg_put_replication`
+ * writes as a CopyData of the letter `w`. Refused with PGMSG_UNKNOWN_MESSAGE_TYPE where its letter
+ * is of no kind, or that of an old row or of a value in its rows is; then with PGMSG_TOO_MANY where
+ * a row has more than 65535 values or a table more columns, with PGMSG_TEXT_HOLDS_NUL for a NUL in
+ * a `schema` or a `name`, also of a column, and with PGMSG_MESSAGE_TOO_LONG where it is longer than
+ * 2147483643 bytes. */
+ptrdiff_t pgmsg_put_logical(const pgmsg_logical_text *message, uint8_t *out, size_t out_len);
 
 /* What is at the front of a stream that is passed on: 1 for a whole message that is wanted whole,
  * or a first one; 2 for the next bytes of one that isn't; 0 where more bytes are needed. Messages

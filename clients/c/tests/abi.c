@@ -232,6 +232,37 @@ SAME(offsetof(pgmsg_logical, old_letter), 152);
 SAME(offsetof(pgmsg_logical, old_row), 160);
 SAME(offsetof(pgmsg_logical, new_row), 176);
 
+SAME(sizeof(pgmsg_logical_text), 192);
+SAME(offsetof(pgmsg_logical_text, rollback_clock), 48);
+SAME(offsetof(pgmsg_logical_text, replica_identity), 64);
+SAME(offsetof(pgmsg_logical_text, schema), 72);
+SAME(offsetof(pgmsg_logical_text, schema_len), 80);
+SAME(offsetof(pgmsg_logical_text, name), 88);
+SAME(offsetof(pgmsg_logical_text, name_len), 96);
+SAME(offsetof(pgmsg_logical_text, content), 104);
+SAME(offsetof(pgmsg_logical_text, content_len), 112);
+SAME(offsetof(pgmsg_logical_text, columns), 120);
+SAME(offsetof(pgmsg_logical_text, columns_len), 128);
+SAME(offsetof(pgmsg_logical_text, relations), 136);
+SAME(offsetof(pgmsg_logical_text, relations_len), 144);
+SAME(offsetof(pgmsg_logical_text, old_letter), 152);
+SAME(offsetof(pgmsg_logical_text, old_values), 160);
+SAME(offsetof(pgmsg_logical_text, old_values_len), 168);
+SAME(offsetof(pgmsg_logical_text, values), 176);
+SAME(offsetof(pgmsg_logical_text, values_len), 184);
+
+SAME(sizeof(pgmsg_datum_text), 24);
+SAME(offsetof(pgmsg_datum_text, kind), 0);
+SAME(offsetof(pgmsg_datum_text, value), 8);
+SAME(offsetof(pgmsg_datum_text, value_len), 16);
+
+SAME(sizeof(pgmsg_table_column_text), 32);
+SAME(offsetof(pgmsg_table_column_text, flags), 0);
+SAME(offsetof(pgmsg_table_column_text, name), 8);
+SAME(offsetof(pgmsg_table_column_text, name_len), 16);
+SAME(offsetof(pgmsg_table_column_text, type_id), 24);
+SAME(offsetof(pgmsg_table_column_text, type_modifier), 28);
+
 SAME(sizeof(pgmsg_datum), 24);
 SAME(offsetof(pgmsg_datum, kind), 0);
 SAME(offsetof(pgmsg_datum, value), 8);

@@ -21,10 +21,12 @@ struct inputs {
     const pgmsg_field_text *fields;
     const pgmsg_column_text *columns;
     const pgmsg_replication_text *replication;
+    const pgmsg_logical_text *logical;
 };
 
 /* Where inputs and a message are. */
-static struct guarded texts, digests, codes, types, values, settings, names, fields, columns, replications, outs;
+static struct guarded texts, digests, codes, types, values, settings, names, fields, columns, replications, table_columns,
+    datums, logicals, outs;
 
 /* Each call that writes a message, by its arguments. */
 #define CALLS(CALL)                                                                                                 \
@@ -62,7 +64,8 @@ static struct guarded texts, digests, codes, types, values, settings, names, fie
     CALL(frame, ((uint8_t)in->n, in->text, in->n, out, out_len))                                                    \
     CALL(notice, ("EN?"[in->n % 3], in->fields, in->n, out, out_len))                                               \
     CALL(notification, (number, in->text, in->n, in->text, in->n, out, out_len))                                    \
-    CALL(replication, (in->replication, out, out_len))
+    CALL(replication, (in->replication, out, out_len))                                                              \
+    CALL(logical, (in->logical, out, out_len))
 
 #define WRITER(name, arguments)                                                              \
     static ptrdiff_t put_##name(const struct inputs *in, uint8_t *out, size_t out_len)      \
@@ -95,6 +98,12 @@ static struct inputs guarded_inputs(size_t n, enum side side)
     pgmsg_replication_text *replication = (pgmsg_replication_text *)(void *)place(&replications, sizeof *replication, side);
     *replication = (pgmsg_replication_text){
         "wkrhnmdp?"[n % 9], n, n + 1, n + 2, n + 3, n + 4, n + 5, -(int64_t)n, n % 2 == 1, 6, 7, 8, 9, text, n, text, n, text, n};
+    pgmsg_table_column_text *named = (pgmsg_table_column_text *)(void *)place(&table_columns, n * sizeof *named, side);
+    pgmsg_datum_text *datum = (pgmsg_datum_text *)(void *)place(&datums, n * sizeof *datum, side);
+    pgmsg_logical_text *logical = (pgmsg_logical_text *)(void *)place(&logicals, sizeof *logical, side);
+    *logical = (pgmsg_logical_text){
+        "EMORYIUDTbPr?"[n % 13], n % 2 == 1, 1, 2, 3, true, 4, 5, 6, 7, 8, 9, 10, 'd', text, n, text, n, text, n, named, n, type, n,
+        "KO"[n % 2], datum, n, datum, n};
     for (size_t i = 0; i < DIGEST; i++)
         digest[i] = (uint8_t)(16 * i + n);
     for (size_t i = 0; i < n; i++) {
@@ -106,8 +115,10 @@ static struct inputs guarded_inputs(size_t n, enum side side)
         name[i] = (pgmsg_bytes){place(&texts, name_len, side), name_len};
         field[i] = (pgmsg_field_text){(uint8_t)('A' + i), place(&texts, len, side), len};
         column[i] = (pgmsg_column_text){place(&texts, len, side), len, type[i], (int16_t)i, type[i], -1, -1, 1};
+        named[i] = (pgmsg_table_column_text){1, place(&texts, len, side), len, type[i], -1};
+        datum[i] = (pgmsg_datum_text){(uint8_t)"ntub"[i % 4], place(&texts, len, side), len};
     }
-    return (struct inputs){n, text, digest, code, type, value, setting, name, field, column, replication};
+    return (struct inputs){n, text, digest, code, type, value, setting, name, field, column, replication, logical};
 }
 
 /* Whether the bytes of a message's page are as they were, from one place to another. */
@@ -195,8 +206,8 @@ static void test_side(struct tally *tally, enum side side)
 
 void test_guarded_put(struct tally *tally)
 {
-    struct guarded *const pages[] = {&texts,    &digests, &codes,   &types, &values,
-                                     &settings, &names,   &fields,  &columns, &replications, &outs};
+    struct guarded *const pages[] = {&texts,   &digests,      &codes,         &types,  &values,   &settings, &names, &fields,
+                                     &columns, &replications, &table_columns, &datums, &logicals, &outs};
     for (size_t i = 0; i < sizeof pages / sizeof *pages; i++)
         *pages[i] = guarded_page();
     for (uint8_t *text = texts.from; text < texts.end; text++)

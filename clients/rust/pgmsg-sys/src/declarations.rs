@@ -321,6 +321,64 @@ pub struct pgmsg_table_column {
     pub type_modifier: i32,
 }
 #[repr(C)]
+#[derive(Debug, Copy, Clone)]
+pub struct pgmsg_datum_text {
+    pub kind: u8,
+    pub value: *const u8,
+    pub value_len: usize,
+}
+#[repr(C)]
+#[derive(Debug, Copy, Clone)]
+pub struct pgmsg_table_column_text {
+    pub flags: u8,
+    pub name: *const u8,
+    pub name_len: usize,
+    pub type_id: u32,
+    pub type_modifier: i32,
+}
+#[repr(C)]
+#[derive(Debug, Copy, Clone)]
+pub struct pgmsg_logical_text {
+    pub letter: u8,
+    pub has_transaction: bool,
+    pub transaction: u32,
+    pub subtransaction: u32,
+    pub flags: u8,
+    pub is_first: bool,
+    pub lsn: u64,
+    pub end_lsn: u64,
+    pub rollback_end_lsn: u64,
+    pub clock: i64,
+    pub rollback_clock: i64,
+    pub relation: u32,
+    pub type_id: u32,
+    pub replica_identity: u8,
+    pub schema: *const u8,
+    pub schema_len: usize,
+    pub name: *const u8,
+    pub name_len: usize,
+    pub content: *const u8,
+    pub content_len: usize,
+    pub columns: *const pgmsg_table_column_text,
+    pub columns_len: usize,
+    pub relations: *const u32,
+    pub relations_len: usize,
+    pub old_letter: u8,
+    pub old_values: *const pgmsg_datum_text,
+    pub old_values_len: usize,
+    pub values: *const pgmsg_datum_text,
+    pub values_len: usize,
+}
+impl Default for pgmsg_logical_text {
+    fn default() -> Self {
+        let mut s = ::core::mem::MaybeUninit::<Self>::uninit();
+        unsafe {
+            ::core::ptr::write_bytes(s.as_mut_ptr(), 0, 1);
+            s.assume_init()
+        }
+    }
+}
+#[repr(C)]
 #[derive(Debug, Default, Copy, Clone)]
 pub struct pgmsg_relay {
     pub limit: usize,
@@ -566,6 +624,9 @@ extern "C" {
     pub fn pgmsg_read_table_columns(
         content: *const u8, content_len: usize, list: pgmsg_list, columns: *mut pgmsg_table_column,
         columns_len: usize, fault: *mut pgmsg_fault,
+    ) -> isize;
+    pub fn pgmsg_put_logical(
+        message: *const pgmsg_logical_text, out: *mut u8, out_len: usize,
     ) -> isize;
     pub fn pgmsg_relay_next(
         relay: *mut pgmsg_relay, wanted: *const u8, stream: *const u8, stream_len: usize,

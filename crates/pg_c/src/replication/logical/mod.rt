@@ -4,5 +4,6 @@
 
 mod change;
 pub mod lists;
+pub mod put;
 pub mod read;
 mod transaction;
