@@ -15,11 +15,25 @@ const COLUMNS: &[u8] = b"\x01id\0\0\0\0\x17\xff\xff\xff\xff\0name\0\0\0\0\x19\xf
 
 /// A message outside of a stream.
 fn read(content: &[u8]) -> Result<LogicalMessage<'_>, Fault> {
-    LogicalMessage::read(content, false)
+    written(content, LogicalMessage::read(content, false))
 }
 
 fn read_streamed(content: &[u8]) -> Result<LogicalMessage<'_>, Fault> {
-    LogicalMessage::read(content, true)
+    written(content, LogicalMessage::read(content, true))
+}
+
+/// A message that is read is written as its bytes.
+fn written<'a>(
+    content: &[u8],
+    message: Result<LogicalMessage<'a>, Fault>,
+) -> Result<LogicalMessage<'a>, Fault> {
+    if let Ok(message) = message {
+        let mut out = b"head".to_vec();
+        assert_eq!(message.write(&mut out), Ok(()));
+        assert_eq!(out, [b"head", content].concat());
+        assert_eq!(message.letter(), content[0]);
+    }
+    message
 }
 
 fn text(bytes: &[u8]) -> Datum<'_> {
@@ -307,4 +321,90 @@ fn what_is_refused() {
     for (content, refusal, at) in cases {
         assert_eq!(fault_of(read(content)), (refusal, at), "{content:?}");
     }
+}
+
+#[test]
+fn what_is_given_is_written() {
+    let row = [Null, Unchanged, text(b"ab"), Binary(b"\0".into())];
+    let columns = [
+        Column { flags: 1, name: "id".into(), type_id: 23, type_modifier: -1 },
+        Column { flags: 0, name: "n".into(), type_id: 0x8000_0001, type_modifier: i32::MIN },
+    ];
+    let (transaction, relation) = (Some(739), 16389);
+    let (old, new) = (Some(Old::Key(Items::of(&row[2..3]))), Items::of(&row));
+    let (schema, name, columns) = ("public".into(), "t".into(), Items::of(&columns));
+    let messages = [
+        (
+            LogicalMessage::Update(Update { transaction, relation, old, new }),
+            &b"U\0\0\x02\xe3\0\0\x40\x05K\0\x01t\0\0\0\x02abN\0\x04nut\0\0\0\x02abb\0\0\0\x01\0"[..],
+        ),
+        (
+            LogicalMessage::Delete(Delete { transaction: None, relation, old: Old::Whole(new) }),
+            b"D\0\0\x40\x05O\0\x04nut\0\0\0\x02abb\0\0\0\x01\0",
+        ),
+        (
+            LogicalMessage::Relation(Relation {
+                transaction: None,
+                relation,
+                schema,
+                name,
+                replica_identity: b'd',
+                columns,
+            }),
+            b"R\0\0\x40\x05public\0t\0d\0\x02\x01id\0\0\0\0\x17\xff\xff\xff\xff\0n\0\x80\0\0\x01\x80\0\0\0",
+        ),
+        (
+            LogicalMessage::Truncate(Truncate {
+                transaction,
+                options: 3,
+                relations: Items::of(&[16389, 7]),
+            }),
+            b"T\0\0\x02\xe3\0\0\0\x02\x03\0\0\x40\x05\0\0\0\x07",
+        ),
+        (LogicalMessage::StreamStop, b"E"),
+    ];
+    for (message, content) in messages {
+        let mut out = Vec::new();
+        assert_eq!((message.write(&mut out), &out[..]), (Ok(()), content));
+        // What is read again is equal to what was given.
+        let streamed = transaction_of(&message).is_some();
+        assert_eq!(LogicalMessage::read(&out, streamed), Ok(message));
+    }
+}
+
+/// The number of a transaction that is streamed.
+fn transaction_of(message: &LogicalMessage<'_>) -> Option<u32> {
+    match message {
+        LogicalMessage::Update(it) => it.transaction,
+        LogicalMessage::Truncate(it) => it.transaction,
+        _ => None,
+    }
+}
+
+#[test]
+fn what_is_not_written() {
+    let row = vec![Null; 65536];
+    let column = Column { name: "a\0".into(), ..Default::default() };
+    let insert = |new| LogicalMessage::Insert(Insert { transaction: None, relation: 1, new });
+    let table = Relation {
+        transaction: None,
+        relation: 1,
+        schema: "".into(),
+        name: "t".into(),
+        replica_identity: b'd',
+        columns: Items::of(core::slice::from_ref(&column)),
+    };
+    let origin = Origin { lsn: 1, name: "far\0".into() };
+    let cases = [
+        (insert(Items::of(&row)), Refusal::TooMany),
+        (LogicalMessage::Relation(table), Refusal::TextHoldsNul),
+        (LogicalMessage::Origin(origin), Refusal::TextHoldsNul),
+    ];
+    for (message, refusal) in cases {
+        let mut out = b"head".to_vec();
+        assert_eq!((message.write(&mut out), &out[..]), (Err(refusal), &b"head"[..]));
+    }
+    let mut out = Vec::new();
+    assert_eq!(insert(Items::of(&row[1..])).write(&mut out), Ok(()));
+    assert_eq!(out.len(), 8 + 65535);
 }

@@ -7,6 +7,7 @@
 mod change;
 mod items;
 mod prepared;
+mod text;
 mod transaction;
 
 pub use change::{Column, Datum, Delete, Insert, Old, Relation, Truncate, TypeName, Update};
@@ -15,9 +16,10 @@ pub use prepared::{BeginPrepare, Prepared, RollbackPrepared};
 pub use transaction::{Begin, Commit, Message, Origin, StreamAbort, StreamCommit, StreamStart};
 
 use crate::answer::part;
+use crate::buffer::Buffer;
 use crate::byte_str::ByteStr;
-use crate::calls::read;
-use crate::error::Fault;
+use crate::calls::{put, read};
+use crate::error::{Fault, Refusal};
 use crate::sys;
 
 /// The values of the columns of a row, in order.
@@ -96,6 +98,54 @@ impl<'a> LogicalMessage<'a> {
     /// message.
     pub fn read(content: &'a [u8], streamed: bool) -> Result<LogicalMessage<'a>, Fault> {
         LogicalStream { streamed }.read(content)
+    }
+
+    /// Appends the message, as the content of an [`XLogData`](super::XLogData), or leaves the buffer as it was. Rows,
+    /// columns and tables that were read are written again; others are given by [`Items::of`].
+    ///
+    /// ```
+    /// use pgmsg::replication::logical::{Datum, Insert, Items, LogicalMessage};
+    ///
+    /// let new = [Datum::Text("5".into()), Datum::Null];
+    /// let insert = Insert { transaction: None, relation: 16385, new: Items::of(&new) };
+    /// let mut out = Vec::new();
+    /// LogicalMessage::Insert(insert).write(&mut out)?;
+    /// assert_eq!(out, b"I\0\0\x40\x01N\0\x02t\0\0\0\x015n");
+    /// # Ok::<(), pgmsg::Refusal>(())
+    /// ```
+    ///
+    /// Refused with [`TooMany`](Refusal::TooMany) for more than 65535 values or columns, with
+    /// [`TextHoldsNul`](Refusal::TextHoldsNul) where a name holds a NUL, and with
+    /// [`MessageTooLong`](Refusal::MessageTooLong) where the message is too long.
+    pub fn write<B: Buffer>(&self, out: &mut B) -> Result<(), Refusal> {
+        let text = text::Text::of(self);
+        // What it points to is borrowed as long as `self` is, and its lists are there as long as `text` is.
+        put!(out, pgmsg_put_logical(&text.parts))
+    }
+
+    /// The byte that the message begins with.
+    pub fn letter(&self) -> u8 {
+        match self {
+            LogicalMessage::Begin(_) => b'B',
+            LogicalMessage::Message(_) => b'M',
+            LogicalMessage::Commit(_) => b'C',
+            LogicalMessage::Origin(_) => b'O',
+            LogicalMessage::Relation(_) => b'R',
+            LogicalMessage::TypeName(_) => b'Y',
+            LogicalMessage::Insert(_) => b'I',
+            LogicalMessage::Update(_) => b'U',
+            LogicalMessage::Delete(_) => b'D',
+            LogicalMessage::Truncate(_) => b'T',
+            LogicalMessage::StreamStart(_) => b'S',
+            LogicalMessage::StreamStop => b'E',
+            LogicalMessage::StreamCommit(_) => b'c',
+            LogicalMessage::StreamAbort(_) => b'A',
+            LogicalMessage::BeginPrepare(_) => b'b',
+            LogicalMessage::Prepare(_) => b'P',
+            LogicalMessage::CommitPrepared(_) => b'K',
+            LogicalMessage::RollbackPrepared(_) => b'r',
+            LogicalMessage::StreamPrepare(_) => b'p',
+        }
     }
 
     /// A message by what the library says of it.

@@ -1,38 +1,45 @@
-//! The lists of a message, whose items are read of it again, some at a time.
+//! The lists of a message, whose items are read of it again, some at a time, or are given by a caller.
 
 use super::{text, Column, Datum};
 use crate::calls::{ask, call};
 use crate::error::Fault;
 use crate::sys::{pgmsg_datum, pgmsg_list, pgmsg_table_column};
 use core::fmt;
-use core::marker::PhantomData;
+use core::slice;
 
 /// How many items are read at a time.
 const FEW: usize = 16;
 
-/// The items of a list, borrowed from their message.
+/// The items of a list, borrowed from their message or from a caller.
 pub struct Items<'a, T> {
+    /// Those of a message.
     content: &'a [u8],
     list: pgmsg_list,
-    item: PhantomData<T>,
+    /// Those of a caller, after them.
+    given: &'a [T],
 }
 
 impl<'a, T> Items<'a, T> {
     #[inline]
     pub(super) fn new(content: &'a [u8], list: pgmsg_list) -> Items<'a, T> {
-        Items { content, list, item: PhantomData }
+        Items { content, list, given: &[] }
+    }
+
+    /// These items, to be written.
+    pub const fn of(given: &'a [T]) -> Items<'a, T> {
+        Items { content: &[], list: pgmsg_list { at: 0, count: 0 }, given }
     }
 
     /// How many items there are.
     #[inline]
     pub fn len(&self) -> usize {
-        self.list.count
+        self.list.count + self.given.len()
     }
 
     /// Whether there is no item.
     #[inline]
     pub fn is_empty(&self) -> bool {
-        self.list.count == 0
+        self.len() == 0
     }
 }
 
@@ -41,7 +48,8 @@ impl<'a, T: Listed<'a>> Items<'a, T> {
     #[inline]
     pub fn iter(&self) -> Iter<'a, T> {
         let places = [T::Place::default(); FEW];
-        Iter { content: self.content, rest: self.list, places, given: 0, next: 0 }
+        let (content, rest, given) = (self.content, self.list, self.given.iter());
+        Iter { content, rest, places, placed: 0, next: 0, given }
     }
 }
 
@@ -84,10 +92,12 @@ pub struct Iter<'a, T: Listed<'a>> {
     content: &'a [u8],
     /// From the next item on.
     rest: pgmsg_list,
-    /// The places of some items, as many as are given, up to the next one of which all are passed.
+    /// The places of some items, up to the next one of which all are passed.
     places: [T::Place; FEW],
-    given: usize,
+    placed: usize,
     next: usize,
+    /// Those of a caller.
+    given: slice::Iter<'a, T>,
 }
 
 impl<'a, T: Listed<'a>> Iter<'a, T> {
@@ -95,7 +105,7 @@ impl<'a, T: Listed<'a>> Iter<'a, T> {
     #[inline]
     fn fill(&mut self) -> Result<(), Fault> {
         let list = pgmsg_list { at: self.rest.at, count: self.rest.count.min(FEW) };
-        self.given = T::places(self.content, list, &mut self.places)?;
+        self.placed = T::places(self.content, list, &mut self.places)?;
         self.next = 0;
         Ok(())
     }
@@ -107,9 +117,9 @@ impl<'a, T: Listed<'a>> Iterator for Iter<'a, T> {
     #[inline]
     fn next(&mut self) -> Option<T> {
         if self.rest.count == 0 {
-            return None;
+            return self.given.next().copied();
         }
-        if self.next == self.given {
+        if self.next == self.placed {
             // The library refuses no part of a list that it gave.
             self.fill().ok()?;
         }
@@ -121,7 +131,8 @@ impl<'a, T: Listed<'a>> Iterator for Iter<'a, T> {
 
     #[inline]
     fn size_hint(&self) -> (usize, Option<usize>) {
-        (self.rest.count, Some(self.rest.count))
+        let count = self.rest.count + self.given.len();
+        (count, Some(count))
     }
 }
 
