@@ -1,4 +1,4 @@
-/* How long pgmsg_read_logical and pgmsg_read_tuple take for an Insert, beside C that is written by hand and tests every bound:
+/* How long pgmsg_read_logical takes for an Insert, beside C that is written by hand and tests every bound:
  *
  *     logical_bench           prints a line for each shape of a row
  *     logical_bench bodies    prints of each its words, the letter, the message in hexadecimal digits and the nanoseconds of
@@ -85,13 +85,13 @@ static ptrdiff_t library_read(const struct content *content, bool streamed, stru
 {
     pgmsg_fault fault;
     pgmsg_logical message;
-    int32_t refused = pgmsg_read_logical(content->bytes, content->len, &streamed, &message, &fault);
-    if (refused < 0)
-        return refused;
+    ptrdiff_t count = pgmsg_read_logical(content->bytes, content->len, &streamed, insert->values, COLUMNS, &message, &fault);
+    if (count < 0)
+        return count;
     insert->has_transaction = message.has_transaction;
     insert->transaction = message.transaction;
     insert->relation = message.relation;
-    return pgmsg_read_tuple(content->bytes, content->len, message.new_row, insert->values, COLUMNS, &fault);
+    return count;
 }
 
 typedef ptrdiff_t reader(const struct content *content, bool streamed, struct insert *insert);

@@ -386,6 +386,23 @@ typedef struct {
     size_t content_len;
 } pgmsg_replication_text;
 
+/* The value of a column in a row that changes. `kind` is `n` for NULL, and in a key for a column
+ * that isn't part of it, `u` for a large value that wasn't changed and isn't sent, `t` for a
+ * `value` as text, and `b` for one in the binary format of its type. A `value` of the first two is
+ * empty. */
+typedef struct {
+    uint8_t kind;
+    pgmsg_span value;
+} pgmsg_datum;
+
+/* A column of a table whose rows change. `flags` are 1 where it is a part of the key, else 0. */
+typedef struct {
+    uint8_t flags;
+    pgmsg_span name;
+    uint32_t type_id;
+    int32_t type_modifier;
+} pgmsg_table_column;
+
 /* What a server streams of the changes of its tables, by the letter that it begins with
  * (PostgreSQL's documentation, "Logical Replication Message Formats"). `B`, Begin: the
  * `transaction`, whose commit is at `lsn`. `M`, Message: its position `lsn`, its prefix in `name`,
@@ -434,23 +451,6 @@ typedef struct {
     pgmsg_list old_row;
     pgmsg_list new_row;
 } pgmsg_logical;
-
-/* The value of a column in a row that changes. `kind` is `n` for NULL, and in a key for a column
- * that isn't part of it, `u` for a large value that wasn't changed and isn't sent, `t` for a
- * `value` as text, and `b` for one in the binary format of its type. A `value` of the first two is
- * empty. */
-typedef struct {
-    uint8_t kind;
-    pgmsg_span value;
-} pgmsg_datum;
-
-/* A column of a table whose rows change. `flags` are 1 where it is a part of the key, else 0. */
-typedef struct {
-    uint8_t flags;
-    pgmsg_span name;
-    uint32_t type_id;
-    int32_t type_modifier;
-} pgmsg_table_column;
 
 /* The value of a column in a row that is written. `kind` is as in `pgmsg_datum`; the `value` of an
  * `n` or a `u` isn't looked at. */
@@ -898,15 +898,6 @@ int32_t pgmsg_read_replication(const uint8_t *content, size_t content_len,
 ptrdiff_t pgmsg_put_replication(const pgmsg_replication_text *message, uint8_t *out,
     size_t out_len);
 
-/* What the content of an XLogData of a logical slot says, or a row of
- * `pg_logical_slot_get_binary_changes`, in the versions 1 to 3 of the protocol. `streamed` is the
- * caller's, false before the first message of a slot, and passed with each in order: a Stream Start
- * sets it, and a Stream Stop clears it. Places are in `content`. 0, or why it is refused: of a
- * letter of no kind, of a row or of a value with PGMSG_UNKNOWN_MESSAGE_TYPE, and where bytes follow
- * the last part of a message with PGMSG_BODY_TOO_LONG. */
-int32_t pgmsg_read_logical(const uint8_t *content, size_t content_len, bool *streamed,
-    pgmsg_logical *message, pgmsg_fault *fault);
-
 /* The values of a row that `pgmsg_read_logical` gave of this content: how many there are. As many
  * as there is room for are written; the rest are read too. A row that it gave is not refused. */
 ptrdiff_t pgmsg_read_tuple(const uint8_t *content, size_t content_len, pgmsg_list list,
@@ -917,6 +908,17 @@ ptrdiff_t pgmsg_read_tuple(const uint8_t *content, size_t content_len, pgmsg_lis
  * refused. */
 ptrdiff_t pgmsg_read_table_columns(const uint8_t *content, size_t content_len, pgmsg_list list,
     pgmsg_table_column *columns, size_t columns_len, pgmsg_fault *fault);
+
+/* What the content of an XLogData of a logical slot says, or a row of
+ * `pg_logical_slot_get_binary_changes`, in the versions 1 to 3 of the protocol: how many values its
+ * `new_row` has, 0 where it has none. As many as there is room for are written, and
+ * `pgmsg_read_tuple` gives all. `streamed` is the caller's, false before the first message of a
+ * slot, and passed with each in order: a Stream Start sets it, and a Stream Stop clears it. Places
+ * are in `content`. A message is refused with PGMSG_UNKNOWN_MESSAGE_TYPE where no kind of message,
+ * of row or of value has a letter, and with PGMSG_BODY_TOO_LONG where bytes follow its last
+ * part. */
+ptrdiff_t pgmsg_read_logical(const uint8_t *content, size_t content_len, bool *streamed,
+    pgmsg_datum *values, size_t values_len, pgmsg_logical *message, pgmsg_fault *fault);
 
 /* A message of logical replication, as the content of an XLogData, which `pgmsg_put_replication`
  * writes as a CopyData of the letter `w`. Refused with PGMSG_UNKNOWN_MESSAGE_TYPE where its letter

@@ -7,6 +7,9 @@
 
 #define LITERAL(literal) literal, sizeof(literal) - 1
 
+/* More values than any of these rows has. */
+enum { VALUES = 8 };
+
 /* What is read of a message: its texts, and its rows and columns as `listed` writes them. */
 struct logical {
     const char *bytes;
@@ -183,18 +186,24 @@ static bool is_text(const char *bytes, pgmsg_span span, const char *text)
     return text == NULL || is_at(bytes, span, text);
 }
 
-/* The values of a row, each as its kind, its offset and its length. */
-static void list_row(struct tally *tally, const struct logical *sample, pgmsg_list list, char *listed, size_t room)
+/* Values, each as its kind, its offset and its length. */
+static void list_values(const pgmsg_datum *values, ptrdiff_t count, char *listed, size_t room)
 {
-    pgmsg_datum values[8];
-    pgmsg_fault fault;
-    ptrdiff_t count = pgmsg_read_tuple((const uint8_t *)sample->bytes, sample->len, list, values, 8, &fault);
-    CHECK(tally, count >= 0 && (size_t)count == list.count);
     listed[0] = 0;
     for (ptrdiff_t i = 0; i < count; i++) {
         size_t len = strlen(listed);
         snprintf(listed + len, room - len, "%c%zu+%zu ", values[i].kind, values[i].value.at, values[i].value.len);
     }
+}
+
+/* The same of a row that is read by its list. */
+static void list_row(struct tally *tally, const struct logical *sample, pgmsg_list list, char *listed, size_t room)
+{
+    pgmsg_datum values[VALUES];
+    pgmsg_fault fault;
+    ptrdiff_t count = pgmsg_read_tuple((const uint8_t *)sample->bytes, sample->len, list, values, VALUES, &fault);
+    CHECK(tally, count >= 0 && (size_t)count == list.count);
+    list_values(values, count, listed, room);
 }
 
 /* The columns of a table, each as its flags, its name's offset and length, its type and the type's modifier. */
@@ -216,11 +225,17 @@ static void list_columns(struct tally *tally, const struct logical *sample, pgms
 static void test_read_one(struct tally *tally, const struct logical *sample, bool *streamed)
 {
     char listed[256];
+    pgmsg_datum values[VALUES];
     pgmsg_logical read;
     pgmsg_fault fault;
+    memset(values, UNTOUCHED, sizeof values);
     memset(&read, UNTOUCHED, sizeof read);
     memset(&fault, UNTOUCHED, sizeof fault);
-    CHECK(tally, pgmsg_read_logical((const uint8_t *)sample->bytes, sample->len, streamed, &read, &fault) == 0);
+    ptrdiff_t count = pgmsg_read_logical((const uint8_t *)sample->bytes, sample->len, streamed, values, VALUES, &read, &fault);
+    CHECK(tally, count >= 0 && (size_t)count == sample->message.new_row.count);
+    CHECK(tally, are_untouched(values + count, (size_t)(VALUES - count) * sizeof *values));
+    list_values(values, count, listed, sizeof listed);
+    CHECK(tally, strcmp(listed, sample->new_row ? sample->new_row : "") == 0);
     CHECK(tally, is_same(&read, &sample->message) && are_untouched(&fault, sizeof fault));
     CHECK(tally, *streamed == (read.letter == 'S' || (sample->is_streamed && read.letter != 'E')));
     CHECK(tally, is_text(sample->bytes, read.schema, sample->schema) && is_text(sample->bytes, read.name, sample->name)
@@ -236,18 +251,19 @@ static void test_read_one(struct tally *tally, const struct logical *sample, boo
 /* Reads what is cut off of a message, or too much: a refusal leaves alone what it doesn't say. */
 static void test_cut(struct tally *tally, const struct logical *sample)
 {
+    pgmsg_datum values[VALUES];
     pgmsg_logical read;
     pgmsg_fault fault;
     bool streamed = sample->is_streamed;
     memset(&read, UNTOUCHED, sizeof read);
     for (size_t cut = 0; cut < sample->len; cut++) {
-        int32_t answer = pgmsg_read_logical((const uint8_t *)sample->bytes, cut, &streamed, &read, &fault);
+        ptrdiff_t answer = pgmsg_read_logical((const uint8_t *)sample->bytes, cut, &streamed, values, VALUES, &read, &fault);
         CHECK(tally, answer == PGMSG_SHORT || answer == PGMSG_MISSING_NUL);
         CHECK(tally, fault.number == answer && fault.at <= cut && are_untouched(&read, sizeof read));
     }
     uint8_t more[256] = {0};
     memcpy(more, sample->bytes, sample->len);
-    CHECK(tally, pgmsg_read_logical(more, sample->len + 1, &streamed, &read, &fault) == PGMSG_BODY_TOO_LONG);
+    CHECK(tally, pgmsg_read_logical(more, sample->len + 1, &streamed, values, VALUES, &read, &fault) == PGMSG_BODY_TOO_LONG);
     CHECK(tally, streamed == sample->is_streamed && are_untouched(&read, sizeof read));
 }
 
@@ -267,7 +283,7 @@ static void test_letters(struct tally *tally)
         pgmsg_fault fault;
         const uint8_t *bytes = known[letter] ? (const uint8_t *)known[letter] : unknown;
         size_t len = known[letter] ? lens[letter] : sizeof unknown;
-        CHECK(tally, pgmsg_read_logical(bytes, len, &streamed, &read, &fault) == (known[letter] ? 0 : PGMSG_UNKNOWN_MESSAGE_TYPE));
+        CHECK(tally, pgmsg_read_logical(bytes, len, &streamed, NULL, 0, &read, &fault) == (known[letter] ? 0 : PGMSG_UNKNOWN_MESSAGE_TYPE));
         CHECK(tally, read.letter == (known[letter] ? letter : 0) && streamed == (letter == 'S'));
     }
 }
@@ -304,34 +320,81 @@ static void test_rooms_of_lists(struct tally *tally)
 
 #define MESSAGE(literal) (const uint8_t *)(literal), sizeof(literal) - 1
 
+/* Rooms for fewer and for more values than a new row has, after the number of its table and after an old row. */
+static void test_rooms_of_new_rows(struct tally *tally)
+{
+    static const struct {
+        const char *bytes;
+        size_t len, text_at;
+    } messages[] = {
+        {LITERAL("I\0\0@\5N\0\3nt\0\0\0\1au"), 14},
+        {LITERAL("U\0\0@\5N\0\3nt\0\0\0\1au"), 14},
+        {LITERAL("U\0\0@\5K\0\1nN\0\3nt\0\0\0\1au"), 18},
+    };
+    for (size_t i = 0; i < sizeof messages / sizeof *messages; i++)
+        for (size_t room = 0; room <= 4; room++) {
+            bool streamed = false;
+            pgmsg_datum values[4];
+            pgmsg_logical read;
+            pgmsg_fault fault;
+            size_t given = room < 3 ? room : 3;
+            memset(values, UNTOUCHED, sizeof values);
+            CHECK(tally, pgmsg_read_logical((const uint8_t *)messages[i].bytes, messages[i].len, &streamed, values, room, &read,
+                                            &fault) == 3);
+            CHECK(tally, read.new_row.count == 3 && are_untouched(values + given, (4 - given) * sizeof *values));
+            CHECK(tally, given < 2 || (values[1].kind == 't' && values[1].value.at == messages[i].text_at && values[1].value.len == 1));
+            CHECK(tally, given < 3 || (values[0].kind == 'n' && values[2].kind == 'u'));
+        }
+}
+
+/* Of a new row, the values before the one that is broken are given, and all where bytes follow the last. */
+static void test_fronts_of_new_rows(struct tally *tally)
+{
+    bool streamed = false;
+    pgmsg_datum values[3];
+    pgmsg_logical read;
+    memset(values, UNTOUCHED, sizeof values);
+    memset(&read, UNTOUCHED, sizeof read);
+    REFUSES(tally, PGMSG_UNKNOWN_MESSAGE_TYPE, 0, "unknown message type: 120",
+            pgmsg_read_logical(MESSAGE("I\0\0@\5N\0\2ux"), &streamed, values, 3, &read, &fault));
+    CHECK(tally, values[0].kind == 'u' && are_untouched(values + 1, 2 * sizeof *values) && are_untouched(&read, sizeof read));
+    REFUSES(tally, PGMSG_SHORT, 15, "expected 1 bytes at offset 15, got 0",
+            pgmsg_read_logical(MESSAGE("U\0\0@\5N\0\3t\0\0\0\1an"), &streamed, values, 1, &read, &fault));
+    CHECK(tally, values[0].kind == 't' && are_untouched(values + 1, 2 * sizeof *values) && are_untouched(&read, sizeof read));
+    REFUSES(tally, PGMSG_BODY_TOO_LONG, 0, "message body out of range for protocol: 10",
+            pgmsg_read_logical(MESSAGE("I\0\0@\5N\0\2nun"), &streamed, values, 3, &read, &fault));
+    CHECK(tally, values[0].kind == 'n' && values[1].kind == 'u' && are_untouched(&read, sizeof read));
+}
+
 static void test_refusals(struct tally *tally)
 {
     bool streamed = false, within = true;
+    pgmsg_datum values[VALUES];
     pgmsg_logical read;
     REFUSES(tally, PGMSG_UNKNOWN_MESSAGE_TYPE, 0, "unknown message type: 88",
-            pgmsg_read_logical(MESSAGE("X"), &streamed, &read, &fault));
+            pgmsg_read_logical(MESSAGE("X"), &streamed, values, VALUES, &read, &fault));
     REFUSES(tally, PGMSG_SHORT, 0, "expected 1 bytes at offset 0, got 0",
-            pgmsg_read_logical(NULL, 0, &streamed, &read, &fault));
+            pgmsg_read_logical(NULL, 0, &streamed, values, VALUES, &read, &fault));
     REFUSES(tally, PGMSG_SHORT, 9, "expected 8 bytes at offset 9, got 3",
-            pgmsg_read_logical(MESSAGE("B\0\0\0\0\1\0\0(\0\0\0"), &streamed, &read, &fault));
+            pgmsg_read_logical(MESSAGE("B\0\0\0\0\1\0\0(\0\0\0"), &streamed, values, VALUES, &read, &fault));
     REFUSES(tally, PGMSG_MISSING_NUL, 9, "expected NUL after offset 9",
-            pgmsg_read_logical(MESSAGE("O\0\0\0\0\1\0\0(far"), &streamed, &read, &fault));
+            pgmsg_read_logical(MESSAGE("O\0\0\0\0\1\0\0(far"), &streamed, values, VALUES, &read, &fault));
     REFUSES(tally, PGMSG_BODY_TOO_LONG, 0, "message body out of range for protocol: 1",
-            pgmsg_read_logical(MESSAGE("E\0"), &streamed, &read, &fault));
+            pgmsg_read_logical(MESSAGE("E\0"), &streamed, values, VALUES, &read, &fault));
     REFUSES(tally, PGMSG_UNKNOWN_MESSAGE_TYPE, 0, "unknown message type: 78",
-            pgmsg_read_logical(MESSAGE("D\0\0@\5N\0\0"), &streamed, &read, &fault));
+            pgmsg_read_logical(MESSAGE("D\0\0@\5N\0\0"), &streamed, values, VALUES, &read, &fault));
     REFUSES(tally, PGMSG_UNKNOWN_MESSAGE_TYPE, 0, "unknown message type: 75",
-            pgmsg_read_logical(MESSAGE("I\0\0@\5K\0\0"), &streamed, &read, &fault));
+            pgmsg_read_logical(MESSAGE("I\0\0@\5K\0\0"), &streamed, values, VALUES, &read, &fault));
     REFUSES(tally, PGMSG_UNKNOWN_MESSAGE_TYPE, 0, "unknown message type: 88",
-            pgmsg_read_logical(MESSAGE("U\0\0@\5X\0\0"), &streamed, &read, &fault));
+            pgmsg_read_logical(MESSAGE("U\0\0@\5X\0\0"), &streamed, values, VALUES, &read, &fault));
     REFUSES(tally, PGMSG_UNKNOWN_MESSAGE_TYPE, 0, "unknown message type: 120",
-            pgmsg_read_logical(MESSAGE("I\0\0@\5N\0\1x"), &streamed, &read, &fault));
+            pgmsg_read_logical(MESSAGE("I\0\0@\5N\0\1x"), &streamed, values, VALUES, &read, &fault));
     REFUSES(tally, PGMSG_SHORT, 13, "expected 9 bytes at offset 13, got 1",
-            pgmsg_read_logical(MESSAGE("I\0\0@\5N\0\1t\0\0\0\ta"), &streamed, &read, &fault));
+            pgmsg_read_logical(MESSAGE("I\0\0@\5N\0\1t\0\0\0\ta"), &streamed, values, VALUES, &read, &fault));
     REFUSES(tally, PGMSG_SHORT, 10, "expected 4 bytes at offset 10, got 1",
-            pgmsg_read_logical(MESSAGE("T\0\0\0\2\0\0\0@\5\0"), &streamed, &read, &fault));
+            pgmsg_read_logical(MESSAGE("T\0\0\0\2\0\0\0@\5\0"), &streamed, values, VALUES, &read, &fault));
     REFUSES(tally, PGMSG_SHORT, 5, "expected 4 bytes at offset 5, got 3",
-            pgmsg_read_logical(MESSAGE("I\0\0@\5N\0\0"), &within, &read, &fault));
+            pgmsg_read_logical(MESSAGE("I\0\0@\5N\0\0"), &within, values, VALUES, &read, &fault));
     CHECK(tally, !streamed && within);
 }
 
@@ -362,7 +425,7 @@ static void test_longest(struct tally *tally, const uint8_t *zeros)
 {
     bool streamed = false;
     pgmsg_logical read;
-    REFUSES(tally, PGMSG_BODY_TOO_LONG, 0, TOO_LONG_WORDS, pgmsg_read_logical(zeros, TOO_LONG, &streamed, &read, &fault));
+    REFUSES(tally, PGMSG_BODY_TOO_LONG, 0, TOO_LONG_WORDS, pgmsg_read_logical(zeros, TOO_LONG, &streamed, NULL, 0, &read, &fault));
     REFUSES(tally, PGMSG_BODY_TOO_LONG, 0, TOO_LONG_WORDS,
             pgmsg_read_tuple(zeros, TOO_LONG, (pgmsg_list){0, 0}, NULL, 0, &fault));
     REFUSES(tally, PGMSG_BODY_TOO_LONG, 0, TOO_LONG_WORDS,
@@ -385,6 +448,8 @@ void test_logical(struct tally *tally)
     test_letters(tally);
     test_relations(tally);
     test_rooms_of_lists(tally);
+    test_rooms_of_new_rows(tally);
+    test_fronts_of_new_rows(tally);
     test_refusals(tally);
     test_refused_lists(tally);
     with_zeros(tally, TOO_LONG, test_longest);

@@ -44,8 +44,8 @@ static bool *within(void)
     CALL(negotiation, pgmsg_read_negotiate_version(body, len, ONE(pgmsg_negotiation), ITEMS(pgmsg_span), fault)) \
     CALL(ready, pgmsg_read_ready(body, len, fault))                                                        \
     CALL(replication, pgmsg_read_replication(body, len, ONE(pgmsg_replication), fault))                    \
-    CALL(logical, pgmsg_read_logical(body, len, outside(), ONE(pgmsg_logical), fault))                     \
-    CALL(logical_streamed, pgmsg_read_logical(body, len, within(), ONE(pgmsg_logical), fault))             \
+    CALL(logical, pgmsg_read_logical(body, len, outside(), ITEMS(pgmsg_datum), ONE(pgmsg_logical), fault)) \
+    CALL(logical_streamed, pgmsg_read_logical(body, len, within(), ITEMS(pgmsg_datum), ONE(pgmsg_logical), fault)) \
     CALL(tuple, pgmsg_read_tuple(body, len, three_values, ITEMS(pgmsg_datum), fault))                      \
     CALL(table_columns, pgmsg_read_table_columns(body, len, two_columns, ITEMS(pgmsg_table_column), fault)) \
     CALL(copy_response, pgmsg_read_copy_response(body, len, ONE(pgmsg_copy_response), ITEMS(int16_t), fault)) \
@@ -96,6 +96,7 @@ static const struct body samples[] = {
     BODY(logical, "B" "\0\0\0\0\0\0\0\1" "\0\0\0\0\0\0\0\2" "\0\0\0\3"),
     BODY(logical, "R" "\0\0\0\1" "public\0" "t\0" "d" "\0\1" "\1" "id\0" "\0\0\0\27" "\377\377\377\377"),
     BODY(logical, "U" "\0\0\0\1" "K" "\0\2" "t\0\0\0\1" "a" "n" "N" "\0\2" "b\0\0\0\1" "a" "u"),
+    BODY(logical, "U" "\0\0\0\1" "N" "\0\3" "t\0\0\0\1" "a" "u" "n"),
     BODY(logical, "r" "\0" "\0\0\0\0\0\0\0\1" "\0\0\0\0\0\0\0\2" "\0\0\0\0\0\0\0\3" "\0\0\0\0\0\0\0\4" "\0\0\0\5" "gid\0"),
     BODY(logical_streamed, "M" "\0\0\0\1" "\1" "\0\0\0\0\0\0\0\1" "prefix\0" "\0\0\0\2" "ab"),
     BODY(logical_streamed, "I" "\0\0\0\1" "\0\0\0\2" "N" "\0\2" "t\0\0\0\1" "a" "n"),

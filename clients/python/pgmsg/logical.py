@@ -20,7 +20,7 @@ import enum
 from dataclasses import dataclass
 from typing import Any, ClassVar, Literal, TypeAlias
 
-from ._calls import listed, part
+from ._calls import FEW, allocate, listed, part
 from ._calls import read as call
 from ._library import ffi, lib
 from .message import AsText, Buffer, octets
@@ -335,10 +335,12 @@ class LogicalStream:
     def read(self, content: Buffer) -> LogicalMessage:
         """The message that is all of the content of an XLogData. What breaks the format is a Fault, and leaves the stream as
         it was."""
-        data, found = octets(content), ffi.new("pgmsg_logical *")
-        call(lib.pgmsg_read_logical, data, self._streamed, found)
+        data, values, found = octets(content), allocate("pgmsg_datum[]", FEW), ffi.new("pgmsg_logical *")
+        count = call(lib.pgmsg_read_logical, data, self._streamed, values, FEW, found)
         kind = KINDS[chr(found.letter)]
-        return kind(*[value_of(data, found, name) for name in kind.PARTS])
+        # A row of more values is read again, with room for all.
+        new = tuple(datum_of(data, values[at]) for at in range(count)) if count <= FEW else row_of(data, found.new_row)
+        return kind(*[new if name == "new_row" else value_of(data, found, name) for name in kind.PARTS])
 
 
 def read(content: Buffer, streamed: bool = False) -> LogicalMessage:
@@ -354,8 +356,6 @@ def value_of(data: bytes, found: Any, name: str) -> Any:
             return given if found.has_transaction else None
         case "schema" | "name" | "content":
             return part(data, given)
-        case "new_row":
-            return row_of(data, given)
         case "old_row":
             return OLD[chr(found.old_letter)](row_of(data, given)) if found.old_letter else None
         case "columns":

@@ -41,7 +41,7 @@ as_cell body at end v p = record {
 -- ---- a value by its length
 
 -- so many bytes that are there
-bytes_stand : (body : List ℕ) (start n : ℕ) → start + n ≤ length body → IsReadAt (bytes_of n) body start (take n (drop start body)) (start + n)
+pub bytes_stand : (body : List ℕ) (start n : ℕ) → start + n ≤ length body → IsReadAt (bytes_of n) body start (take n (drop start body)) (start + n)
 bytes_stand body start n inside = record {
   within = inside;
   reads = (

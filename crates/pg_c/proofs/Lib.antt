@@ -4,6 +4,7 @@ pub mod ClientStartupLemmas
 pub mod ClientValuesLemmas
 pub mod LogicalGivenLemmas
 pub mod LogicalListsLemmas
+pub mod LogicalNewRowLemmas
 pub mod LogicalPlacesLemmas
 pub mod PlaceLemmas
 pub mod ReadAuthenticationLemmas

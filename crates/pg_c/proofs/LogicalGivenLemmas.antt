@@ -1,5 +1,5 @@
 -- Where the parts of a message of logical replication that was read stand.
-use Rattle.std.proofs.Common.{◌≡◌, ℕ, ◌+◌, ◌<◌, ◌≤◌, Bool, List, [], length, drop, Result, Ok, Err, Some, None, MatchResult, inl, inr, refl, sym, arith}
+use Rattle.std.proofs.Common.{◌≡◌, ℕ, ◌+◌, ◌<◌, ◌≤◌, Bool, List, [], length, drop, Option, Result, Ok, Err, Some, None, MatchResult, inl, inr, refl, sym, ap, ◌∙◌, arith}
 use Rattle.std.specs.Prelude.{option_map}
 use Rattle.std.proofs.lemmas.Bool.{cases_lt}
 use Rattle.pg_base.proofs.ReadingLemmas.{number_fits}
@@ -25,8 +25,11 @@ use Rattle.pg_replication.specs.declared.logical.change.Update.{Update}
 use Rattle.pg_replication.specs.declared.logical.logical_message.LogicalMessage.{LogicalMessage}
 use Rattle.pg_replication.specs.declared.logical.logical_message.LogicalMessage.TheVariants as messages
 use Rattle.pg_c.specs.Place.{StandsIn, span_of}
-use Rattle.pg_c.specs.Replication.Logical.{ListStands, ReadsLogicalContent, no_list, old_values}
+use Rattle.pg_c.specs.Replication.Logical.{IsGivenAs, ListStands, ReadsLogicalContent, begun, no_list, old_values}
 use Rattle.pg_c.specs.Replication.Logical.Places.{Behind, MeansUpdate, OldIsGiven, OldReads, RowEnds, RowReads, fields_after, prefix_place, content_place, schema_place, name_place, columns_place, row_letter_at, row_place, relations_place}
+use Rattle.pg_c.specs.declared.place.PgmsgList.{PgmsgList}
+use Rattle.pg_c.specs.declared.replication.logical.read.PgmsgLogical.{PgmsgLogical}
+use Rattle.pg_format.proofs.FormatLaws.Places.{none_at}
 use Rattle.pg_c.proofs.LogicalPlacesLemmas.{numbered, old_row, old_stands, message_at, origin_at, relation_at, type_name_at, insert_at, delete_at, truncate_at, begin_prepare_at, prepared_at, rollback_prepared_at}
 
 -- what a message has of texts and lists stands at its places
@@ -167,3 +170,41 @@ old_is_given bytes at end o within ends = λ rest p.
 pub content_read : (streamed : Bool) (bytes : List ℕ) (result : LogicalAnswer) → (length bytes ≤ max_body → ReadsLogical streamed bytes result) → (max_body < length bytes → IsTooLong bytes result) → ReadsLogicalContent streamed bytes result
 content_read streamed bytes (Ok message) read long = elim (cases_lt max_body (length bytes)) [ inl more ↦ absurd (cc (long more)) | inr short ↦ (short, read short) ]
 content_read streamed bytes (Err fault) read long = elim (cases_lt max_body (length bytes)) [ inl more ↦ inl (more, cc (long more)) | inr short ↦ inr (short, read short) ]
+
+-- ---- the new row of any message
+
+-- values stand where the new row is: none where there is none
+pub record RowThere (bytes : List ℕ) (list : PgmsgList) : Type 0 where
+  pub items : List Datum
+  pub stand : ListStands datum bytes list items
+
+no_row : (bytes : List ℕ) (list : PgmsgList) → list ≡ no_list → RowThere bytes list
+no_row bytes list e = rw e (record { items = []; stand = record { within = omega arith; stand = record { end = 0; read = none_at datum bytes 0 (omega arith) } } })
+
+begun_row : (letter : ℕ) (t : Option ℕ) → (begun letter t).new_row ≡ no_list
+begun_row letter (Some number) = refl
+begun_row letter None = refl
+
+abbrev row_in : PgmsgLogical → PgmsgList
+row_in given = given.new_row
+
+pub row_there : (bytes : List ℕ) (message : LogicalMessage) (given : PgmsgLogical) → IsGivenAs bytes message given → RowThere bytes given.new_row
+row_there bytes (messages.Begin b) given p = no_row bytes given.new_row (ap row_in p)
+row_there bytes (messages.Message m) given p = no_row bytes given.new_row (ap row_in p.2 ∙ begun_row 77 m.transaction)
+row_there bytes (messages.Commit c) given p = no_row bytes given.new_row (ap row_in p)
+row_there bytes (messages.Origin o) given p = no_row bytes given.new_row (ap row_in p.1)
+row_there bytes (messages.Relation r) given p = no_row bytes given.new_row (ap row_in p.3 ∙ begun_row 82 r.transaction)
+row_there bytes (messages.TypeName t) given p = no_row bytes given.new_row (ap row_in p.2 ∙ begun_row 89 t.transaction)
+row_there bytes (messages.Insert i) given p = record { items = datums i.new; stand = p.0 }
+row_there bytes (messages.Update u) given p = record { items = datums u.new; stand = p.1 }
+row_there bytes (messages.Delete d) given p = no_row bytes given.new_row (ap row_in p.1 ∙ begun_row 68 d.transaction)
+row_there bytes (messages.Truncate t) given p = no_row bytes given.new_row (ap row_in p.1 ∙ begun_row 84 t.transaction)
+row_there bytes (messages.StreamStart s) given p = no_row bytes given.new_row (ap row_in p)
+row_there bytes (messages.StreamStop s) given p = no_row bytes given.new_row (ap row_in p)
+row_there bytes (messages.StreamCommit c) given p = no_row bytes given.new_row (ap row_in p)
+row_there bytes (messages.StreamAbort a) given p = no_row bytes given.new_row (ap row_in p)
+row_there bytes (messages.BeginPrepare b) given p = no_row bytes given.new_row (ap row_in p.1)
+row_there bytes (messages.Prepare b) given p = no_row bytes given.new_row (ap row_in p.1)
+row_there bytes (messages.CommitPrepared b) given p = no_row bytes given.new_row (ap row_in p.1)
+row_there bytes (messages.RollbackPrepared r) given p = no_row bytes given.new_row (ap row_in p.1)
+row_there bytes (messages.StreamPrepare b) given p = no_row bytes given.new_row (ap row_in p.1)

@@ -1,26 +1,30 @@
 -- Lists of a message of logical replication that are there are read.
 use Rattle.std.specs.Prelude.{◌==◌}
-use Rattle.std.proofs.Common.{◌≡◌, ℕ, ◌+◌, ◌≤◌, Bool, true, false, List, [], ◌∷◌, length, drop, Some, inl, inr, refl, ap, arith, length-append, length-drop}
+use Rattle.std.proofs.Common.{◌≡◌, ℕ, ◌+◌, ◌<◌, ◌≤◌, ◌⊎◌, Bool, true, false, List, [], ◌∷◌, length, take, drop, get_or, Option, Some, Result, Ok, Err, IfErr, inl, inr, refl, ap, subst, arith, length-append, length-drop}
+use Rattle.std.proofs.lemmas.List.{drop_more}
 use Rattle.pg_base.proofs.ReadingLemmas.{number_fits, signed_fits}
 use Rattle.pg_base.specs.Reading.{Number}
 use Rattle.pg_base.specs.declared.error.ProtocolFault.{ProtocolFault}
 use Rattle.pg_base.specs.declared.error.ProtocolFault.TheVariants.{UnknownMessageType}
 use Rattle.pg_format.proofs.FormatLaws.Lists.{lawful_times}
+use Rattle.pg_format.proofs.FormatLaws.Places.{items_then_fault}
 use Rattle.pg_format.proofs.FormatLaws.Logical.{lawful_datum, lawful_table_column}
 use Rattle.pg_format.specs.Format.{Format, Lawful}
-use Rattle.pg_format.specs.Format.Lists.{AreRead}
+use Rattle.pg_format.specs.Format.Lists.{AreRead, times}
 use Rattle.pg_format.specs.Format.Parts.{success, fail}
-use Rattle.pg_format.specs.Format.Places.{IsReadAt}
+use Rattle.pg_format.specs.Format.Places.{BreaksAt, IsReadAt}
 use Rattle.pg_format.specs.Format.Sequences.{case_of, choose}
-use Rattle.pg_format.specs.Logical.{Datum, datum, sized, column, null, unchanged, text, binary, text_of, binary_of}
+use Rattle.pg_format.specs.Logical.{Datum, datum, datum_by, sized, column, null, unchanged, text, binary, text_of, binary_of}
 use Rattle.pg_format.specs.Logical as page
 use Rattle.pg_format.specs.Received.{max_body}
-use Rattle.pg_c.specs.Place.{bytes_in, span_of}
-use Rattle.pg_c.specs.Read.{IsBodyFault}
+use Rattle.pg_c.specs.Place.{bytes_in, nowhere, span_of}
+use Rattle.pg_c.specs.Read.{GivesItems, IsBodyFault}
 use Rattle.pg_c.specs.Replication.Logical.{ListStands}
-use Rattle.pg_c.specs.Replication.Logical.Lists.{BreaksList, datum_in}
+use Rattle.pg_c.specs.Replication.Logical.Lists.{BreaksList, FaultAfter, Finds, GivesUpTo, datum_in}
 use Rattle.pg_c.specs.Replication.Logical.Places.{Behind}
 use Rattle.pg_c.specs.declared.place.PgmsgList.{PgmsgList}
+use Rattle.pg_c.specs.declared.replication.logical.lists.PgmsgDatum.{PgmsgDatum}
+use Rattle.pg_c.proofs.ClientValuesLemmas.{bytes_stand}
 use Rattle.pg_c.proofs.LogicalPlacesLemmas.{after_number, text_stands, sized_stands}
 
 -- an item has a byte at least
@@ -128,3 +132,55 @@ binary_is body at end t p =
     let byte = q.0.0 in
     let value = binary_by (byte == 110) (byte == 117) (byte == 116) (byte == 98) byte q.1.mid (drop end body) t (rw q.2 q.1.second) in
     rw (sent_at body q.1.mid t (drop end body) at byte q.1.first value) refl
+
+-- ---- values and places
+
+-- an item that can't be read, after fewer than are counted
+pub one_is_broken : {X P : Type 0} (g : Format X) (item_at : P → Option X) (bytes : List ℕ) (list : PgmsgList) (at index : ℕ) (old new : List P) (fault : ProtocolFault)
+    → GivesItems g item_at bytes list.at at index old new → index < list.count → BreaksAt g bytes at fault → BreaksAt (times list.count g) bytes list.at fault
+one_is_broken g item_at bytes list at index old new fault p fewer breaks =
+    items_then_fault g p.items list.count (length bytes) (drop list.at bytes) (drop at bytes) fault p.read.reads.1 breaks (omega (arith, p.read.reads.0, fewer))
+
+-- the byte at an offset
+pub byte_at : (body : List ℕ) (at : ℕ) → at < length body → Number 1 (drop at body) (get_or body at 0) (drop (at + 1) body)
+byte_at body at lt = record { spelled = get_or body at 0 ∷ []; wide = refl; is = omega arith; parts = drop_more body at 0 lt }
+
+-- what follows a letter is a value
+lettered : (body : List ℕ) (at end : ℕ) (d : Datum) → at < length body → IsReadAt (datum_by (get_or body at 0)) body (at + 1) d end → IsReadAt datum body at d end
+lettered body at end d lt p = record { within = p.within; reads = ((get_or body at 0, d), record { mid = drop (at + 1) body; first = byte_at body at lt; second = p.reads }, refl) }
+
+abbrev FindsDatum : List ℕ → ℕ → PgmsgDatum → ℕ → Type 0
+FindsDatum body at place end = Finds datum datum_in body at place end
+
+pub unsent_found : (body : List ℕ) (at : ℕ) → at < length body → (get_or body at 0 ≡ 110) ⊎ (get_or body at 0 ≡ 117) → FindsDatum body at (record { kind = get_or body at 0; value = nowhere }) (at + 1)
+unsent_found body at lt (inl e) = record { item = null; read = lettered body at (at + 1) null lt (record { within = omega (arith, lt); reads = rw e (refl, refl) }); is = rw e refl }
+unsent_found body at lt (inr e) = record { item = unchanged; read = lettered body at (at + 1) unchanged lt (record { within = omega (arith, lt); reads = rw e (refl, refl) }); is = rw e refl }
+
+-- so many bytes after a letter and their number
+record SizedAfter (body : List ℕ) (at n : ℕ) : Type 0 where
+  reads : sized.Reads (drop (at + 1) body) (take n (drop (at + 5) body)) (drop (at + 5 + n) body)
+  wide : length (take n (drop (at + 5) body)) ≡ n
+
+sized_after : (body : List ℕ) (at n : ℕ) → at + 5 + n ≤ length body → Number 4 (drop (at + 1) body) n (drop (at + 5) body) → SizedAfter body at n
+sized_after body at n inside p =
+    let value = bytes_stand body (at + 5) n inside in
+    record { reads = ((n, take n (drop (at + 5) body)), record { mid = drop (at + 5) body; first = p; second = value.reads }, refl); wide = value.reads.0 }
+
+pub sent_found : (body : List ℕ) (at n : ℕ) → at + 5 + n ≤ length body → (get_or body at 0 ≡ 116) ⊎ (get_or body at 0 ≡ 98) → Number 4 (drop (at + 1) body) n (drop (at + 5) body)
+    → FindsDatum body at (record { kind = get_or body at 0; value = record { at = at + 5; len = n } }) (at + 5 + n)
+sent_found body at n inside (inl e) p =
+    let value = take n (drop (at + 5) body) in
+    let read : IsReadAt datum body at (text value) (at + 5 + n) = lettered body at (at + 5 + n) (text value) (omega (arith, inside)) (record { within = inside; reads = rw e (value, (sized_after body at n inside p).reads, refl) }) in
+    let wide : length value ≡ n = (sized_after body at n inside p).wide in
+    record { item = text value; read = read; is = rw e (subst (λ (k : ℕ). datum_in body (record { kind = 116; value = record { at = at + 5; len = k } }) ≡ Some (text value)) wide (text_is body at (at + 5 + n) value read)) }
+sent_found body at n inside (inr e) p =
+    let value = take n (drop (at + 5) body) in
+    let read : IsReadAt datum body at (binary value) (at + 5 + n) = lettered body at (at + 5 + n) (binary value) (omega (arith, inside)) (record { within = inside; reads = rw e (value, (sized_after body at n inside p).reads, refl) }) in
+    let wide : length value ≡ n = (sized_after body at n inside p).wide in
+    record { item = binary value; read = read; is = rw e (subst (λ (k : ℕ). datum_in body (record { kind = 98; value = record { at = at + 5; len = k } }) ≡ Some (binary value)) wide (binary_is body at (at + 5 + n) value read)) }
+
+-- a fault of the rest is one of all, whatever is in front
+pub fault_of_all : {X P : Type 0} (g : Format X) (item_in : List ℕ → P → Option X) (bytes : List ℕ) (list : PgmsgList) (at index : ℕ) (before now : List P) (r : Result ℕ ProtocolFault)
+    → IfErr r (FaultAfter g item_in bytes list at index now) → GivesUpTo g item_in bytes list at index before now → IfErr r (BreaksAt (times list.count g) bytes list.at)
+fault_of_all g item_in bytes list at index before now (Ok end) h front = tt
+fault_of_all g item_in bytes list at index before now (Err fault) h front = h before front

@@ -282,6 +282,20 @@ impl Default for pgmsg_replication_text {
 }
 #[repr(C)]
 #[derive(Debug, Default, Copy, Clone)]
+pub struct pgmsg_datum {
+    pub kind: u8,
+    pub value: pgmsg_span,
+}
+#[repr(C)]
+#[derive(Debug, Default, Copy, Clone)]
+pub struct pgmsg_table_column {
+    pub flags: u8,
+    pub name: pgmsg_span,
+    pub type_id: u32,
+    pub type_modifier: i32,
+}
+#[repr(C)]
+#[derive(Debug, Default, Copy, Clone)]
 pub struct pgmsg_logical {
     pub letter: u8,
     pub has_transaction: bool,
@@ -305,20 +319,6 @@ pub struct pgmsg_logical {
     pub old_letter: u8,
     pub old_row: pgmsg_list,
     pub new_row: pgmsg_list,
-}
-#[repr(C)]
-#[derive(Debug, Default, Copy, Clone)]
-pub struct pgmsg_datum {
-    pub kind: u8,
-    pub value: pgmsg_span,
-}
-#[repr(C)]
-#[derive(Debug, Default, Copy, Clone)]
-pub struct pgmsg_table_column {
-    pub flags: u8,
-    pub name: pgmsg_span,
-    pub type_id: u32,
-    pub type_modifier: i32,
 }
 #[repr(C)]
 #[derive(Debug, Copy, Clone)]
@@ -613,10 +613,6 @@ extern "C" {
     pub fn pgmsg_put_replication(
         message: *const pgmsg_replication_text, out: *mut u8, out_len: usize,
     ) -> isize;
-    pub fn pgmsg_read_logical(
-        content: *const u8, content_len: usize, streamed: *mut bool, message: *mut pgmsg_logical,
-        fault: *mut pgmsg_fault,
-    ) -> i32;
     pub fn pgmsg_read_tuple(
         content: *const u8, content_len: usize, list: pgmsg_list, values: *mut pgmsg_datum,
         values_len: usize, fault: *mut pgmsg_fault,
@@ -624,6 +620,10 @@ extern "C" {
     pub fn pgmsg_read_table_columns(
         content: *const u8, content_len: usize, list: pgmsg_list, columns: *mut pgmsg_table_column,
         columns_len: usize, fault: *mut pgmsg_fault,
+    ) -> isize;
+    pub fn pgmsg_read_logical(
+        content: *const u8, content_len: usize, streamed: *mut bool, values: *mut pgmsg_datum,
+        values_len: usize, message: *mut pgmsg_logical, fault: *mut pgmsg_fault,
     ) -> isize;
     pub fn pgmsg_put_logical(
         message: *const pgmsg_logical_text, out: *mut u8, out_len: usize,

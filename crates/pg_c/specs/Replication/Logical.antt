@@ -1,5 +1,6 @@
 -- The messages of logical replication as a C program reads them: one record has what all of the kinds have.
 pub mod Lists
+pub mod NewRow
 pub mod Places
 pub mod Put
 use Rattle.std.specs.Prelude.{◌≡◌, ◌≤◌, ℕ, Bool, true, false, ℤ, pos, List, length, Option, Some, None, option_map, Ok, Err}

@@ -18,9 +18,10 @@ pub use transaction::{Begin, Commit, Message, Origin, StreamAbort, StreamCommit,
 use crate::answer::part;
 use crate::buffer::Buffer;
 use crate::byte_str::ByteStr;
-use crate::calls::{put, read};
+use crate::calls::{ask, put};
 use crate::error::{Fault, Refusal};
 use crate::sys;
+use items::FEW;
 
 /// The values of the columns of a row, in order.
 pub type Tuple<'a> = Items<'a, Datum<'a>>;
@@ -204,7 +205,10 @@ impl LogicalStream {
     /// Reads the next message as [`LogicalMessage::read`] does. After a fault the reader is as it was.
     #[inline]
     pub fn read<'a>(&mut self, content: &'a [u8]) -> Result<LogicalMessage<'a>, Fault> {
-        let read: sys::pgmsg_logical = read!(pgmsg_read_logical([content], &mut self.streamed))?;
+        // A row is read quickest where there is room for its values, which are found again as they are asked for.
+        let mut values = [sys::pgmsg_datum::default(); FEW];
+        let mut read = sys::pgmsg_logical::default();
+        ask!(pgmsg_read_logical([content], &mut self.streamed, mut [values], &mut read))?;
         LogicalMessage::of(content, &read)
     }
 }

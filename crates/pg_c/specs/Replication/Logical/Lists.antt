@@ -9,13 +9,14 @@ use Rattle.pg_format.specs.Logical as page
 use Rattle.pg_format.specs.Logical.{Datum, datum, column, null, unchanged, text, binary}
 use Rattle.pg_format.specs.Received.{max_body}
 use Rattle.pg_c.specs.Place.{part}
-use Rattle.pg_c.specs.Read.{AreGiven, GivesFront, IsBodyFault, SaysItem}
+use Rattle.pg_c.specs.Read.{AreGiven, GivesFront, GivesItems, IsBodyFault, SaysItem}
 use Rattle.pg_c.specs.Refusal.{RefusesFor}
 use Rattle.pg_c.specs.Replication.Logical.{ListStands}
 use Rattle.pg_c.specs.declared.place.PgmsgList.{PgmsgList}
 use Rattle.pg_c.specs.declared.place.PgmsgSpan.{PgmsgSpan}
 use Rattle.pg_c.specs.declared.refusal.PgmsgFault.{PgmsgFault}
 use Rattle.pg_c.specs.declared.replication.logical.lists.PgmsgDatum.{PgmsgDatum}
+use Rattle.pg_c.specs.declared.replication.logical.read.PgmsgLogical.{PgmsgLogical}
 use Rattle.pg_c.specs.declared.replication.logical.lists.PgmsgTableColumn.{PgmsgTableColumn}
 
 -- a value that isn't sent has the place of nothing
@@ -50,6 +51,35 @@ pub record Finds {X P : Type 0} (g : Format X) (item_in : List ℕ → P → Opt
 abbrev pub PlacesAt : {X P : Type 0} → Format X → (List ℕ → P → Option X) → List ℕ → ℕ → Result (P × ℕ) ProtocolFault → Type 0
 PlacesAt g item_in bytes at result = IfOk result (λ found. Finds g item_in bytes at found.0 found.1)
 
+-- so many items of a list are given, which go up to an offset
+abbrev pub GivesUpTo : {X P : Type 0} → Format X → (List ℕ → P → Option X) → List ℕ → PgmsgList → ℕ → ℕ → List P → List P → Type 0
+GivesUpTo g item_in bytes list at index old new = GivesItems g (item_in bytes) bytes list.at at index old new
+
+-- all of them
+abbrev pub GivesAll : {X P : Type 0} → Format X → (List ℕ → P → Option X) → List ℕ → PgmsgList → List P → List P → ℕ → Type 0
+GivesAll g item_in bytes list old new end = GivesUpTo g item_in bytes list end list.count old new
+
+-- some of them
+pub record GivesSomeOf {X P : Type 0} (g : Format X) (item_in : List ℕ → P → Option X) (bytes : List ℕ) (list : PgmsgList) (old new : List P) : Type 0 where
+  pub index : ℕ
+  pub end : ℕ
+  pub few : index ≤ list.count
+  pub gives : GivesUpTo g item_in bytes list end index old new
+
+-- whatever stood in the places before so many items were given: this holds of it
+abbrev pub AfterItems : {X P : Type 0} → Format X → (List ℕ → P → Option X) → List ℕ → PgmsgList → ℕ → ℕ → List P → (List P → Type 0) → Type 0
+AfterItems {P = P} g item_in bytes list at index now Holds = (before : List P) → GivesUpTo g item_in bytes list at index before now → Holds before
+
+-- then all are given; or some, and one has this fault
+abbrev pub AllAfter : {X P : Type 0} → Format X → (List ℕ → P → Option X) → List ℕ → PgmsgList → ℕ → ℕ → List P → List P → ℕ → Type 0
+AllAfter g item_in bytes list at index now new end = AfterItems g item_in bytes list at index now (λ before. GivesAll g item_in bytes list before new end)
+
+abbrev pub FewAfter : {X P : Type 0} → Format X → (List ℕ → P → Option X) → List ℕ → PgmsgList → ℕ → ℕ → List P → List P → Type 0
+FewAfter g item_in bytes list at index now new = AfterItems g item_in bytes list at index now (λ before. GivesSomeOf g item_in bytes list before new)
+
+abbrev pub FaultAfter : {X P : Type 0} → Format X → (List ℕ → P → Option X) → List ℕ → PgmsgList → ℕ → ℕ → List P → ProtocolFault → Type 0
+FaultAfter g item_in bytes list at index now fault = AfterItems g item_in bytes list at index now (λ _. BreaksAt (times list.count g) bytes list.at fault)
+
 -- the items of a list are there, as many as the result, and they are given
 pub record ReadsList {X P : Type 0} (g : Format X) (item_in : List ℕ → P → Option X) (bytes : List ℕ) (list : PgmsgList) (old new : List P) (result : ℤ) : Type 0 where
   pub items : List X
@@ -61,9 +91,12 @@ pub record ReadsList {X P : Type 0} (g : Format X) (item_in : List ℕ → P →
 abbrev pub CountsList : {X P : Type 0} → Format X → (List ℕ → P → Option X) → List ℕ → PgmsgList → List P → List P → Type 0
 CountsList g item_in bytes list old new = ReadsList g item_in bytes list old new (pos list.count)
 
--- the values of a row, and the columns of a table, as many as the result
+-- the values of a row, those of a message's new row, and the columns of a table, as many as the result
 abbrev pub ReadsDatums : List ℕ → PgmsgList → List PgmsgDatum → List PgmsgDatum → ℤ → Type 0
 ReadsDatums bytes list old new result = ReadsList datum datum_in bytes list old new result
+
+abbrev pub ReadsNewRow : List ℕ → PgmsgLogical → List PgmsgDatum → List PgmsgDatum → ℤ → Type 0
+ReadsNewRow bytes given old new result = ReadsDatums bytes given.new_row old new result
 
 abbrev pub ReadsTableColumns : List ℕ → PgmsgList → List PgmsgTableColumn → List PgmsgTableColumn → ℤ → Type 0
 ReadsTableColumns bytes list old new result = ReadsList column column_in bytes list old new result

@@ -1,7 +1,8 @@
 //! The lists of a message of logical replication: the values of a row, and the columns of a table.
 
-ghost use Rattle.std.specs.Prelude.{◌≡◌, ◌+◌, ◌≤◌, ◌<ℤ◌, ◌≤ℤ◌, ℕ, pos, List, length, Option};
-ghost use Rattle.std.specs.Prelude.{OnOk, OnErr, IfErr};
+ghost use Rattle.std.specs.Prelude.{◌≡◌, ◌+◌, ◌≤◌, ◌<ℤ◌, ◌≤ℤ◌, ℕ, pos, List, length, get_or, Option};
+ghost use Rattle.std.specs.Prelude.{◌≢◌, ◌⊎◌, true, false, OnOk, OnErr, IfErr, IfOk, IfSome};
+ghost use Rattle.pg_format.specs.Format.Lists.{times};
 ghost use Rattle.pg_format.specs.Format.{Format};
 ghost use Rattle.pg_format.specs.Format.Places.{BreaksAt};
 ghost use Rattle.pg_format.specs.Logical.{datum, column};
@@ -10,7 +11,9 @@ ghost use Rattle.pg_replication.specs.Logical.Columns.{shown_column};
 ghost use Rattle.pg_replication.specs.Logical.Tuple.{shown_datum};
 ghost use Rattle.pg_c.specs.Place.{nowhere, span_of};
 ghost use Rattle.pg_c.specs.Read.{IfRead, IsBodyFault};
-ghost use Rattle.pg_c.specs.Replication.Logical.Lists.{datum_in, column_in, IsPlaceOf, PlacesAt};
+ghost use Rattle.pg_c.specs.Replication.Logical.Lists.{datum_in, column_in, IsPlaceOf, PlacesAt, Finds};
+ghost use Rattle.pg_c.specs.Replication.Logical.Lists.{GivesUpTo, GivesAll, GivesSomeOf};
+ghost use Rattle.pg_c.specs.Replication.Logical.Lists.{AllAfter, FewAfter, FaultAfter};
 ghost use Rattle.pg_c.specs.Replication.Logical.Lists.{CountsList, GivesFrontOf, BreaksList};
 ghost use Rattle.pg_c.specs.Replication.Logical.Lists.{LacksList, RefusesList, IsNotThere};
 ghost use Rattle.pg_c.specs.Replication.Logical.Lists.{ReadsDatums, ReadsTableColumns};
@@ -19,6 +22,7 @@ ghost use Rattle.pg_c.specs.Replication.Logical.Lists.{GivesDatums, GivesTableCo
 use crate::place::{NOWHERE, PgmsgList, PgmsgSpan, span};
 use crate::read::check_body;
 use crate::refusal::{PgmsgFault, report};
+use byteorder::{BigEndian, ByteOrder};
 use pg_base::ProtocolFault;
 use pg_base::io::{MAX_BODY, bytes_at};
 use pg_format::items::Item;
@@ -94,8 +98,8 @@ pub extern "C" fn pgmsg_read_table_columns(
     }
 }
 
-// An item of a list, as its place.
-trait Place: Copy {
+/// An item of a list, as its place.
+pub(crate) trait Place: Copy {
     ghost Shown: { Type 0 };
 
     /// What its bytes mean.
@@ -110,10 +114,21 @@ trait Place: Copy {
         requires short { length content.now ≤ MAX_BODY }
         ensures place { PlacesAt format item_in content.now at result }
         ensures broken { IfErr result (BreaksAt format content.now at) };
+
+    /// Gives the first items of a list, as many as are found quickly: how many they are, and the offset after them.
+    fn give_front(content: &[u8], list: PgmsgList, to: &mut [Self]) -> (usize, usize)
+        requires within { list.at ≤ length content.now }
+        requires short { length content.now ≤ MAX_BODY }
+        ensures few { result.0 ≤ list.count }
+        ensures front { GivesUpTo format item_in content.now list result.1 result.0 to.old to.new };
 }
 
-// Gives the items of a list, as far as there is room for them.
-fn read_list<P: Place>(content: &[u8], list: PgmsgList, to: &mut [P]) -> Result<(), ProtocolFault>
+/// Gives the items of a list, as far as there is room for them.
+pub(crate) fn read_list<P: Place>(
+    content: &[u8],
+    list: PgmsgList,
+    to: &mut [P],
+) -> Result<(), ProtocolFault>
     ensures small { OnOk result (list.count ≤ length content.now) }
     ensures within { OnOk result (length content.now ≤ max_body) }
     ensures items { OnOk result (CountsList P.format P.item_in content.now list to.old to.new) }
@@ -121,15 +136,56 @@ fn read_list<P: Place>(content: &[u8], list: PgmsgList, to: &mut [P]) -> Result<
     ensures front { OnErr result (GivesFrontOf P.format P.item_in content.now list to.old to.new) }
 {
     check_list(content, list)?;
-    let mut at = list.at;
-    for index in 0..list.count {
-        let (place, end) = P::place_at(content, at)?;
+    give_items(content, list, to)?;
+    Ok(())
+}
+
+/// Gives so many items from an offset on, as far as there is room for them: the offset after them.
+#[inline(always)]
+pub(crate) fn give_items<P: Place>(
+    content: &[u8],
+    list: PgmsgList,
+    to: &mut [P],
+) -> Result<usize, ProtocolFault>
+    requires within { list.at ≤ length content.now }
+    requires short { length content.now ≤ MAX_BODY }
+    ensures items { IfOk result (GivesAll P.format P.item_in content.now list to.old to.new) }
+    ensures fault { IfErr result (BreaksAt (times list.count P.format) content.now list.at) }
+    ensures front { OnErr result (GivesSomeOf P.format P.item_in content.now list to.old to.new) }
+{
+    let (index, at) = P::give_front(content, list, to);
+    if index < list.count {
+        return give_rest(content, list, at, index, to);
+    }
+    Ok(at)
+}
+
+// Gives the items from one on: those for which there is no room, and those up to the one that is broken.
+#[cold]
+#[inline(never)]
+fn give_rest<P: Place>(
+    bytes: &[u8],
+    list: PgmsgList,
+    at: usize,
+    from: usize,
+    to: &mut [P],
+) -> Result<usize, ProtocolFault>
+    requires start { at ≤ length bytes.now }
+    requires short { length bytes.now ≤ MAX_BODY }
+    requires few { from ≤ list.count }
+    ensures items { IfOk result (AllAfter P.format P.item_in bytes.now list at from to.old to.new) }
+    ensures fault { IfErr result (FaultAfter P.format P.item_in bytes.now list at from to.old) }
+    ensures some { OnErr result (FewAfter P.format P.item_in bytes.now list at from to.old to.new) }
+{
+    let mut start = at;
+    for index in from..list.count {
+        let (place, end) = P::place_at(bytes, start)?;
         if index < to.len() {
             to[index] = place;
         }
-        at = end;
+        start = end;
     }
-    Ok(())
+    Ok(start)
 }
 
 // Whether the content can have so many items there, each of which has a byte at least.
@@ -163,6 +219,71 @@ impl Place for PgmsgDatum {
         let (value, end) = Datum::item_at(content, at)?;
         Ok((place_of_datum(at, &value), end))
     }
+
+    #[inline(always)]
+    fn give_front(content: &[u8], list: PgmsgList, to: &mut [PgmsgDatum]) -> (usize, usize) {
+        let room = list.count.min(to.len());
+        let mut at = list.at;
+        for index in 0..room {
+            let Some((place, end)) = datum_at(content, at) else {
+                return (index, at);
+            };
+            to[index] = place;
+            at = end;
+        }
+        (room, at)
+    }
+}
+
+// The place of the value at an offset, and the offset after it; nothing where it is broken.
+#[inline(always)]
+fn datum_at(content: &[u8], at: usize) -> Option<(PgmsgDatum, usize)>
+    requires within { at ≤ length content.now }
+    requires short { length content.now ≤ MAX_BODY }
+    ensures { IfSome result (λ found. Finds datum datum_in content.now at found.0 found.1) }
+{
+    if at + BEFORE_VALUE <= content.len() {
+        let kind = content[at];
+        if is_one_of(kind, b't', b'b') {
+            return sent_until(content, at);
+        }
+        if kind == b'n' {
+            return Some((unsent(kind), at + 1));
+        }
+    }
+    // At the end of a message, or not changed. A test of all four letters at once would be a jump by a table.
+    if at < content.len() && is_one_of(content[at], b'n', b'u') {
+        return Some((unsent(content[at]), at + 1));
+    }
+    None
+}
+
+// The place of a value that is sent, and the offset after it; nothing where the message ends before.
+#[inline(always)]
+fn sent_until(content: &[u8], at: usize) -> Option<(PgmsgDatum, usize)>
+    requires within { at + 5 ≤ length content.now }
+    requires short { length content.now ≤ MAX_BODY }
+    requires sent { (get_or content.now at 0 ≡ 116) ⊎ (get_or content.now at 0 ≡ 98) }
+    ensures { IfSome result (λ found. Finds datum datum_in content.now at found.0 found.1) }
+{
+    let start = at + BEFORE_VALUE;
+    let len = BigEndian::read_u32(&content[at + 1..start]) as usize;
+    let end = start + len;
+    if end > content.len() {
+        return None;
+    }
+    let value = PgmsgSpan { at: start, len };
+    let kind = content[at];
+    Some((PgmsgDatum { kind, value }, end))
+}
+
+// Whether a letter is one of two.
+#[inline(always)]
+pub(crate) fn is_one_of(letter: u8, one: u8, other: u8) -> bool
+    ensures yes { result ≡ true → (letter ≡ one) ⊎ (letter ≡ other) }
+    ensures no { result ≡ false → (letter ≢ one) × (letter ≢ other) }
+{
+    letter == one || letter == other
 }
 
 // The place of the value that begins at an offset.
@@ -211,6 +332,14 @@ impl Place for PgmsgTableColumn {
     fn place_at(content: &[u8], at: usize) -> Result<(PgmsgTableColumn, usize), ProtocolFault> {
         let (read, end) = Column::item_at(content, at)?;
         Ok((place_of_column(at, &read), end))
+    }
+
+    fn give_front(
+        _content: &[u8],
+        list: PgmsgList,
+        _to: &mut [PgmsgTableColumn],
+    ) -> (usize, usize) {
+        (0, list.at)
     }
 }
 

@@ -1,14 +1,20 @@
 //! The messages of logical replication, read where they are.
 
 ghost use Rattle.std.specs.Prelude.{◌≡◌, ◌≤◌, ◌<ℤ◌, ◌≤ℤ◌, Bool, pos, length, Ok};
+ghost use Rattle.std.specs.Prelude.{IfErr, IfOk, OnErr, OnOk};
 ghost use Rattle.pg_format.specs.Received.{max_body};
 ghost use Rattle.pg_replication.specs.Logical.{ReadsLogical, streamed_after};
 ghost use Rattle.pg_c.specs.Replication.Logical.{begun, IsGivenAs, ReadsChange};
-ghost use Rattle.pg_c.specs.Replication.Logical.{ReadsLogicalContent, RefusesLogical};
+ghost use Rattle.pg_c.specs.Read.{IfCount, IfRead, IsBodyFault};
+ghost use Rattle.pg_c.specs.Replication.Logical.{BreaksLogical, ReadsLogicalContent, RefusesLogical};
+ghost use Rattle.pg_c.specs.Replication.Logical.Lists.{ReadsNewRow};
+ghost use Rattle.pg_c.specs.Replication.Logical.NewRow.{GivesNewFront};
 ghost use Rattle.pg_c.specs.Replication.Logical.Places.{fields_after};
 
 use crate::place::{NOWHERE, PgmsgList, PgmsgSpan};
 use crate::refusal::{PgmsgFault, report};
+use crate::replication::logical::lists::{PgmsgDatum, read_list};
+use crate::replication::logical::new_row::{new_row_of, read_new_row};
 use crate::replication::logical::{change, transaction};
 use pg_base::ProtocolFault;
 use pg_base::io::MAX_BODY;
@@ -96,37 +102,68 @@ pub struct PgmsgLogical {
 }
 
 /// What the content of an XLogData of a logical slot says, or a row of `pg_logical_slot_get_binary_changes`, in the
-/// versions 1 to 3 of the protocol. `streamed` is the caller's, false before the first message of a slot, and passed
-/// with each in order: a Stream Start sets it, and a Stream Stop clears it. Places are in `content`. 0, or why it is
-/// refused: of a letter of no kind, of a row or of a value with PGMSG_UNKNOWN_MESSAGE_TYPE, and where bytes follow the
-/// last part of a message with PGMSG_BODY_TOO_LONG.
+/// versions 1 to 3 of the protocol: how many values its `new_row` has, 0 where it has none. As many as there is room for
+/// are written, and `pgmsg_read_tuple` gives all. `streamed` is the caller's, false before the first message of a slot,
+/// and passed with each in order: a Stream Start sets it, and a Stream Stop clears it. Places are in `content`. A message
+/// is refused with PGMSG_UNKNOWN_MESSAGE_TYPE where no kind of message, of row or of value has a letter, and with
+/// PGMSG_BODY_TOO_LONG where bytes follow its last part.
 #[unsafe(no_mangle)]
 pub extern "C" fn pgmsg_read_logical(
     alloc: Global,
     content: &[u8],
     streamed: &mut bool,
+    values: &mut [PgmsgDatum],
     message: &mut PgmsgLogical,
     fault: &mut PgmsgFault,
-) -> i32
-    ensures result { result ≤ℤ pos 0 }
-    ensures value { result ≡ pos 0 → ReadsChange content.now streamed.old streamed.new message.new }
+) -> isize
+    ensures read { pos 0 ≤ℤ result → ReadsChange content.now streamed.old streamed.new message.new }
+    ensures row { IfRead result (ReadsNewRow content.now message.new values.old values.new) }
     ensures fault { RefusesLogical streamed.old content.now fault.old fault.new result }
     ensures within { pos 0 ≤ℤ result → length content.now ≤ max_body }
+    ensures front { result <ℤ pos 0 → GivesNewFront streamed.old content.now values.old values.new }
     ensures untouched { pos 0 ≤ℤ result → fault.new ≡ fault.old }
     ensures kept { result <ℤ pos 0 → message.new ≡ message.old }
     ensures unchanged { result <ℤ pos 0 → streamed.new ≡ streamed.old }
 {
+    let Some(list) = new_row_of(content, *streamed) else {
+        return match read_other(content, streamed, values, message) {
+            Ok(count) => count as isize,
+            Err(why) => report(alloc, why.into(), fault) as isize,
+        };
+    };
+    match read_new_row(content, *streamed, list, values, message) {
+        Ok(count) => count as isize,
+        Err(why) => report(alloc, why.into(), fault) as isize,
+    }
+}
+
+// A message of any kind: how many values its new row has. What is passed is as it was where it is refused.
+#[inline(never)]
+fn read_other(
+    content: &[u8],
+    streamed: &mut bool,
+    values: &mut [PgmsgDatum],
+    message: &mut PgmsgLogical,
+) -> Result<usize, ProtocolFault>
+    ensures value { OnOk result (ReadsChange content.now streamed.old streamed.new message.new) }
+    ensures row { IfCount result (ReadsNewRow content.now message.new values.old values.new) }
+    ensures small { IfOk result (λ count. count ≤ length content.now) }
+    ensures within { OnOk result (length content.now ≤ max_body) }
+    ensures fault { IfErr result (IsBodyFault (BreaksLogical streamed.old) content.now) }
+    ensures front { OnErr result (values.new ≡ values.old) }
+    ensures kept { OnErr result (message.new ≡ message.old) }
+    ensures unchanged { OnErr result (streamed.new ≡ streamed.old) }
+{
     let mut stream = LogicalStream {
         streamed: *streamed,
     };
-    match message_of(content, &mut stream) {
-        Ok(read) => {
-            *streamed = stream.streamed;
-            *message = given(content, &read);
-            0
-        }
-        Err(why) => report(alloc, why.into(), fault),
-    }
+    let read = message_of(content, &mut stream)?;
+    let change = given(content, &read);
+    // A row of a message that was read is there.
+    read_list(content, change.new_row, values)?;
+    *streamed = stream.streamed;
+    *message = change;
+    Ok(change.new_row.count)
 }
 
 // The message, and whether the next is streamed.

@@ -8,7 +8,7 @@ use core::fmt;
 use core::slice;
 
 /// How many items are read at a time.
-const FEW: usize = 16;
+pub(super) const FEW: usize = 16;
 
 /// The items of a list, borrowed from their message or from a caller.
 pub struct Items<'a, T> {
