@@ -198,8 +198,10 @@ class Follower:
         self.done = []
 
     def take(self, content):
-        """Reads a message."""
+        """Reads a message, which is written as the bytes that it was read of."""
         message = self.stream.read(content)
+        if message.write() != content:
+            sys.exit(f"written as other bytes: {message}")
         self.counts[type(message)] += 1
         if type(message) in IN_STREAM and message.transaction is not None:
             self.streamed.add(type(message))

@@ -12,15 +12,17 @@ A position counts the bytes of the log, and a clock the microseconds since the b
     StreamStart(transaction=752, is_first=True)
     >>> stream.read(b"T\\0\\0\\2\\xf1\\0\\0\\0\\1\\0\\0\\0\\x40\\1")
     Truncate(options=0, relations=(16385,), transaction=753)
+    >>> logical.Insert(16385, (logical.Text(b"5"), None)).write()
+    b'I\\x00\\x00@\\x01N\\x00\\x02t\\x00\\x00\\x00\\x015n'
 """
 
 from __future__ import annotations
 
 import enum
-from dataclasses import dataclass
+from dataclasses import dataclass, fields
 from typing import Any, ClassVar, Literal, TypeAlias
 
-from ._calls import FEW, allocate, listed, part
+from ._calls import FEW, allocate, listed, part, put
 from ._calls import read as call
 from ._library import ffi, lib
 from .message import AsText, Buffer, octets
@@ -43,18 +45,22 @@ UNCHANGED: Literal[Unchanged.UNCHANGED] = Unchanged.UNCHANGED
 
 
 @dataclass(frozen=True, slots=True)
-class Text:
-    """The value of a column as text."""
+class Sent:
+    """The value of a column that is sent."""
 
     value: bytes
+
+
+@dataclass(frozen=True, slots=True)
+class Text(Sent):
+    """The value of a column as text."""
+
     value_text = AsText("value")
 
 
 @dataclass(frozen=True, slots=True)
-class Binary:
+class Binary(Sent):
     """The value of a column in the binary format of its type."""
-
-    value: bytes
 
 
 # None is NULL, or in a key a column that isn't part of it.
@@ -65,17 +71,20 @@ Row: TypeAlias = tuple[Datum, ...]
 
 
 @dataclass(frozen=True, slots=True)
-class Key:
-    """What is sent of a row before its change: the columns of its key; the others are None."""
+class Before:
+    """What is sent of a row before its change."""
 
     values: Row
 
 
 @dataclass(frozen=True, slots=True)
-class Whole:
-    """All columns of a row before its change, of a table whose replica identity is FULL."""
+class Key(Before):
+    """What is sent of a row before its change: the columns of its key; the others are None."""
 
-    values: Row
+
+@dataclass(frozen=True, slots=True)
+class Whole(Before):
+    """All columns of a row before its change, of a table whose replica identity is FULL."""
 
 
 Old: TypeAlias = Key | Whole
@@ -110,6 +119,13 @@ class LogicalMessage:
         # A class that `dataclass` makes anew for its slots has those of the first one.
         if letter is not None:
             cls.LETTER, cls.PARTS = letter, tuple(parts.split())
+
+    def write(self) -> bytes:
+        """The message, as the content of an XLogData."""
+        message, held = ffi.new("pgmsg_logical_text *", {"letter": ord(self.LETTER)}), Held()
+        for name, it in zip(self.PARTS, fields(self)):
+            held.set_part(message, name, getattr(self, it.name))
+        return put(lib.pgmsg_put_logical, message)
 
 
 @dataclass(frozen=True, slots=True)
@@ -367,6 +383,9 @@ def value_of(data: bytes, found: Any, name: str) -> Any:
 
 OLD: dict[str, type[Old]] = {"K": Key, "O": Whole}
 
+# The letters of old rows and of values that are sent, by their classes.
+LETTERS: dict[type, int] = {Key: ord("K"), Whole: ord("O"), Text: ord("t"), Binary: ord("b")}
+
 
 def row_of(data: bytes, given: Any) -> Row:
     """The values of a row."""
@@ -392,3 +411,58 @@ def columns_of(data: bytes, given: Any) -> tuple[Column, ...]:
     return listed(
         "pgmsg_table_column", lambda room, size: call(lib.pgmsg_read_table_columns, data, given, room, size),
         lambda it: Column(it.flags, part(data, it.name), it.type_id, it.type_modifier))
+
+
+class Held:
+    """What the struct of a message that is written points to."""
+
+    def __init__(self) -> None:
+        self._kept: list[Any] = []
+
+    def set_part(self, message: Any, name: str, given: Any) -> None:
+        """Sets a part of the message."""
+        match name:
+            case "transaction":
+                message.has_transaction, message.transaction = given is not None, given or 0
+            case "schema" | "name" | "content":
+                self._set_list(message, name, self._text(given))
+            case "new_row":
+                self._set_list(message, "values", self._row(given))
+            case "old_row" if given is not None:
+                message.old_letter = LETTERS[type(given)]
+                self._set_list(message, "old_values", self._row(given.values))
+            case "old_row":
+                pass
+            case "columns":
+                columns = [(it.flags, *self._sized(it.name), it.type_id, it.type_modifier) for it in given]
+                self._set_list(message, name, self._new("pgmsg_table_column_text[]", columns))
+            case "relations":
+                self._set_list(message, name, self._new("uint32_t[]", given))
+            case _:
+                setattr(message, name, given)
+
+    def _set_list(self, message: Any, name: str, given: Any) -> None:
+        setattr(message, name, given)
+        setattr(message, f"{name}_len", len(given))
+
+    def _new(self, kind: str, given: Any) -> Any:
+        self._kept.append(ffi.new(kind, given))
+        return self._kept[-1]
+
+    def _text(self, given: Any) -> Any:
+        self._kept.append(ffi.from_buffer("uint8_t[]", octets(given)))
+        return self._kept[-1]
+
+    def _sized(self, given: Any) -> tuple[Any, int]:
+        text = self._text(given)
+        return text, len(text)
+
+    def _row(self, values: Row) -> Any:
+        return self._new("pgmsg_datum_text[]", [self._datum(it) for it in values])
+
+    def _datum(self, value: Datum) -> tuple[Any, ...]:
+        if value is None:
+            return (ord("n"),)
+        if value is UNCHANGED:
+            return (ord("u"),)
+        return (LETTERS[type(value)], *self._sized(value.value))

@@ -88,6 +88,7 @@ class TestLogical(unittest.TestCase):
                 self.assertEqual((found, type(found), hash(found)), (message, type(message), hash(message)))
                 self.assertEqual(logical.read(memoryview(content), streamed), message)
                 self.assertFalse(hasattr(message, "__dict__"))
+                self.assertEqual(message.write(), content)
 
     def test_a_stream(self):
         stream = LogicalStream()
@@ -132,6 +133,19 @@ class TestLogical(unittest.TestCase):
             with self.subTest(content=content), self.assertRaises(Fault) as refused:
                 logical.read(content)
             self.assertEqual((refused.exception.code, refused.exception.at), (code, at))
+
+    def test_refused_to_write(self):
+        for message, code in (
+            (Origin(0, b"f\0"), Code.TEXT_HOLDS_NUL), (Relation(1, b"", b"", 100, (Column(0, b"a\0", 0, 0),)), Code.TEXT_HOLDS_NUL),
+            (Insert(1, (None,) * 65536), Code.TOO_MANY), (Update(1, Key((None,) * 65536), ()), Code.TOO_MANY),
+        ):
+            with self.subTest(kind=type(message)), self.assertRaises(Fault) as refused:
+                message.write()
+            self.assertIs(refused.exception.code, code)
+        self.assertRaises(OverflowError, StreamAbort(1 << 32, 1).write)
+        self.assertRaises(OverflowError, Truncate(256, ()).write)
+        self.assertRaises(KeyError, Insert(1, (b"1",)).write)
+        self.assertEqual(len(Insert(1, (UNCHANGED,) * 65535).write()), 8 + 65535)
 
     def test_words(self):
         self.assertEqual(doctest.testmod(logical).failed, 0)
