@@ -1,6 +1,9 @@
 """The functions of a source in the layout of `rt fmt`, and the names by which a check reports them."""
 
+import pathlib
 import re
+
+SOURCES = pathlib.Path(__file__).resolve().parent.parent / "crates"
 
 # The head of an item that has others in it, or of a function. In this layout an item ends at the first line that
 # closes at its own indentation.
@@ -58,7 +61,19 @@ def module(crate, path):
 def home_of(crate, name, text):
     """The module of a type whose functions a source has, and that it takes from elsewhere in its crate."""
     found = re.search(rf"^use crate::([\w:]+)::{name};", text, re.MULTILINE)
-    return found and [crate, *found[1].split("::")]
+    if not found:
+        return None
+    path = found[1].split("::")
+    # Where that module has the type from one below it, it is that one's.
+    below = re.search(rf"^pub use (\w+)::(?:{name};|\{{[^}}]*\b{name}\b)", module_text(crate, path), re.MULTILINE)
+    return [crate, *path, *(below.groups() if below else ())]
+
+
+def module_text(crate, path):
+    """The source of a module of a crate, by its path there; empty where it has none of its own."""
+    folder = SOURCES / crate / "src" / "/".join(path)
+    files = (folder.with_suffix(".rt"), folder / "mod.rt")
+    return next((file.read_text() for file in files if file.exists()), "")
 
 
 def head_of(lines, number):
