@@ -228,11 +228,21 @@ impl Place for PgmsgDatum {
             let Some((place, end)) = datum_at(content, at) else {
                 return (index, at);
             };
-            to[index] = place;
+            put_place(&mut to[index], place);
             at = end;
         }
         (room, at)
     }
+}
+
+// Writes a place part by part. As a whole it would be copied with the bytes between its parts, which are on their way in
+// memory then: that takes longer than to find the place.
+#[inline(always)]
+fn put_place(to: &mut PgmsgDatum, place: PgmsgDatum)
+    ensures { to.new ≡ place }
+{
+    to.kind = place.kind;
+    to.value = place.value;
 }
 
 // The place of the value at an offset, and the offset after it; nothing where it is broken.
