@@ -1,7 +1,7 @@
 /* How long pgmsg_read_logical takes for an Insert, beside C that is written by hand and tests every bound:
  *
- *     logical_bench           prints two lines for each shape of a row: C by hand may give the whole message, as the library
- *                             does, or only the number of the table and the values
+ *     logical_bench           prints two lines for each shape of a row: C by hand gives the number of the table and the
+ *                             values alone, or the whole message, as the library does
  *     logical_bench bodies    prints of each its words, the letter, the message in hexadecimal digits and the nanoseconds of
  *                             the library, apart by tabs
  */
@@ -190,8 +190,8 @@ static uint64_t measure(const struct shape *shape, bool bodies)
     compare(&content);
     struct turns of = take_turns(by_library, by_hand, &content, TIMES, &sum);
     if (!bodies) {
-        print_turns(take_turns(by_library, by_hand_whole, &content, TIMES, &sum), 1, "C by hand", "read %s", shape->words);
-        print_turns(of, 1, "C by hand, of the table and the values alone", "read %s", shape->words);
+        print_turns(take_turns(by_library, by_hand_whole, &content, TIMES, &sum), 1, "C by hand, of the whole message", "read %s", shape->words);
+        print_turns(of, 1, "C by hand", "read %s", shape->words);
         return sum;
     }
     printf("%s\tI\t", shape->words);
