@@ -368,34 +368,35 @@ static void test_fronts_of_new_rows(struct tally *tally)
 
 static void test_refusals(struct tally *tally)
 {
-    bool streamed = false, within = true;
-    pgmsg_datum values[VALUES];
-    pgmsg_logical read;
-    REFUSES(tally, PGMSG_UNKNOWN_MESSAGE_TYPE, 0, "unknown message type: 88",
-            pgmsg_read_logical(MESSAGE("X"), &streamed, values, VALUES, &read, &fault));
-    REFUSES(tally, PGMSG_SHORT, 0, "expected 1 bytes at offset 0, got 0",
-            pgmsg_read_logical(NULL, 0, &streamed, values, VALUES, &read, &fault));
-    REFUSES(tally, PGMSG_SHORT, 9, "expected 8 bytes at offset 9, got 3",
-            pgmsg_read_logical(MESSAGE("B\0\0\0\0\1\0\0(\0\0\0"), &streamed, values, VALUES, &read, &fault));
-    REFUSES(tally, PGMSG_MISSING_NUL, 9, "expected NUL after offset 9",
-            pgmsg_read_logical(MESSAGE("O\0\0\0\0\1\0\0(far"), &streamed, values, VALUES, &read, &fault));
-    REFUSES(tally, PGMSG_BODY_TOO_LONG, 0, "message body out of range for protocol: 1",
-            pgmsg_read_logical(MESSAGE("E\0"), &streamed, values, VALUES, &read, &fault));
-    REFUSES(tally, PGMSG_UNKNOWN_MESSAGE_TYPE, 0, "unknown message type: 78",
-            pgmsg_read_logical(MESSAGE("D\0\0@\5N\0\0"), &streamed, values, VALUES, &read, &fault));
-    REFUSES(tally, PGMSG_UNKNOWN_MESSAGE_TYPE, 0, "unknown message type: 75",
-            pgmsg_read_logical(MESSAGE("I\0\0@\5K\0\0"), &streamed, values, VALUES, &read, &fault));
-    REFUSES(tally, PGMSG_UNKNOWN_MESSAGE_TYPE, 0, "unknown message type: 88",
-            pgmsg_read_logical(MESSAGE("U\0\0@\5X\0\0"), &streamed, values, VALUES, &read, &fault));
-    REFUSES(tally, PGMSG_UNKNOWN_MESSAGE_TYPE, 0, "unknown message type: 120",
-            pgmsg_read_logical(MESSAGE("I\0\0@\5N\0\1x"), &streamed, values, VALUES, &read, &fault));
-    REFUSES(tally, PGMSG_SHORT, 13, "expected 9 bytes at offset 13, got 1",
-            pgmsg_read_logical(MESSAGE("I\0\0@\5N\0\1t\0\0\0\ta"), &streamed, values, VALUES, &read, &fault));
-    REFUSES(tally, PGMSG_SHORT, 10, "expected 4 bytes at offset 10, got 1",
-            pgmsg_read_logical(MESSAGE("T\0\0\0\2\0\0\0@\5\0"), &streamed, values, VALUES, &read, &fault));
-    REFUSES(tally, PGMSG_SHORT, 5, "expected 4 bytes at offset 5, got 3",
-            pgmsg_read_logical(MESSAGE("I\0\0@\5N\0\0"), &within, values, VALUES, &read, &fault));
-    CHECK(tally, !streamed && within);
+    static const struct {
+        const uint8_t *bytes;
+        size_t len;
+        bool is_streamed;
+        int32_t number;
+        size_t at;
+        const char *words;
+    } refused[] = {
+        {MESSAGE("X"), false, PGMSG_UNKNOWN_MESSAGE_TYPE, 0, "unknown message type: 88"},
+        {NULL, 0, false, PGMSG_SHORT, 0, "expected 1 bytes at offset 0, got 0"},
+        {MESSAGE("B\0\0\0\0\1\0\0(\0\0\0"), false, PGMSG_SHORT, 9, "expected 8 bytes at offset 9, got 3"},
+        {MESSAGE("O\0\0\0\0\1\0\0(far"), false, PGMSG_MISSING_NUL, 9, "expected NUL after offset 9"},
+        {MESSAGE("E\0"), false, PGMSG_BODY_TOO_LONG, 0, "message body out of range for protocol: 1"},
+        {MESSAGE("D\0\0@\5N\0\0"), false, PGMSG_UNKNOWN_MESSAGE_TYPE, 0, "unknown message type: 78"},
+        {MESSAGE("I\0\0@\5K\0\0"), false, PGMSG_UNKNOWN_MESSAGE_TYPE, 0, "unknown message type: 75"},
+        {MESSAGE("U\0\0@\5X\0\0"), false, PGMSG_UNKNOWN_MESSAGE_TYPE, 0, "unknown message type: 88"},
+        {MESSAGE("I\0\0@\5N\0\1x"), false, PGMSG_UNKNOWN_MESSAGE_TYPE, 0, "unknown message type: 120"},
+        {MESSAGE("I\0\0@\5N\0\1t\0\0\0\ta"), false, PGMSG_SHORT, 13, "expected 9 bytes at offset 13, got 1"},
+        {MESSAGE("T\0\0\0\2\0\0\0@\5\0"), false, PGMSG_SHORT, 10, "expected 4 bytes at offset 10, got 1"},
+        {MESSAGE("I\0\0@\5N\0\0"), true, PGMSG_SHORT, 5, "expected 4 bytes at offset 5, got 3"},
+    };
+    for (size_t i = 0; i < sizeof refused / sizeof *refused; i++) {
+        bool streamed = refused[i].is_streamed;
+        pgmsg_datum values[VALUES];
+        pgmsg_logical read;
+        REFUSES(tally, refused[i].number, refused[i].at, refused[i].words,
+                pgmsg_read_logical(refused[i].bytes, refused[i].len, &streamed, values, VALUES, &read, &fault));
+        CHECK(tally, streamed == refused[i].is_streamed);
+    }
 }
 
 /* Lists that aren't in the bytes. */
