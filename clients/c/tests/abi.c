@@ -38,237 +38,63 @@ SAME(PGMSG_FIRST_CANCEL_REQUEST, 1);
 SAME(PGMSG_FIRST_SSL_REQUEST, 2);
 SAME(PGMSG_FIRST_GSS_ENC_REQUEST, 3);
 
-SAME(sizeof(pgmsg_fault), 280);
-SAME(offsetof(pgmsg_fault, number), 0);
-SAME(offsetof(pgmsg_fault, at), 8);
-SAME(offsetof(pgmsg_fault, words_len), 16);
-SAME(offsetof(pgmsg_fault, words), 24);
+/* A struct, its size, and its fields, each with its offset. */
+#define LAYOUT(type, size, fields)     \
+    void layout_of_##type(void);       \
+    void layout_of_##type(void)        \
+    {                                  \
+        typedef type checked;          \
+        SAME(sizeof(checked), (size)); \
+        fields                         \
+    }
 
-SAME(sizeof(pgmsg_span), 16);
-SAME(offsetof(pgmsg_span, at), 0);
-SAME(offsetof(pgmsg_span, len), 8);
+#define AT(field, offset) SAME(offsetof(checked, field), (offset));
 
-SAME(sizeof(pgmsg_list), 16);
-SAME(offsetof(pgmsg_list, at), 0);
-SAME(offsetof(pgmsg_list, count), 8);
-
-SAME(sizeof(pgmsg_setting), 32);
-SAME(offsetof(pgmsg_setting, name), 0);
-SAME(offsetof(pgmsg_setting, name_len), 8);
-SAME(offsetof(pgmsg_setting, value), 16);
-SAME(offsetof(pgmsg_setting, value_len), 24);
-
-SAME(sizeof(pgmsg_value), 24);
-SAME(offsetof(pgmsg_value, bytes), 0);
-SAME(offsetof(pgmsg_value, bytes_len), 8);
-SAME(offsetof(pgmsg_value, is_null), 16);
-
-SAME(sizeof(pgmsg_frame), 32);
-SAME(offsetof(pgmsg_frame, tag), 0);
-SAME(offsetof(pgmsg_frame, body), 8);
-SAME(offsetof(pgmsg_frame, length), 24);
-
-SAME(sizeof(pgmsg_cell), 8);
-SAME(offsetof(pgmsg_cell, at), 0);
-SAME(offsetof(pgmsg_cell, len), 4);
-
-SAME(sizeof(pgmsg_column), 40);
-SAME(offsetof(pgmsg_column, name), 0);
-SAME(offsetof(pgmsg_column, table), 16);
-SAME(offsetof(pgmsg_column, attribute), 20);
-SAME(offsetof(pgmsg_column, type_id), 24);
-SAME(offsetof(pgmsg_column, type_size), 28);
-SAME(offsetof(pgmsg_column, type_modifier), 32);
-SAME(offsetof(pgmsg_column, format), 36);
-
-SAME(sizeof(pgmsg_field), 24);
-SAME(offsetof(pgmsg_field, letter), 0);
-SAME(offsetof(pgmsg_field, value), 8);
-
-SAME(sizeof(pgmsg_notification), 40);
-SAME(offsetof(pgmsg_notification, process_id), 0);
-SAME(offsetof(pgmsg_notification, channel), 8);
-SAME(offsetof(pgmsg_notification, payload), 24);
-
-SAME(sizeof(pgmsg_parameter_status), 32);
-SAME(offsetof(pgmsg_parameter_status, name), 0);
-SAME(offsetof(pgmsg_parameter_status, value), 16);
-
-SAME(sizeof(pgmsg_key_data), 24);
-SAME(offsetof(pgmsg_key_data, process_id), 0);
-SAME(offsetof(pgmsg_key_data, secret_key), 8);
-
-SAME(sizeof(pgmsg_command), 24);
-SAME(offsetof(pgmsg_command, tag), 0);
-SAME(offsetof(pgmsg_command, rows), 16);
-
-SAME(sizeof(pgmsg_negotiation), 4);
-SAME(offsetof(pgmsg_negotiation, major), 0);
-SAME(offsetof(pgmsg_negotiation, minor), 2);
-
-SAME(sizeof(pgmsg_authentication), 24);
-SAME(offsetof(pgmsg_authentication, method), 0);
-SAME(offsetof(pgmsg_authentication, content), 8);
-
-SAME(sizeof(pgmsg_copy_response), 4);
-SAME(offsetof(pgmsg_copy_response, format), 0);
-SAME(offsetof(pgmsg_copy_response, columns), 2);
-
-SAME(sizeof(pgmsg_challenge), 24);
-SAME(offsetof(pgmsg_challenge, iterations), 0);
-SAME(offsetof(pgmsg_challenge, salt_len), 8);
-SAME(offsetof(pgmsg_challenge, nonce_len), 16);
-
-SAME(sizeof(pgmsg_first), 48);
-SAME(offsetof(pgmsg_first, kind), 0);
-SAME(offsetof(pgmsg_first, minor), 4);
-SAME(offsetof(pgmsg_first, process_id), 8);
-SAME(offsetof(pgmsg_first, settings), 16);
-SAME(offsetof(pgmsg_first, secret_key), 32);
-
-SAME(sizeof(pgmsg_parse), 48);
-SAME(offsetof(pgmsg_parse, statement), 0);
-SAME(offsetof(pgmsg_parse, query), 16);
-SAME(offsetof(pgmsg_parse, types), 32);
-
-SAME(sizeof(pgmsg_target), 24);
-SAME(offsetof(pgmsg_target, letter), 0);
-SAME(offsetof(pgmsg_target, name), 8);
-
-SAME(sizeof(pgmsg_execute), 24);
-SAME(offsetof(pgmsg_execute, portal), 0);
-SAME(offsetof(pgmsg_execute, max_rows), 16);
-
-SAME(sizeof(pgmsg_sasl_initial), 24);
-SAME(offsetof(pgmsg_sasl_initial, mechanism), 0);
-SAME(offsetof(pgmsg_sasl_initial, response), 16);
-
-SAME(sizeof(pgmsg_bind), 80);
-SAME(offsetof(pgmsg_bind, portal), 0);
-SAME(offsetof(pgmsg_bind, statement), 16);
-SAME(offsetof(pgmsg_bind, formats), 32);
-SAME(offsetof(pgmsg_bind, values), 48);
-SAME(offsetof(pgmsg_bind, result_formats), 64);
-
-SAME(sizeof(pgmsg_function_call), 48);
-SAME(offsetof(pgmsg_function_call, function), 0);
-SAME(offsetof(pgmsg_function_call, formats), 8);
-SAME(offsetof(pgmsg_function_call, arguments), 24);
-SAME(offsetof(pgmsg_function_call, result_format), 40);
-
-SAME(sizeof(pgmsg_relay), 24);
-SAME(offsetof(pgmsg_relay, limit), 0);
-SAME(offsetof(pgmsg_relay, left), 8);
-SAME(offsetof(pgmsg_relay, is_first), 16);
-
-SAME(sizeof(pgmsg_passage), 16);
-SAME(offsetof(pgmsg_passage, tag), 0);
-SAME(offsetof(pgmsg_passage, length), 8);
-SAME(sizeof(pgmsg_bytes), 16);
-SAME(offsetof(pgmsg_bytes, bytes), 0);
-SAME(offsetof(pgmsg_bytes, bytes_len), 8);
-SAME(sizeof(pgmsg_column_text), 40);
-SAME(offsetof(pgmsg_column_text, name), 0);
-SAME(offsetof(pgmsg_column_text, name_len), 8);
-SAME(offsetof(pgmsg_column_text, table), 16);
-SAME(offsetof(pgmsg_column_text, attribute), 20);
-SAME(offsetof(pgmsg_column_text, type_id), 24);
-SAME(offsetof(pgmsg_column_text, type_size), 28);
-SAME(offsetof(pgmsg_column_text, type_modifier), 32);
-SAME(offsetof(pgmsg_column_text, format), 36);
-SAME(sizeof(pgmsg_field_text), 24);
-SAME(offsetof(pgmsg_field_text, letter), 0);
-SAME(offsetof(pgmsg_field_text, text), 8);
-SAME(offsetof(pgmsg_field_text, text_len), 16);
-
-SAME(sizeof(pgmsg_replication), 136);
-SAME(offsetof(pgmsg_replication, letter), 0);
-SAME(offsetof(pgmsg_replication, start), 8);
-SAME(offsetof(pgmsg_replication, end), 16);
-SAME(offsetof(pgmsg_replication, written), 24);
-SAME(offsetof(pgmsg_replication, flushed), 32);
-SAME(offsetof(pgmsg_replication, applied), 40);
-SAME(offsetof(pgmsg_replication, processed), 48);
-SAME(offsetof(pgmsg_replication, clock), 56);
-SAME(offsetof(pgmsg_replication, wants_reply), 64);
-SAME(offsetof(pgmsg_replication, xmin), 68);
-SAME(offsetof(pgmsg_replication, xmin_epoch), 72);
-SAME(offsetof(pgmsg_replication, catalog_xmin), 76);
-SAME(offsetof(pgmsg_replication, catalog_xmin_epoch), 80);
-SAME(offsetof(pgmsg_replication, name), 88);
-SAME(offsetof(pgmsg_replication, location), 104);
-SAME(offsetof(pgmsg_replication, content), 120);
-
-SAME(sizeof(pgmsg_replication_text), 136);
-SAME(offsetof(pgmsg_replication_text, catalog_xmin_epoch), 80);
-SAME(offsetof(pgmsg_replication_text, name), 88);
-SAME(offsetof(pgmsg_replication_text, name_len), 96);
-SAME(offsetof(pgmsg_replication_text, location), 104);
-SAME(offsetof(pgmsg_replication_text, location_len), 112);
-SAME(offsetof(pgmsg_replication_text, content), 120);
-SAME(offsetof(pgmsg_replication_text, content_len), 128);
-
-SAME(sizeof(pgmsg_logical), 192);
-SAME(offsetof(pgmsg_logical, letter), 0);
-SAME(offsetof(pgmsg_logical, has_transaction), 1);
-SAME(offsetof(pgmsg_logical, transaction), 4);
-SAME(offsetof(pgmsg_logical, subtransaction), 8);
-SAME(offsetof(pgmsg_logical, flags), 12);
-SAME(offsetof(pgmsg_logical, is_first), 13);
-SAME(offsetof(pgmsg_logical, lsn), 16);
-SAME(offsetof(pgmsg_logical, end_lsn), 24);
-SAME(offsetof(pgmsg_logical, rollback_end_lsn), 32);
-SAME(offsetof(pgmsg_logical, clock), 40);
-SAME(offsetof(pgmsg_logical, rollback_clock), 48);
-SAME(offsetof(pgmsg_logical, relation), 56);
-SAME(offsetof(pgmsg_logical, type_id), 60);
-SAME(offsetof(pgmsg_logical, replica_identity), 64);
-SAME(offsetof(pgmsg_logical, schema), 72);
-SAME(offsetof(pgmsg_logical, name), 88);
-SAME(offsetof(pgmsg_logical, content), 104);
-SAME(offsetof(pgmsg_logical, columns), 120);
-SAME(offsetof(pgmsg_logical, relations), 136);
-SAME(offsetof(pgmsg_logical, old_letter), 152);
-SAME(offsetof(pgmsg_logical, old_row), 160);
-SAME(offsetof(pgmsg_logical, new_row), 176);
-
-SAME(sizeof(pgmsg_logical_text), 192);
-SAME(offsetof(pgmsg_logical_text, rollback_clock), 48);
-SAME(offsetof(pgmsg_logical_text, replica_identity), 64);
-SAME(offsetof(pgmsg_logical_text, schema), 72);
-SAME(offsetof(pgmsg_logical_text, schema_len), 80);
-SAME(offsetof(pgmsg_logical_text, name), 88);
-SAME(offsetof(pgmsg_logical_text, name_len), 96);
-SAME(offsetof(pgmsg_logical_text, content), 104);
-SAME(offsetof(pgmsg_logical_text, content_len), 112);
-SAME(offsetof(pgmsg_logical_text, columns), 120);
-SAME(offsetof(pgmsg_logical_text, columns_len), 128);
-SAME(offsetof(pgmsg_logical_text, relations), 136);
-SAME(offsetof(pgmsg_logical_text, relations_len), 144);
-SAME(offsetof(pgmsg_logical_text, old_letter), 152);
-SAME(offsetof(pgmsg_logical_text, old_values), 160);
-SAME(offsetof(pgmsg_logical_text, old_values_len), 168);
-SAME(offsetof(pgmsg_logical_text, values), 176);
-SAME(offsetof(pgmsg_logical_text, values_len), 184);
-
-SAME(sizeof(pgmsg_datum_text), 24);
-SAME(offsetof(pgmsg_datum_text, kind), 0);
-SAME(offsetof(pgmsg_datum_text, value), 8);
-SAME(offsetof(pgmsg_datum_text, value_len), 16);
-
-SAME(sizeof(pgmsg_table_column_text), 32);
-SAME(offsetof(pgmsg_table_column_text, flags), 0);
-SAME(offsetof(pgmsg_table_column_text, name), 8);
-SAME(offsetof(pgmsg_table_column_text, name_len), 16);
-SAME(offsetof(pgmsg_table_column_text, type_id), 24);
-SAME(offsetof(pgmsg_table_column_text, type_modifier), 28);
-
-SAME(sizeof(pgmsg_datum), 24);
-SAME(offsetof(pgmsg_datum, kind), 0);
-SAME(offsetof(pgmsg_datum, value), 8);
-
-SAME(sizeof(pgmsg_table_column), 32);
-SAME(offsetof(pgmsg_table_column, flags), 0);
-SAME(offsetof(pgmsg_table_column, name), 8);
-SAME(offsetof(pgmsg_table_column, type_id), 24);
-SAME(offsetof(pgmsg_table_column, type_modifier), 28);
+LAYOUT(pgmsg_fault, 280, AT(number, 0) AT(at, 8) AT(words_len, 16) AT(words, 24))
+LAYOUT(pgmsg_span, 16, AT(at, 0) AT(len, 8))
+LAYOUT(pgmsg_list, 16, AT(at, 0) AT(count, 8))
+LAYOUT(pgmsg_setting, 32, AT(name, 0) AT(name_len, 8) AT(value, 16) AT(value_len, 24))
+LAYOUT(pgmsg_value, 24, AT(bytes, 0) AT(bytes_len, 8) AT(is_null, 16))
+LAYOUT(pgmsg_frame, 32, AT(tag, 0) AT(body, 8) AT(length, 24))
+LAYOUT(pgmsg_cell, 8, AT(at, 0) AT(len, 4))
+LAYOUT(pgmsg_column, 40, AT(name, 0) AT(table, 16) AT(attribute, 20) AT(type_id, 24) AT(type_size, 28)
+       AT(type_modifier, 32) AT(format, 36))
+LAYOUT(pgmsg_field, 24, AT(letter, 0) AT(value, 8))
+LAYOUT(pgmsg_notification, 40, AT(process_id, 0) AT(channel, 8) AT(payload, 24))
+LAYOUT(pgmsg_parameter_status, 32, AT(name, 0) AT(value, 16))
+LAYOUT(pgmsg_key_data, 24, AT(process_id, 0) AT(secret_key, 8))
+LAYOUT(pgmsg_command, 24, AT(tag, 0) AT(rows, 16))
+LAYOUT(pgmsg_negotiation, 4, AT(major, 0) AT(minor, 2))
+LAYOUT(pgmsg_authentication, 24, AT(method, 0) AT(content, 8))
+LAYOUT(pgmsg_copy_response, 4, AT(format, 0) AT(columns, 2))
+LAYOUT(pgmsg_challenge, 24, AT(iterations, 0) AT(salt_len, 8) AT(nonce_len, 16))
+LAYOUT(pgmsg_first, 48, AT(kind, 0) AT(minor, 4) AT(process_id, 8) AT(settings, 16) AT(secret_key, 32))
+LAYOUT(pgmsg_parse, 48, AT(statement, 0) AT(query, 16) AT(types, 32))
+LAYOUT(pgmsg_target, 24, AT(letter, 0) AT(name, 8))
+LAYOUT(pgmsg_execute, 24, AT(portal, 0) AT(max_rows, 16))
+LAYOUT(pgmsg_sasl_initial, 24, AT(mechanism, 0) AT(response, 16))
+LAYOUT(pgmsg_bind, 80, AT(portal, 0) AT(statement, 16) AT(formats, 32) AT(values, 48) AT(result_formats, 64))
+LAYOUT(pgmsg_function_call, 48, AT(function, 0) AT(formats, 8) AT(arguments, 24) AT(result_format, 40))
+LAYOUT(pgmsg_relay, 24, AT(limit, 0) AT(left, 8) AT(is_first, 16))
+LAYOUT(pgmsg_passage, 16, AT(tag, 0) AT(length, 8))
+LAYOUT(pgmsg_bytes, 16, AT(bytes, 0) AT(bytes_len, 8))
+LAYOUT(pgmsg_column_text, 40, AT(name, 0) AT(name_len, 8) AT(table, 16) AT(attribute, 20) AT(type_id, 24)
+       AT(type_size, 28) AT(type_modifier, 32) AT(format, 36))
+LAYOUT(pgmsg_field_text, 24, AT(letter, 0) AT(text, 8) AT(text_len, 16))
+LAYOUT(pgmsg_replication, 136, AT(letter, 0) AT(start, 8) AT(end, 16) AT(written, 24) AT(flushed, 32) AT(applied, 40)
+       AT(processed, 48) AT(clock, 56) AT(wants_reply, 64) AT(xmin, 68) AT(xmin_epoch, 72) AT(catalog_xmin, 76)
+       AT(catalog_xmin_epoch, 80) AT(name, 88) AT(location, 104) AT(content, 120))
+LAYOUT(pgmsg_replication_text, 136, AT(catalog_xmin_epoch, 80) AT(name, 88) AT(name_len, 96) AT(location, 104)
+       AT(location_len, 112) AT(content, 120) AT(content_len, 128))
+LAYOUT(pgmsg_logical, 192, AT(letter, 0) AT(has_transaction, 1) AT(transaction, 4) AT(subtransaction, 8) AT(flags, 12)
+       AT(is_first, 13) AT(lsn, 16) AT(end_lsn, 24) AT(rollback_end_lsn, 32) AT(clock, 40) AT(rollback_clock, 48)
+       AT(relation, 56) AT(type_id, 60) AT(replica_identity, 64) AT(schema, 72) AT(name, 88) AT(content, 104)
+       AT(columns, 120) AT(relations, 136) AT(old_letter, 152) AT(old_row, 160) AT(new_row, 176))
+LAYOUT(pgmsg_logical_text, 192, AT(rollback_clock, 48) AT(replica_identity, 64) AT(schema, 72) AT(schema_len, 80)
+       AT(name, 88) AT(name_len, 96) AT(content, 104) AT(content_len, 112) AT(columns, 120) AT(columns_len, 128)
+       AT(relations, 136) AT(relations_len, 144) AT(old_letter, 152) AT(old_values, 160) AT(old_values_len, 168)
+       AT(values, 176) AT(values_len, 184))
+LAYOUT(pgmsg_datum_text, 24, AT(kind, 0) AT(value, 8) AT(value_len, 16))
+LAYOUT(pgmsg_table_column_text, 32, AT(flags, 0) AT(name, 8) AT(name_len, 16) AT(type_id, 24) AT(type_modifier, 28))
+LAYOUT(pgmsg_datum, 24, AT(kind, 0) AT(value, 8))
+LAYOUT(pgmsg_table_column, 32, AT(flags, 0) AT(name, 8) AT(type_id, 24) AT(type_modifier, 28))
