@@ -23,97 +23,68 @@ static const pgmsg_value values[] = {
 
 #define NO_BYTES NULL, 0
 
-MESSAGE(startup, pgmsg_put_startup(0, settings, 2, out, out_len))
-MESSAGE(newer_startup, pgmsg_put_startup(2, settings + 2, 1, out, out_len))
-MESSAGE(newest_startup, pgmsg_put_startup(UINT16_MAX, NO_BYTES, out, out_len))
-MESSAGE(ssl_request, pgmsg_put_ssl_request(out, out_len))
-MESSAGE(gss_enc_request, pgmsg_put_gss_enc_request(out, out_len))
-MESSAGE(cancel_request, pgmsg_put_cancel_request(1234, BYTES("\377\0\0\1"), out, out_len))
-MESSAGE(long_cancel_request, pgmsg_put_cancel_request(UINT32_MAX, BYTES("a key of 28 bytes, not of 4\0"), out, out_len))
-MESSAGE(password, pgmsg_put_password(BYTES("p\377w"), out, out_len))
-MESSAGE(no_password, pgmsg_put_password(NO_BYTES, out, out_len))
-MESSAGE(md5_password, pgmsg_put_md5_password(digest, out, out_len))
-MESSAGE(sasl_initial, pgmsg_put_sasl_initial(BYTES("OAUTHBEARER"), true, BYTES("n,,\1a\0\377"), out, out_len))
-MESSAGE(bare_initial, pgmsg_put_sasl_initial(BYTES("\377"), false, BYTES("not sent"), out, out_len))
-MESSAGE(empty_initial, pgmsg_put_sasl_initial(NO_BYTES, true, NO_BYTES, out, out_len))
-MESSAGE(sasl_response, pgmsg_put_sasl_response(BYTES("c=bi\377\0"), out, out_len))
-MESSAGE(empty_response, pgmsg_put_sasl_response(NO_BYTES, out, out_len))
-MESSAGE(query, pgmsg_put_query(BYTES("SELECT '\377'"), out, out_len))
-MESSAGE(empty_query, pgmsg_put_query(NO_BYTES, out, out_len))
-MESSAGE(copy_fail, pgmsg_put_copy_fail(BYTES("no\377"), out, out_len))
-MESSAGE(bare_copy_fail, pgmsg_put_copy_fail(NO_BYTES, out, out_len))
-MESSAGE(parse, pgmsg_put_parse(BYTES("st\377"), BYTES("SELECT $1, $2"), types, 2, out, out_len))
-MESSAGE(bare_parse, pgmsg_put_parse(NO_BYTES, NO_BYTES, NO_BYTES, out, out_len))
-MESSAGE(bind, pgmsg_put_bind(BYTES("po\377"), BYTES("st"), codes, 3, values, 3, &codes[2], 1, out, out_len))
-MESSAGE(bare_bind, pgmsg_put_bind(NO_BYTES, NO_BYTES, NO_BYTES, NO_BYTES, NO_BYTES, out, out_len))
-MESSAGE(describe_statement, pgmsg_put_describe('S', BYTES("st\377"), out, out_len))
-MESSAGE(describe_portal, pgmsg_put_describe('P', NO_BYTES, out, out_len))
-MESSAGE(close_statement, pgmsg_put_close('S', NO_BYTES, out, out_len))
-MESSAGE(close_portal, pgmsg_put_close('P', BYTES("po\377"), out, out_len))
-MESSAGE(execute, pgmsg_put_execute(BYTES("po"), UINT32_MAX, out, out_len))
-MESSAGE(bare_execute, pgmsg_put_execute(NO_BYTES, 0, out, out_len))
-MESSAGE(function_call, pgmsg_put_function_call(0x80000001, codes, 3, values, 3, 1, out, out_len))
-MESSAGE(bare_function_call, pgmsg_put_function_call(0, NO_BYTES, NO_BYTES, 258, out, out_len))
-MESSAGE(copy_data, pgmsg_put_copy_data(BYTES("1\t2\n"), out, out_len))
-MESSAGE(empty_copy_data, pgmsg_put_copy_data(NO_BYTES, out, out_len))
-MESSAGE(parse_complete, pgmsg_put_no_body('1', out, out_len))
-MESSAGE(bind_complete, pgmsg_put_no_body('2', out, out_len))
-MESSAGE(close_complete, pgmsg_put_no_body('3', out, out_len))
-MESSAGE(flush, pgmsg_put_no_body('H', out, out_len))
-MESSAGE(empty_query_response, pgmsg_put_no_body('I', out, out_len))
-MESSAGE(sync, pgmsg_put_no_body('S', out, out_len))
-MESSAGE(terminate, pgmsg_put_no_body('X', out, out_len))
-MESSAGE(copy_done, pgmsg_put_no_body('c', out, out_len))
-MESSAGE(no_data, pgmsg_put_no_body('n', out, out_len))
-MESSAGE(suspended, pgmsg_put_no_body('s', out, out_len))
+/* Each message, the call that writes it, and its bytes. */
+#define SAMPLES(ROW)                                                                                                     \
+    ROW(startup, pgmsg_put_startup(0, settings, 2, out, out_len),                                                        \
+        "\0\0\0\35" "\0\3\0\0" "user\0" "ann\0" "database\0" "d\0" "\0")                                                 \
+    ROW(newer_startup, pgmsg_put_startup(2, settings + 2, 1, out, out_len), "\0\0\0\14" "\0\3\0\2" "\377\0" "\0" "\0")   \
+    ROW(newest_startup, pgmsg_put_startup(UINT16_MAX, NO_BYTES, out, out_len), "\0\0\0\11" "\0\3\377\377" "\0")          \
+    ROW(ssl_request, pgmsg_put_ssl_request(out, out_len), "\0\0\0\10" "\4\322\26\57")                                    \
+    ROW(gss_enc_request, pgmsg_put_gss_enc_request(out, out_len), "\0\0\0\10" "\4\322\26\60")                            \
+    ROW(cancel_request, pgmsg_put_cancel_request(1234, BYTES("\377\0\0\1"), out, out_len),                               \
+        "\0\0\0\20" "\4\322\26\56" "\0\0\4\322" "\377\0\0\1")                                                            \
+    ROW(long_cancel_request, pgmsg_put_cancel_request(UINT32_MAX, BYTES("a key of 28 bytes, not of 4\0"), out, out_len), \
+        "\0\0\0\50" "\4\322\26\56" "\377\377\377\377" "a key of 28 bytes, not of 4\0")                                   \
+    ROW(password, pgmsg_put_password(BYTES("p\377w"), out, out_len), "p\0\0\0\10" "p\377w\0")                            \
+    ROW(no_password, pgmsg_put_password(NO_BYTES, out, out_len), "p\0\0\0\5" "\0")                                       \
+    ROW(md5_password, pgmsg_put_md5_password(digest, out, out_len),                                                      \
+        "p\0\0\0\50" "md5" "000102030405060708090a0b0c0d0eff\0")                                                         \
+    ROW(sasl_initial, pgmsg_put_sasl_initial(BYTES("OAUTHBEARER"), true, BYTES("n,,\1a\0\377"), out, out_len),           \
+        "p\0\0\0\33" "OAUTHBEARER\0" "\0\0\0\7" "n,,\1a\0\377")                                                          \
+    ROW(bare_initial, pgmsg_put_sasl_initial(BYTES("\377"), false, BYTES("not sent"), out, out_len),                     \
+        "p\0\0\0\12" "\377\0" "\377\377\377\377")                                                                        \
+    ROW(empty_initial, pgmsg_put_sasl_initial(NO_BYTES, true, NO_BYTES, out, out_len), "p\0\0\0\11" "\0" "\0\0\0\0")     \
+    ROW(sasl_response, pgmsg_put_sasl_response(BYTES("c=bi\377\0"), out, out_len), "p\0\0\0\12" "c=bi\377\0")            \
+    ROW(empty_response, pgmsg_put_sasl_response(NO_BYTES, out, out_len), "p\0\0\0\4")                                    \
+    ROW(query, pgmsg_put_query(BYTES("SELECT '\377'"), out, out_len), "Q\0\0\0\17" "SELECT '\377'\0")                    \
+    ROW(empty_query, pgmsg_put_query(NO_BYTES, out, out_len), "Q\0\0\0\5" "\0")                                          \
+    ROW(copy_fail, pgmsg_put_copy_fail(BYTES("no\377"), out, out_len), "f\0\0\0\10" "no\377\0")                          \
+    ROW(bare_copy_fail, pgmsg_put_copy_fail(NO_BYTES, out, out_len), "f\0\0\0\5" "\0")                                   \
+    ROW(parse, pgmsg_put_parse(BYTES("st\377"), BYTES("SELECT $1, $2"), types, 2, out, out_len),                         \
+        "P\0\0\0\40" "st\377\0" "SELECT $1, $2\0" "\0\2" "\0\0\0\27" "\377\377\377\377")                                 \
+    ROW(bare_parse, pgmsg_put_parse(NO_BYTES, NO_BYTES, NO_BYTES, out, out_len), "P\0\0\0\10" "\0" "\0" "\0\0")          \
+    ROW(bind, pgmsg_put_bind(BYTES("po\377"), BYTES("st"), codes, 3, values, 3, &codes[2], 1, out, out_len),             \
+        "B\0\0\0\47" "po\377\0" "st\0" "\0\3" "\0\1" "\0\0" "\1\2" "\0\3" "\0\0\0\2" "ab"                                \
+        "\377\377\377\377" "\0\0\0\0" "\0\1" "\1\2")                                                                     \
+    ROW(bare_bind, pgmsg_put_bind(NO_BYTES, NO_BYTES, NO_BYTES, NO_BYTES, NO_BYTES, out, out_len),                       \
+        "B\0\0\0\14" "\0" "\0" "\0\0" "\0\0" "\0\0")                                                                     \
+    ROW(describe_statement, pgmsg_put_describe('S', BYTES("st\377"), out, out_len), "D\0\0\0\11" "S" "st\377\0")         \
+    ROW(describe_portal, pgmsg_put_describe('P', NO_BYTES, out, out_len), "D\0\0\0\6" "P" "\0")                          \
+    ROW(close_statement, pgmsg_put_close('S', NO_BYTES, out, out_len), "C\0\0\0\6" "S" "\0")                             \
+    ROW(close_portal, pgmsg_put_close('P', BYTES("po\377"), out, out_len), "C\0\0\0\11" "P" "po\377\0")                  \
+    ROW(execute, pgmsg_put_execute(BYTES("po"), UINT32_MAX, out, out_len), "E\0\0\0\13" "po\0" "\377\377\377\377")       \
+    ROW(bare_execute, pgmsg_put_execute(NO_BYTES, 0, out, out_len), "E\0\0\0\11" "\0" "\0\0\0\0")                        \
+    ROW(function_call, pgmsg_put_function_call(0x80000001, codes, 3, values, 3, 1, out, out_len),                        \
+        "F\0\0\0\42" "\200\0\0\1" "\0\3" "\0\1" "\0\0" "\1\2" "\0\3" "\0\0\0\2" "ab"                                     \
+        "\377\377\377\377" "\0\0\0\0" "\0\1")                                                                            \
+    ROW(bare_function_call, pgmsg_put_function_call(0, NO_BYTES, NO_BYTES, 258, out, out_len),                           \
+        "F\0\0\0\16" "\0\0\0\0" "\0\0" "\0\0" "\1\2")                                                                    \
+    ROW(copy_data, pgmsg_put_copy_data(BYTES("1\t2\n"), out, out_len), "d\0\0\0\10" "1\t2\n")                            \
+    ROW(empty_copy_data, pgmsg_put_copy_data(NO_BYTES, out, out_len), "d\0\0\0\4")                                       \
+    ROW(parse_complete, pgmsg_put_no_body('1', out, out_len), "1\0\0\0\4")                                               \
+    ROW(bind_complete, pgmsg_put_no_body('2', out, out_len), "2\0\0\0\4")                                                \
+    ROW(close_complete, pgmsg_put_no_body('3', out, out_len), "3\0\0\0\4")                                               \
+    ROW(flush, pgmsg_put_no_body('H', out, out_len), "H\0\0\0\4")                                                        \
+    ROW(empty_query_response, pgmsg_put_no_body('I', out, out_len), "I\0\0\0\4")                                         \
+    ROW(sync, pgmsg_put_no_body('S', out, out_len), "S\0\0\0\4")                                                         \
+    ROW(terminate, pgmsg_put_no_body('X', out, out_len), "X\0\0\0\4")                                                    \
+    ROW(copy_done, pgmsg_put_no_body('c', out, out_len), "c\0\0\0\4")                                                    \
+    ROW(no_data, pgmsg_put_no_body('n', out, out_len), "n\0\0\0\4")                                                      \
+    ROW(suspended, pgmsg_put_no_body('s', out, out_len), "s\0\0\0\4")
 
-static const struct sample samples[] = {
-    SAMPLE(startup, "\0\0\0\35" "\0\3\0\0" "user\0" "ann\0" "database\0" "d\0" "\0"),
-    SAMPLE(newer_startup, "\0\0\0\14" "\0\3\0\2" "\377\0" "\0" "\0"),
-    SAMPLE(newest_startup, "\0\0\0\11" "\0\3\377\377" "\0"),
-    SAMPLE(ssl_request, "\0\0\0\10" "\4\322\26\57"),
-    SAMPLE(gss_enc_request, "\0\0\0\10" "\4\322\26\60"),
-    SAMPLE(cancel_request, "\0\0\0\20" "\4\322\26\56" "\0\0\4\322" "\377\0\0\1"),
-    SAMPLE(long_cancel_request, "\0\0\0\50" "\4\322\26\56" "\377\377\377\377" "a key of 28 bytes, not of 4\0"),
-    SAMPLE(password, "p\0\0\0\10" "p\377w\0"),
-    SAMPLE(no_password, "p\0\0\0\5" "\0"),
-    SAMPLE(md5_password, "p\0\0\0\50" "md5" "000102030405060708090a0b0c0d0eff\0"),
-    SAMPLE(sasl_initial, "p\0\0\0\33" "OAUTHBEARER\0" "\0\0\0\7" "n,,\1a\0\377"),
-    SAMPLE(bare_initial, "p\0\0\0\12" "\377\0" "\377\377\377\377"),
-    SAMPLE(empty_initial, "p\0\0\0\11" "\0" "\0\0\0\0"),
-    SAMPLE(sasl_response, "p\0\0\0\12" "c=bi\377\0"),
-    SAMPLE(empty_response, "p\0\0\0\4"),
-    SAMPLE(query, "Q\0\0\0\17" "SELECT '\377'\0"),
-    SAMPLE(empty_query, "Q\0\0\0\5" "\0"),
-    SAMPLE(copy_fail, "f\0\0\0\10" "no\377\0"),
-    SAMPLE(bare_copy_fail, "f\0\0\0\5" "\0"),
-    SAMPLE(parse, "P\0\0\0\40" "st\377\0" "SELECT $1, $2\0" "\0\2" "\0\0\0\27" "\377\377\377\377"),
-    SAMPLE(bare_parse, "P\0\0\0\10" "\0" "\0" "\0\0"),
-    SAMPLE(bind, "B\0\0\0\47" "po\377\0" "st\0" "\0\3" "\0\1" "\0\0" "\1\2" "\0\3" "\0\0\0\2" "ab"
-                 "\377\377\377\377" "\0\0\0\0" "\0\1" "\1\2"),
-    SAMPLE(bare_bind, "B\0\0\0\14" "\0" "\0" "\0\0" "\0\0" "\0\0"),
-    SAMPLE(describe_statement, "D\0\0\0\11" "S" "st\377\0"),
-    SAMPLE(describe_portal, "D\0\0\0\6" "P" "\0"),
-    SAMPLE(close_statement, "C\0\0\0\6" "S" "\0"),
-    SAMPLE(close_portal, "C\0\0\0\11" "P" "po\377\0"),
-    SAMPLE(execute, "E\0\0\0\13" "po\0" "\377\377\377\377"),
-    SAMPLE(bare_execute, "E\0\0\0\11" "\0" "\0\0\0\0"),
-    SAMPLE(function_call, "F\0\0\0\42" "\200\0\0\1" "\0\3" "\0\1" "\0\0" "\1\2" "\0\3" "\0\0\0\2" "ab"
-                          "\377\377\377\377" "\0\0\0\0" "\0\1"),
-    SAMPLE(bare_function_call, "F\0\0\0\16" "\0\0\0\0" "\0\0" "\0\0" "\1\2"),
-    SAMPLE(copy_data, "d\0\0\0\10" "1\t2\n"),
-    SAMPLE(empty_copy_data, "d\0\0\0\4"),
-    SAMPLE(parse_complete, "1\0\0\0\4"),
-    SAMPLE(bind_complete, "2\0\0\0\4"),
-    SAMPLE(close_complete, "3\0\0\0\4"),
-    SAMPLE(flush, "H\0\0\0\4"),
-    SAMPLE(empty_query_response, "I\0\0\0\4"),
-    SAMPLE(sync, "S\0\0\0\4"),
-    SAMPLE(terminate, "X\0\0\0\4"),
-    SAMPLE(copy_done, "c\0\0\0\4"),
-    SAMPLE(no_data, "n\0\0\0\4"),
-    SAMPLE(suspended, "s\0\0\0\4"),
-};
+SAMPLES(WRITER)
+
+static const struct sample samples[] = {SAMPLES(SAMPLE)};
 
 const struct sample *put_samples(size_t *count)
 {

@@ -6,15 +6,14 @@
 
 #include <string.h>
 
-/* A message, by a function of the room for it. */
-#define MESSAGE(name, call)                              \
-    static ptrdiff_t name(uint8_t *out, size_t out_len) \
-    {                                                    \
-        return call;                                     \
+/* A function that puts a message into the room for it, and its row of a table, by its name, its call and its bytes. */
+#define WRITER(name, call, literal)                           \
+    static ptrdiff_t put_##name(uint8_t *out, size_t out_len) \
+    {                                                         \
+        return call;                                          \
     }
 
-/* Its bytes, which are those of a literal. */
-#define SAMPLE(put, literal) {put, literal, sizeof(literal) - 1}
+#define SAMPLE(name, call, literal) {put_##name, literal, sizeof(literal) - 1},
 
 /* A byte more than the longest message has, without its tag. */
 #define TOO_LONG ((size_t)1 << 31)
