@@ -34,7 +34,6 @@ void test_relay(struct tally *tally);
 void test_replication(struct tally *tally);
 void test_server(struct tally *tally);
 void test_server_faults(struct tally *tally);
-void test_read_faults(struct tally *tally);
-void test_client_faults(struct tally *tally);
+void test_faults(struct tally *tally);
 
 #endif

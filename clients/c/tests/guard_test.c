@@ -52,7 +52,5 @@ int main(void)
         return 1;
     test_guarded_put(&tally);
     test_guarded_read(&tally);
-    test_guarded_client(&tally);
-    test_guarded_relay(&tally);
     return report(&tally);
 }

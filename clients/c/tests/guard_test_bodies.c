@@ -86,17 +86,11 @@ static void test_body(struct tally *tally, const struct body *sample)
         fprintf(stderr, "read of a %s\n", sample->name);
 }
 
-static void map_pages(void)
+void test_guarded_bodies(struct tally *tally, const struct body *samples, size_t count)
 {
     struct guarded *const pages[] = {&bodies, &ones, &items, &seconds, &faults};
     for (size_t i = 0; i < sizeof pages / sizeof *pages; i++)
         *pages[i] = guarded_page();
-}
-
-void test_guarded_bodies(struct tally *tally, const struct body *samples, size_t count)
-{
-    if (bodies.from == NULL)
-        map_pages();
     for (size_t i = 0; i < count; i++) {
         side = AT_FRONT;
         test_body(tally, &samples[i]);

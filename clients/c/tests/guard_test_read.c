@@ -1,62 +1,11 @@
-/* Messages from the server, at pages that can't be touched. */
+/* Messages of both sides, and streams, at pages that can't be touched. */
 #include "guard_test.h"
 
-/* The lists of two bodies, each behind a letter. */
-static const pgmsg_list three_values = {1, 3}, two_columns = {1, 2};
+#define CANCEL_REQUEST "\4\322\26\56"
+#define SSL_REQUEST "\4\322\26\57"
+#define GSS_ENC_REQUEST "\4\322\26\60"
 
-/* Whether a message is streamed, before it is read. */
-static bool streamed;
-
-static bool *outside(void)
-{
-    streamed = false;
-    return &streamed;
-}
-
-static bool *within(void)
-{
-    streamed = true;
-    return &streamed;
-}
-
-/* Each call that reads, by a body and its length. */
-#define CALLS(CALL)                                                                                        \
-    CALL(frame, pgmsg_next_frame(body, len, ONE(pgmsg_frame), fault))                                      \
-    CALL(frames, pgmsg_next_frames(body, len, ITEMS(pgmsg_frame), fault))                                  \
-    CALL(row, pgmsg_read_row(body, len, ITEMS(pgmsg_cell), fault))                                         \
-    CALL(columns, pgmsg_read_columns(body, len, ITEMS(pgmsg_column), fault))                               \
-    CALL(parameter_types, pgmsg_read_parameter_types(body, len, ITEMS(uint32_t), fault))                   \
-    CALL(fields, (ptrdiff_t)pgmsg_read_fields(body, len, ITEMS(pgmsg_field)))                              \
-    CALL(severity, pgmsg_read_severity(body, len, fault))                                                  \
-    CALL(notification, pgmsg_read_notification(body, len, ONE(pgmsg_notification), fault))                 \
-    CALL(parameter_status, pgmsg_read_parameter_status(body, len, ONE(pgmsg_parameter_status), fault))     \
-    CALL(key_data, pgmsg_read_key_data(body, len, ONE(pgmsg_key_data), fault))                             \
-    CALL(end_of_request, pgmsg_read_end('R', body, len, fault))                                            \
-    CALL(end_of_tag, pgmsg_read_end('C', body, len, fault))                                                \
-    CALL(end_of_codes, pgmsg_read_end('G', body, len, fault))                                              \
-    CALL(end_of_row, pgmsg_read_end('D', body, len, fault))                                                \
-    CALL(end_of_fields, pgmsg_read_end('E', body, len, fault))                                             \
-    CALL(end_of_notification, pgmsg_read_end('A', body, len, fault))                                       \
-    CALL(end_of_types, pgmsg_read_end('t', body, len, fault))                                              \
-    CALL(end_of_columns, pgmsg_read_end('T', body, len, fault))                                            \
-    CALL(command_complete, pgmsg_read_command_complete(body, len, ONE(pgmsg_command), fault))              \
-    CALL(function_result, pgmsg_read_function_result(body, len, ONE(pgmsg_cell), fault))                   \
-    CALL(negotiation, pgmsg_read_negotiate_version(body, len, ONE(pgmsg_negotiation), ITEMS(pgmsg_span), fault)) \
-    CALL(ready, pgmsg_read_ready(body, len, fault))                                                        \
-    CALL(replication, pgmsg_read_replication(body, len, ONE(pgmsg_replication), fault))                    \
-    CALL(logical, pgmsg_read_logical(body, len, outside(), ITEMS(pgmsg_datum), ONE(pgmsg_logical), fault)) \
-    CALL(logical_streamed, pgmsg_read_logical(body, len, within(), ITEMS(pgmsg_datum), ONE(pgmsg_logical), fault)) \
-    CALL(tuple, pgmsg_read_tuple(body, len, three_values, ITEMS(pgmsg_datum), fault))                      \
-    CALL(table_columns, pgmsg_read_table_columns(body, len, two_columns, ITEMS(pgmsg_table_column), fault)) \
-    CALL(copy_response, pgmsg_read_copy_response(body, len, ONE(pgmsg_copy_response), ITEMS(int16_t), fault)) \
-    CALL(authentication, pgmsg_read_authentication(body, len, ONE(pgmsg_authentication), fault))           \
-    CALL(mechanisms, (ptrdiff_t)pgmsg_read_mechanisms(body, len, ITEMS(pgmsg_span)))                       \
-    CALL(challenge, pgmsg_read_challenge(body, len, ONE(pgmsg_challenge), ITEMS(uint8_t), SECOND, fault))  \
-    CALL(verifier, pgmsg_read_verifier(body, len, ITEMS(uint8_t), fault))
-
-CALLS(FUNCTION)
-
-/* Bodies of each kind, each with every part that it can have. */
+/* Bodies and streams of each kind, each with every part that it can have. */
 static const struct body samples[] = {
     BODY(frame, "D\0\0\0\12" "\0\1" "\377\377\377\377" "Z\0"),
     BODY(frames, "D\0\0\0\6" "ab" "\0\0\0\0\4" "Z\0\0\0\5" "I" "1\0\0\0\4" "x\0"),
@@ -108,6 +57,36 @@ static const struct body samples[] = {
     BODY(mechanisms, "\0\0\0\12" "SCRAM-SHA-256\0" "\351\0" "\0"),
     BODY(challenge, "\0\0\0\13" "r=abc,s=AQID,i=8192"),
     BODY(verifier, "\0\0\0\14" "v=AQIDBAU="),
+    BODY(first_frame, "\0\0\0\10" SSL_REQUEST "\0\0"),
+    BODY(first_frame, "\0\0\0\17" "\0\3\0\0" "a\0b\0\0\0" "Q"),
+    BODY(frontend_frame, "E\0\0\0\12" "p\0" "\0\0\0\5" "S\0"),
+    BODY(frontend_frame, "S\0\0\0\4"),
+    BODY(first, "\0\3\0\2" "user\0me\0" "a\0\0" "\0" "!"),
+    BODY(first, CANCEL_REQUEST "\0\0\60\71" "\1\2\3\4\5"),
+    BODY(first, SSL_REQUEST "!"),
+    BODY(first, GSS_ENC_REQUEST "!"),
+    BODY(parse, "s\0" "SELECT $1\0" "\0\2" "\0\0\0\27" "\377\377\377\377" "!"),
+    BODY(target, "Ss1\0" "!"),
+    BODY(target, "P\0" "!"),
+    BODY(execute, "p1\0" "\0\0\0\5" "!"),
+    BODY(text, "SELECT 1\0" "!"),
+    BODY(no_body, "!"),
+    BODY(sasl_initial, "SCRAM-SHA-256\0" "\0\0\0\3" "n,," "!"),
+    BODY(sasl_initial, "A\0" "\377\377\377\377" "!"),
+    BODY(bind, "p1\0" "s\0" "\0\2" "\0\0" "\0\1" "\0\3" "\0\0\0\2" "hi" "\377\377\377\377" "\0\0\0\0" "\0\1" "\0\1" "!"),
+    BODY(bind, "\0" "\0" "\0\0" "\0\2" "\377\377\377\376" "\177\377\377\377" "\0\0"),
+    BODY(bind, "\0" "\0" "\0\0" "\0\0" "\0\2" "\0\0" "\0\1"),
+    BODY(function_call, "\0\0\4\322" "\0\1" "\0\1" "\0\2" "\0\0\0\1" "A" "\377\377\377\377" "\0\1" "!"),
+    BODY(codes, "\2\3" "\0\0" "\0\1" "\377\376"),
+    BODY(types, "\2\3" "\0\0\0\27" "\0\0\0\0" "\377\377\377\377"),
+    BODY(settings, "\0\3\0\0" "user\0me\0" "a\0\0" "caf\351\0x\0" "\0"),
+    BODY(relay_first, "\0\0\0\10" "\4\322\26\57" "\0\0"),
+    BODY(relay_first, "\0\0\0\17" "\0\3\0\0" "a\0b\0\0\0" "Q"),
+    BODY(relay_tagged, "S\0\0\0\4" "Z"),
+    BODY(relay_tagged, "D\0\0\0\14" "\0\1\0\0\0\2" "ab" "Z"),
+    BODY(relay_part, "abcdef"),
+    BODY(check_first, "\0\0\0\10" "\4\322\26\57" "\0\0\0\11" "\0\3\0\0" "\0" "S\0\0\0\4"),
+    BODY(check_tagged, "S\0\0\0\4" "Z\0\0\0\5" "I"),
 };
 
 void test_guarded_read(struct tally *tally)
