@@ -129,6 +129,18 @@ static const struct {
     {BODY(execute, "p\0" "\0\0\0\1" "\0"), PGMSG_TRAILING_BYTES, 6, "expected the end of the message at offset 6"},
     {BODY(text, "q\0\0"), PGMSG_TRAILING_BYTES, 2, "expected the end of the message at offset 2"},
     {BODY(sasl_initial, "A\0" "\0\0\0\0" "\0"), PGMSG_TRAILING_BYTES, 6, "expected the end of the message at offset 6"},
+    {BODY(logical, "X"), PGMSG_UNKNOWN_MESSAGE_TYPE, 0, "unknown message type: 88"},
+    {BODY(logical, ""), PGMSG_SHORT, 0, "expected 1 bytes at offset 0, got 0"},
+    {BODY(logical, "B\0\0\0\0\1\0\0(\0\0\0"), PGMSG_SHORT, 9, "expected 8 bytes at offset 9, got 3"},
+    {BODY(logical, "O\0\0\0\0\1\0\0(far"), PGMSG_MISSING_NUL, 9, "expected NUL after offset 9"},
+    {BODY(logical, "E\0"), PGMSG_BODY_TOO_LONG, 0, "message body out of range for protocol: 1"},
+    {BODY(logical, "D\0\0@\5N\0\0"), PGMSG_UNKNOWN_MESSAGE_TYPE, 0, "unknown message type: 78"},
+    {BODY(logical, "I\0\0@\5K\0\0"), PGMSG_UNKNOWN_MESSAGE_TYPE, 0, "unknown message type: 75"},
+    {BODY(logical, "U\0\0@\5X\0\0"), PGMSG_UNKNOWN_MESSAGE_TYPE, 0, "unknown message type: 88"},
+    {BODY(logical, "I\0\0@\5N\0\1x"), PGMSG_UNKNOWN_MESSAGE_TYPE, 0, "unknown message type: 120"},
+    {BODY(logical, "I\0\0@\5N\0\1t\0\0\0\ta"), PGMSG_SHORT, 13, "expected 9 bytes at offset 13, got 1"},
+    {BODY(logical, "T\0\0\0\2\0\0\0@\5\0"), PGMSG_SHORT, 10, "expected 4 bytes at offset 10, got 1"},
+    {BODY(logical_streamed, "I\0\0@\5N\0\0"), PGMSG_SHORT, 5, "expected 4 bytes at offset 5, got 3"},
     {BODY(ready, "I"), 'I', 0, NULL},
     {BODY(frontend_frame, "S\0\0\0\4"), 1, 0, NULL},
     {BODY(frontend_frame, "S\0\0"), 0, 0, NULL},
@@ -228,7 +240,8 @@ static void words_of_long_bodies(struct tally *tally, const uint8_t *body)
         read_row, read_columns, read_parameter_types, read_copy_response, read_severity, read_notification,
         read_parameter_status, read_key_data, read_command_complete, read_function_result, read_negotiation, read_end_of_tag,
         read_ready, read_authentication, read_challenge, read_verifier, read_first, read_parse, read_target, read_execute,
-        read_text, read_no_body, read_sasl_initial, read_bind, read_function_call, read_logical, read_replication,
+        read_text, read_no_body, read_sasl_initial, read_bind, read_function_call, read_logical, read_tuple,
+        read_table_columns, read_replication,
     };
     room = 1;
     for (size_t i = 0; i < sizeof readers / sizeof *readers; i++)

@@ -2,299 +2,379 @@
  * each is read off the bytes by the documentation of PostgreSQL, "Logical Replication Message Formats". */
 #include "bytes_test_read.h"
 
-#include <inttypes.h>
 #include <stdio.h>
 
 #define LITERAL(literal) literal, sizeof(literal) - 1
 
-/* More values than any of these rows has. */
-enum { VALUES = 8 };
+#define LIST(list) list, sizeof list / sizeof *list
 
-/* What is read of a message: its texts, and its rows and columns as `listed` writes them. */
+/* A list that is written down where it is passed. */
+#define ITEMS(type, ...) (const type[]){__VA_ARGS__}, sizeof((const type[]){__VA_ARGS__}) / sizeof(type)
+#define VALUES(...) ITEMS(pgmsg_datum_text, __VA_ARGS__)
+#define TABLE(...) ITEMS(pgmsg_table_column_text, __VA_ARGS__)
+#define NUMBERS(...) ITEMS(uint32_t, __VA_ARGS__)
+
+/* The values of a row. */
+#define TEXT(literal) {'t', BYTES(literal)}
+#define BINARY(literal) {'b', BYTES(literal)}
+#define NONE {'n', NULL, 0}
+#define UNCHANGED {'u', NULL, 0}
+
+/* More items than any of these lists has, and more bytes than any of these messages. */
+enum { MOST = 8, ROOM = 96 };
+
+/* A message, the content of the XLogData that it is, and whether it stands between a Stream Start and a Stream Stop. */
 struct logical {
+    pgmsg_logical_text message;
     const char *bytes;
     size_t len;
     bool is_streamed;
-    pgmsg_logical message;
-    const char *schema, *name, *content, *old_row, *new_row, *columns;
 };
 
 /* What pgoutput wrote, in the order of a slot, by the options proto_version 3, streaming and messages. */
 static const struct logical written[] = {
-    {LITERAL("B\0\0\0\0\1U7\30\0\3\4w\345\35\225K\0\0\2\335"), false,
-     {.letter = 'B', .has_transaction = true, .transaction = 0x2dd, .lsn = 0x1553718, .clock = 0x30477e51d954b}, 0, 0, 0, 0, 0, 0},
-    {LITERAL("Y\0\0@\1public\0mood\0"), false,
-     {.letter = 'Y', .type_id = 0x4001, .schema = {5, 6}, .name = {12, 4}}, "public", "mood", 0, 0, 0, 0},
-    {LITERAL("R\0\0@\5public\0t\0d\0\4\1id\0\0\0\0\27\377\377\377\377\0body\0\0\0\0\31\377\377\377\377"
-             "\0feeling\0\0\0@\1\377\377\377\377\0note\0\0\0\0\31\377\377\377\377"), false,
-     {.letter = 'R', .relation = 0x4005, .schema = {5, 6}, .name = {12, 1}, .replica_identity = 'd', .columns = {17, 4}},
-     "public", "t", 0, 0, 0, "1,18+2,23,-1 0,30+4,25,-1 0,44+7,16385,-1 0,61+4,25,-1 "},
-    {LITERAL("I\0\0@\fN\0\2b\0\0\0\4\0\0\0\1b\0\0\0\1b"), false,
-     {.letter = 'I', .relation = 0x400c, .new_row = {8, 2}}, 0, 0, 0, 0, "b13+4 b22+1 ", 0},
-    {LITERAL("U\0\0@\5N\0\4t\0\0\0\0011ut\0\0\0\2okt\0\0\0\1n"), false,
-     {.letter = 'U', .relation = 0x4005, .new_row = {8, 4}}, 0, 0, 0, 0, "t13+1 u0+0 t20+2 t27+1 ", 0},
-    {LITERAL("U\0\0@\5K\0\4t\0\0\0\0011nnnN\0\4t\0\0\0\0012ut\0\0\0\2okt\0\0\0\1n"), false,
-     {.letter = 'U', .relation = 0x4005, .old_letter = 'K', .old_row = {8, 4}, .new_row = {20, 4}}, 0, 0, 0,
-     "t13+1 n0+0 n0+0 n0+0 ", "t25+1 u0+0 t32+2 t39+1 ", 0},
-    {LITERAL("D\0\0@\5K\0\4t\0\0\0\0012nnn"), false,
-     {.letter = 'D', .relation = 0x4005, .old_letter = 'K', .old_row = {8, 4}}, 0, 0, 0, "t13+1 n0+0 n0+0 n0+0 ", 0, 0},
-    {LITERAL("M\1\0\0\0\0\1U7\30pre\0\0\0\0\3con"), false,
-     {.letter = 'M', .flags = 1, .lsn = 0x1553718, .name = {10, 3}, .content = {18, 3}}, 0, "pre", "con", 0, 0, 0},
-    {LITERAL("C\0\0\0\0\0\1U7\30\0\0\0\0\1U7H\0\3\4w\345\35\225K"), false,
-     {.letter = 'C', .lsn = 0x1553718, .end_lsn = 0x1553748, .clock = 0x30477e51d954b}, 0, 0, 0, 0, 0, 0},
-    {LITERAL("M\0\0\0\0\0\1U7\210pre2\0\0\0\0\10content2"), false,
-     {.letter = 'M', .lsn = 0x1553788, .name = {10, 4}, .content = {19, 8}}, 0, "pre2", "content2", 0, 0, 0},
-    {LITERAL("U\0\0@\fO\0\2t\0\0\0\0011t\0\0\0\1bN\0\2t\0\0\0\0011t\0\0\0\1c"), false,
-     {.letter = 'U', .relation = 0x400c, .old_letter = 'O', .old_row = {8, 2}, .new_row = {23, 2}}, 0, 0, 0,
-     "t13+1 t19+1 ", "t28+1 t34+1 ", 0},
-    {LITERAL("D\0\0@\fO\0\2t\0\0\0\0011t\0\0\0\1c"), false,
-     {.letter = 'D', .relation = 0x400c, .old_letter = 'O', .old_row = {8, 2}}, 0, 0, 0, "t13+1 t19+1 ", 0, 0},
-    {LITERAL("T\0\0\0\2\3\0\0@\21\0\0@\26"), false, {.letter = 'T', .flags = 3, .relations = {6, 2}}, 0, 0, 0, 0, 0, 0},
-    {LITERAL("O\0\0\0\0\0\252\273\314far\0"), false, {.letter = 'O', .lsn = 0xaabbcc, .name = {9, 3}}, 0, "far", 0, 0, 0, 0},
-    {LITERAL("b\0\0\0\0\1UJ\360\0\0\0\0\1UK\350\0\3\4w\345\35\245\251\0\0\2\345gid1\0"), false,
-     {.letter = 'b', .has_transaction = true, .transaction = 0x2e5, .lsn = 0x1554af0, .end_lsn = 0x1554be8,
-      .clock = 0x30477e51da5a9, .name = {29, 4}}, 0, "gid1", 0, 0, 0, 0},
-    {LITERAL("P\0\0\0\0\0\1UJ\360\0\0\0\0\1UK\350\0\3\4w\345\35\245\251\0\0\2\345gid1\0"), false,
-     {.letter = 'P', .has_transaction = true, .transaction = 0x2e5, .lsn = 0x1554af0, .end_lsn = 0x1554be8,
-      .clock = 0x30477e51da5a9, .name = {30, 4}}, 0, "gid1", 0, 0, 0, 0},
-    {LITERAL("K\0\0\0\0\0\1UK\350\0\0\0\0\1UL \0\3\4w\345\35\245\364\0\0\2\345gid1\0"), false,
-     {.letter = 'K', .has_transaction = true, .transaction = 0x2e5, .lsn = 0x1554be8, .end_lsn = 0x1554c20,
-      .clock = 0x30477e51da5f4, .name = {30, 4}}, 0, "gid1", 0, 0, 0, 0},
-    {LITERAL("r\0\0\0\0\0\1UM\230\0\0\0\0\1UM\320\0\3\4w\345\35\246\225\0\3\4w\345\35\246\311\0\0\2\346gid2\0"), false,
-     {.letter = 'r', .has_transaction = true, .transaction = 0x2e6, .end_lsn = 0x1554d98, .rollback_end_lsn = 0x1554dd0,
-      .clock = 0x30477e51da695, .rollback_clock = 0x30477e51da6c9, .name = {38, 4}}, 0, "gid2", 0, 0, 0, 0},
-    {LITERAL("S\0\0\2\347\1"), false,
-     {.letter = 'S', .has_transaction = true, .transaction = 0x2e7, .is_first = true}, 0, 0, 0, 0, 0, 0},
-    {LITERAL("R\0\0\2\347\0\0@ public\0big\0d\0\2\1id\0\0\0\0\27\377\377\377\377\0v\0\0\0\0\31\377\377\377\377"), true,
-     {.letter = 'R', .has_transaction = true, .transaction = 0x2e7, .relation = 0x4020, .schema = {9, 6}, .name = {16, 3},
-      .replica_identity = 'd', .columns = {23, 2}}, "public", "big", 0, 0, 0, "1,24+2,23,-1 0,36+1,25,-1 "},
-    {LITERAL("M\0\0\2\347\1\0\0\0\0\1Z$pstreamed\0\0\0\0\1m"), true,
-     {.letter = 'M', .has_transaction = true, .transaction = 0x2e7, .flags = 1, .lsn = 0x15a2470, .name = {14, 8},
-      .content = {27, 1}}, 0, "streamed", "m", 0, 0, 0},
-    {LITERAL("U\0\0\2\351\0\0@ N\0\2t\0\0\0\0011t\0\0\0\1u"), true,
-     {.letter = 'U', .has_transaction = true, .transaction = 0x2e9, .relation = 0x4020, .new_row = {12, 2}}, 0, 0, 0, 0,
-     "t17+1 t23+1 ", 0},
-    {LITERAL("D\0\0\2\351\0\0@ K\0\2t\0\0\0\0012n"), true,
-     {.letter = 'D', .has_transaction = true, .transaction = 0x2e9, .relation = 0x4020, .old_letter = 'K', .old_row = {12, 2}},
-     0, 0, 0, "t17+1 n0+0 ", 0, 0},
-    {LITERAL("T\0\0\2\351\0\0\0\1\0\0\0@\26"), true,
-     {.letter = 'T', .has_transaction = true, .transaction = 0x2e9, .relations = {10, 1}}, 0, 0, 0, 0, 0, 0},
-    {LITERAL("E"), true, {.letter = 'E'}, 0, 0, 0, 0, 0, 0},
-    {LITERAL("A\0\0\2\347\0\0\2\350"), false,
-     {.letter = 'A', .has_transaction = true, .transaction = 0x2e7, .subtransaction = 0x2e8}, 0, 0, 0, 0, 0, 0},
-    {LITERAL("c\0\0\2\347\0\0\0\0\0\1\\\227p\0\0\0\0\1\\\230H\0\3\4w\345\35\325\204"), false,
-     {.letter = 'c', .has_transaction = true, .transaction = 0x2e7, .lsn = 0x15c9770, .end_lsn = 0x15c9848,
-      .clock = 0x30477e51dd584}, 0, 0, 0, 0, 0, 0},
-    {LITERAL("p\0\0\0\0\0\1ap\370\0\0\0\0\1aq\360\0\3\4w\345\35\372\202\0\0\2\353gid3\0"), false,
-     {.letter = 'p', .has_transaction = true, .transaction = 0x2eb, .lsn = 0x16170f8, .end_lsn = 0x16171f0,
-      .clock = 0x30477e51dfa82, .name = {30, 4}}, 0, "gid3", 0, 0, 0, 0},
+    {{.letter = 'B', .transaction = 0x2dd, .lsn = 0x1553718, .clock = 0x30477e51d954b},
+     LITERAL("B\0\0\0\0\1U7\30\0\3\4w\345\35\225K\0\0\2\335"), false},
+    {{.letter = 'Y', .type_id = 0x4001, .schema = BYTES("public"), .name = BYTES("mood")},
+     LITERAL("Y\0\0@\1public\0mood\0"), false},
+    {{.letter = 'R', .relation = 0x4005, .schema = BYTES("public"), .name = BYTES("t"), .replica_identity = 'd',
+      .columns = TABLE({1, BYTES("id"), 23, -1}, {0, BYTES("body"), 25, -1},
+                       {0, BYTES("feeling"), 16385, -1}, {0, BYTES("note"), 25, -1})},
+     LITERAL("R\0\0@\5public\0t\0d\0\4\1id\0\0\0\0\27\377\377\377\377\0body\0\0\0\0\31\377\377\377\377"
+             "\0feeling\0\0\0@\1\377\377\377\377\0note\0\0\0\0\31\377\377\377\377"), false},
+    {{.letter = 'I', .relation = 0x400c, .values = VALUES(BINARY("\0\0\0\1"), BINARY("b"))},
+     LITERAL("I\0\0@\fN\0\2b\0\0\0\4\0\0\0\1b\0\0\0\1b"), false},
+    {{.letter = 'U', .relation = 0x4005, .values = VALUES(TEXT("1"), UNCHANGED, TEXT("ok"), TEXT("n"))},
+     LITERAL("U\0\0@\5N\0\4t\0\0\0\0011ut\0\0\0\2okt\0\0\0\1n"), false},
+    {{.letter = 'U', .relation = 0x4005, .old_letter = 'K', .old_values = VALUES(TEXT("1"), NONE, NONE, NONE),
+      .values = VALUES(TEXT("2"), UNCHANGED, TEXT("ok"), TEXT("n"))},
+     LITERAL("U\0\0@\5K\0\4t\0\0\0\0011nnnN\0\4t\0\0\0\0012ut\0\0\0\2okt\0\0\0\1n"), false},
+    {{.letter = 'D', .relation = 0x4005, .old_letter = 'K', .old_values = VALUES(TEXT("2"), NONE, NONE, NONE)},
+     LITERAL("D\0\0@\5K\0\4t\0\0\0\0012nnn"), false},
+    {{.letter = 'M', .flags = 1, .lsn = 0x1553718, .name = BYTES("pre"), .content = BYTES("con")},
+     LITERAL("M\1\0\0\0\0\1U7\30pre\0\0\0\0\3con"), false},
+    {{.letter = 'C', .lsn = 0x1553718, .end_lsn = 0x1553748, .clock = 0x30477e51d954b},
+     LITERAL("C\0\0\0\0\0\1U7\30\0\0\0\0\1U7H\0\3\4w\345\35\225K"), false},
+    {{.letter = 'M', .lsn = 0x1553788, .name = BYTES("pre2"), .content = BYTES("content2")},
+     LITERAL("M\0\0\0\0\0\1U7\210pre2\0\0\0\0\10content2"), false},
+    {{.letter = 'U', .relation = 0x400c, .old_letter = 'O', .old_values = VALUES(TEXT("1"), TEXT("b")),
+      .values = VALUES(TEXT("1"), TEXT("c"))},
+     LITERAL("U\0\0@\fO\0\2t\0\0\0\0011t\0\0\0\1bN\0\2t\0\0\0\0011t\0\0\0\1c"), false},
+    {{.letter = 'D', .relation = 0x400c, .old_letter = 'O', .old_values = VALUES(TEXT("1"), TEXT("c"))},
+     LITERAL("D\0\0@\fO\0\2t\0\0\0\0011t\0\0\0\1c"), false},
+    {{.letter = 'T', .flags = 3, .relations = NUMBERS(0x4011, 0x4016)}, LITERAL("T\0\0\0\2\3\0\0@\21\0\0@\26"), false},
+    {{.letter = 'O', .lsn = 0xaabbcc, .name = BYTES("far")}, LITERAL("O\0\0\0\0\0\252\273\314far\0"), false},
+    {{.letter = 'b', .transaction = 0x2e5, .lsn = 0x1554af0, .end_lsn = 0x1554be8, .clock = 0x30477e51da5a9,
+      .name = BYTES("gid1")}, LITERAL("b\0\0\0\0\1UJ\360\0\0\0\0\1UK\350\0\3\4w\345\35\245\251\0\0\2\345gid1\0"), false},
+    {{.letter = 'P', .transaction = 0x2e5, .lsn = 0x1554af0, .end_lsn = 0x1554be8, .clock = 0x30477e51da5a9,
+      .name = BYTES("gid1")}, LITERAL("P\0\0\0\0\0\1UJ\360\0\0\0\0\1UK\350\0\3\4w\345\35\245\251\0\0\2\345gid1\0"), false},
+    {{.letter = 'K', .transaction = 0x2e5, .lsn = 0x1554be8, .end_lsn = 0x1554c20, .clock = 0x30477e51da5f4,
+      .name = BYTES("gid1")}, LITERAL("K\0\0\0\0\0\1UK\350\0\0\0\0\1UL \0\3\4w\345\35\245\364\0\0\2\345gid1\0"), false},
+    {{.letter = 'r', .transaction = 0x2e6, .end_lsn = 0x1554d98, .rollback_end_lsn = 0x1554dd0, .clock = 0x30477e51da695,
+      .rollback_clock = 0x30477e51da6c9, .name = BYTES("gid2")},
+     LITERAL("r\0\0\0\0\0\1UM\230\0\0\0\0\1UM\320\0\3\4w\345\35\246\225\0\3\4w\345\35\246\311\0\0\2\346gid2\0"), false},
+    {{.letter = 'S', .transaction = 0x2e7, .is_first = true}, LITERAL("S\0\0\2\347\1"), false},
+    {{.letter = 'R', .has_transaction = true, .transaction = 0x2e7, .relation = 0x4020, .schema = BYTES("public"),
+      .name = BYTES("big"), .replica_identity = 'd', .columns = TABLE({1, BYTES("id"), 23, -1}, {0, BYTES("v"), 25, -1})},
+     LITERAL("R\0\0\2\347\0\0@ public\0big\0d\0\2\1id\0\0\0\0\27\377\377\377\377\0v\0\0\0\0\31\377\377\377\377"), true},
+    {{.letter = 'M', .has_transaction = true, .transaction = 0x2e7, .flags = 1, .lsn = 0x15a2470, .name = BYTES("streamed"),
+      .content = BYTES("m")}, LITERAL("M\0\0\2\347\1\0\0\0\0\1Z$pstreamed\0\0\0\0\1m"), true},
+    {{.letter = 'U', .has_transaction = true, .transaction = 0x2e9, .relation = 0x4020, .values = VALUES(TEXT("1"), TEXT("u"))},
+     LITERAL("U\0\0\2\351\0\0@ N\0\2t\0\0\0\0011t\0\0\0\1u"), true},
+    {{.letter = 'D', .has_transaction = true, .transaction = 0x2e9, .relation = 0x4020, .old_letter = 'K',
+      .old_values = VALUES(TEXT("2"), NONE)}, LITERAL("D\0\0\2\351\0\0@ K\0\2t\0\0\0\0012n"), true},
+    {{.letter = 'T', .has_transaction = true, .transaction = 0x2e9, .relations = NUMBERS(0x4016)},
+     LITERAL("T\0\0\2\351\0\0\0\1\0\0\0@\26"), true},
+    {{.letter = 'E'}, LITERAL("E"), true},
+    {{.letter = 'A', .transaction = 0x2e7, .subtransaction = 0x2e8}, LITERAL("A\0\0\2\347\0\0\2\350"), false},
+    {{.letter = 'c', .transaction = 0x2e7, .lsn = 0x15c9770, .end_lsn = 0x15c9848, .clock = 0x30477e51dd584},
+     LITERAL("c\0\0\2\347\0\0\0\0\0\1\\\227p\0\0\0\0\1\\\230H\0\3\4w\345\35\325\204"), false},
+    {{.letter = 'p', .transaction = 0x2eb, .lsn = 0x16170f8, .end_lsn = 0x16171f0, .clock = 0x30477e51dfa82,
+      .name = BYTES("gid3")}, LITERAL("p\0\0\0\0\0\1ap\370\0\0\0\0\1aq\360\0\3\4w\345\35\372\202\0\0\2\353gid3\0"), false},
 };
 
-/* Each part once more, as few as there may be, and numbers with the highest bit set. */
+/* The value of an `n` or a `u` isn't looked at. */
+static const pgmsg_datum_text row[] = {{'n', BYTES("xyz")}, TEXT("ab"), {'u', BYTES("x")}, BINARY("\0\1"), {'t', NULL, 0}};
+
+static const pgmsg_datum_text key[] = {TEXT("7"), NONE};
+
+static const pgmsg_table_column_text columns[] = {{1, BYTES("id"), 23, -1}, {255, NULL, 0, 0x80000001, INT32_MIN}};
+
+static const uint32_t tables[] = {0x4011, 0x80000001};
+
+#define ROW "\0\5" "n" "t\0\0\0\2ab" "u" "b\0\0\0\2\0\1" "t\0\0\0\0"
+
+#define KEY "\0\2" "t\0\0\0\0017" "n"
+
+#define COLUMNS "\0\2" "\1id\0" "\0\0\0\27" "\377\377\377\377" "\377\0" "\200\0\0\1" "\200\0\0\0"
+
+#define TABLES "\0\0@\21" "\200\0\0\1"
+
+/* Each part once more, as few as there may be, and numbers with the highest bit set; and each kind with each part that it has,
+ * in a stream too where it may be in one. */
 static const struct logical others[] = {
-    {LITERAL("B\377\377\377\377\377\377\377\370\377\377\377\377\377\377\377\376\200\0\0\1"), false,
-     {.letter = 'B', .has_transaction = true, .transaction = 0x80000001, .lsn = 0xfffffffffffffff8, .clock = -2},
-     0, 0, 0, 0, 0, 0},
-    {LITERAL("c\0\0\0\1\2\0\0\0\0\0\0\0\3\0\0\0\0\0\0\0\4\200\0\0\0\0\0\0\0"), false,
-     {.letter = 'c', .has_transaction = true, .transaction = 1, .flags = 2, .lsn = 3, .end_lsn = 4, .clock = INT64_MIN},
-     0, 0, 0, 0, 0, 0},
-    {LITERAL("C\1\0\0\0\0\0\0\0\2\0\0\0\0\0\0\0\3\177\377\377\377\377\377\377\377"), false,
-     {.letter = 'C', .flags = 1, .lsn = 2, .end_lsn = 3, .clock = INT64_MAX}, 0, 0, 0, 0, 0, 0},
-    {LITERAL("K\1\0\0\0\0\0\0\0\2\0\0\0\0\0\0\0\3\377\377\377\377\377\377\377\377\0\0\0\5\351\0"), false,
-     {.letter = 'K', .has_transaction = true, .transaction = 5, .flags = 1, .lsn = 2, .end_lsn = 3, .clock = -1, .name = {30, 1}},
-     0, "\351", 0, 0, 0, 0},
-    {LITERAL("r\1\0\0\0\0\0\0\0\2\0\0\0\0\0\0\0\3\377\377\377\377\377\377\377\377\200\0\0\0\0\0\0\0\0\0\0\5\0"), false,
-     {.letter = 'r', .has_transaction = true, .transaction = 5, .flags = 1, .end_lsn = 2, .rollback_end_lsn = 3, .clock = -1,
-      .rollback_clock = INT64_MIN, .name = {38, 0}}, 0, "", 0, 0, 0, 0},
-    {LITERAL("M\0\0\0\0\0\0\0\0\0\0\0\0\0\0"), false,
-     {.letter = 'M', .name = {10, 0}, .content = {15, 0}}, 0, "", "", 0, 0, 0},
-    {LITERAL("R\0\0\0\1\0\0f\0\0"), false,
-     {.letter = 'R', .relation = 1, .schema = {5, 0}, .name = {6, 0}, .replica_identity = 'f', .columns = {10, 0}},
-     "", "", 0, 0, 0, ""},
-    {LITERAL("R\0\0\0\1a\0bc\0n\0\1\377\0\200\0\0\1\200\0\0\0"), false,
-     {.letter = 'R', .relation = 1, .schema = {5, 1}, .name = {7, 2}, .replica_identity = 'n', .columns = {13, 1}},
-     "a", "bc", 0, 0, 0, "255,14+0,2147483649,-2147483648 "},
-    {LITERAL("I\0\0@\5N\0\4nut\0\0\0\2abb\0\0\0\1\0"), false,
-     {.letter = 'I', .relation = 0x4005, .new_row = {8, 4}}, 0, 0, 0, 0, "n0+0 u0+0 t15+2 b22+1 ", 0},
-    {LITERAL("U\0\0@\5N\0\0"), false, {.letter = 'U', .relation = 0x4005, .new_row = {8, 0}}, 0, 0, 0, 0, "", 0},
-    {LITERAL("U\0\0@\5O\0\0N\0\1t\0\0\0\0"), false,
-     {.letter = 'U', .relation = 0x4005, .old_letter = 'O', .old_row = {8, 0}, .new_row = {11, 1}}, 0, 0, 0, "", "t16+0 ", 0},
-    {LITERAL("T\0\0\0\0\1"), false, {.letter = 'T', .flags = 1, .relations = {6, 0}}, 0, 0, 0, 0, 0, 0},
-    {LITERAL("S\200\0\0\1\0"), false, {.letter = 'S', .has_transaction = true, .transaction = 0x80000001}, 0, 0, 0, 0, 0, 0},
-    {LITERAL("Y\0\0\0\1\0\0\0\2\0\0"), true,
-     {.letter = 'Y', .has_transaction = true, .transaction = 1, .type_id = 2, .schema = {9, 0}, .name = {10, 0}},
-     "", "", 0, 0, 0, 0},
-    {LITERAL("I\0\0\0\1\0\0\0\2N\0\1n"), true,
-     {.letter = 'I', .has_transaction = true, .transaction = 1, .relation = 2, .new_row = {12, 1}}, 0, 0, 0, 0, "n0+0 ", 0},
-    {LITERAL("S\0\0\0\1\0"), true, {.letter = 'S', .has_transaction = true, .transaction = 1}, 0, 0, 0, 0, 0, 0},
-    {LITERAL("E"), true, {.letter = 'E'}, 0, 0, 0, 0, 0, 0},
-    {LITERAL("E"), false, {.letter = 'E'}, 0, 0, 0, 0, 0, 0},
+    {{.letter = 'B', .transaction = 0x80000001, .lsn = 0xfffffffffffffff8, .clock = -2},
+     LITERAL("B\377\377\377\377\377\377\377\370\377\377\377\377\377\377\377\376\200\0\0\1"), false},
+    {{.letter = 'c', .transaction = 1, .flags = 2, .lsn = 3, .end_lsn = 4, .clock = INT64_MIN},
+     LITERAL("c\0\0\0\1\2\0\0\0\0\0\0\0\3\0\0\0\0\0\0\0\4\200\0\0\0\0\0\0\0"), false},
+    {{.letter = 'C', .flags = 1, .lsn = 2, .end_lsn = 3, .clock = INT64_MAX},
+     LITERAL("C\1\0\0\0\0\0\0\0\2\0\0\0\0\0\0\0\3\177\377\377\377\377\377\377\377"), false},
+    {{.letter = 'K', .transaction = 5, .flags = 1, .lsn = 2, .end_lsn = 3, .clock = -1, .name = BYTES("\351")},
+     LITERAL("K\1\0\0\0\0\0\0\0\2\0\0\0\0\0\0\0\3\377\377\377\377\377\377\377\377\0\0\0\5\351\0"), false},
+    {{.letter = 'r', .transaction = 5, .flags = 1, .end_lsn = 2, .rollback_end_lsn = 3, .clock = -1,
+      .rollback_clock = INT64_MIN},
+     LITERAL("r\1\0\0\0\0\0\0\0\2\0\0\0\0\0\0\0\3\377\377\377\377\377\377\377\377\200\0\0\0\0\0\0\0\0\0\0\5\0"), false},
+    {{.letter = 'M'}, LITERAL("M\0\0\0\0\0\0\0\0\0\0\0\0\0\0"), false},
+    {{.letter = 'R', .relation = 1, .replica_identity = 'f'}, LITERAL("R\0\0\0\1\0\0f\0\0"), false},
+    {{.letter = 'R', .relation = 1, .schema = BYTES("a"), .name = BYTES("bc"), .replica_identity = 'n',
+      .columns = TABLE({255, NULL, 0, 0x80000001, INT32_MIN})},
+     LITERAL("R\0\0\0\1a\0bc\0n\0\1\377\0\200\0\0\1\200\0\0\0"), false},
+    {{.letter = 'I', .relation = 0x4005, .values = VALUES(NONE, UNCHANGED, TEXT("ab"), BINARY("\0"))},
+     LITERAL("I\0\0@\5N\0\4nut\0\0\0\2abb\0\0\0\1\0"), false},
+    {{.letter = 'U', .relation = 0x4005}, LITERAL("U\0\0@\5N\0\0"), false},
+    {{.letter = 'U', .relation = 0x4005, .old_letter = 'O', .values = VALUES(TEXT(""))},
+     LITERAL("U\0\0@\5O\0\0N\0\1t\0\0\0\0"), false},
+    {{.letter = 'T', .flags = 1}, LITERAL("T\0\0\0\0\1"), false},
+    {{.letter = 'S', .transaction = 0x80000001}, LITERAL("S\200\0\0\1\0"), false},
+    {{.letter = 'Y', .has_transaction = true, .transaction = 1, .type_id = 2}, LITERAL("Y\0\0\0\1\0\0\0\2\0\0"), true},
+    {{.letter = 'I', .has_transaction = true, .transaction = 1, .relation = 2, .values = VALUES(NONE)},
+     LITERAL("I\0\0\0\1\0\0\0\2N\0\1n"), true},
+    {{.letter = 'S', .transaction = 1}, LITERAL("S\0\0\0\1\0"), true},
+    {{.letter = 'E'}, LITERAL("E"), false},
+    {{.letter = 'B', .lsn = 0x102030405060708, .clock = -2, .transaction = 0x80000001},
+     LITERAL("B" "\1\2\3\4\5\6\7\10" "\377\377\377\377\377\377\377\376" "\200\0\0\1"), false},
+    {{.letter = 'M', .flags = 1, .lsn = 0xfffffffffffffff8, .name = BYTES("pre"), .content = BYTES("a\0b")},
+     LITERAL("M" "\1" "\377\377\377\377\377\377\377\370" "pre\0" "\0\0\0\3" "a\0b"), false},
+    {{.letter = 'C', .flags = 2, .lsn = 3, .end_lsn = 4, .clock = INT64_MIN},
+     LITERAL("C" "\2" "\0\0\0\0\0\0\0\3" "\0\0\0\0\0\0\0\4" "\200\0\0\0\0\0\0\0"), false},
+    {{.letter = 'O', .lsn = 0xaabbcc, .name = BYTES("far")}, LITERAL("O" "\0\0\0\0\0\252\273\314" "far\0"), false},
+    {{.letter = 'R', .relation = 0x4005, .schema = BYTES("public"), .name = BYTES("t"), .replica_identity = 'd',
+      .columns = LIST(columns)}, LITERAL("R" "\0\0@\5" "public\0" "t\0" "d" COLUMNS), false},
+    {{.letter = 'R'}, LITERAL("R" "\0\0\0\0" "\0" "\0" "\0" "\0\0"), false},
+    {{.letter = 'Y', .type_id = 0x4001, .schema = BYTES("\351"), .name = BYTES("mood")},
+     LITERAL("Y" "\0\0@\1" "\351\0" "mood\0"), false},
+    {{.letter = 'I', .relation = 0x4005, .values = LIST(row)}, LITERAL("I" "\0\0@\5" "N" ROW), false},
+    {{.letter = 'I'}, LITERAL("I" "\0\0\0\0" "N" "\0\0"), false},
+    {{.letter = 'U', .relation = 0x4005, .values = LIST(row)}, LITERAL("U" "\0\0@\5" "N" ROW), false},
+    {{.letter = 'U', .relation = 0x4005, .old_letter = 'K', .old_values = LIST(key), .values = LIST(row)},
+     LITERAL("U" "\0\0@\5" "K" KEY "N" ROW), false},
+    {{.letter = 'U', .relation = 0x4005, .old_letter = 'O', .old_values = LIST(row), .values = LIST(key)},
+     LITERAL("U" "\0\0@\5" "O" ROW "N" KEY), false},
+    {{.letter = 'D', .relation = 0x4005, .old_letter = 'K', .old_values = LIST(key)}, LITERAL("D" "\0\0@\5" "K" KEY), false},
+    {{.letter = 'D', .relation = 0x4005, .old_letter = 'O', .old_values = LIST(row)}, LITERAL("D" "\0\0@\5" "O" ROW), false},
+    {{.letter = 'T', .flags = 3, .relations = LIST(tables)}, LITERAL("T" "\0\0\0\2" "\3" TABLES), false},
+    {{.letter = 'T'}, LITERAL("T" "\0\0\0\0" "\0"), false},
+    {{.letter = 'b', .lsn = 1, .end_lsn = 2, .clock = 3, .transaction = 4, .name = BYTES("gid")},
+     LITERAL("b" "\0\0\0\0\0\0\0\1" "\0\0\0\0\0\0\0\2" "\0\0\0\0\0\0\0\3" "\0\0\0\4" "gid\0"), false},
+    {{.letter = 'P', .flags = 9, .lsn = 1, .end_lsn = 2, .clock = 3, .transaction = 4, .name = BYTES("gid")},
+     LITERAL("P" "\11" "\0\0\0\0\0\0\0\1" "\0\0\0\0\0\0\0\2" "\0\0\0\0\0\0\0\3" "\0\0\0\4" "gid\0"), false},
+    {{.letter = 'K', .flags = 9, .lsn = 1, .end_lsn = 2, .clock = 3, .transaction = 4, .name = BYTES("gid")},
+     LITERAL("K" "\11" "\0\0\0\0\0\0\0\1" "\0\0\0\0\0\0\0\2" "\0\0\0\0\0\0\0\3" "\0\0\0\4" "gid\0"), false},
+    {{.letter = 'r', .flags = 9, .end_lsn = 1, .rollback_end_lsn = 2, .clock = 3, .rollback_clock = -1, .transaction = 4},
+     LITERAL("r" "\11" "\0\0\0\0\0\0\0\1" "\0\0\0\0\0\0\0\2" "\0\0\0\0\0\0\0\3" "\377\377\377\377\377\377\377\377"
+             "\0\0\0\4" "\0"), false},
+    {{.letter = 'p', .flags = 9, .lsn = 1, .end_lsn = 2, .clock = 3, .transaction = 4, .name = BYTES("gid")},
+     LITERAL("p" "\11" "\0\0\0\0\0\0\0\1" "\0\0\0\0\0\0\0\2" "\0\0\0\0\0\0\0\3" "\0\0\0\4" "gid\0"), false},
+    {{.letter = 'c', .transaction = 4, .flags = 9, .lsn = 1, .end_lsn = 2, .clock = 3},
+     LITERAL("c" "\0\0\0\4" "\11" "\0\0\0\0\0\0\0\1" "\0\0\0\0\0\0\0\2" "\0\0\0\0\0\0\0\3"), false},
+    {{.letter = 'A', .transaction = 4, .subtransaction = 5}, LITERAL("A" "\0\0\0\4" "\0\0\0\5"), false},
+    {{.letter = 'S', .transaction = 4}, LITERAL("S" "\0\0\0\4" "\0"), false},
+    {{.letter = 'S', .transaction = 4, .is_first = true}, LITERAL("S" "\0\0\0\4" "\1"), false},
+    {{.letter = 'M', .has_transaction = true, .transaction = 4}, LITERAL("M" "\0\0\0\4" "\0" "\0\0\0\0\0\0\0\0" "\0" "\0\0\0\0"), true},
+    {{.letter = 'R', .has_transaction = true, .transaction = 4, .relation = 5, .name = BYTES("t"), .replica_identity = 'n',
+      .columns = LIST(columns)}, LITERAL("R" "\0\0\0\4" "\0\0\0\5" "\0" "t\0" "n" COLUMNS), true},
+    {{.letter = 'Y', .has_transaction = true, .transaction = 4, .type_id = 5}, LITERAL("Y" "\0\0\0\4" "\0\0\0\5" "\0" "\0"), true},
+    {{.letter = 'I', .has_transaction = true, .transaction = 4, .relation = 5, .values = LIST(key)},
+     LITERAL("I" "\0\0\0\4" "\0\0\0\5" "N" KEY), true},
+    {{.letter = 'U', .has_transaction = true, .transaction = 4, .relation = 5, .old_letter = 'K', .old_values = LIST(key),
+      .values = LIST(row)}, LITERAL("U" "\0\0\0\4" "\0\0\0\5" "K" KEY "N" ROW), true},
+    {{.letter = 'D', .has_transaction = true, .transaction = 4, .relation = 5, .old_letter = 'O', .old_values = LIST(key)},
+     LITERAL("D" "\0\0\0\4" "\0\0\0\5" "O" KEY), true},
+    {{.letter = 'T', .has_transaction = true, .transaction = 4, .flags = 1, .relations = LIST(tables)},
+     LITERAL("T" "\0\0\0\4" "\0\0\0\2" "\1" TABLES), true},
 };
 
-/* Each kind by its shortest message outside of a stream. */
-static const struct {
-    const char *bytes;
-    size_t len;
-} shortest[] = {
-    {LITERAL("B\0\0\0\0\0\0\0\0\0\0\0\0\0\0\0\0\0\0\0\0")},
-    {LITERAL("M\0\0\0\0\0\0\0\0\0\0\0\0\0\0")},
-    {LITERAL("C\0\0\0\0\0\0\0\0\0\0\0\0\0\0\0\0\0\0\0\0\0\0\0\0\0")},
-    {LITERAL("O\0\0\0\0\0\0\0\0\0")},
-    {LITERAL("R\0\0\0\0\0\0\0\0\0")},
-    {LITERAL("Y\0\0\0\0\0\0")},
-    {LITERAL("I\0\0\0\0N\0\0")},
-    {LITERAL("U\0\0\0\0N\0\0")},
-    {LITERAL("D\0\0\0\0K\0\0")},
-    {LITERAL("T\0\0\0\0\0")},
-    {LITERAL("S\0\0\0\0\0")},
-    {LITERAL("E")},
-    {LITERAL("c\0\0\0\0\0\0\0\0\0\0\0\0\0\0\0\0\0\0\0\0\0\0\0\0\0\0\0\0\0")},
-    {LITERAL("A\0\0\0\0\0\0\0\0")},
-    {LITERAL("b\0\0\0\0\0\0\0\0\0\0\0\0\0\0\0\0\0\0\0\0\0\0\0\0\0\0\0\0\0")},
-    {LITERAL("P\0\0\0\0\0\0\0\0\0\0\0\0\0\0\0\0\0\0\0\0\0\0\0\0\0\0\0\0\0\0")},
-    {LITERAL("K\0\0\0\0\0\0\0\0\0\0\0\0\0\0\0\0\0\0\0\0\0\0\0\0\0\0\0\0\0\0")},
-    {LITERAL("r\0\0\0\0\0\0\0\0\0\0\0\0\0\0\0\0\0\0\0\0\0\0\0\0\0\0\0\0\0\0\0\0\0\0\0\0\0\0")},
-    {LITERAL("p\0\0\0\0\0\0\0\0\0\0\0\0\0\0\0\0\0\0\0\0\0\0\0\0\0\0\0\0\0\0")},
-};
-
-static bool is_span(pgmsg_span found, pgmsg_span due)
+static bool is_span(pgmsg_span found, size_t at, size_t len)
 {
-    return found.at == due.at && found.len == due.len;
+    return found.at == at && found.len == len;
 }
 
-static bool is_list(pgmsg_list found, pgmsg_list due)
+static bool is_list(pgmsg_list found, size_t at, size_t count)
 {
-    return found.at == due.at && found.count == due.count;
+    return found.at == at && found.count == count;
 }
 
-static bool is_same(const pgmsg_logical *read, const pgmsg_logical *due)
+/* Whether the numbers of a message are those that are due. */
+static bool has_numbers(const pgmsg_logical *read, const pgmsg_logical_text *due)
 {
-    return read->letter == due->letter && read->has_transaction == due->has_transaction
+    return read->letter == due->letter
+        && read->has_transaction == (due->has_transaction || strchr("BbPKrpcAS", due->letter) != NULL)
         && read->transaction == due->transaction && read->subtransaction == due->subtransaction && read->flags == due->flags
         && read->is_first == due->is_first && read->lsn == due->lsn && read->end_lsn == due->end_lsn
         && read->rollback_end_lsn == due->rollback_end_lsn && read->clock == due->clock
         && read->rollback_clock == due->rollback_clock && read->relation == due->relation && read->type_id == due->type_id
-        && read->replica_identity == due->replica_identity && is_span(read->schema, due->schema)
-        && is_span(read->name, due->name) && is_span(read->content, due->content) && is_list(read->columns, due->columns)
-        && is_list(read->relations, due->relations) && read->old_letter == due->old_letter
-        && is_list(read->old_row, due->old_row) && is_list(read->new_row, due->new_row);
+        && read->replica_identity == due->replica_identity && read->old_letter == due->old_letter;
 }
 
-/* Whether a text, where the message has one, is at its place. */
-static bool is_text(const char *bytes, pgmsg_span span, const char *text)
+/* A place in a message, which moves past each part that is found at it. The parts stand in the documentation's order. */
+struct place {
+    const struct logical *sample;
+    size_t at;
+};
+
+/* The place of the first part that may have any length, in the kinds that have one. */
+static struct place front_of(const struct logical *sample)
 {
-    return text == NULL || is_at(bytes, span, text);
+    static const char kinds[] = "RYMObPKrpTIUD";
+    static const uint8_t fronts[] = {5, 5, 10, 9, 29, 30, 30, 38, 30, 6, 8, 8, 8};
+    const char *kind = strchr(kinds, sample->message.letter);
+    size_t streamed = sample->message.has_transaction ? 4 : 0;
+    return (struct place){sample, kind == NULL ? 0 : fronts[kind - kinds] + streamed};
 }
 
-/* Values, each as its kind, its offset and its length. */
-static void list_values(const pgmsg_datum *values, ptrdiff_t count, char *listed, size_t room)
+/* Whether a text is at the place, of the kinds that have one. */
+static bool finds_text(struct place *place, const char *kinds, pgmsg_span span, const uint8_t *text, size_t len)
 {
-    listed[0] = 0;
-    for (ptrdiff_t i = 0; i < count; i++) {
-        size_t len = strlen(listed);
-        snprintf(listed + len, room - len, "%c%zu+%zu ", values[i].kind, values[i].value.at, values[i].value.len);
+    size_t at = place->at;
+    if (strchr(kinds, place->sample->message.letter) == NULL)
+        return is_span(span, 0, 0);
+    place->at += len + 1;
+    return is_span(span, at, len) && (len == 0 || memcmp(place->sample->bytes + at, text, len) == 0);
+}
+
+/* Whether values are those that begin at the place. */
+static bool finds_values(struct place *place, const pgmsg_datum *read, const pgmsg_datum_text *due, size_t count)
+{
+    bool are_found = true;
+    for (size_t i = 0; i < count; i++) {
+        bool has_bytes = strchr("tb", due[i].kind) != NULL;
+        size_t at = has_bytes ? place->at + 5 : 0, len = has_bytes ? due[i].value_len : 0;
+        are_found = are_found && read[i].kind == due[i].kind && is_span(read[i].value, at, len)
+                 && (len == 0 || memcmp(place->sample->bytes + at, due[i].value, len) == 0);
+        place->at = has_bytes ? at + len : place->at + 1;
     }
+    return are_found;
 }
 
-/* The same of a row that is read by its list. */
-static void list_row(struct tally *tally, const struct logical *sample, pgmsg_list list, char *listed, size_t room)
+/* Whether a row is read by its list as it is at the place, and given so where it is a new one; of messages that have one. */
+static bool finds_row(struct place *place, bool has_one, pgmsg_list list, const pgmsg_datum_text *due, size_t count,
+                      const pgmsg_datum *given)
 {
-    pgmsg_datum values[VALUES];
+    struct place again = *place;
+    pgmsg_datum values[MOST];
     pgmsg_fault fault;
-    ptrdiff_t count = pgmsg_read_tuple((const uint8_t *)sample->bytes, sample->len, list, values, VALUES, &fault);
-    CHECK(tally, count >= 0 && (size_t)count == list.count);
-    list_values(values, count, listed, room);
+    if (!has_one)
+        return is_list(list, 0, 0);
+    return is_list(list, place->at, count)
+        && pgmsg_read_tuple((const uint8_t *)place->sample->bytes, place->sample->len, list, values, MOST, &fault)
+               == (ptrdiff_t)count
+        && finds_values(place, values, due, count) && (given == NULL || finds_values(&again, given, due, count));
 }
 
-/* The columns of a table, each as its flags, its name's offset and length, its type and the type's modifier. */
-static void list_columns(struct tally *tally, const struct logical *sample, pgmsg_list list, char *listed, size_t room)
+/* Whether the columns of a table are read by their list as they are after its replica identity and their count. */
+static bool finds_columns(struct place place, pgmsg_list list)
 {
-    pgmsg_table_column columns[8];
+    const pgmsg_table_column_text *due = place.sample->message.columns;
+    size_t count = place.sample->message.columns_len;
+    const uint8_t *content = (const uint8_t *)place.sample->bytes;
+    pgmsg_table_column read[MOST];
     pgmsg_fault fault;
-    ptrdiff_t count = pgmsg_read_table_columns((const uint8_t *)sample->bytes, sample->len, list, columns, 8, &fault);
-    CHECK(tally, count >= 0 && (size_t)count == list.count);
-    listed[0] = 0;
-    for (ptrdiff_t i = 0; i < count; i++) {
-        size_t len = strlen(listed);
-        snprintf(listed + len, room - len, "%d,%zu+%zu,%" PRIu32 ",%" PRId32 " ", columns[i].flags, columns[i].name.at,
-                 columns[i].name.len, columns[i].type_id, columns[i].type_modifier);
+    if (place.sample->message.letter != 'R')
+        return is_list(list, 0, 0);
+    place.at += 3;
+    bool are_found = is_list(list, place.at, count)
+        && pgmsg_read_table_columns(content, place.sample->len, list, read, MOST, &fault) == (ptrdiff_t)count;
+    for (size_t i = 0; i < count && are_found; i++) {
+        place.at++;
+        are_found = finds_text(&place, "R", read[i].name, due[i].name, due[i].name_len) && read[i].flags == due[i].flags
+                 && read[i].type_id == due[i].type_id && read[i].type_modifier == due[i].type_modifier;
+        place.at += 8;
     }
+    return are_found;
+}
+
+/* Whether the numbers of the tables of a Truncate are read by their list. */
+static bool finds_tables(struct place place, pgmsg_list list)
+{
+    size_t count = place.sample->message.relations_len;
+    uint32_t read[MOST];
+    return is_list(list, place.sample->message.letter == 'T' ? place.at : 0, count)
+        && pgmsg_read_types((const uint8_t *)place.sample->bytes, place.sample->len, list, read, MOST) == count
+        && (count == 0 || memcmp(read, place.sample->message.relations, count * sizeof *read) == 0);
 }
 
 /* Reads a message and its lists. */
 static void test_read_one(struct tally *tally, const struct logical *sample, bool *streamed)
 {
-    char listed[256];
-    pgmsg_datum values[VALUES];
+    const pgmsg_logical_text *due = &sample->message;
+    struct place place = front_of(sample);
+    pgmsg_datum values[MOST];
     pgmsg_logical read;
     pgmsg_fault fault;
     memset(values, UNTOUCHED, sizeof values);
     memset(&read, UNTOUCHED, sizeof read);
     memset(&fault, UNTOUCHED, sizeof fault);
-    ptrdiff_t count = pgmsg_read_logical((const uint8_t *)sample->bytes, sample->len, streamed, values, VALUES, &read, &fault);
-    CHECK(tally, count >= 0 && (size_t)count == sample->message.new_row.count);
-    CHECK(tally, are_untouched(values + count, (size_t)(VALUES - count) * sizeof *values));
-    list_values(values, count, listed, sizeof listed);
-    CHECK(tally, strcmp(listed, sample->new_row ? sample->new_row : "") == 0);
-    CHECK(tally, is_same(&read, &sample->message) && are_untouched(&fault, sizeof fault));
+    ptrdiff_t count = pgmsg_read_logical((const uint8_t *)sample->bytes, sample->len, streamed, values, MOST, &read, &fault);
+    CHECK(tally, count == (ptrdiff_t)due->values_len);
+    CHECK(tally, are_untouched(values + due->values_len, (MOST - due->values_len) * sizeof *values));
+    CHECK(tally, has_numbers(&read, due) && are_untouched(&fault, sizeof fault));
     CHECK(tally, *streamed == (read.letter == 'S' || (sample->is_streamed && read.letter != 'E')));
-    CHECK(tally, is_text(sample->bytes, read.schema, sample->schema) && is_text(sample->bytes, read.name, sample->name)
-                     && is_text(sample->bytes, read.content, sample->content));
-    list_row(tally, sample, read.old_row, listed, sizeof listed);
-    CHECK(tally, strcmp(listed, sample->old_row ? sample->old_row : "") == 0);
-    list_row(tally, sample, read.new_row, listed, sizeof listed);
-    CHECK(tally, strcmp(listed, sample->new_row ? sample->new_row : "") == 0);
-    list_columns(tally, sample, read.columns, listed, sizeof listed);
-    CHECK(tally, strcmp(listed, sample->columns ? sample->columns : "") == 0);
+    CHECK(tally, finds_text(&place, "RY", read.schema, due->schema, due->schema_len));
+    CHECK(tally, finds_text(&place, "RYMObPKrp", read.name, due->name, due->name_len));
+    CHECK(tally, finds_columns(place, read.columns));
+    CHECK(tally, finds_tables(place, read.relations));
+    CHECK(tally, finds_row(&place, due->old_letter != 0, read.old_row, due->old_values, due->old_values_len, NULL));
+    place.at += due->old_letter != 0 ? 3 : due->letter == 'M' ? 4 : 0;
+    CHECK(tally, finds_text(&place, "M", read.content, due->content, due->content_len));
+    CHECK(tally, finds_row(&place, strchr("IU", due->letter) != NULL, read.new_row, due->values, due->values_len, values));
 }
 
 /* Reads what is cut off of a message, or too much: a refusal leaves alone what it doesn't say. */
 static void test_cut(struct tally *tally, const struct logical *sample)
 {
-    pgmsg_datum values[VALUES];
+    pgmsg_datum values[MOST];
     pgmsg_logical read;
     pgmsg_fault fault;
     bool streamed = sample->is_streamed;
     memset(&read, UNTOUCHED, sizeof read);
     for (size_t cut = 0; cut < sample->len; cut++) {
-        ptrdiff_t answer = pgmsg_read_logical((const uint8_t *)sample->bytes, cut, &streamed, values, VALUES, &read, &fault);
+        ptrdiff_t answer = pgmsg_read_logical((const uint8_t *)sample->bytes, cut, &streamed, values, MOST, &read, &fault);
         CHECK(tally, answer == PGMSG_SHORT || answer == PGMSG_MISSING_NUL);
         CHECK(tally, fault.number == answer && fault.at <= cut && are_untouched(&read, sizeof read));
     }
     uint8_t more[256] = {0};
     memcpy(more, sample->bytes, sample->len);
-    CHECK(tally, pgmsg_read_logical(more, sample->len + 1, &streamed, values, VALUES, &read, &fault) == PGMSG_BODY_TOO_LONG);
+    CHECK(tally, pgmsg_read_logical(more, sample->len + 1, &streamed, values, MOST, &read, &fault) == PGMSG_BODY_TOO_LONG);
     CHECK(tally, streamed == sample->is_streamed && are_untouched(&read, sizeof read));
 }
 
-/* Every letter. */
-static void test_letters(struct tally *tally)
+/* Writes a message into rooms of each length. */
+static void test_put_one(struct tally *tally, const struct logical *sample)
 {
-    const char *known[256] = {0};
-    size_t lens[256] = {0};
-    for (size_t i = 0; i < sizeof shortest / sizeof *shortest; i++) {
-        known[(uint8_t)shortest[i].bytes[0]] = shortest[i].bytes;
-        lens[(uint8_t)shortest[i].bytes[0]] = shortest[i].len;
-    }
-    for (int letter = 0; letter < 256; letter++) {
-        const uint8_t unknown[40] = {(uint8_t)letter};
-        bool streamed = false;
-        pgmsg_logical read = {0};
-        pgmsg_fault fault;
-        const uint8_t *bytes = known[letter] ? (const uint8_t *)known[letter] : unknown;
-        size_t len = known[letter] ? lens[letter] : sizeof unknown;
-        CHECK(tally, pgmsg_read_logical(bytes, len, &streamed, NULL, 0, &read, &fault) == (known[letter] ? 0 : PGMSG_UNKNOWN_MESSAGE_TYPE));
-        CHECK(tally, read.letter == (known[letter] ? letter : 0) && streamed == (letter == 'S'));
+    uint8_t out[ROOM];
+    for (size_t room = 0; room <= sizeof out; room++) {
+        memset(out, UNTOUCHED, sizeof out);
+        CHECK(tally, pgmsg_put_logical(&sample->message, out, room) == (ptrdiff_t)sample->len);
+        size_t put = room < sample->len ? 0 : sample->len;
+        CHECK(tally, are_bytes(out, put, sample->bytes, put) && are_untouched(out + put, sizeof out - put));
     }
 }
 
-/* The numbers of the tables of a Truncate. */
-static void test_relations(struct tally *tally)
+/* Every letter, by its shortest message outside of a stream. */
+static void test_letters(struct tally *tally)
 {
-    uint32_t relations[3] = {7, 7, 7};
-    const uint8_t *bytes = (const uint8_t *)"T\0\0\0\2\3\0\0@\21\0\0@\26";
-    CHECK(tally, pgmsg_read_types(bytes, 14, (pgmsg_list){6, 2}, relations, 3) == 2);
-    CHECK(tally, relations[0] == 0x4011 && relations[1] == 0x4016 && relations[2] == 7);
+    static const char letters[] = "BMCORYIUDTSEcAbPKrp";
+    static const uint8_t shortest[] = {21, 15, 26, 10, 10, 7, 8, 8, 8, 6, 6, 1, 30, 9, 30, 31, 31, 39, 31};
+    for (int letter = 0; letter < 256; letter++) {
+        uint8_t bytes[40] = {(uint8_t)letter, 0, 0, 0, 0, letter == 'D' ? 'K' : letter == 'I' || letter == 'U' ? 'N' : 0};
+        const char *known = letter == 0 ? NULL : strchr(letters, letter);
+        size_t len = known ? shortest[known - letters] : sizeof bytes;
+        bool streamed = false;
+        pgmsg_logical read = {0};
+        pgmsg_fault fault;
+        CHECK(tally, pgmsg_read_logical(bytes, len, &streamed, NULL, 0, &read, &fault) == (known ? 0 : PGMSG_UNKNOWN_MESSAGE_TYPE));
+        CHECK(tally, read.letter == (known ? letter : 0) && streamed == (letter == 'S'));
+    }
 }
 
 /* Rooms for fewer and for more items than there are. */
@@ -318,8 +398,6 @@ static void test_rooms_of_lists(struct tally *tally)
     }
 }
 
-#define MESSAGE(literal) (const uint8_t *)(literal), sizeof(literal) - 1
-
 /* Rooms for fewer and for more values than a new row has, after the number of its table and after an old row. */
 static void test_rooms_of_new_rows(struct tally *tally)
 {
@@ -339,8 +417,8 @@ static void test_rooms_of_new_rows(struct tally *tally)
             pgmsg_fault fault;
             size_t given = room < 3 ? room : 3;
             memset(values, UNTOUCHED, sizeof values);
-            CHECK(tally, pgmsg_read_logical((const uint8_t *)messages[i].bytes, messages[i].len, &streamed, values, room, &read,
-                                            &fault) == 3);
+            CHECK(tally, pgmsg_read_logical((const uint8_t *)messages[i].bytes, messages[i].len, &streamed,
+                                            room == 0 ? NULL : values, room, &read, &fault) == 3);
             CHECK(tally, read.new_row.count == 3 && are_untouched(values + given, (4 - given) * sizeof *values));
             CHECK(tally, given < 2 || (values[1].kind == 't' && values[1].value.at == messages[i].text_at && values[1].value.len == 1));
             CHECK(tally, given < 3 || (values[0].kind == 'n' && values[2].kind == 'u'));
@@ -356,47 +434,14 @@ static void test_fronts_of_new_rows(struct tally *tally)
     memset(values, UNTOUCHED, sizeof values);
     memset(&read, UNTOUCHED, sizeof read);
     REFUSES(tally, PGMSG_UNKNOWN_MESSAGE_TYPE, 0, "unknown message type: 120",
-            pgmsg_read_logical(MESSAGE("I\0\0@\5N\0\2ux"), &streamed, values, 3, &read, &fault));
+            pgmsg_read_logical(BYTES("I\0\0@\5N\0\2ux"), &streamed, values, 3, &read, &fault));
     CHECK(tally, values[0].kind == 'u' && are_untouched(values + 1, 2 * sizeof *values) && are_untouched(&read, sizeof read));
     REFUSES(tally, PGMSG_SHORT, 15, "expected 1 bytes at offset 15, got 0",
-            pgmsg_read_logical(MESSAGE("U\0\0@\5N\0\3t\0\0\0\1an"), &streamed, values, 1, &read, &fault));
+            pgmsg_read_logical(BYTES("U\0\0@\5N\0\3t\0\0\0\1an"), &streamed, values, 1, &read, &fault));
     CHECK(tally, values[0].kind == 't' && are_untouched(values + 1, 2 * sizeof *values) && are_untouched(&read, sizeof read));
     REFUSES(tally, PGMSG_BODY_TOO_LONG, 0, "message body out of range for protocol: 10",
-            pgmsg_read_logical(MESSAGE("I\0\0@\5N\0\2nun"), &streamed, values, 3, &read, &fault));
+            pgmsg_read_logical(BYTES("I\0\0@\5N\0\2nun"), &streamed, values, 3, &read, &fault));
     CHECK(tally, values[0].kind == 'n' && values[1].kind == 'u' && are_untouched(&read, sizeof read));
-}
-
-static void test_refusals(struct tally *tally)
-{
-    static const struct {
-        const uint8_t *bytes;
-        size_t len;
-        bool is_streamed;
-        int32_t number;
-        size_t at;
-        const char *words;
-    } refused[] = {
-        {MESSAGE("X"), false, PGMSG_UNKNOWN_MESSAGE_TYPE, 0, "unknown message type: 88"},
-        {NULL, 0, false, PGMSG_SHORT, 0, "expected 1 bytes at offset 0, got 0"},
-        {MESSAGE("B\0\0\0\0\1\0\0(\0\0\0"), false, PGMSG_SHORT, 9, "expected 8 bytes at offset 9, got 3"},
-        {MESSAGE("O\0\0\0\0\1\0\0(far"), false, PGMSG_MISSING_NUL, 9, "expected NUL after offset 9"},
-        {MESSAGE("E\0"), false, PGMSG_BODY_TOO_LONG, 0, "message body out of range for protocol: 1"},
-        {MESSAGE("D\0\0@\5N\0\0"), false, PGMSG_UNKNOWN_MESSAGE_TYPE, 0, "unknown message type: 78"},
-        {MESSAGE("I\0\0@\5K\0\0"), false, PGMSG_UNKNOWN_MESSAGE_TYPE, 0, "unknown message type: 75"},
-        {MESSAGE("U\0\0@\5X\0\0"), false, PGMSG_UNKNOWN_MESSAGE_TYPE, 0, "unknown message type: 88"},
-        {MESSAGE("I\0\0@\5N\0\1x"), false, PGMSG_UNKNOWN_MESSAGE_TYPE, 0, "unknown message type: 120"},
-        {MESSAGE("I\0\0@\5N\0\1t\0\0\0\ta"), false, PGMSG_SHORT, 13, "expected 9 bytes at offset 13, got 1"},
-        {MESSAGE("T\0\0\0\2\0\0\0@\5\0"), false, PGMSG_SHORT, 10, "expected 4 bytes at offset 10, got 1"},
-        {MESSAGE("I\0\0@\5N\0\0"), true, PGMSG_SHORT, 5, "expected 4 bytes at offset 5, got 3"},
-    };
-    for (size_t i = 0; i < sizeof refused / sizeof *refused; i++) {
-        bool streamed = refused[i].is_streamed;
-        pgmsg_datum values[VALUES];
-        pgmsg_logical read;
-        REFUSES(tally, refused[i].number, refused[i].at, refused[i].words,
-                pgmsg_read_logical(refused[i].bytes, refused[i].len, &streamed, values, VALUES, &read, &fault));
-        CHECK(tally, streamed == refused[i].is_streamed);
-    }
 }
 
 /* Lists that aren't in the bytes. */
@@ -406,52 +451,46 @@ static void test_refused_lists(struct tally *tally)
     pgmsg_table_column columns[2];
     memset(values, UNTOUCHED, sizeof values);
     REFUSES(tally, PGMSG_SHORT, 4, "expected 1 bytes at offset 4, got 0",
-            pgmsg_read_tuple(MESSAGE("nnn"), (pgmsg_list){4, 1}, values, 2, &fault));
+            pgmsg_read_tuple(BYTES("nnn"), (pgmsg_list){4, 1}, values, 2, &fault));
     REFUSES(tally, PGMSG_SHORT, SIZE_MAX, "expected 18446744073709551615 bytes at offset 18446744073709551615, got 0",
-            pgmsg_read_tuple(MESSAGE("nnn"), (pgmsg_list){SIZE_MAX, SIZE_MAX}, values, 2, &fault));
+            pgmsg_read_tuple(BYTES("nnn"), (pgmsg_list){SIZE_MAX, SIZE_MAX}, values, 2, &fault));
     REFUSES(tally, PGMSG_SHORT, 1, "expected 3 bytes at offset 1, got 2",
-            pgmsg_read_tuple(MESSAGE("nnn"), (pgmsg_list){1, 3}, values, 2, &fault));
+            pgmsg_read_tuple(BYTES("nnn"), (pgmsg_list){1, 3}, values, 2, &fault));
     CHECK(tally, are_untouched(values, sizeof values));
     REFUSES(tally, PGMSG_UNKNOWN_MESSAGE_TYPE, 0, "unknown message type: 120",
-            pgmsg_read_tuple(MESSAGE("ux"), (pgmsg_list){0, 2}, values, 2, &fault));
+            pgmsg_read_tuple(BYTES("ux"), (pgmsg_list){0, 2}, values, 2, &fault));
     CHECK(tally, values[0].kind == 'u' && are_untouched(values + 1, sizeof *values));
     memset(columns, UNTOUCHED, sizeof columns);
     REFUSES(tally, PGMSG_MISSING_NUL, 12, "expected NUL after offset 12",
-            pgmsg_read_table_columns(MESSAGE("\1a\0\0\0\0\2\0\0\0\3\0b"), (pgmsg_list){0, 2}, columns, 2, &fault));
+            pgmsg_read_table_columns(BYTES("\1a\0\0\0\0\2\0\0\0\3\0b"), (pgmsg_list){0, 2}, columns, 2, &fault));
     CHECK(tally, columns[0].type_id == 2 && are_untouched(columns + 1, sizeof *columns));
-    CHECK(tally, pgmsg_read_tuple(MESSAGE("nnn"), (pgmsg_list){3, 0}, values, 2, NULL) == 0);
+    CHECK(tally, pgmsg_read_tuple(BYTES("nnn"), (pgmsg_list){3, 0}, values, 2, NULL) == 0);
 }
 
-static void test_longest(struct tally *tally, const uint8_t *zeros)
+/* Reads and writes a message. */
+static void test_one(struct tally *tally, const struct logical *sample, bool *streamed)
 {
-    bool streamed = false;
-    pgmsg_logical read;
-    REFUSES(tally, PGMSG_BODY_TOO_LONG, 0, TOO_LONG_WORDS, pgmsg_read_logical(zeros, TOO_LONG, &streamed, NULL, 0, &read, &fault));
-    REFUSES(tally, PGMSG_BODY_TOO_LONG, 0, TOO_LONG_WORDS,
-            pgmsg_read_tuple(zeros, TOO_LONG, (pgmsg_list){0, 0}, NULL, 0, &fault));
-    REFUSES(tally, PGMSG_BODY_TOO_LONG, 0, TOO_LONG_WORDS,
-            pgmsg_read_table_columns(zeros, TOO_LONG, (pgmsg_list){0, 0}, NULL, 0, &fault));
+    unsigned failed = tally->failed;
+    CHECK(tally, *streamed == sample->is_streamed);
+    test_read_one(tally, sample, streamed);
+    test_cut(tally, sample);
+    test_put_one(tally, sample);
+    if (tally->failed > failed)
+        fprintf(stderr, "logical %c of %zu bytes\n", sample->message.letter, sample->len);
 }
 
 void test_logical(struct tally *tally)
 {
     bool streamed = false;
-    for (size_t i = 0; i < sizeof written / sizeof *written; i++) {
-        CHECK(tally, streamed == written[i].is_streamed);
-        test_read_one(tally, &written[i], &streamed);
-        test_cut(tally, &written[i]);
-    }
+    for (size_t i = 0; i < sizeof written / sizeof *written; i++)
+        test_one(tally, &written[i], &streamed);
     for (size_t i = 0; i < sizeof others / sizeof *others; i++) {
         streamed = others[i].is_streamed;
-        test_read_one(tally, &others[i], &streamed);
-        test_cut(tally, &others[i]);
+        test_one(tally, &others[i], &streamed);
     }
     test_letters(tally);
-    test_relations(tally);
     test_rooms_of_lists(tally);
     test_rooms_of_new_rows(tally);
     test_fronts_of_new_rows(tally);
-    test_refusals(tally);
     test_refused_lists(tally);
-    with_zeros(tally, TOO_LONG, test_longest);
 }
