@@ -131,20 +131,9 @@ static uint64_t read_often(reader *volatile read, const struct content *content,
     return sum;
 }
 
-static uint64_t by_library(const void *content, int times)
-{
-    return read_often(library_read, content, times);
-}
-
-static uint64_t by_hand(const void *content, int times)
-{
-    return read_often(hand_read, content, times);
-}
-
-static uint64_t by_hand_whole(const void *content, int times)
-{
-    return read_often(hand_read_whole, content, times);
-}
+TIMED(by_library, read_often(library_read, what, times))
+TIMED(by_hand, read_often(hand_read, what, times))
+TIMED(by_hand_whole, read_often(hand_read_whole, what, times))
 
 /* A row whose values are of so many bytes, as text or binary, of which some are NULL. */
 struct shape {
@@ -189,15 +178,13 @@ static uint64_t measure(const struct shape *shape, bool bodies)
     write_insert(shape, &content);
     compare(&content);
     struct turns of = take_turns(by_library, by_hand, &content, TIMES, &sum);
-    if (!bodies) {
-        print_turns(take_turns(by_library, by_hand_whole, &content, TIMES, &sum), 1, "C by hand, of the whole message", "read %s", shape->words);
-        print_turns(of, 1, "C by hand", "read %s", shape->words);
+    if (bodies) {
+        print_body(shape->words, 'I', content.bytes, content.len, of.library);
         return sum;
     }
-    printf("%s\tI\t", shape->words);
-    for (size_t i = 0; i < content.len; i++)
-        printf("%02x", content.bytes[i]);
-    printf("\t%f\n", of.library);
+    print_turns(take_turns(by_library, by_hand_whole, &content, TIMES, &sum), 1, "C by hand, of the whole message", "read %s",
+                shape->words);
+    print_turns(of, 1, "C by hand", "read %s", shape->words);
     return sum;
 }
 

@@ -89,15 +89,8 @@ static uint64_t put_often(put *volatile put, int times)
     return sum;
 }
 
-static uint64_t by_library(const void *message, int times)
-{
-    return put_often(((const struct message *)message)->library, times);
-}
-
-static uint64_t by_hand(const void *message, int times)
-{
-    return put_often(((const struct message *)message)->hand, times);
-}
+TIMED(by_library, put_often(((const struct message *)what)->library, times))
+TIMED(by_hand, put_often(((const struct message *)what)->hand, times))
 
 /* Ends where the two don't write the same. */
 static size_t compare(const struct message *message)
@@ -134,10 +127,7 @@ static uint64_t print_rows(void)
         if (out[0] != 'D')
             continue;
         struct turns of = measure(&messages[i], &sum);
-        printf("%s\tD\t", messages[i].name);
-        for (size_t at = HEADER; at < len; at++)
-            printf("%02x", out[at]);
-        printf("\t%.1f\n", of.library);
+        print_body(messages[i].name, 'D', out + HEADER, len - HEADER, of.library);
     }
     return sum;
 }

@@ -192,31 +192,11 @@ static uint64_t read_often(reader *volatile read, const struct body *body, int t
     return sum;
 }
 
-static uint64_t by_library(const void *work, int times)
-{
-    const struct work *of = work;
-    return read_often(of->message->library, &of->body, times);
-}
+#define READ_OFTEN(reader) read_often(((const struct work *)what)->message->reader, &((const struct work *)what)->body, times)
 
-static uint64_t with_lists(const void *work, int times)
-{
-    const struct work *of = work;
-    return read_often(of->message->whole, &of->body, times);
-}
-
-static uint64_t by_hand(const void *work, int times)
-{
-    const struct work *of = work;
-    return read_often(of->message->hand, &of->body, times);
-}
-
-static void print_body(const struct message *message, const struct body *body, double nanoseconds)
-{
-    printf("%s\t%c\t", message->words, body->message[0]);
-    for (size_t i = 0; i < body->len; i++)
-        printf("%02x", body->bytes[i]);
-    printf("\t%.1f\n", nanoseconds);
-}
+TIMED(by_library, READ_OFTEN(library))
+TIMED(with_lists, READ_OFTEN(whole))
+TIMED(by_hand, READ_OFTEN(hand))
 
 int main(int count, char **words)
 {
@@ -230,7 +210,7 @@ int main(int count, char **words)
         write_body(work.message, &work.body);
         struct turns of = take_turns(wants_bodies ? with_lists : by_library, by_hand, &work, TIMES, &sum);
         if (wants_bodies)
-            print_body(work.message, &work.body, of.library);
+            print_body(work.message->words, work.body.message[0], work.body.bytes, work.body.len, of.library);
         else
             print_turns(of, 1, "C by hand", "read a client's %s", work.message->words);
     }

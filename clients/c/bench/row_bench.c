@@ -64,15 +64,8 @@ static uint64_t read_often(reader *volatile read, const struct row *row, int tim
     return sum;
 }
 
-static uint64_t by_library(const void *row, int times)
-{
-    return read_often(read_by_library, row, times);
-}
-
-static uint64_t by_hand(const void *row, int times)
-{
-    return read_often(read_by_hand, row, times);
-}
+TIMED(by_library, read_often(read_by_library, what, times))
+TIMED(by_hand, read_often(read_by_hand, what, times))
 
 /* Writes the body of a row, and answers its length. */
 static size_t write_row(uint8_t *body, const struct shape *shape)

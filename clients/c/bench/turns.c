@@ -56,3 +56,11 @@ void print_turns(struct turns of, double count, const char *other, const char *w
     va_end(given);
     printf(" | %.1f | %s | %.1f | %.2f |\n", of.library / count, other, of.hand / count, of.library / of.hand);
 }
+
+void print_body(const char *words, uint8_t tag, const uint8_t *body, size_t len, double nanoseconds)
+{
+    printf("%s\t%c\t", words, tag);
+    for (size_t i = 0; i < len; i++)
+        printf("%02x", body[i]);
+    printf("\t%.1f\n", nanoseconds);
+}
