@@ -1,20 +1,11 @@
 /* Messages to the server that are refused. */
 #include "bytes_test_put.h"
 
-#include <stdlib.h>
-
 enum { ROOM = 64, TOO_MANY = 65536 };
 
 static const uint16_t no_code[1];
 static const pgmsg_value no_value = {(const uint8_t *)"", 0, true};
 static const uint32_t no_type[1];
-
-/* What the refused messages are made of. */
-struct parts {
-    uint16_t *codes; /* TOO_MANY of each */
-    pgmsg_value *values;
-    uint32_t *types;
-};
 
 /* A setting of two constant texts. */
 #define SETTING(name, value)                                                        \
@@ -67,22 +58,21 @@ static void refuse_letters(struct tally *tally)
 }
 
 /* A limit is refused before a NUL. */
-static void refuse_counts(struct tally *tally, const struct parts *parts)
+static void refuse_counts(struct tally *tally, const uint8_t *zeros)
 {
+    const uint16_t *codes = (const uint16_t *)(const void *)zeros;
+    const uint32_t *types = (const uint32_t *)(const void *)zeros;
+    const pgmsg_value *values = (const pgmsg_value *)(const void *)zeros;
     REFUSES(tally, PGMSG_TOO_MANY_PARAM_FORMATS,
-            pgmsg_put_bind(BYTES("\0"), BYTES(""), parts->codes, TOO_MANY, parts->values, TOO_MANY, parts->codes,
-                           TOO_MANY, out, ROOM));
+            pgmsg_put_bind(BYTES("\0"), BYTES(""), codes, TOO_MANY, values, TOO_MANY, codes, TOO_MANY, out, ROOM));
     REFUSES(tally, PGMSG_TOO_MANY_RESULT_FORMATS,
-            pgmsg_put_bind(BYTES(""), BYTES("\0"), no_code, 0, parts->values, TOO_MANY, parts->codes, TOO_MANY, out,
-                           ROOM));
+            pgmsg_put_bind(BYTES(""), BYTES("\0"), no_code, 0, values, TOO_MANY, codes, TOO_MANY, out, ROOM));
     REFUSES(tally, PGMSG_BAD_PARAMS,
-            pgmsg_put_bind(BYTES("\0"), BYTES("\0"), no_code, 0, parts->values, TOO_MANY, no_code, 0, out, ROOM));
-    REFUSES(tally, PGMSG_TOO_MANY_PARAM_TYPES,
-            pgmsg_put_parse(BYTES("\0"), BYTES("\0"), parts->types, TOO_MANY, out, ROOM));
+            pgmsg_put_bind(BYTES("\0"), BYTES("\0"), no_code, 0, values, TOO_MANY, no_code, 0, out, ROOM));
+    REFUSES(tally, PGMSG_TOO_MANY_PARAM_TYPES, pgmsg_put_parse(BYTES("\0"), BYTES("\0"), types, TOO_MANY, out, ROOM));
     REFUSES(tally, PGMSG_TOO_MANY_PARAM_FORMATS,
-            pgmsg_put_function_call(0, parts->codes, TOO_MANY, parts->values, TOO_MANY, 0, out, ROOM));
-    REFUSES(tally, PGMSG_BAD_PARAMS,
-            pgmsg_put_function_call(0, no_code, 0, parts->values, TOO_MANY, 0, out, ROOM));
+            pgmsg_put_function_call(0, codes, TOO_MANY, values, TOO_MANY, 0, out, ROOM));
+    REFUSES(tally, PGMSG_BAD_PARAMS, pgmsg_put_function_call(0, no_code, 0, values, TOO_MANY, 0, out, ROOM));
 }
 
 /* The longest messages, and those a byte longer. */
@@ -124,31 +114,12 @@ static void refuse_lengths(struct tally *tally, const uint8_t *data)
     REFUSES(tally, PGMSG_BAD_KEY_LENGTH, pgmsg_put_cancel_request(1, data, TOO_LONG, out, ROOM));
 }
 
-static bool make_parts(struct parts *parts)
-{
-    parts->codes = calloc(TOO_MANY, sizeof *parts->codes);
-    parts->values = calloc(TOO_MANY, sizeof *parts->values);
-    parts->types = calloc(TOO_MANY, sizeof *parts->types);
-    if (parts->codes == NULL || parts->values == NULL || parts->types == NULL)
-        return false;
-    for (size_t i = 0; i < TOO_MANY; i++)
-        parts->values[i] = no_value;
-    return true;
-}
-
 void test_put_faults(struct tally *tally)
 {
-    struct parts parts;
-    bool is_made = make_parts(&parts);
-    CHECK(tally, is_made);
     refuse_settings(tally);
     refuse_texts(tally);
     refuse_letters(tally);
+    with_zeros(tally, TOO_LONG, refuse_counts);
     with_zeros(tally, TOO_LONG, refuse_lengths);
     with_zeros(tally, TOO_LONG, compare_with_longest);
-    if (is_made)
-        refuse_counts(tally, &parts);
-    free(parts.codes);
-    free(parts.values);
-    free(parts.types);
 }

@@ -1,8 +1,6 @@
 /* Messages to a client that are refused. */
 #include "bytes_test_put.h"
 
-#include <stdlib.h>
-
 enum { ROOM = 64, MOST_UNSIGNED = 65535, MOST_SIGNED = 32767, MAX_KEY = 256 };
 
 /* Lists whose last item is a text that holds a NUL. */
@@ -87,26 +85,17 @@ static void refuse_counts(struct tally *tally, const uint8_t *zeros)
 {
     const uint32_t *types = (const uint32_t *)(const void *)zeros;
     const int16_t *codes = (const int16_t *)(const void *)zeros;
-    pgmsg_value *values = calloc(MOST_UNSIGNED + 1, sizeof *values);
-    pgmsg_column_text *columns = calloc(MOST_UNSIGNED + 1, sizeof *columns);
-    CHECK(tally, values != NULL && columns != NULL);
-    for (size_t i = 0; i <= MOST_UNSIGNED && values != NULL && columns != NULL; i++) {
-        values[i].bytes = zeros;
-        columns[i].name = zeros;
-        columns[i].name_len = i == MOST_UNSIGNED;
-    }
-    if (values != NULL && columns != NULL) {
-        REFUSES(tally, 7 + 4 * MOST_UNSIGNED, pgmsg_put_row(values, MOST_UNSIGNED, out, ROOM));
-        REFUSES(tally, PGMSG_TOO_MANY, pgmsg_put_row(values, MOST_UNSIGNED + 1, out, ROOM));
-        REFUSES(tally, 7 + 19 * MOST_UNSIGNED, pgmsg_put_columns(columns, MOST_UNSIGNED, out, ROOM));
-        REFUSES(tally, PGMSG_TOO_MANY, pgmsg_put_columns(columns, MOST_UNSIGNED + 1, out, ROOM));
-    }
+    const pgmsg_value *values = (const pgmsg_value *)(const void *)zeros;
+    static pgmsg_column_text columns[MOST_UNSIGNED + 1];
+    columns[MOST_UNSIGNED] = (pgmsg_column_text){.name = zeros, .name_len = 1};
+    REFUSES(tally, 7 + 4 * MOST_UNSIGNED, pgmsg_put_row(values, MOST_UNSIGNED, out, ROOM));
+    REFUSES(tally, PGMSG_TOO_MANY, pgmsg_put_row(values, MOST_UNSIGNED + 1, out, ROOM));
+    REFUSES(tally, 7 + 19 * MOST_UNSIGNED, pgmsg_put_columns(columns, MOST_UNSIGNED, out, ROOM));
+    REFUSES(tally, PGMSG_TOO_MANY, pgmsg_put_columns(columns, MOST_UNSIGNED + 1, out, ROOM));
     REFUSES(tally, 7 + 4 * MOST_UNSIGNED, pgmsg_put_parameter_types(types, MOST_UNSIGNED, out, ROOM));
     REFUSES(tally, PGMSG_TOO_MANY, pgmsg_put_parameter_types(types, MOST_UNSIGNED + 1, out, ROOM));
     REFUSES(tally, 8 + 2 * MOST_SIGNED, pgmsg_put_copy_response('G', 0, codes, MOST_SIGNED, out, ROOM));
     REFUSES(tally, PGMSG_TOO_MANY, pgmsg_put_copy_response('W', 0, codes, MOST_SIGNED + 1, out, ROOM));
-    free(values);
-    free(columns);
 }
 
 /* The longest messages, and those a byte longer. */
