@@ -141,6 +141,10 @@ static const struct {
     {BODY(logical, "I\0\0@\5N\0\1t\0\0\0\ta"), PGMSG_SHORT, 13, "expected 9 bytes at offset 13, got 1"},
     {BODY(logical, "T\0\0\0\2\0\0\0@\5\0"), PGMSG_SHORT, 10, "expected 4 bytes at offset 10, got 1"},
     {BODY(logical_streamed, "I\0\0@\5N\0\0"), PGMSG_SHORT, 5, "expected 4 bytes at offset 5, got 3"},
+    {BODY(replication, "Z"), PGMSG_UNKNOWN_MESSAGE_TYPE, 0, "unknown message type: 90"},
+    {BODY(replication, ""), PGMSG_SHORT, 0, "expected 1 bytes at offset 0, got 0"},
+    {BODY(replication, "w" "\0\0\0\0\0\0\0\1" "\0\0"), PGMSG_SHORT, 9, "expected 8 bytes at offset 9, got 2"},
+    {BODY(replication, "n" "a\0" "b"), PGMSG_MISSING_NUL, 3, "expected NUL after offset 3"},
     {BODY(ready, "I"), 'I', 0, NULL},
     {BODY(frontend_frame, "S\0\0\0\4"), 1, 0, NULL},
     {BODY(frontend_frame, "S\0\0"), 0, 0, NULL},
@@ -157,12 +161,13 @@ static const struct {
     {BODY(function_call, "\0\0\0\1" "\0\0" "\0\1" "\0\0\0\0" "\0\0"), 1, 0, NULL},
 };
 
-/* Has each body read into every room. A refusal leaves alone what it is to fill, and a success its fault. */
+/* Has each body read into every room, one of no bytes at NULL. A refusal leaves alone what it is to fill, and a success its
+ * fault. */
 static void test_bodies(struct tally *tally)
 {
     for (size_t i = 0; i < sizeof answers / sizeof *answers; i++) {
         const struct body *body = &answers[i].body;
-        const uint8_t *bytes = (const uint8_t *)body->bytes;
+        const uint8_t *bytes = body->len > 0 ? (const uint8_t *)body->bytes : NULL;
         unsigned failed = tally->failed;
         for (room = 0; room <= MOST_ROOM; room++) {
             pgmsg_fault fault;

@@ -1,10 +1,18 @@
 /* The messages of replication, whose bytes are written down here by the documentation of PostgreSQL, "Streaming
  * Replication Protocol". */
 #include "bytes_test_read.h"
-#include "bytes_test_replication.h"
+
+#define LITERAL(literal) literal, sizeof(literal) - 1
+
+/* A message, and the CopyData that it is. */
+struct replication {
+    pgmsg_replication_text message;
+    const char *bytes;
+    size_t len;
+};
 
 /* Each kind, with each part that it has, and with those that may be empty so. */
-const struct replication replications[] = {
+static const struct replication replications[] = {
     {{.letter = 'w', .start = 0x102030405, .end = 0xfffffffffffffff8, .clock = -2, .content = BYTES("l\0g")},
      LITERAL("d\0\0\0\40" "w" "\0\0\0\1\2\3\4\5" "\377\377\377\377\377\377\377\370" "\377\377\377\377\377\377\377\376" "l\0g")},
     {{.letter = 'w', .end = 1, .clock = INT64_MAX},
@@ -24,8 +32,6 @@ const struct replication replications[] = {
     {{.letter = 'd'}, LITERAL("d\0\0\0\5" "d")},
     {{.letter = 'p', .processed = 0x8000000000000001}, LITERAL("d\0\0\0\15" "p" "\200\0\0\0\0\0\0\1")},
 };
-
-const size_t replications_count = sizeof replications / sizeof *replications;
 
 /* Whether these bytes are at a place, which is this one where they are any part of the message. */
 static bool is_part(const uint8_t *data, pgmsg_span span, const uint8_t *bytes, size_t len, size_t at)
@@ -127,14 +133,6 @@ static void test_letters(struct tally *tally)
 
 static void test_refusals(struct tally *tally)
 {
-    pgmsg_replication read;
-    REFUSES(tally, PGMSG_UNKNOWN_MESSAGE_TYPE, 0, "unknown message type: 90",
-            pgmsg_read_replication(BYTES("Z"), &read, &fault));
-    REFUSES(tally, PGMSG_SHORT, 0, "expected 1 bytes at offset 0, got 0", pgmsg_read_replication(NULL, 0, &read, &fault));
-    REFUSES(tally, PGMSG_SHORT, 9, "expected 8 bytes at offset 9, got 2",
-            pgmsg_read_replication(BYTES("w" "\0\0\0\0\0\0\0\1" "\0\0"), &read, &fault));
-    REFUSES(tally, PGMSG_MISSING_NUL, 3, "expected NUL after offset 3",
-            pgmsg_read_replication(BYTES("n" "a\0" "b"), &read, &fault));
     uint8_t out[16];
     memset(out, UNTOUCHED, sizeof out);
     const pgmsg_replication_text texts[] = {
@@ -151,7 +149,6 @@ static void test_longest(struct tally *tally, const uint8_t *zeros)
         uint8_t letter;
         size_t beside;
     } kinds[] = {{'w', 30}, {'d', 6}};
-    pgmsg_replication read;
     uint8_t out[1] = {UNTOUCHED};
     for (size_t i = 0; i < 2; i++) {
         size_t most = ((size_t)1 << 31) - kinds[i].beside;
@@ -160,12 +157,11 @@ static void test_longest(struct tally *tally, const uint8_t *zeros)
         message.content_len++;
         CHECK(tally, pgmsg_put_replication(&message, out, sizeof out) == PGMSG_MESSAGE_TOO_LONG && out[0] == UNTOUCHED);
     }
-    REFUSES(tally, PGMSG_BODY_TOO_LONG, 0, TOO_LONG_WORDS, pgmsg_read_replication(zeros, TOO_LONG, &read, &fault));
 }
 
 void test_replication(struct tally *tally)
 {
-    for (size_t i = 0; i < replications_count; i++) {
+    for (size_t i = 0; i < sizeof replications / sizeof *replications; i++) {
         test_read_one(tally, &replications[i]);
         test_put_one(tally, &replications[i]);
     }
