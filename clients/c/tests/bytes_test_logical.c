@@ -256,7 +256,7 @@ static bool finds_values(struct place *place, const pgmsg_datum *read, const pgm
     return are_found;
 }
 
-/* Whether a row is read by its list as it is at the place, and given so where it is a new one; of messages that have one. */
+/* Whether the row of a message that has one is at the place: as its list is read, and as it was given, where it is a new one. */
 static bool finds_row(struct place *place, bool has_one, pgmsg_list list, const pgmsg_datum_text *due, size_t count,
                       const pgmsg_datum *given)
 {
@@ -352,6 +352,7 @@ static void test_cut(struct tally *tally, const struct logical *sample)
 static void test_put_one(struct tally *tally, const struct logical *sample)
 {
     uint8_t out[ROOM];
+    CHECK(tally, sample->len <= sizeof out);
     for (size_t room = 0; room <= sizeof out; room++) {
         memset(out, UNTOUCHED, sizeof out);
         CHECK(tally, pgmsg_put_logical(&sample->message, out, room) == (ptrdiff_t)sample->len);
