@@ -12,7 +12,7 @@
 #include <stdlib.h>
 #include <string.h>
 
-enum { COLUMNS = 10, TIMES = 50000, ROOM = 65536 };
+enum { COLUMNS = 10, TIMES = 50000, ROOM = 16384 };
 
 /* An Insert, and its values. */
 struct insert {
@@ -23,8 +23,15 @@ struct insert {
 };
 
 struct content {
-    uint8_t bytes[ROOM];
+    const uint8_t *bytes;
     size_t len;
+};
+
+/* Messages one after the other, as they come in a stream. Read over and over at one place, a message would take as long as
+ * the places of its bytes and of its values happen to get into each other's way. */
+struct stream {
+    uint8_t bytes[ROOM];
+    size_t len, message_len;
 };
 
 static uint32_t u32_at(const uint8_t *at)
@@ -117,16 +124,21 @@ static ptrdiff_t library_read(const struct content *content, bool streamed, stru
 
 typedef ptrdiff_t reader(const struct content *content, bool streamed, struct insert *insert);
 
-static uint64_t read_often(reader *volatile read, const struct content *content, int times)
+static uint64_t read_often(reader *volatile read, const struct stream *stream, int times)
 {
     static struct insert insert;
     uint64_t sum = 0;
+    size_t at = 0;
     for (int i = 0; i < times; i++) {
-        if (read(content, false, &insert) != COLUMNS) {
+        struct content content = {stream->bytes + at, stream->message_len};
+        if (read(&content, false, &insert) != COLUMNS) {
             fprintf(stderr, "a message is refused\n");
             exit(1);
         }
         sum += insert.relation + insert.values[COLUMNS - 1].value.at;
+        at += stream->message_len;
+        if (at == stream->len)
+            at = 0;
     }
     return sum;
 }
@@ -142,9 +154,9 @@ struct shape {
     int nulls, len;
 };
 
-static void write_insert(const struct shape *shape, struct content *content)
+static void write_inserts(const struct shape *shape, struct stream *stream)
 {
-    uint8_t *to = content->bytes;
+    uint8_t *to = stream->bytes;
     memcpy(to, "I\0\0\x40\x01N\0\x0a", 8);
     to += 8;
     for (int i = 0; i < COLUMNS; i++) {
@@ -156,7 +168,9 @@ static void write_insert(const struct shape *shape, struct content *content)
         memset(to + 5, '1', (size_t)shape->len);
         to += 5 + shape->len;
     }
-    content->len = (size_t)(to - content->bytes);
+    size_t len = stream->message_len = (size_t)(to - stream->bytes);
+    for (stream->len = len; stream->len + len <= ROOM; stream->len += len)
+        memcpy(stream->bytes + stream->len, stream->bytes, len);
 }
 
 /* Ends where the two don't give the same. */
@@ -173,17 +187,17 @@ static void compare(const struct content *content)
 
 static uint64_t measure(const struct shape *shape, bool bodies)
 {
-    static struct content content;
+    static struct stream stream;
     uint64_t sum = 0;
-    write_insert(shape, &content);
-    compare(&content);
-    struct turns of = take_turns(by_library, by_hand, &content, TIMES, &sum);
+    write_inserts(shape, &stream);
+    compare(&(struct content){stream.bytes, stream.message_len});
+    struct turns of = take_turns(by_library, by_hand, &stream, TIMES, &sum);
     if (bodies) {
-        print_body(shape->words, 'I', content.bytes, content.len, of.library);
+        print_body(shape->words, 'I', stream.bytes, stream.message_len, of.library);
         return sum;
     }
-    print_turns(take_turns(by_library, by_hand_whole, &content, TIMES, &sum), 1, "C by hand, of the whole message", "read %s",
-                shape->words);
+    struct turns whole = take_turns(by_library, by_hand_whole, &stream, TIMES, &sum);
+    print_turns(whole, 1, "C by hand, of the whole message", "read %s", shape->words);
     print_turns(of, 1, "C by hand", "read %s", shape->words);
     return sum;
 }
