@@ -69,7 +69,7 @@ fn say(mutants: &mut Mutants, tape: &Arc<Tape>, pool: &mut Pool) {
         match pool.step(seat, form).expect(UNCHANGED) {
             Step::Fits(fit) => {
                 former.settle(form);
-                if fit.is_turn_over {
+                if fit.is_idle {
                     former.end_transaction();
                 }
                 assert!(fit.said < tape.script.len());

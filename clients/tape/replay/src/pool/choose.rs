@@ -43,7 +43,8 @@ impl Pool {
         let first = self.core(turn).next().map(|it| self.tape.script.what(it));
         match first {
             Some(What::Form(first)) if count > 0 && !self.tape.is_single() => {
-                self.alike(first).filter(|it| *it != turn).collect()
+                let alike = self.alike(first, self.tape.snapshot_of(turn));
+                alike.filter(|it| *it != turn).collect()
             }
             _ => Vec::new(),
         }

@@ -66,6 +66,7 @@ impl Pool {
             next: recorded.turns.start,
             connection,
             turn: None,
+            snapshot: None,
             at: 0,
             is_busy: false,
             number: self.tape.script.number(recorded.startup),

@@ -1,6 +1,7 @@
 //! Which recorded turn a client gets. A session goes on with the next one of the connection that it follows. Where that
 //! differs it takes another one that nobody had, of any connection, as long as all that it said and heard since it was
-//! outside of a transaction is the same there.
+//! outside of a transaction is the same there. Between the turns of a transaction that reads a snapshot, it takes one of another
+//! that reads the same.
 
 mod choose;
 mod claims;
@@ -23,6 +24,8 @@ struct Seat {
     /// The connection that it follows.
     connection: usize,
     turn: Option<usize>,
+    /// The snapshot that it reads, where it is between the turns of a transaction.
+    snapshot: Option<u32>,
     /// How many messages of the turn it has said.
     at: usize,
     /// It is within a message or data that are compared as bytes.
@@ -82,8 +85,9 @@ pub enum Step {
 #[derive(Clone, Copy, Debug, PartialEq, Eq)]
 pub struct Fit {
     pub said: usize,
-    /// No transaction is open after it.
     pub is_turn_over: bool,
+    /// No transaction is open after it.
+    pub is_idle: bool,
     /// The server hung up after it.
     pub hangs_up: bool,
     /// The recording ends after it, before the answer was whole.
@@ -95,7 +99,8 @@ pub struct Fit {
 pub struct Expected {
     /// The recorded message that would be next.
     pub said: Option<usize>,
-    /// Within a turn, or where the order is the recorded one, no other is.
+    /// The client can't end before it: within a turn, where the order is the recorded one, and between the turns of a
+    /// transaction, unless a recorded client ended there.
     pub is_sure: bool,
     pub ending: Ending,
     /// Whether something after the Startup is recorded.
@@ -148,10 +153,13 @@ impl Pool {
         self.again || self.uses[turn] == 0
     }
 
-    /// The next turn of the connection that a session follows.
-    fn own_next(&self, seat: &Seat) -> Option<usize> {
+    /// The turns that a session can take of those that come next on the connection that it follows.
+    fn own<'p>(&'p self, seat: &'p Seat) -> impl Iterator<Item = usize> + 'p {
         let end = self.tape.connections[seat.connection].turns.end;
-        (seat.next..end).find(|turn| self.is_free(*turn))
+        let is_next = move |turn: &usize| {
+            self.is_free(*turn) && self.tape.snapshot_of(*turn) == seat.snapshot
+        };
+        (seat.next..end).filter(is_next)
     }
 
     /// What is expected next.
@@ -160,11 +168,12 @@ impl Pool {
         let said = match seat.turn {
             Some(turn) => Some(self.tape.turns[turn].said().start + seat.at)
                 .filter(|it| *it < self.tape.turns[turn].said().end),
-            None => self.own_next(seat).map(|turn| self.tape.turns[turn].said().start),
+            None => self.own(seat).next().map(|turn| self.tape.turns[turn].said().start),
         };
+        let has_to_go_on = seat.snapshot.map_or(false, |it| !self.tape.is_left_open(it));
         Expected {
             said,
-            is_sure: seat.turn.is_some() || self.tape.is_single(),
+            is_sure: seat.turn.is_some() || self.tape.is_single() || has_to_go_on,
             ending: home.ending,
             has_turns: !home.turns.is_empty(),
             connection: self.tape.connections[seat.connection].number,
@@ -228,14 +237,12 @@ impl Pool {
     /// Begins a turn whose first message has a form.
     fn take_turn(&mut self, id: usize, form: u32) -> bool {
         let seat = self.seat(id);
-        let end = self.tape.connections[seat.connection].turns.end;
-        let mut own = (seat.next..end).filter(|turn| self.is_free(*turn));
-        let own =
-            own.find(|turn| self.find(*turn, 0, form).is_some() || !self.may_be_left_out(*turn));
+        let begins = |turn: &usize| self.find(*turn, 0, form).is_some();
+        let own = self.own(seat).find(|turn| begins(turn) || !self.may_be_left_out(*turn));
         let jumps = !self.tape.is_single() && !self.preparing.contains_key(&form);
-        let found = own.filter(|turn| self.find(*turn, 0, form).is_some()).or_else(|| {
+        let found = own.filter(begins).or_else(|| {
             if jumps {
-                self.first_of(form)
+                self.first_of(form, seat.snapshot)
             } else {
                 None
             }
@@ -254,20 +261,21 @@ impl Pool {
             || said.into_iter().all(|it| self.tape.is_free(it))
     }
 
-    /// The turn that begins with a form, of those that were taken most seldom.
-    fn first_of(&self, form: u32) -> Option<usize> {
-        let mut alike = self.alike(form);
+    /// The turn that begins with a form and reads a snapshot, or none, of those that were taken most seldom.
+    fn first_of(&self, form: u32, snapshot: Option<u32>) -> Option<usize> {
+        let mut alike = self.alike(form, snapshot);
         match self.again {
             true => alike.min_by_key(|turn| self.uses[*turn]),
             false => alike.find(|turn| self.is_free(*turn)),
         }
     }
 
-    /// The turns that begin with a form, in their order.
-    fn alike(&self, form: u32) -> impl Iterator<Item = usize> + '_ {
+    /// The turns that begin with a form and read a snapshot, or none, in their order.
+    fn alike(&self, form: u32, snapshot: Option<u32>) -> impl Iterator<Item = usize> + '_ {
         let begin = self.by_first.partition_point(|(it, _)| *it < form);
         let alike = self.by_first[begin..].iter().take_while(move |(it, _)| *it == form);
-        alike.map(|(_, turn)| *turn as usize)
+        let alike = alike.map(|(_, turn)| *turn as usize);
+        alike.filter(move |turn| self.tape.snapshot_of(*turn) == snapshot)
     }
 
     fn hold(&mut self, id: usize, turn: usize, at: usize) {
@@ -297,8 +305,10 @@ impl Pool {
         let connection = &tape.connections[recorded.connection()];
         let is_last = said + 1 == recorded.said().end;
         let is_end = is_last && turn + 1 == connection.turns.end;
-        if is_last && recorded.is_whole {
+        let is_turn_over = is_last && recorded.is_whole;
+        if is_turn_over {
             seat.turn = None;
+            seat.snapshot = tape.snapshot_after(turn);
             self.holders.remove(&turn);
         }
         if tape.script.said[said].is_cause {
@@ -307,23 +317,33 @@ impl Pool {
         }
         Fit {
             said,
-            is_turn_over: is_last && recorded.is_whole,
+            is_turn_over,
+            is_idle: is_turn_over && tape.snapshot_after(turn).is_none(),
             hangs_up: is_end && connection.ending == Ending::ByServer,
             is_cut: is_end && connection.ending == Ending::Unrecorded { is_idle: false },
         }
     }
 
-    /// What is recorded of the turn at hand from the message on that would be next.
+    /// What is recorded of the transaction at hand from the message on that would be next.
     pub fn ahead(&self, id: usize) -> Range<usize> {
         let seat = self.seat(id);
-        let said = seat.turn.map_or(0..0, |turn| self.tape.turns[turn].said());
-        said.start + seat.at..said.end
+        let begun = seat.turn.map(|turn| (turn, seat.at));
+        let next = || seat.snapshot.and_then(|_| self.own(seat).next()).map(|turn| (turn, 0));
+        let Some((turn, at)) = begun.or_else(next) else {
+            return 0..0;
+        };
+        let last = self.tape.last_of_transaction(turn);
+        self.tape.turns[turn].said().start + at..self.tape.turns[last].said().end
     }
 
     /// Takes a message that is ahead, and leaves out those before it.
     pub fn skip_to(&mut self, id: usize, said: usize) -> Fit {
-        let skipped = said - self.ahead(id).start;
-        self.seat_mut(id).at += skipped;
+        let (turn, left) = (self.tape.turn_of(said), self.seat(id).turn);
+        if left != Some(turn) {
+            self.holders.retain(|_, holder| *holder != id);
+            self.hold(id, turn, 0);
+        }
+        self.seat_mut(id).at = said - self.tape.turns[turn].said().start;
         self.advance(id)
     }
 
@@ -334,7 +354,7 @@ impl Pool {
             .said
             .filter(|it| matches!(self.tape.script.what(*it), What::Bytes(_)))?;
         if self.seat(id).turn.is_none() {
-            let turn = self.own_next(self.seat(id))?;
+            let turn = self.own(self.seat(id)).next()?;
             self.hold(id, turn, 0);
         }
         self.seat_mut(id).is_busy = true;

@@ -141,9 +141,9 @@ impl Session<'_> {
         self.is_owing = said.goes_on && !fit.is_turn_over;
         self.holds = said.goes_on && !self.ends_run;
         self.is_both |= said.opens_both;
-        self.is_in_transaction = !fit.is_turn_over;
+        self.is_in_transaction = !fit.is_idle;
         self.is_ignoring = false;
-        if fit.is_turn_over {
+        if fit.is_idle {
             self.is_both = false;
             self.former.end_transaction();
         }

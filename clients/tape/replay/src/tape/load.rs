@@ -163,6 +163,7 @@ impl Loading {
             script: Script::default(),
             heard: Vec::new(),
             waits: HashMap::new(),
+            snapshots: HashMap::new(),
             times: self.times.unwrap_or_default(),
             processes: HashMap::new(),
         };

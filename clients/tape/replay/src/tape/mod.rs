@@ -53,6 +53,8 @@ pub struct Tape {
     heard: Vec<Piece>,
     /// What parts of answers wait for, by their offsets.
     waits: HashMap<u64, Wait>,
+    /// The turns after which a transaction goes on that reads what others read, with the number of the snapshot.
+    snapshots: HashMap<usize, u32>,
     /// The offsets of the server's records, and when they passed, where that is wanted.
     times: Vec<(u64, u64)>,
     /// The connections by the process that a request to cancel names.
@@ -86,7 +88,7 @@ pub enum Ending {
 }
 
 /// What a client says from one time on when it is outside of a transaction up to the next: an exchange, or those of a
-/// transaction.
+/// transaction. A transaction that reads what those of other connections read has several turns.
 pub struct Turn {
     connection: u32,
     begin: u32,
@@ -114,6 +116,35 @@ impl Tape {
     /// Whether a message may be said or left out wherever it is wanted: it prepares a statement, and there may be a pool.
     pub fn is_free(&self, said: usize) -> bool {
         self.script.said[said].is_preparing && !self.is_single()
+    }
+
+    /// The snapshot that is read on after a turn, where a transaction goes on then.
+    pub fn snapshot_after(&self, turn: usize) -> Option<u32> {
+        self.snapshots.get(&turn).copied()
+    }
+
+    /// The snapshot that is read on by a turn, where it goes on a transaction.
+    pub fn snapshot_of(&self, turn: usize) -> Option<u32> {
+        let before = turn.checked_sub(1).filter(|_| !self.snapshots.is_empty())?;
+        let is_first = self.turns[before].connection != self.turns[turn].connection;
+        self.snapshot_after(before).filter(|_| !is_first)
+    }
+
+    /// Whether a recorded client left while it read a snapshot.
+    pub fn is_left_open(&self, snapshot: u32) -> bool {
+        let mut lasts = self.connections.iter().filter_map(|it| it.turns.clone().last());
+        lasts.any(|it| self.snapshot_after(it) == Some(snapshot))
+    }
+
+    /// The last turn of the transaction of a turn, as far as it was recorded.
+    pub fn last_of_transaction(&self, turn: usize) -> usize {
+        let end = self.connections[self.turns[turn].connection()].turns.end;
+        (turn..end).find(|it| self.snapshot_after(*it).is_none()).unwrap_or(end - 1)
+    }
+
+    /// The turn that a message is in.
+    pub fn turn_of(&self, said: usize) -> usize {
+        self.turns.partition_point(|it| it.said().start <= said) - 1
     }
 
     /// The parts of the answer to a message.
@@ -271,7 +302,8 @@ impl Tape {
         let mut former = Former::new(rules.clone());
         let place = self.connections.partition_point(|it| it.startup < said);
         let turns = place.checked_sub(1).map_or(0..0, |it| self.connections[it].turns.clone());
-        for turn in self.turns[turns].iter().take_while(|it| it.said().start < said) {
+        for number in turns.take_while(|it| self.turns[*it].said().start < said) {
+            let turn = &self.turns[number];
             for before in turn.said().take_while(|it| *it < said) {
                 if let What::Form(form) = self.script.what(before) {
                     let message = self.message(before)?;
@@ -279,7 +311,8 @@ impl Tape {
                     former.settle(form);
                 }
             }
-            if turn.is_whole && turn.said().end <= said {
+            let is_over = turn.is_whole && self.snapshot_after(number).is_none();
+            if is_over && turn.said().end <= said {
                 former.end_transaction();
             }
         }
