@@ -2,9 +2,11 @@
 //! left out. Two messages fit where their forms are the same.
 
 mod names;
+mod reading;
 mod sql;
 mod store;
 
+pub use reading::{deeds, imported, is_read_only, Deed};
 pub use sql::is_rollback;
 pub use store::{Forms, UNRECORDED};
 

@@ -3,7 +3,6 @@
 
 use super::names::{Effect, Names, Sort};
 use super::LiteralKind;
-use once_cell::sync::OnceCell;
 use regex::bytes::{Captures, Regex};
 use std::borrow::Cow;
 use std::ops::Range;
@@ -39,22 +38,24 @@ const NAMING: &str = r#"(?xi-u)
   )
 "#;
 
-const SPACE: &str = r"\s|--[^\n]*\n|/\*(?s:.*?)\*/";
+pub(super) const SPACE: &str = r"\s|--[^\n]*\n|/\*(?s:.*?)\*/";
 const IDENTIFIER: &str = r#""(?:[^"]|"")+"|[A-Za-z_\x80-\xff][A-Za-z0-9_$\x80-\xff]*"#;
 
 /// The first words of such statements.
 const VERBS: &str =
     r"(?i-u)\b(?:SAVEPOINT|RELEASE|ROLLBACK|DECLARE|PREPARE|EXECUTE|DEALLOCATE|CLOSE|FETCH|MOVE)\b";
 
-/// A pattern of this file, which is compiled once.
+/// A pattern of this folder, which is compiled once.
 macro_rules! pattern {
     ($text:expr) => {{
-        static PATTERN: OnceCell<Regex> = OnceCell::new();
-        PATTERN.get_or_init(|| Regex::new($text).expect("a pattern of this file"))
+        static PATTERN: once_cell::sync::OnceCell<regex::bytes::Regex> =
+            once_cell::sync::OnceCell::new();
+        PATTERN.get_or_init(|| regex::bytes::Regex::new($text).expect("a pattern of this folder"))
     }};
 }
+pub(super) use pattern;
 
-fn naming() -> &'static Regex {
+pub(super) fn naming() -> &'static Regex {
     pattern!(&NAMING.replace("SP", SPACE).replace("ID", &format!("(?:{IDENTIFIER})")))
 }
 
@@ -84,7 +85,7 @@ pub fn put(
 }
 
 /// Where the statements of a text end that a semicolon ends.
-fn ends_of_statements(text: &[u8]) -> Vec<usize> {
+pub(super) fn ends_of_statements(text: &[u8]) -> Vec<usize> {
     let mut ends = Vec::new();
     for (token, range) in Tokens::of(text) {
         if token == Token::Semicolon {
@@ -168,7 +169,7 @@ fn put_statement(
 }
 
 /// What a statement does with which name.
-fn name_of(found: &Captures<'_>) -> Option<(Sort, Range<usize>)> {
+pub(super) fn name_of(found: &Captures<'_>) -> Option<(Sort, Range<usize>)> {
     let sorts = [
         ("savepoint", Sort::Savepoint),
         ("release", Sort::Release),
@@ -184,7 +185,7 @@ fn name_of(found: &Captures<'_>) -> Option<(Sort, Range<usize>)> {
 }
 
 /// An identifier as the server takes it.
-fn folded(identifier: &[u8]) -> Cow<'_, [u8]> {
+pub(super) fn folded(identifier: &[u8]) -> Cow<'_, [u8]> {
     let quoted = identifier.strip_prefix(b"\"").and_then(|it| it.strip_suffix(b"\""));
     match quoted {
         None => Cow::Owned(identifier.to_ascii_lowercase()),

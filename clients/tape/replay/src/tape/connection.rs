@@ -3,6 +3,7 @@
 use super::causes::{Causes, Sort, Wait};
 use super::cutter::{Cut, Cutter};
 use super::said::{Place, Script, Spoken, What};
+use super::sharing::Sharing;
 use super::{Ending, Piece, HEAD};
 use crate::form::{Former, Forms, UNRECORDED};
 use crate::rules::Rules;
@@ -62,6 +63,9 @@ pub struct Building {
     pub ends: Vec<End>,
     /// The messages that the rules ignore, in their order.
     pub ignored: Vec<u32>,
+    pub sharing: Sharing,
+    /// The messages that end a turn after which the transaction goes on, with the number of the snapshot that it reads.
+    pub snapshots: HashMap<u32, u32>,
     pub count: u32,
     pub has_terminated: bool,
     pub asks_for_password: bool,
@@ -97,6 +101,8 @@ impl Building {
             notified: Vec::new(),
             ends: Vec::new(),
             ignored: Vec::new(),
+            sharing: Sharing::default(),
+            snapshots: HashMap::new(),
             count: 0,
             has_terminated: false,
             asks_for_password: false,
@@ -259,12 +265,14 @@ impl Building {
             let End { said, status } = self.ends[self.formed];
             self.form_up_to(said + 1, forms);
             self.formed += 1;
+            self.sharing.end(self.ends[self.formed - 1]);
             if status == b'I' {
                 self.former.end_transaction();
             }
         }
         if is_over {
             self.form_up_to(u32::MAX, forms);
+            self.sharing.close();
         }
     }
 
@@ -279,6 +287,7 @@ impl Building {
             }
             self.former.settle(form);
             self.script.set_form(said as usize, form);
+            self.sharing.say(said, tag, &body);
         }
     }
 

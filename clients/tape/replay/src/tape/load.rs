@@ -2,6 +2,7 @@
 
 use super::connection::{Building, Bytes, End, Heard, Notified};
 use super::said::{Said, Script};
+use super::sharing;
 use super::{Connection, Tape, Turn, Wait};
 use crate::form::Forms;
 use crate::rules::Rules;
@@ -151,6 +152,7 @@ impl Loading {
             self.end(building, None);
         }
         self.over.sort_unstable_by_key(|(building, _)| building.number);
+        sharing::share(self.over.iter_mut().map(|(building, _)| building).collect());
         if self.over.iter().map(|(building, _)| building.count()).sum::<usize>() > COUNT_MOST {
             return None;
         }
@@ -199,13 +201,17 @@ impl Tape {
         let (base, connection) = (self.script.len(), self.connections.len());
         let ending = building.ending(closed_by_client);
         let begin = self.turns.len();
-        let turns = turns_of(&building.ends, building.script.len());
-        self.turns.extend(turns.into_iter().map(|(said, is_whole)| Turn {
-            connection: connection as u32,
-            begin: (base + said.start) as u32,
-            end: (base + said.end) as u32,
-            is_whole,
-        }));
+        for (said, is_whole) in turns_of(&building) {
+            if let Some(snapshot) = building.snapshots.get(&(said.end as u32 - 1)) {
+                self.snapshots.insert(self.turns.len(), *snapshot);
+            }
+            self.turns.push(Turn {
+                connection: connection as u32,
+                begin: (base + said.start) as u32,
+                end: (base + said.end) as u32,
+                is_whole,
+            });
+        }
         mark_ignored(&building.ends, &building.ignored, &mut building.script);
         mark_preparing(&building.ends, &mut building.script.said);
         if let Some(process) = building.process {
@@ -261,9 +267,10 @@ impl Tape {
 }
 
 /// The turns of a connection after its Startup, and whether each is whole.
-fn turns_of(ends: &[End], count: usize) -> Vec<(Range<usize>, bool)> {
-    let (mut turns, mut begin) = (Vec::new(), 1);
-    for end in ends.iter().filter(|it| it.status == b'I').map(|it| it.said as usize) {
+fn turns_of(building: &Building) -> Vec<(Range<usize>, bool)> {
+    let (mut turns, mut begin, count) = (Vec::new(), 1, building.script.len());
+    let is_over = |it: &&End| it.status == b'I' || building.snapshots.contains_key(&it.said);
+    for end in building.ends.iter().filter(is_over).map(|it| it.said as usize) {
         if end >= begin {
             turns.push((begin..end + 1, true));
             begin = end + 1;

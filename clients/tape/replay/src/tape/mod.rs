@@ -7,6 +7,7 @@ mod cutter;
 mod load;
 mod piece;
 mod said;
+mod sharing;
 mod spoken;
 
 pub use causes::Wait;
