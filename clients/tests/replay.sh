@@ -191,6 +191,26 @@ test_replay_pgbench() {
     both_ways 'pgbench-that-connects' '' bash -c 'pgbench_without_times -C -t 20'
 }
 
+# Dumps to a folder by three jobs, with large objects. Says what the folder has, but for the time in its table of contents.
+dump_by_jobs() {
+    rm -rf "$1"
+    "$bin/pg_dump" -Fd -j 3 -b "${@:2}" -f "$1" && cd "$1" && ls && zcat ./*.gz && "$bin/pg_restore" -l . | grep -v '^;'
+}
+
+# A dump whose jobs are any of its connections', each of which reads in one transaction.
+test_replay_dump() {
+    local tape=$work/pg_dump-of-3-jobs.tape words=(bash -c 'dump_by_jobs "$0" "$@"' "$work/dump" "$@") number
+    export -f dump_by_jobs
+    export bin
+    sql "SELECT lo_from_bytea(0, convert_to(i::text, 'UTF8')) FROM generate_series(1, 3) AS i" > /dev/null
+    both_ways 'pg_dump-of-3-jobs' '' "${words[@]}"
+    start_replay "$tape" --again
+    for number in 1 2 3 4 5; do
+        same "replay: pg_dump of 3 jobs, again, $number" "$(at_port "$replay_port" "${words[@]}" 2>&1)" "$(cat "$tape.output")"
+    done
+    stop_replay
+}
+
 # Tools whose jobs take what is next at any of their connections.
 test_replay_jobs() {
     local number keys= tables=() folder=$work/jobs
@@ -206,6 +226,7 @@ test_replay_jobs() {
     sql "$keys"
     both_ways 'vacuumdb-of-3-jobs' '' "$bin/vacuumdb" -j 3 "${tables[@]}" postgres
     both_ways 'reindexdb-of-3-jobs' '' "$bin/reindexdb" -j 3 "${tables[@]}" postgres
+    test_replay_dump "${tables[@]}"
 }
 
 # Debian's drivers for its Python, where they are there.
@@ -262,6 +283,7 @@ test_replay() {
     test_replay_psql
     test_replay_pgbench
     test_replay_jobs
+    test_replay_snapshots
     test_replay_python
     test_replay_tokio_postgres
     test_replay_notify
