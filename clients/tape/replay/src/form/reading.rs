@@ -41,11 +41,20 @@ const IMPORT: &str =
 
 /// Whether a text that begins a transaction, or says of what kind it is, has it only read, where it says so at all.
 pub fn is_read_only(text: &[u8]) -> Option<bool> {
-    if !pattern!(&BEGINNING.replace("SP", SPACE)).is_match(text) {
+    if !may_begin(text) || !pattern!(&BEGINNING.replace("SP", SPACE)).is_match(text) {
         return None;
     }
     let last = pattern!(r"(?i-u)\bREAD\s+(ONLY|WRITE)\b").captures_iter(text).last()?;
     Some(last[1].eq_ignore_ascii_case(b"only"))
+}
+
+/// Whether a text has the first letters of such a statement, or a comment before it. All texts of a recording are asked for that.
+fn may_begin(text: &[u8]) -> bool {
+    let spaces = text.iter().take_while(|it| it.is_ascii_whitespace()).count();
+    let first = text[spaces..].get(..3).unwrap_or_default();
+    first.starts_with(b"/*")
+        || first.starts_with(b"--")
+        || [b"BEG", b"STA", b"SET"].iter().any(|it| first.eq_ignore_ascii_case(*it))
 }
 
 /// The name of the snapshot that a text imports, where it does nothing else.
@@ -101,7 +110,9 @@ mod tests {
             ("SET TRANSACTION ISOLATION LEVEL REPEATABLE READ READ ONLY", Some(true)),
             ("/* x */ SET TRANSACTION READ WRITE", Some(false)),
             ("BEGIN READ ONLY; SET TRANSACTION READ WRITE", Some(false)),
+            ("\n begin -- all\n read only", Some(true)),
             ("BEGIN", None),
+            ("", None),
             ("SELECT 'READ ONLY'", None),
             ("SET default_transaction_read_only = 'READ ONLY'", None),
         ] {
