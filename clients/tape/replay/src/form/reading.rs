@@ -48,7 +48,8 @@ pub fn is_read_only(text: &[u8]) -> Option<bool> {
     Some(last[1].eq_ignore_ascii_case(b"only"))
 }
 
-/// Whether a text has the first letters of such a statement, or a comment before it. All texts of a recording are asked for that.
+/// Whether a text has the first letters of such a statement, or a comment before it. All texts of a recording are asked for
+/// that.
 fn may_begin(text: &[u8]) -> bool {
     let spaces = text.iter().take_while(|it| it.is_ascii_whitespace()).count();
     let first = text[spaces..].get(..3).unwrap_or_default();
@@ -161,7 +162,8 @@ mod tests {
 
     #[test]
     fn names_are_made_and_taken() {
-        let text = b"DECLARE \"A\" CURSOR FOR SELECT 1; FETCH 5 FROM \"A\"; PREPARE b AS SELECT 1; EXECUTE B; SAVEPOINT c; SET a = 1";
+        let text = b"DECLARE \"A\" CURSOR FOR SELECT 1; FETCH 5 FROM \"A\"; PREPARE b AS SELECT 1; EXECUTE B;\
+            SAVEPOINT c; SET a = 1";
         let [cursor, statement] = [b"A".to_vec(), b"b".to_vec()];
         let all = [
             Deed::MakesCursor(cursor.clone()),

@@ -1,7 +1,7 @@
 //! Which recorded turn a client gets. A session goes on with the next one of the connection that it follows. Where that
 //! differs it takes another one that nobody had, of any connection, as long as all that it said and heard since it was
-//! outside of a transaction is the same there. Between the turns of a transaction that reads a snapshot, it takes one of another
-//! that reads the same.
+//! outside of a transaction is the same there. Between the turns of a transaction that reads a snapshot, it takes one of
+//! another that reads the same.
 
 mod choose;
 mod claims;

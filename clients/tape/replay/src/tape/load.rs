@@ -201,17 +201,7 @@ impl Tape {
         let (base, connection) = (self.script.len(), self.connections.len());
         let ending = building.ending(closed_by_client);
         let begin = self.turns.len();
-        for (said, is_whole) in turns_of(&building) {
-            if let Some(snapshot) = building.snapshots.get(&(said.end as u32 - 1)) {
-                self.snapshots.insert(self.turns.len(), *snapshot);
-            }
-            self.turns.push(Turn {
-                connection: connection as u32,
-                begin: (base + said.start) as u32,
-                end: (base + said.end) as u32,
-                is_whole,
-            });
-        }
+        self.add_turns(&building);
         mark_ignored(&building.ends, &building.ignored, &mut building.script);
         mark_preparing(&building.ends, &mut building.script.said);
         if let Some(process) = building.process {
@@ -230,6 +220,18 @@ impl Tape {
         self.script.append(building.script);
         self.waits.extend(building.waits);
         notified.append(&mut building.notified);
+    }
+
+    /// Adds the turns of the next connection.
+    fn add_turns(&mut self, building: &Building) {
+        let (base, connection) = (self.script.len(), self.connections.len() as u32);
+        for (said, is_whole) in turns_of(building) {
+            if let Some(snapshot) = building.snapshots.get(&(said.end as u32 - 1)) {
+                self.snapshots.insert(self.turns.len(), *snapshot);
+            }
+            let (begin, end) = ((base + said.start) as u32, (base + said.end) as u32);
+            self.turns.push(Turn { connection, begin, end, is_whole });
+        }
     }
 
     /// Adds what was heard of the messages of a connection, in the order of those.

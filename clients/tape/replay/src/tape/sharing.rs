@@ -194,8 +194,8 @@ impl Reading {
     }
 }
 
-/// Has turns end within the transactions that read a snapshot which others read, too. Where the connections that import one didn't
-/// all say the same before, its transactions stay whole, so that those that begin alike can be taken for each other.
+/// Has turns end within the transactions that read a snapshot which others read, too. Where the connections that import one
+/// didn't all say the same before, its transactions stay whole: those that begin alike can be taken for each other still.
 pub fn share(mut buildings: Vec<&mut Building>) {
     let mut all: HashMap<Vec<u8>, Vec<(usize, Reading)>> = HashMap::new();
     for (number, building) in buildings.iter_mut().enumerate() {
