@@ -4,4 +4,5 @@ pub mod FieldLemmas
 pub mod FormatLaws
 pub mod ItemsLemmas
 pub mod ListedLemmas
+pub mod NulLemmas
 pub mod TextLemmas

@@ -8,6 +8,7 @@ pub mod field;
 pub mod items;
 pub mod laws;
 mod logical;
+mod nul;
 mod protocol;
 mod received;
 mod replication;

@@ -7,16 +7,17 @@ ghost use Rattle.pg_format.specs.Format.Parts.{until_nul};
 ghost use Rattle.pg_format.specs.Format.Places.{EndsAfterNul, ReadsFrom};
 ghost use Rattle.pg_format.specs.Format.Tests.{utf8};
 
-use memchr::memchr;
+use crate::nul::find_nul;
 use pg_base::ProtocolFault;
 use std::str;
 
 /// The text at the front of some bytes, and what follows its NUL. `None` where there is no NUL.
+#[inline(always)]
 pub fn split_text(bytes: &[u8]) -> Option<(&[u8], &[u8])>
     ensures found { IfSome result (λ split. Text bytes.now split.0.now split.1.now) }
     ensures none { IfNone result (HoldsNo 0 bytes.now) }
 {
-    let end = memchr(0, bytes)?;
+    let end = find_nul(bytes)?;
     Some((&bytes[..end], &bytes[end + 1..]))
 }
 

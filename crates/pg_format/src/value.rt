@@ -1,6 +1,6 @@
 //! A value that may be NULL, after its length.
 
-ghost use Rattle.std.specs.Prelude.{◌≡◌, ◌+◌, ◌≤◌, ◌++◌, option_copied};
+ghost use Rattle.std.specs.Prelude.{◌≡◌, ◌+◌, ◌≤◌, ◌++◌, length, option_copied};
 ghost use Rattle.pg_format.specs.Format.Nullable.{value};
 ghost use Rattle.pg_base.specs.Sink.{HasRoom};
 
@@ -26,7 +26,7 @@ impl Part for Value<'_> {
     #[inline(always)]
     fn len(&self) -> usize {
         match self.0 {
-            Some(value) => value.len().saturating_add(LENGTH_SIZE),
+            Some(value) => sized_len(value),
             None => LENGTH_SIZE,
         }
     }
@@ -48,6 +48,14 @@ impl Part for Value<'_> {
     }
 }
 
+// The length of bytes after their own length, a number that no slice is too long for.
+#[inline(always)]
+fn sized_len(bytes: &[u8]) -> usize
+    ensures { result ≡ length bytes.now + 4 }
+{
+    bytes.len() + LENGTH_SIZE
+}
+
 // Adds bytes, in room that is there. A number is as long as an array, which is copied without a call.
 #[inline(always)]
 fn put_number_or_more<S: Sink>(bytes: &[u8], sink: &mut S)
@@ -57,9 +65,9 @@ fn put_number_or_more<S: Sink>(bytes: &[u8], sink: &mut S)
     ensures loan { S.loan sink.new ≡ S.loan sink.old }
 {
     if let Ok(number) = <[u8; 8]>::try_from(bytes) {
-        sink.put_slice(&number);
+        sink.put_number(&number);
     } else if let Ok(number) = <[u8; 4]>::try_from(bytes) {
-        sink.put_slice(&number);
+        sink.put_number(&number);
     } else {
         sink.put_slice(bytes);
     }

@@ -3,6 +3,7 @@
 mod atoi;
 mod buf_mut;
 mod copy;
+mod copy_bytes;
 mod decimal;
 mod decode;
 mod encode;

@@ -63,7 +63,7 @@ impl Name for &[u8] {
 
     #[inline(always)]
     fn ended_len(&self) -> usize {
-        self.len().saturating_add(1)
+        self.len() + 1
     }
 
     // The empty name needs no copy.

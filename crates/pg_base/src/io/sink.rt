@@ -7,6 +7,8 @@ ghost use Rattle.pg_base.specs.Numbers.{be16, be32, be64};
 ghost use Rattle.pg_base.specs.Sink.{IsGiven, HasRoom};
 ghost use Rattle.pg_base.specs.Text.{ended};
 
+use crate::io::copy_bytes::{copy_bytes, copy_number};
+
 /// Takes bytes at the end of what is written, in room that is there.
 pub trait Sink {
     /// What is written so far.
@@ -27,6 +29,13 @@ pub trait Sink {
 
     /// Adds some bytes.
     fn put_slice(&mut self, bytes: &[u8])
+        requires { HasRoom (capacity self.old) (written self.old) bytes.now }
+        ensures written { written self.new ≡ written self.old ++ bytes.now }
+        ensures capacity { capacity self.old ≤ capacity self.new }
+        ensures loan { loan self.new ≡ loan self.old };
+
+    /// Adds a number of four or eight bytes, or a tag with its length: where the compiler knows which, without a call.
+    fn put_number(&mut self, bytes: &[u8])
         requires { HasRoom (capacity self.old) (written self.old) bytes.now }
         ensures written { written self.new ≡ written self.old ++ bytes.now }
         ensures capacity { capacity self.old ≤ capacity self.new }
@@ -71,7 +80,7 @@ pub trait Sink {
         ensures loan { loan self.new ≡ loan self.old }
         ensures range { number < 2 ^ 64 }
     {
-        self.put_slice(&number.to_be_bytes());
+        self.put_number(&number.to_be_bytes());
     }
 
     /// Adds a tag, and the length field of a body of `len` bytes. Both are written at once.
@@ -86,7 +95,7 @@ pub trait Sink {
         // The number is one store, not four.
         let mut head = [tag, 0, 0, 0, 0];
         head[1..].copy_from_slice(&(len as u32 + 4).to_be_bytes());
-        self.put_slice(&head);
+        self.put_number(&head);
     }
 
     /// Adds a text and a NUL.
@@ -121,6 +130,11 @@ impl Sink for Vec<u8> {
             let added = self.extend_from_slice(bytes);
             prove!(added.is_ok());
         }
+    }
+
+    #[inline(always)]
+    fn put_number(&mut self, bytes: &[u8]) {
+        self.put_slice(bytes);
     }
 }
 
@@ -160,38 +174,16 @@ impl Sink for Cursor<'_> {
     #[inline(always)]
     fn put_slice(&mut self, bytes: &[u8]) {
         let end = self.at + bytes.len();
-        copy(&mut self.out[self.at..end], bytes);
+        copy_bytes(&mut self.out[self.at..end], bytes);
         self.at = end;
     }
-}
 
-// Copies bytes over as many others. A number of four or eight and a tag with its length are moved
-// without a call.
-#[inline(always)]
-fn copy(to: &mut [u8], from: &[u8])
-    requires { length to.old ≡ length from.now }
-    ensures { to.new ≡ from.now }
-{
-    if from.len() > 8 {
-        copy_all(to, from);
-    } else if let Ok(number) = <[u8; 8]>::try_from(from) {
-        to.copy_from_slice(&number);
-    } else if let Ok(head) = <[u8; 5]>::try_from(from) {
-        to.copy_from_slice(&head);
-    } else if let Ok(number) = <[u8; 4]>::try_from(from) {
-        to.copy_from_slice(&number);
-    } else if !from.is_empty() {
-        copy_all(to, from);
+    #[inline(always)]
+    fn put_number(&mut self, bytes: &[u8]) {
+        let end = self.at + bytes.len();
+        copy_number(&mut self.out[self.at..end], bytes);
+        self.at = end;
     }
-}
-
-// Out of line, since a copy is compiled to a test and a loop beside the call.
-#[inline(never)]
-fn copy_all(to: &mut [u8], from: &[u8])
-    requires { length to.old ≡ length from.now }
-    ensures { to.new ≡ from.now }
-{
-    to.copy_from_slice(from);
 }
 
 /// A text of the protocol, which is written as a whole.
