@@ -1,8 +1,7 @@
 -- The values of a message from a client: a value is a cell whose length isn't below -1.
-use Rattle.std.proofs.Common.{◌≡◌, ◌≢◌, ℕ, zero, suc, ◌+◌, ◌-◌, ◌<◌, ◌≤◌, ℤ, pos, negsuc, List, ◌∷◌, ◌++◌, Option, Some, None, length, take, drop, get_or, refl, sym, ap, ◌∙◌, arith, inr, length-take, length-drop}
-use Rattle.std.proofs.lemmas.List.{take-append-drop, length-take-le, drop-drop, drop_more, get_or-take, get_or-drop}
-use Rattle.pg_base.specs.Reading.{Signed, HoldsNo}
-use Rattle.pg_base.proofs.ReadingLemmas.{holds_no}
+use Rattle.std.proofs.Common.{[], ◌≡◌, ℕ, zero, suc, ◌+◌, ◌-◌, ◌<◌, ◌≤◌, ℤ, pos, negsuc, List, ◌∷◌, ◌++◌, Option, Some, None, length, take, drop, get_or, refl, sym, ap, ◌∙◌, arith, inr, length-take, length-drop}
+use Rattle.std.proofs.lemmas.List.{take-append-drop, length-take-le, drop-drop, drop_more}
+use Rattle.pg_base.specs.Reading.{Signed}
 use Rattle.pg_format.specs.Format.Lists.{times, counted}
 use Rattle.pg_format.specs.Format.Nullable.{cell, cell_after, value, value_after}
 use Rattle.pg_format.specs.Format.Parts.{until_nul, be_i32, bytes_of}
@@ -93,23 +92,8 @@ name_finds body at end name within read =
     let parts : body ≡ take at body ++ (name ++ 0 ∷ drop end body) = sym (take-append-drop at body) ∙ ap (λ (l : List ℕ). take at body ++ l) read.reads.parts in
     record { value = name; read = read; is = bytes_are body (take at body) name (0 ∷ drop end body) at parts (length-take-le at body within) }
 
--- bytes up to a NUL, none of which is one
-pub near_finds : (body : List ℕ) (at end : ℕ) → at ≤ end → end < length body → ((k : ℕ) → at ≤ k → k < end → get_or body k 0 ≢ 0) → get_or body end 0 ≡ 0
-    → FindsName body at (record { at = at; len = end - at }) (end + 1)
-near_finds body at end up lt clean nul =
-    let n = end - at in
-    let name = take n (drop at body) in
-    let wide : length name ≡ n = omega (arith, up, lt, length-take n (drop at body), length-drop at body) in
-    let place : at + n ≡ end = omega (arith, up) in
-    let rest : drop n (drop at body) ≡ 0 ∷ drop (end + 1) body =
-    drop-drop n at body ∙ ap (λ (i : ℕ). drop i body) place ∙ drop_more body end 0 lt ∙ ap (λ (b : ℕ). b ∷ drop (end + 1) body) nul in
-    let parts : drop at body ≡ name ++ 0 ∷ drop (end + 1) body = sym (take-append-drop n (drop at body)) ∙ ap (λ (l : List ℕ). name ++ l) rest in
-    let none : HoldsNo 0 name = holds_no 0 name (λ k few.
-    let inside : k < n = omega (arith, few, wide) in
-    rw (get_or-take n (drop at body) k 0 inside, get_or-drop) (clean (at + k) (omega arith) (omega (arith, inside, place)))) in
-    rw (← wide) (name_finds body at (end + 1) name (omega (arith, up, lt)) (record { within = omega (arith, lt); reads = record { clean = none; parts = parts } }))
-
+-- a name without bytes before its NUL
 pub empty_finds : (body : List ℕ) (at : ℕ) → at < length body → get_or body at 0 ≡ 0 → FindsName body at (record { at = at; len = 0 }) (at + 1)
 empty_finds body at lt nul =
-    let none : at - at ≡ 0 = omega arith in
-    rw none at (near_finds body at at (omega arith) lt (λ k from up. absurd (omega (arith, from, up))) nul)
+    let parts : drop at body ≡ 0 ∷ drop (at + 1) body = drop_more body at 0 lt ∙ ap (λ (b : ℕ). b ∷ drop (at + 1) body) nul in
+    name_finds body at (at + 1) [] (omega (arith, lt)) (record { within = omega (arith, lt); reads = record { clean = tt; parts = parts } })

@@ -20,16 +20,12 @@ use pg_server::frontend::parts::{text_at, u16_at, value_at};
 // The bytes of a value's length.
 const LENGTH: usize = 4;
 
-// The bytes of a short name, with its NUL.
-const SHORT_NAME: usize = 12;
-
 // The length of a value that is NULL.
 const NULL: i32 = -1;
 
-/// The place of the name at an offset, and the offset after its NUL. One that is empty or short is found
-/// without a call.
+/// The place of the name at an offset, and the offset after its NUL. One that is empty is found without a call.
 #[inline(always)]
-#[tactic(auto, using(std::proofs::lemmas::Bool::cases_lt, crate::proofs::ClientValuesLemmas::near_finds, crate::proofs::ClientValuesLemmas::empty_finds))]
+#[tactic(auto, using(crate::proofs::ClientValuesLemmas::empty_finds))]
 pub(crate) fn name_at(body: &[u8], at: usize) -> Result<(PgmsgSpan, usize), FrontendFault>
     requires within { at ≤ length body.now }
     requires short { length body.now ≤ MAX_BODY }
@@ -38,11 +34,6 @@ pub(crate) fn name_at(body: &[u8], at: usize) -> Result<(PgmsgSpan, usize), Fron
 {
     if at < body.len() && body[at] == 0 {
         return Ok((PgmsgSpan { at, len: 0 }, at + 1));
-    }
-    for end in at..body.len().min(at + SHORT_NAME) {
-        if body[end] == 0 {
-            return Ok((PgmsgSpan { at, len: end - at }, end + 1));
-        }
     }
     place_of_text_at(body, at)
 }

@@ -1,7 +1,7 @@
 //! The lists of a message of logical replication: the values of a row, and the columns of a table.
 
 ghost use Rattle.std.specs.Prelude.{◌≡◌, ◌+◌, ◌≤◌, ◌<ℤ◌, ◌≤ℤ◌, ℕ, pos, List, length, get_or, Option};
-ghost use Rattle.std.specs.Prelude.{◌≢◌, ◌⊎◌, true, false, OnOk, OnErr, IfErr, IfOk, IfSome};
+ghost use Rattle.std.specs.Prelude.{◌≢◌, ◌⊎◌, true, false, OnOk, OnErr, IfErr, IfOk, IfSome, IfNone};
 ghost use Rattle.pg_format.specs.Format.Lists.{times};
 ghost use Rattle.pg_format.specs.Format.{Format};
 ghost use Rattle.pg_format.specs.Format.Places.{BreaksAt};
@@ -225,56 +225,60 @@ impl Place for PgmsgDatum {
         let room = list.count.min(to.len());
         let mut at = list.at;
         for index in 0..room {
-            let Some((place, end)) = datum_at(content, at) else {
+            let Some(end) = put_datum(content, at, &mut to[index]) else {
                 return (index, at);
             };
-            put_place(&mut to[index], place);
             at = end;
         }
         (room, at)
     }
 }
 
-// Writes a place part by part. As a whole it would be copied with the bytes between its parts, which are on their way in
-// memory then: that takes longer than to find the place.
+// Gives the place of the value at an offset: the offset after it; nothing where the value is broken. A place is written part
+// by part. As a whole it would be copied with the bytes between its parts, which are on their way in memory then: that takes
+// longer than to find the place.
 #[inline(always)]
-fn put_place(to: &mut PgmsgDatum, place: PgmsgDatum)
-    ensures { to.new ≡ place }
-{
-    to.kind = place.kind;
-    to.value = place.value;
-}
-
-// The place of the value at an offset, and the offset after it; nothing where it is broken.
-#[inline(always)]
-fn datum_at(content: &[u8], at: usize) -> Option<(PgmsgDatum, usize)>
+fn put_datum(content: &[u8], at: usize, to: &mut PgmsgDatum) -> Option<usize>
     requires within { at ≤ length content.now }
     requires short { length content.now ≤ MAX_BODY }
-    ensures { IfSome result (λ found. Finds datum datum_in content.now at found.0 found.1) }
+    ensures found { IfSome result (λ end. Finds datum datum_in content.now at to.new end) }
+    ensures kept { IfNone result (to.new ≡ to.old) }
 {
     if at + BEFORE_VALUE <= content.len() {
         let kind = content[at];
         if is_one_of(kind, b't', b'b') {
-            return sent_until(content, at);
+            return put_sent(content, at, to);
         }
         if kind == b'n' {
-            return Some((unsent(kind), at + 1));
+            return Some(put_unsent(kind, at, to));
         }
     }
-    // At the end of a message, or not changed. A test of all four letters at once would be a jump by a table.
+    put_last(content, at, to)
+}
+
+// The same at the end of a message, or of a value that wasn't changed. A test of all four letters at once would be a jump by a
+// table.
+#[inline(always)]
+fn put_last(content: &[u8], at: usize, to: &mut PgmsgDatum) -> Option<usize>
+    requires within { at ≤ length content.now }
+    requires short { length content.now ≤ MAX_BODY }
+    ensures found { IfSome result (λ end. Finds datum datum_in content.now at to.new end) }
+    ensures kept { IfNone result (to.new ≡ to.old) }
+{
     if at < content.len() && is_one_of(content[at], b'n', b'u') {
-        return Some((unsent(content[at]), at + 1));
+        return Some(put_unsent(content[at], at, to));
     }
     None
 }
 
-// The place of a value that is sent, and the offset after it; nothing where the message ends before.
+// Gives the place of a value that is sent: the offset after it; nothing where the message ends before.
 #[inline(always)]
-fn sent_until(content: &[u8], at: usize) -> Option<(PgmsgDatum, usize)>
+fn put_sent(content: &[u8], at: usize, to: &mut PgmsgDatum) -> Option<usize>
     requires within { at + 5 ≤ length content.now }
     requires short { length content.now ≤ MAX_BODY }
     requires sent { (get_or content.now at 0 ≡ 116) ⊎ (get_or content.now at 0 ≡ 98) }
-    ensures { IfSome result (λ found. Finds datum datum_in content.now at found.0 found.1) }
+    ensures found { IfSome result (λ end. Finds datum datum_in content.now at to.new end) }
+    ensures kept { IfNone result (to.new ≡ to.old) }
 {
     let start = at + BEFORE_VALUE;
     let len = BigEndian::read_u32(&content[at + 1..start]) as usize;
@@ -282,9 +286,9 @@ fn sent_until(content: &[u8], at: usize) -> Option<(PgmsgDatum, usize)>
     if end > content.len() {
         return None;
     }
-    let value = PgmsgSpan { at: start, len };
-    let kind = content[at];
-    Some((PgmsgDatum { kind, value }, end))
+    to.kind = content[at];
+    to.value = PgmsgSpan { at: start, len };
+    Some(end)
 }
 
 // Whether a letter is one of two.
@@ -294,6 +298,18 @@ pub(crate) fn is_one_of(letter: u8, one: u8, other: u8) -> bool
     ensures no { result ≡ false → (letter ≢ one) × (letter ≢ other) }
 {
     letter == one || letter == other
+}
+
+// Gives the place of a value that isn't sent, whose letter stands at an offset: the offset after it.
+#[inline(always)]
+fn put_unsent(kind: u8, at: usize, to: &mut PgmsgDatum) -> usize
+    requires { at ≤ MAX_BODY }
+    ensures place { to.new ≡ record { kind = kind; value = nowhere } }
+    ensures after { result ≡ at + 1 }
+{
+    to.kind = kind;
+    to.value = NOWHERE;
+    at + 1
 }
 
 // The place of the value that begins at an offset.

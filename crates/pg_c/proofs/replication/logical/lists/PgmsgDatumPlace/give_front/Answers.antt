@@ -11,7 +11,6 @@ pub loop-index-preserved : goal.loop-index-preserved
 loop-index-preserved c =
     let content = c.args.content.now in
     let loop = c.loop-index in
-    let found = c.in-Some.ensures in
+    let found = c.in-Some.ensures.found in
     let room : loop.index < length loop.to = omega (arith, c.loop-index-test.true, c.min-room.ensures, loop.invariant.1.given.room) in
-    rw c.put_place.ensures
-    (found.read.within, gives_more datum (datum_in content) content c.args.list.at loop.at c.in-Some.end loop.index c.args.to.now loop.to c.in-Some.place found.item loop.invariant.1 found.is found.read room)
+    (found.read.within, gives_more datum (datum_in content) content c.args.list.at loop.at c.in-Some.end loop.index c.args.to.now loop.to c.put_datum.new.to found.item loop.invariant.1 found.is found.read room)

@@ -3,10 +3,10 @@ use Rattle.byteorder.specs.Endian.{big_number}
 use Rattle.pg_base.specs.Reading.{Number}
 use Rattle.pg_base.proofs.NumbersLemmas.{number_4, wide_enough, number_at}
 use Rattle.pg_c.proofs.LogicalListsLemmas.{sent_found}
-use Rattle.pg_c.proofs.replication.logical.lists.sent_until.Goals as goal
+use Rattle.pg_c.proofs.replication.logical.lists.put_sent.Goals as goal
 
-pub returns : goal.returns
-returns c =
+pub returns-clause-found : goal.returns-clause-found
+returns-clause-found c =
     let body = c.args.content.now in
     let at = c.args.at in
     let n = c.read_u32-len.result in
