@@ -348,19 +348,6 @@ static void test_cut(struct tally *tally, const struct logical *sample)
     CHECK(tally, streamed == sample->is_streamed && are_untouched(&read, sizeof read));
 }
 
-/* Writes a message into rooms of each length. */
-static void test_put_one(struct tally *tally, const struct logical *sample)
-{
-    uint8_t out[ROOM];
-    CHECK(tally, sample->len <= sizeof out);
-    for (size_t room = 0; room <= sizeof out; room++) {
-        memset(out, UNTOUCHED, sizeof out);
-        CHECK(tally, pgmsg_put_logical(&sample->message, out, room) == (ptrdiff_t)sample->len);
-        size_t put = room < sample->len ? 0 : sample->len;
-        CHECK(tally, are_bytes(out, put, sample->bytes, put) && are_untouched(out + put, sizeof out - put));
-    }
-}
-
 /* Every letter, by its shortest message outside of a stream. */
 static void test_letters(struct tally *tally)
 {
@@ -475,7 +462,8 @@ static void test_one(struct tally *tally, const struct logical *sample, bool *st
     CHECK(tally, *streamed == sample->is_streamed);
     test_read_one(tally, sample, streamed);
     test_cut(tally, sample);
-    test_put_one(tally, sample);
+    CHECK(tally, sample->len <= ROOM);
+    FITS_ROOMS(tally, ROOM, sample->bytes, sample->len, pgmsg_put_logical(&sample->message, out, room));
     if (tally->failed > failed)
         fprintf(stderr, "logical %c of %zu bytes\n", sample->message.letter, sample->len);
 }

@@ -36,4 +36,17 @@ bool is_fault_of(const pgmsg_fault *fault, int32_t number, size_t at, const char
         CHECK((tally), nth > 1 && !is_refused);                                                    \
     } while (0)
 
+/* Checks that a call writes the bytes of a message into each room that has as many, up to `most`, and none into others. The call
+ * names the room `out` and its length `room`. */
+#define FITS_ROOMS(tally, most, text, text_len, call)                                                                    \
+    do {                                                                                                                 \
+        uint8_t out[most];                                                                                               \
+        for (size_t room = 0; room <= sizeof out; room++) {                                                              \
+            memset(out, UNTOUCHED, sizeof out);                                                                          \
+            CHECK((tally), (call) == (ptrdiff_t)(text_len));                                                             \
+            size_t put = room < (text_len) ? 0 : (text_len);                                                             \
+            CHECK((tally), are_bytes(out, put, (text), put) && are_untouched(out + put, sizeof out - put));              \
+        }                                                                                                                \
+    } while (0)
+
 #endif

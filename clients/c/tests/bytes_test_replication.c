@@ -87,18 +87,6 @@ static void test_read_one(struct tally *tally, const struct replication *sample)
     CHECK(tally, is_open || are_untouched(&read, sizeof read));
 }
 
-/* Writes a message into rooms of each length. */
-static void test_put_one(struct tally *tally, const struct replication *sample)
-{
-    uint8_t out[64];
-    for (size_t room = 0; room <= sizeof out; room++) {
-        memset(out, UNTOUCHED, sizeof out);
-        CHECK(tally, pgmsg_put_replication(&sample->message, out, room) == (ptrdiff_t)sample->len);
-        size_t put = room < sample->len ? 0 : sample->len;
-        CHECK(tally, are_bytes(out, put, sample->bytes, put) && are_untouched(out + put, sizeof out - put));
-    }
-}
-
 /* A flag that is neither 0 nor 1 is read as set, and what is no part of a message is passed over as it is written. */
 static void test_passed_over(struct tally *tally)
 {
@@ -162,8 +150,9 @@ static void test_longest(struct tally *tally, const uint8_t *zeros)
 void test_replication(struct tally *tally)
 {
     for (size_t i = 0; i < sizeof replications / sizeof *replications; i++) {
-        test_read_one(tally, &replications[i]);
-        test_put_one(tally, &replications[i]);
+        const struct replication *sample = &replications[i];
+        test_read_one(tally, sample);
+        FITS_ROOMS(tally, 64, sample->bytes, sample->len, pgmsg_put_replication(&sample->message, out, room));
     }
     test_passed_over(tally);
     test_letters(tally);
