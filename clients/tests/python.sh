@@ -82,7 +82,8 @@ test_python() {
         return
     fi
     prepare_package
-    test_python_units 'the wheel' "$work/package"
+    # Freed memory gets other bytes at once, so that none is read as it was.
+    GLIBC_TUNABLES=glibc.malloc.tcache_count=0:glibc.malloc.perturb=165 test_python_units 'the wheel' "$work/package"
     make_refusing
     LDFLAGS=-Wl,-Bsymbolic unpack_wheel "$work/refusing" "$work/package_refusing"
     test_python_units 'refused memory' "$work/package_refusing" -p refused_memory.py

@@ -40,7 +40,7 @@ def found(kind: str, call: Callable[..., int], body: bytes) -> Any:
     """What a call finds in a body: a struct of some kind."""
     place = ffi.new(f"{kind} *")
     read(call, body, place)
-    # As cffi has it, this keeps the memory of the place.
+    # As cffi has it, this keeps the memory of the place, but a struct in it doesn't.
     return place[0]
 
 

@@ -95,7 +95,9 @@ class CommandComplete(BackendMessage, tag="C"):
 
     @classmethod
     def _read(cls, body: bytes) -> Self:
-        return cls(part(body, command_in(body).tag))
+        # It keeps the memory of its tag.
+        command = command_in(body)
+        return cls(part(body, command.tag))
 
     def write(self) -> bytes:
         return put(lib.pgmsg_put_command_complete, *sized(self.command))
