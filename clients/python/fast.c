@@ -174,9 +174,16 @@ static PyObject *row_of(PyObject *view, const uint8_t *body, Py_ssize_t offset, 
     return row;
 }
 
+/* How rows are asked for: the kind of their cells, and how long a message may be. */
+struct asked {
+    long kind;
+    size_t longest;
+};
+
 /* Reads a row and moves on behind it. 1, or 0 with how many bytes are needed, which are none where no row is at the
- * front; -1 after an error. */
-static int take_row(struct stream *stream, struct cells *cells, PyObject *view, long kind, PyObject *rows, size_t *needed)
+ * front, and more than a message may have where the row is too long; -1 after an error. */
+static int take_row(struct stream *stream, struct cells *cells, PyObject *view, const struct asked *asked, PyObject *rows,
+    size_t *needed)
 {
     pgmsg_frame frame;
     pgmsg_fault fault;
@@ -184,19 +191,21 @@ static int take_row(struct stream *stream, struct cells *cells, PyObject *view, 
     if (stream->at < stream->len && stream->bytes[stream->at] != 'D')
         return 0;
     int32_t whole = cut(stream, OF_SERVER, 0, &frame, &fault);
-    if (whole == 0)
-        *needed = frame.length;
-    if (whole < 0)
+    if (whole < 0) {
         refuse(whole, &fault);
-    if (whole <= 0)
-        return whole;
+        return -1;
+    }
+    if (whole == 0 || frame.length > asked->longest) {
+        *needed = frame.length;
+        return 0;
+    }
     Py_ssize_t offset = stream->at + (Py_ssize_t)frame.body.at;
     ptrdiff_t count = read_cells(cells, stream->bytes + offset, frame.body.len, &fault);
     if (count < 0) {
         refuse((int32_t)count, count == PGMSG_OUT_OF_MEMORY ? NULL : &fault);
         return -1;
     }
-    PyObject *row = row_of(view, stream->bytes + offset, offset, cells->items, count, kind);
+    PyObject *row = row_of(view, stream->bytes + offset, offset, cells->items, count, asked->kind);
     if (row == NULL || PyList_Append(rows, row) < 0) {
         Py_XDECREF(row);
         return -1;
@@ -215,8 +224,8 @@ static bool is_put_off(PyObject *rows)
     return waits;
 }
 
-PyDoc_STRVAR(rows_words, "rows(stream, at, kind)\n--\n\nThe rows at a place of a stream, their end, and how many bytes the "
-                         "next one needs, 0 where what comes is no row.");
+PyDoc_STRVAR(rows_words, "rows(stream, at, kind, longest)\n--\n\nThe rows at a place of a stream, their end, and how many bytes "
+                         "the next one needs, 0 where what comes is no row. A row of more than `longest` bytes isn't read.");
 
 static PyObject *rows(PyObject *module, PyObject *const *args, Py_ssize_t count)
 {
@@ -224,16 +233,16 @@ static PyObject *rows(PyObject *module, PyObject *const *args, Py_ssize_t count)
     struct cells cells;
     size_t needed = 0;
     (void)module;
-    if (!has_arguments(count, 3) || !take_stream(&stream, args[0], args[1]))
+    if (!has_arguments(count, 4) || !take_stream(&stream, args[0], args[1]))
         return NULL;
-    long kind = PyLong_AsLong(args[2]);
-    if (kind == -1 && PyErr_Occurred())
+    const struct asked asked = {PyLong_AsLong(args[2]), PyLong_AsSize_t(args[3])};
+    if (PyErr_Occurred())
         return NULL;
     PyObject *view = PyMemoryView_FromObject(stream.object), *found = PyList_New(0);
     int taken = view == NULL || found == NULL ? -1 : 1;
     begin_cells(&cells);
     while (taken > 0)
-        taken = take_row(&stream, &cells, view, kind, found, &needed);
+        taken = take_row(&stream, &cells, view, &asked, found, &needed);
     end_cells(&cells);
     Py_XDECREF(view);
     if (taken < 0 && (found == NULL || !is_put_off(found))) {

@@ -8,15 +8,17 @@ from typing import Any, Generic, TypeVar, overload
 from . import _fast
 from ._sharing import Shared
 from .authentication import (
-    AuthenticationGSS, AuthenticationGSSContinue, AuthenticationSASL, AuthenticationSASLContinue, AuthenticationSSPI)
+    Authentication, AuthenticationGSS, AuthenticationGSSContinue, AuthenticationSASL, AuthenticationSASLContinue,
+    AuthenticationSSPI)
 from .fault import Code, Fault
 from .message import BackendMessage, Buffer, Frame, FrontendMessage, Message
 from .opening import MAX_FIRST_LENGTH, StartupMessage
 from .passwords import AuthenticationResponse, GSSResponse, PasswordMessage, SASLInitialResponse, SASLResponse
 from .tags import BACKEND, read_frontend
 
-# The greatest message that PostgreSQL itself sends or takes.
+# The greatest message that PostgreSQL itself sends or takes, and the greatest that there is.
 MAX_LENGTH = (1 << 30) - 1
+LONGEST = (1 << 31) - 1
 
 # Whose messages a stream has, and how cells are given, as fast.c has these numbers.
 OF_SERVER, FIRST_OF_CLIENT, OF_CLIENT = range(3)
@@ -30,13 +32,13 @@ class Stream(Shared, Generic[Received]):
     """What both sides of a connection share.
 
     Iterating gives each whole message once, and ends where more bytes are needed: `feed` it, and iterate again. After a
-    Fault the place in the stream is lost: close the connection. A message that is announced as longer than `limit` is
-    refused before it comes. Threads may share a stream: each message goes to one of them.
+    Fault the place in the stream is lost: close the connection. A message of more than `limit` bytes after its tag is
+    refused as soon as its length is there. Threads may share a stream: each message goes to one of them.
     """
 
     def __init__(self, limit: int = MAX_LENGTH) -> None:
         super().__init__()
-        self._limit = limit
+        self._limit = min(limit, LONGEST)
         self._data = b""
         self._at = 0
         self._pieces: list[bytes] = []
@@ -69,6 +71,7 @@ class Stream(Shared, Generic[Received]):
             self._wait(cut)
             return None
         tag, body, end = cut
+        self._check(end - self._at)
         message = self._read(tag, body)
         self._at = end
         return message
@@ -82,9 +85,13 @@ class Stream(Shared, Generic[Received]):
 
     def _wait(self, needed: int) -> None:
         """Remembers how many bytes the next message needs."""
-        if needed > self._limit + 1:
-            raise Fault(Code.FRAME_TOO_LONG, f"expected a message of at most {self._limit} bytes, got {needed - 1}")
+        self._check(needed)
         self._missing = needed - (len(self._data) - self._at)
+
+    def _check(self, length: int) -> None:
+        """Refuses a message that is so long, where that is beyond the limit."""
+        if length > self._limit + 1:
+            raise Fault(Code.FRAME_TOO_LONG, f"expected a message of at most {self._limit} bytes, got {length - 1}")
 
     def _read(self, tag: int, body: bytes) -> Received:
         raise NotImplementedError
@@ -114,8 +121,9 @@ class ClientStream(Stream[BackendMessage]):
         if self._missing > 0:
             return []
         self._join()
-        rows, self._at, needed = _fast.rows(self._data, self._at, kind)
-        if needed:
+        rows, self._at, needed = _fast.rows(self._data, self._at, kind, self._limit + 1)
+        # A row that is too long is refused by the next call, after those before it.
+        if needed <= self._limit + 1 or not rows:
             self._wait(needed)
         return rows
 
@@ -161,7 +169,8 @@ class ServerStream(Stream[FrontendMessage]):
     def send(self, *messages: BackendMessage) -> bytes:
         """The bytes of messages to the client."""
         for message in messages:
-            self._answer = ANSWERS.get(type(message), PasswordMessage)
+            if isinstance(message, Authentication):
+                self._answer = ANSWERS.get(type(message), PasswordMessage)
         return b"".join([message.write() for message in messages])
 
     def _read(self, tag: int, body: bytes) -> FrontendMessage:

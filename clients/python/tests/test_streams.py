@@ -102,6 +102,28 @@ class TestFaults(unittest.TestCase):
                     stream.feed(bytes(96))
                     self.assertEqual(list(stream), [CopyData(bytes(96))])
 
+    def test_limits_of_whole_messages(self):
+        long = DataRow([bytes(200)]).write()
+        for limit, is_refused in [(len(long) - 1, False), (len(long) - 2, True), (1 << 70, False)]:
+            for rows_of in (lambda stream: [list(row.values) for row in stream], lambda stream: stream.rows(bytes)):
+                stream = ClientStream(limit=limit)
+                stream.feed(long)
+                if is_refused:
+                    self.assertRaises(Fault, rows_of, stream)
+                else:
+                    self.assertEqual([list(row) for row in rows_of(stream)], [[bytes(200)]])
+
+    def test_rows_before_one_that_is_too_long(self):
+        row, long = DataRow(["1"]).write(), DataRow([bytes(200)]).write()
+        for after in (long, long[:5]):
+            stream = ClientStream(limit=100)
+            stream.feed(row + row + after)
+            self.assertEqual(stream.rows(), [("1",), ("1",)])
+            for _ in range(2):
+                with self.assertRaises(Fault) as refused:
+                    stream.rows()
+                self.assertIs(refused.exception.code, Code.FRAME_TOO_LONG)
+
     def test_a_tag_is_known_to_one_side(self):
         for side, front, rows in [(ClientStream, b"", samples.OF_SERVER + samples.OF_BOTH),
                                   (ServerStream, StartupMessage({}).write(), samples.OF_CLIENT + samples.OF_BOTH)]:
@@ -130,6 +152,7 @@ class TestServerStream(unittest.TestCase):
             (AuthenticationGSSContinue("more"), GSSResponse("token")),
         ]:
             self.assertEqual(stream.send(asked), asked.write())
+            stream.send(NoticeResponse({"M": "later"}))
             stream.feed(answer.write())
             self.assertEqual(list(stream), [answer])
 
