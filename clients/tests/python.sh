@@ -165,6 +165,15 @@ test_python_copy() {
         same "python, $example: the words of an error" "$status ${errors##*$'\n'}" \
             "1 ${said_of[$example]}relation \"missing\" does not exist"
     done
+    test_python_saslprep
+}
+
+# A password that the server keeps in another form.
+test_python_saslprep() {
+    sql "SET password_encryption = 'scram-sha-256'; ALTER ROLE by_scram PASSWORD U&'\\FB01sh'"
+    read_table read_table $'\uFB01sh' 127.0.0.1 "$PGPORT" by_scram "$PGDATABASE" python
+    same 'python: a password that SASLprep changes' "$status ${output%%$'\n'*}$errors" "0 ('1', 'ann')"
+    sql "SET password_encryption = 'scram-sha-256'; ALTER ROLE by_scram PASSWORD 'pass word ''1'"
 }
 
 # pgmsg.testing, which records with the server.

@@ -10,22 +10,25 @@ import secrets
 from .authentication import AuthenticationSASLContinue, AuthenticationSASLFinal
 from .message import Text, octets
 from .passwords import SASLInitialResponse, SASLResponse
+from .saslprep import prepared
 
 MECHANISM = b"SCRAM-SHA-256"
 
 # No channel binding.
 HEADER = "n,,"
 
+# A server may ask for any number of iterations; more take many seconds.
+MOST_ITERATIONS = 10_000_000
+
 
 class Scram:
     """An exchange: send `initial`, answer the challenge by `response`, and `check` the end before you trust the server.
 
-    The password goes in as it is: SASLprep is the caller's. PostgreSQL takes the user of the session, whatever `user`
-    says. A `nonce` is for a test alone.
+    PostgreSQL takes the user of the session, whatever `user` says. A `nonce` is for a test alone.
     """
 
     def __init__(self, password: Text, user: str = "", nonce: str = "") -> None:
-        self._password = octets(password)
+        self._password = prepared(octets(password))
         self._nonce = nonce or secrets.token_urlsafe(18)
         self._bare = f"n={user.replace('=', '=3D').replace(',', '=2C')},r={self._nonce}"
         self._verifier = b""
@@ -36,10 +39,16 @@ class Scram:
         return SASLInitialResponse(MECHANISM, f"{HEADER}{self._bare}")
 
     def response(self, challenge: AuthenticationSASLContinue) -> SASLResponse:
-        """What proves that the client knows the password. A server that answers another client is a ValueError."""
+        """What proves that the client knows the password.
+
+        A server that answers another client, or asks for more than MOST_ITERATIONS, is a ValueError.
+        """
         iterations, salt, nonce = challenge.challenge()
-        if not nonce.startswith(self._nonce) or nonce == self._nonce:
+        begins = challenge.data.startswith(b"r=") and nonce.startswith(self._nonce)
+        if not begins or nonce == self._nonce or not salt:
             raise ValueError("the challenge is no answer to what began the exchange")
+        if not 0 < iterations <= MOST_ITERATIONS:
+            raise ValueError(f"the server asks for {iterations} iterations")
         salted = hashlib.pbkdf2_hmac("sha256", self._password, salt, iterations)
         ending = f"c={base64.b64encode(HEADER.encode()).decode()},r={nonce}"
         signed = b",".join([self._bare.encode(), challenge.data, ending.encode()])

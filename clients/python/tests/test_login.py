@@ -40,9 +40,23 @@ class TestScram(unittest.TestCase):
         for nonce in ("", NONCE, "x" + NONCE):
             self.assertRaises(ValueError, begun().response, AuthenticationSASLContinue(f"r={nonce},s=AQID,i=1"))
 
+    def test_a_challenge_that_no_server_should_send(self):
+        for data in (f"r={NONCE}x,s=AQID,i=0", f"r={NONCE}x,s=AQID,i=10000001", f"r={NONCE}x,s=AQID,i=4294967295",
+                     f"r={NONCE}x,i=1", f"r={NONCE}x,s=,i=1", f"m=ext,r={NONCE}x,s=AQID,i=1"):
+            with self.assertRaises((ValueError, Fault)):
+                begun().response(AuthenticationSASLContinue(data))
+
     def test_parts_of_a_challenge(self):
         for data, due in [("r=abc,s=AQID,i=8192", Challenge(8192, b"\1\2\3", "abc")), ("r=a", Challenge(4096, b"", "a"))]:
             self.assertEqual(AuthenticationSASLContinue(data).challenge(), due)
+
+    def test_forms_of_a_password(self):
+        # The examples of RFC 4013, section 3, of which the last two are refused; and a space that isn't ASCII.
+        for password, due in [("I\u00adX", "IX"), ("user", "user"), ("USER", "USER"), ("\u00aa", "a"), ("\u2168", "IX"),
+                              ("\u0007", "\u0007"), ("\u06271", "\u06271"), ("a\u00a0b", "a b"), (b"\xff", b"\xff"),
+                              ("", ""), ("\u0627\u0628", "\u0627\u0628")]:
+            one, other = (Scram(it, "user", NONCE) for it in (password, due))
+            self.assertEqual(one.response(CHALLENGE), other.response(CHALLENGE))
 
     def test_nonces_differ(self):
         self.assertNotEqual(Scram("a").initial(), Scram("a").initial())
