@@ -25,6 +25,7 @@ from typing import Any, ClassVar, Literal, TypeAlias
 from ._calls import FEW, allocate, listed, part, put
 from ._calls import read as call
 from ._library import ffi, lib
+from ._sharing import Shared
 from .message import AsText, Buffer, octets
 
 __all__ = [
@@ -337,10 +338,11 @@ OF_ALL: tuple[type[LogicalMessage], ...] = (
 KINDS = {kind.LETTER: kind for kind in OF_ALL}
 
 
-class LogicalStream:
+class LogicalStream(Shared):
     """Reads the messages of a slot in order, and knows which of them stand between a StreamStart and a StreamStop."""
 
     def __init__(self, streamed: bool = False) -> None:
+        super().__init__()
         self._streamed = ffi.new("bool *", streamed)
 
     @property
@@ -351,6 +353,9 @@ class LogicalStream:
     def read(self, content: Buffer) -> LogicalMessage:
         """The message that is all of the content of an XLogData. What breaks the format is a Fault, and leaves the stream as
         it was."""
+        return self._alone(self._read, content)
+
+    def _read(self, content: Buffer) -> LogicalMessage:
         data, values, found = octets(content), allocate("pgmsg_datum[]", FEW), ffi.new("pgmsg_logical *")
         count = call(lib.pgmsg_read_logical, data, self._streamed, values, FEW, found)
         kind = KINDS[chr(found.letter)]
@@ -450,7 +455,8 @@ class Held:
         return self._kept[-1]
 
     def _text(self, given: Any) -> Any:
-        self._kept.append(ffi.from_buffer("uint8_t[]", octets(given)))
+        # A str is refused: it would come back as bytes.
+        self._kept.append(ffi.from_buffer("uint8_t[]", octets(memoryview(given))))
         return self._kept[-1]
 
     def _sized(self, given: Any) -> tuple[Any, int]:

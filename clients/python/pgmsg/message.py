@@ -21,6 +21,10 @@ class Frame(NamedTuple):
     tag: int | None
     body: bytes
 
+    def __repr__(self) -> str:
+        # The body may hold a password.
+        return f"Frame(tag={self.tag!r}, body=<{len(self.body)} bytes>)"
+
 
 class Message:
     """A message of the protocol. It never changes, and two of the same parts are equal.

@@ -133,7 +133,8 @@ class Relay(Shared):
         return int(self._relay.left)
 
     def want(self, wanted: Iterable[int]) -> None:
-        """Changes which messages are wanted whole, from the next one on whose front isn't held yet."""
+        """Changes which messages are wanted whole, also one whose front is held already: it goes out in parts where it
+        isn't wanted any more."""
         flags = bytearray(256)
         for tag in wanted:
             flags[number(8, tag)] = 1

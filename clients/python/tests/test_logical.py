@@ -97,6 +97,10 @@ class TestLogical(unittest.TestCase):
             self.assertEqual(stream.read(content), message)
             self.assertIs(stream.streamed, type(message) is not StreamStop and (message, content) in STREAMED)
 
+    def test_texts_are_bytes(self):
+        for message in (Message(0, 1, "p", b"c"), Origin(1, "o"), Insert(1, (Text("5"),))):
+            self.assertRaises(TypeError, message.write)
+
     def test_many_items(self):
         number = (1000).to_bytes(2, "big")
         found = logical.read(b"I\0\0\0\1N" + number + b"nu" * 500)

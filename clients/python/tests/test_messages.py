@@ -133,6 +133,7 @@ class TestParts(unittest.TestCase):
             self.assertNotIn("hidden", shown)
             self.assertNotIn("md5", shown)
         self.assertEqual(repr(CommandComplete("SELECT 1")), "CommandComplete(command=b'SELECT 1')")
+        self.assertEqual(repr(Frame(112, b"secret\0")), "Frame(tag=112, body=<7 bytes>)")
 
     def test_match(self):
         match Bind(["1"], "s"):
