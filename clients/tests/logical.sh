@@ -67,6 +67,11 @@ is_free() {
     [ "$(sql "SELECT active FROM pg_replication_slots WHERE slot_name = '$1'")" = f ]
 }
 
+# Whether a slot needs no log before a position, so that the server may remove it.
+is_past() {
+    [ "$(sql "SELECT confirmed_flush_lsn >= '$2' FROM pg_replication_slots WHERE slot_name = '$1'")" = t ]
+}
+
 is_followed() {
     tail -n 2 "$1" | tr -d '\n' | grep -q '"truncate", "table": "public.kept"}{"commit"'
 }
@@ -74,7 +79,7 @@ is_followed() {
 # Runs an example that appends the changes of a slot to a file: first within the greatest size of a file, which cuts it off
 # within a line of a transaction, then killed while changes are made, and last up to the end.
 follow() {
-    local slot=$1 file=$work/$1.lines lines making following kill
+    local slot=$1 file=$work/$1.lines lines making following kill position
     make_followed "$slot"
     run_python "$work/package" tests/followed.py run "$PGPORT" &
     making=$!
@@ -94,6 +99,10 @@ follow() {
     "${@:2}" "$file" 2> "$work/errors.$slot" &
     following=$!
     await is_followed "$file"
+    sql "DROP TABLE IF EXISTS beside; CREATE TABLE beside AS SELECT 1"
+    position=$(sql 'SELECT pg_current_wal_lsn()')
+    await is_past "$slot" "$position"
+    same "$slot: the log of other tables isn't kept" $? 0
     kill $following
     wait $following 2> /dev/null
     run_test followed compare "$file"

@@ -40,8 +40,10 @@ class Follower:
         match message:
             case XLogData(content=content):
                 return self.change(self.stream.read(content))
-            case PrimaryKeepalive(wants_reply=wants_reply):
-                return wants_reply
+            case PrimaryKeepalive(end=end):
+                # What was committed before it is on the disk.
+                self.flushed = max(self.flushed, end)
+                return True
 
     def change(self, message):
         match message:

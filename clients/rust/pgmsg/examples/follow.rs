@@ -104,14 +104,14 @@ fn main() -> Result<(), Box<dyn error::Error>> {
                     }
                     _ => {}
                 },
-                Data::PrimaryKeepalive(it) if it.wants_reply => {
+                Data::PrimaryKeepalive(it) => {
+                    // What was committed before it is on the disk.
+                    status.flushed = status.flushed.max(it.end);
                     Data::StandbyStatusUpdate(status).write(&mut out)?
                 }
                 _ => {}
             },
-            Message::Authentication(it) if it != Authentication::Ok => {
-                return Err("no trust".into())
-            }
+            Message::Authentication(it) if it != Authentication::Ok => Err("no trust")?,
             Message::ErrorResponse(it) => return Err(format!("{it:?}").into()),
             _ => {}
         }
