@@ -40,14 +40,20 @@ pub const SCRAM_SHA_256: &str = "SCRAM-SHA-256";
 /// The mechanism with channel binding.
 pub const SCRAM_SHA_256_PLUS: &str = "SCRAM-SHA-256-PLUS";
 
+/// The most iterations that a [`Client`] does. A server may ask for any number, before it has shown that it
+/// knows the password; more than these take many seconds.
+pub const MAX_ITERATIONS: u32 = 10_000_000;
+
 /// Why an exchange ends.
 #[derive(Clone, Debug, PartialEq, Eq)]
 #[non_exhaustive]
 pub enum Error {
-    /// The server offers no mechanism of SCRAM-SHA-256.
+    /// The server offers no mechanism of SCRAM-SHA-256, or none with the channel binding that is required.
     NoMechanism,
-    /// A nonce isn't what the other side may send, or what may be sent to it.
+    /// A nonce isn't what the other side may send, or what may be sent to it, or the server sends no salt.
     Nonce,
+    /// The server asks for no iteration, or for more than [`MAX_ITERATIONS`].
+    Iterations(u32),
     /// The message comes out of turn.
     OutOfTurn,
     /// The password of the client, or its channel, isn't the one that is due.
@@ -63,6 +69,7 @@ impl fmt::Display for Error {
         f.write_str(match self {
             Error::NoMechanism => "the server offers no SCRAM-SHA-256",
             Error::Nonce => "a nonce of SCRAM is wrong",
+            Error::Iterations(count) => return write!(f, "the server asks for {count} iterations"),
             Error::OutOfTurn => "a message of SCRAM comes out of turn",
             Error::WrongProof => "the client's proof is wrong",
             Error::WrongVerifier => "the server doesn't know the password",

@@ -84,6 +84,23 @@ fn channels_that_are_bound() {
 }
 
 #[test]
+fn channels_that_have_to_be_bound() {
+    let client = || client(b"pencil").requiring_channel_binding(b"hash");
+    let offer = |offered: &[&'static str]| {
+        Authentication::Sasl(offered.iter().map(|&name| name.into()).collect())
+    };
+    let mut bound = client();
+    let both = offer(&["SCRAM-SHA-256", "SCRAM-SHA-256-PLUS"]);
+    assert_eq!(bound.respond(&both, &mut Vec::new()), Ok(()));
+    assert!(bound.first().starts_with(b"p=tls-server-end-point,,"));
+    assert!(bound.answer(CHALLENGE).is_ok());
+    let without = client().respond(&offer(&["SCRAM-SHA-256"]), &mut Vec::new());
+    assert_eq!(without, Err(Error::NoMechanism));
+    // No mechanism was chosen.
+    assert_eq!(client().answer(CHALLENGE), Err(Error::NoMechanism));
+}
+
+#[test]
 fn wrong_passwords() {
     let kept = kept();
     let mut server = Server::<Sha256>::new(&kept, SERVER_NONCE);
@@ -106,11 +123,14 @@ fn challenges_that_are_refused() {
         text.replace("r=rOpr", "r=xOpr"),
         text.replace(SERVER_NONCE, ""),
         text.replace("s=W22ZaJ0SNY7soEsUEjb6gQ==", "s="),
-        text.replace("4096", "0"),
         format!("m=ext,{text}"),
         String::from("r=other"),
     ] {
         assert_eq!(refused(changed.as_bytes()), Error::Nonce, "{changed}");
+    }
+    for count in [0, 10_000_001, u32::MAX] {
+        let changed = text.replace("4096", &count.to_string());
+        assert_eq!(refused(changed.as_bytes()), Error::Iterations(count));
     }
     assert!(matches!(refused(b""), Error::Fault(_)));
     assert!(matches!(refused(text.replace("s=W", "s=?").as_bytes()), Error::Fault(_)));

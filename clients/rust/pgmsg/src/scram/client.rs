@@ -1,7 +1,7 @@
 //! The client's side.
 
 use super::{base64, covered, is_nonce, is_same, without_proof, xor};
-use super::{Digest, Error, Key, SCRAM_SHA_256, SCRAM_SHA_256_PLUS};
+use super::{Digest, Error, Key, MAX_ITERATIONS, SCRAM_SHA_256, SCRAM_SHA_256_PLUS};
 use crate::answer::{grow, items};
 use crate::backend::Authentication;
 use crate::buffer::Buffer;
@@ -38,6 +38,7 @@ pub struct Client<'a, D> {
     password: &'a [u8],
     nonce: &'a str,
     binding: Option<&'a [u8]>,
+    requires_binding: bool,
     state: State,
     digest: PhantomData<D>,
 }
@@ -66,6 +67,7 @@ impl<'a, D: Digest> Client<'a, D> {
             password,
             nonce,
             binding: None,
+            requires_binding: false,
             state: State::Challenge(HEADERS[0]),
             digest: PhantomData,
         }
@@ -82,6 +84,14 @@ impl<'a, D: Digest> Client<'a, D> {
     pub const fn with_channel_binding(mut self, hash: &'a [u8]) -> Client<'a, D> {
         self.binding = Some(hash);
         self
+    }
+
+    /// Binds it so, and refuses a server that doesn't offer that, as libpq does by `channel_binding=require`:
+    /// whoever stands between the two and ends the TLS connection offers none.
+    pub const fn requiring_channel_binding(self, hash: &'a [u8]) -> Client<'a, D> {
+        let mut client = self.with_channel_binding(hash);
+        client.requires_binding = true;
+        client
     }
 
     /// Whether the server has shown that it knows the password.
@@ -116,10 +126,11 @@ impl<'a, D: Digest> Client<'a, D> {
 
     /// Chooses a mechanism of those that are offered.
     fn choose(&mut self, is_offered: impl Fn(&str) -> bool) -> Result<&'static str, Error> {
-        let is_bound = self.binding.is_some();
-        let (header, mechanism) = match is_bound && is_offered(SCRAM_SHA_256_PLUS) {
+        let can_bind = self.binding.is_some();
+        let binds = can_bind && (self.requires_binding || is_offered(SCRAM_SHA_256_PLUS));
+        let (header, mechanism) = match binds {
             true => (HEADERS[2], SCRAM_SHA_256_PLUS),
-            false => (HEADERS[usize::from(is_bound)], SCRAM_SHA_256),
+            false => (HEADERS[usize::from(can_bind)], SCRAM_SHA_256),
         };
         if !is_offered(mechanism) {
             return Err(Error::NoMechanism);
@@ -149,11 +160,17 @@ impl<'a, D: Digest> Client<'a, D> {
             State::Challenge(header) => header,
             _ => return Err(Error::OutOfTurn),
         };
+        if self.requires_binding && header != HEADERS[2] {
+            return Err(Error::NoMechanism);
+        }
         let (iterations, salt, nonce) = read_challenge(challenge)?;
         let added = nonce.strip_prefix(self.nonce).unwrap_or_default();
         let begins = challenge.starts_with(b"r=") && is_nonce(self.nonce.as_bytes());
-        if !begins || !is_nonce(added.as_bytes()) || iterations == 0 || salt.is_empty() {
+        if !begins || !is_nonce(added.as_bytes()) || salt.is_empty() {
             return Err(Error::Nonce);
+        }
+        if iterations == 0 || iterations > MAX_ITERATIONS {
+            return Err(Error::Iterations(iterations));
         }
         let salted = D::salted(self.password, &salt, iterations);
         let binding = self.binding.filter(|_| header == HEADERS[2]).unwrap_or_default();
