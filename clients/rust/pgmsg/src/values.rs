@@ -31,6 +31,8 @@ use core::slice;
 #[derive(Default)]
 pub struct Values<B = Vec<u8>> {
     buffer: B,
+    /// How many bytes of the buffer are those of values. More are there where what spells one panicked.
+    end: usize,
     /// The length of each value, none where it is NULL. `list` sets the places.
     values: Vec<sys::pgmsg_value>,
 }
@@ -52,15 +54,17 @@ impl<B: Buffer> Values<B> {
         &mut self,
         spell: impl FnOnce(&mut B) -> Result<Option<()>, E>,
     ) -> Result<(), E> {
+        self.buffer.truncate(self.end);
         let start = self.buffer.bytes().len();
         let spelled = spell(&mut self.buffer);
         if !matches!(spelled, Ok(Some(()))) {
             self.buffer.truncate(start);
         }
+        self.end = self.buffer.bytes().len();
         let is_null = spelled?.is_none();
         self.values.push(sys::pgmsg_value {
             bytes: NonNull::dangling().as_ptr(),
-            bytes_len: self.buffer.bytes().len().saturating_sub(start),
+            bytes_len: self.end.saturating_sub(start),
             is_null,
         });
         Ok(())
@@ -85,13 +89,14 @@ impl<B: Buffer> Values<B> {
     /// How many bytes the values have together.
     #[inline]
     pub fn bytes_len(&self) -> usize {
-        self.buffer.bytes().len()
+        self.end
     }
 
     /// Removes all values, and keeps the allocations.
     #[inline]
     pub fn clear(&mut self) {
         self.buffer.truncate(0);
+        self.end = 0;
         self.values.clear();
     }
 }

@@ -2,6 +2,7 @@
 
 use pgmsg::frontend::{copy_head, Message};
 use pgmsg::{Refusal, Values};
+use std::panic::{self, AssertUnwindSafe};
 
 #[test]
 fn messages_follow_one_another_while_the_buffer_grows() {
@@ -71,6 +72,23 @@ fn values_that_are_spelled_one_after_the_other() {
         values.clear();
         assert!(values.list().is_empty());
     }
+}
+
+#[test]
+fn a_value_after_one_that_panicked() {
+    let mut values = Values::default();
+    push(&mut values, Ok(Some("a"))).expect("it can be spelled");
+    let spelled = panic::catch_unwind(AssertUnwindSafe(|| {
+        values.push(|bytes: &mut Vec<u8>| -> Result<Option<()>, Refusal> {
+            bytes.push(b'X');
+            panic::resume_unwind(Box::new("while a value is spelled"))
+        })
+    }));
+    assert!(spelled.is_err());
+    assert_eq!(values.bytes_len(), 2);
+    push(&mut values, Ok(Some("b"))).expect("it can be spelled");
+    let list: Vec<_> = values.list().iter().map(|it| it.bytes()).collect();
+    assert_eq!(list, [Some(&b"<a"[..]), Some(b"<b")]);
 }
 
 #[test]
