@@ -2,7 +2,7 @@
 //!
 //! [`Message`] is any of its messages. A variant has the parts of the message as a struct, where there are
 //! several; these structs can be read and written alone too. What follows the parts of a body is passed
-//! over: [`end`](fn@end) says where it begins.
+//! over: [`end`](fn@end) says where it begins. A message without a body is refused where it has one.
 //!
 //! A reader of many rows takes a [`RowIndex`], which needs no allocation for each.
 

@@ -1,7 +1,8 @@
 //! What a client sends.
 //!
 //! [`Message`] is any of its messages. A variant has the parts of the message as a struct, where there are
-//! several; these structs can be read and written alone too.
+//! several; these structs can be read and written alone too, but for [`Startup`] and [`CancelRequest`], which
+//! [`Message::read_body`] reads.
 //!
 //! ```
 //! use pgmsg::frontend::{Bind, Execute, Message, Parse};

@@ -109,7 +109,8 @@ impl Relay {
         &self.wanted
     }
 
-    /// Changes which messages are wanted whole, from the next one on whose front is not held yet.
+    /// Changes which messages are wanted whole, also one whose front is held already: it goes out in parts where
+    /// it isn't wanted any more.
     #[inline]
     pub fn want(&mut self, wanted: Wanted) {
         self.wanted = wanted;
