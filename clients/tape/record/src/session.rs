@@ -69,7 +69,7 @@ impl<'p> Session<'p> {
                 }
             }
             Err(NoLink::Over) => return,
-            Err(NoLink::Gone) => (Status::Ok, None),
+            Err(NoLink::Gone) => (Status::Ok, Some(Side::Client)),
             Err(NoLink::Refused(words, status)) => {
                 self.proxy.says.say(format_args!("a client at {} {words}", self.peer));
                 (status, Some(Side::Client))

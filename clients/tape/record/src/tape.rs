@@ -35,6 +35,8 @@ struct Recorded {
     /// What passes does so also where it can't be recorded any more.
     goes_on: bool,
     is_lost: AtomicBool,
+    /// What comes now comes after the end, and isn't lost.
+    is_ending: AtomicBool,
 }
 
 /// Lines in the order of the records, and where they go.
@@ -51,7 +53,13 @@ impl Recorded {
     fn new(path: &Path, goes_on: bool) -> Result<Recorded, Failure> {
         let tape = recording::Tape::create(path)
             .map_err(|why| Failure::new(Status::Unrecorded, format!("{} {why}", path.display())))?;
-        Ok(Recorded { tape, path: path.to_owned(), goes_on, is_lost: AtomicBool::new(false) })
+        Ok(Recorded {
+            tape,
+            path: path.to_owned(),
+            goes_on,
+            is_lost: AtomicBool::new(false),
+            is_ending: AtomicBool::new(false),
+        })
     }
 }
 
@@ -146,6 +154,7 @@ impl Tape {
     fn judge(&self, file: &Recorded, written: Result<(), Lost>) -> Result<(), Over> {
         let why = match written {
             Ok(()) => return Ok(()),
+            Err(Lost::Before) if file.is_ending.load(Ordering::Relaxed) => return Err(Over),
             Err(why) => why,
         };
         if let Lost::Now(_) = why {
@@ -172,6 +181,7 @@ impl Tape {
     /// a record is taken away where no server could be reached.
     pub fn close(&self, is_unreachable: bool) {
         if let Some(file) = &self.file {
+            file.is_ending.store(true, Ordering::Relaxed);
             file.tape.close();
             if is_unreachable {
                 file.tape.forget(&file.path);
