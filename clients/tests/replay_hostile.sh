@@ -103,7 +103,7 @@ test_replay_hostile() {
 
 # Messages above the limit for a whole one are compared piece by piece.
 test_replay_long() {
-    local words=("$as_postgres" read 'query:COPY replayed_long FROM STDIN' count:1)
+    local words=("$as_postgres" read 'query:COPY replayed_long FROM STDIN' count:1) front
     sql 'DROP TABLE IF EXISTS replayed_long; CREATE TABLE replayed_long (a text)'
     record_words "${words[@]}" huge:3000000:a copydone read terminate end
     fits 'a message of 3 megabytes' '' "${words[@]}" huge:3000000:a copydone read terminate end
@@ -111,6 +111,9 @@ test_replay_long() {
         huge:3000000:b copydone end
     differs 'a longer message' '' 'they part in the length' "${words[@]}" huge:3000001:a copydone end
     differs 'a shorter message' '' 'message 3 of connection 1' "${words[@]}" huge:3000:a copydone end
+    front=("${words[@]}" announce:d:3000004 raw:61616161616161616161 send)
+    record_words "${front[@]}" at:2 "${front[@]}"
+    differs 'a message of which two sessions have the front' '' 'they part in the' "${words[@]}" huge:3000000:a end
     sql 'DROP TABLE replayed_long'
 }
 

@@ -256,7 +256,7 @@ impl Tape {
         };
         let fits = match next.is_empty() {
             true => len == passed,
-            false => len > passed,
+            false => len.checked_sub(passed).map_or(false, |it| it >= next.len() as u64),
         };
         if !fits {
             return Ok(false);
@@ -273,9 +273,9 @@ impl Tape {
             there.pass(count);
             left -= count;
         }
-        let mut room = vec![0; next.len().min(usize::try_from(len - passed).unwrap_or(usize::MAX))];
+        let mut room = vec![0; next.len()];
         one.fill(self, &mut room)?;
-        Ok(next.starts_with(&room))
+        Ok(next == room)
     }
 
     /// The text of the statement that a recorded Bind names.
