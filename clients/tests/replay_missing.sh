@@ -179,6 +179,22 @@ test_missing_passwords() {
     expect 'missing: too late for a password' 11 'asks for a password'
 }
 
+# Data that differ within themselves: what is recorded from there on may begin within a message, like a password here.
+test_missing_data() {
+    local tape=$work/missing-data.tape words=("$as_postgres" read 'query:COPY missing_data FROM STDIN' count:1) line rows=()
+    sql 'DROP TABLE IF EXISTS missing_data; CREATE TABLE missing_data (a text)'
+    printf -v line 'p%.0s' {1..1000}
+    rows=($(yes "copydata:$line" | head -n 1400))
+    start_tape "$tape"
+    at_port "$tape_port" "${client[@]}" "${words[@]}" "${rows[@]}" copydone read terminate end > "$work/output"
+    stop_tape
+    start_missing missing "$tape"
+    at_port "$replay_port" "${client[@]}" "${words[@]}" "${rows[@]:0:1300}" copydata:other copydone read terminate end > "$work/output"
+    stop_replay
+    same 'missing: data that differ late are recorded' \
+        "$status $("$programs/pg_tape" export "$tape" | grep -c '"kind":"CopyData"') $(connections_of "$tape")" '143 1301 1'
+}
+
 # A database that is gone: the words of the server tell.
 test_missing_database() {
     local tape=$work/missing-database.tape client=("$bin/psql" -X -q -A -t -d of_missing)
@@ -232,6 +248,7 @@ test_replay_missing() {
     test_missing_state
     test_missing_pgbench
     test_missing_passwords
+    test_missing_data
     test_missing_database
     test_missing_django
     test_missing_options

@@ -1,18 +1,25 @@
 //! The recording of what a replay passes on to a server, and of the sessions that it takes the place of.
 
 use crate::options::{Options, Recorded};
+use anyhow::anyhow;
 use net::{Failure, Sayer, Status, Stream, Upstream};
 use pg_record::{Link, NoLink, Tape};
 use recording::{Copy, Damage, Kind, Reader};
 use std::collections::{HashMap, HashSet};
 use std::fs::{self, File, OpenOptions};
+use std::future::Future;
 use std::io::{self, BufReader, BufWriter, Write};
 use std::os::unix::fs::OpenOptionsExt;
 use std::path::{Path, PathBuf};
 use std::sync::{Mutex, PoisonError};
+use std::time::Duration;
+use tokio::time::timeout;
 
 /// How many bytes are read or written at once.
 const ROOM: usize = 1 << 17;
+
+/// How long the server may take to let a session begin.
+const OPENING: Duration = Duration::from_secs(60);
 
 /// A run in which sessions are recorded. They are in a file of its own until it ends.
 pub struct Renewal {
@@ -41,6 +48,11 @@ fn beside(path: &Path, what: &str) -> PathBuf {
     let mut name = path.as_os_str().to_owned();
     name.push(format!(".{}{what}", std::process::id()));
     name.into()
+}
+
+/// What a server answers within the time that it has.
+async fn in_time<T>(answer: impl Future<Output = anyhow::Result<T>>) -> anyhow::Result<T> {
+    timeout(OPENING, answer).await.unwrap_or_else(|_| Err(anyhow!("the server doesn't answer")))
 }
 
 impl Renewal {
@@ -72,12 +84,12 @@ impl Renewal {
 
     /// A connection to the server.
     pub async fn connect(&self) -> anyhow::Result<Stream> {
-        self.upstream.connect().await
+        in_time(self.upstream.connect()).await
     }
 
     /// A connection over which this Startup, which is recorded, was said, and what the server has answered so far.
     pub async fn say(&self, startup: &[u8]) -> anyhow::Result<(Stream, Vec<u8>)> {
-        self.upstream.start(self.connect().await?, startup).await
+        in_time(self.upstream.start(self.connect().await?, startup)).await
     }
 
     /// The link of a client that has said a Startup of so many bytes, or a request to cancel with 0.

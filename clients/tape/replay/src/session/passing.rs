@@ -31,8 +31,9 @@ impl Session<'_> {
                 shared.pool().give_back(self.seat);
                 renewal.keep(number);
                 let link = Link { client, server, from_client, from_server, begin: Begin::Open };
-                // Why nothing can pass any more is told already.
-                let _ = pass(&renewal.tape, number, true, link).await;
+                // What is left to say may begin within a message, and holds no password after the login. Why nothing can
+                // pass any more is told already.
+                let _ = pass(&renewal.tape, number, false, link).await;
                 None
             }
             Err(why) => {
@@ -68,13 +69,16 @@ pub async fn pass_all(
         }
     };
     if let Ok(number) = renewal.tape.open(peer).await {
-        renewal.keep(number);
         let from_server = Vec::new();
         let link = Link { client, server, from_client, from_server, begin: Begin::First };
         match renewal.start(link, number, startup).await {
-            Ok(link) => drop(pass(&renewal.tape, number, true, link).await),
+            Ok(link) => {
+                renewal.keep(number);
+                drop(pass(&renewal.tape, number, true, link).await);
+            }
             Err(NoLink::Unreachable(why)) => shared.tell.say(why),
-            Err(_) => {}
+            Err(NoLink::Refused(why, _)) => shared.tell.say(format!("a client at {peer} {why}")),
+            Err(NoLink::Gone | NoLink::Over) => {}
         }
     }
     Ok(())
