@@ -19,6 +19,12 @@ PYTHON
     /usr/bin/python3 -c 'import psycopg2' 2> /dev/null || { echo 'left out: a cancelled query, since there is no python3-psycopg2'; return; }
     both_ways cancelled '' /usr/bin/python3 "$work/cancel.py"
     same 'replay: a cancelled query, its error' "$(cut -d ' ' -f 1 <<< "$replayed") ${replayed##* }" '57014 True'
+    # Two sessions have the number of one process where recordings are joined.
+    "$programs/pg_tape" merge "$work/cancelled.tape" "$work/cancelled.tape" -o "$work/cancelled-twice.tape"
+    start_replay "$work/cancelled-twice.tape"
+    replayed=$(at_port "$replay_port" /usr/bin/python3 "$work/cancel.py" && at_port "$replay_port" /usr/bin/python3 "$work/cancel.py")
+    end_replay
+    expect 'replay: cancelled queries of one process' 0 '2 of 2 sessions are replayed'
 }
 
 # A timeout's error comes after its time, and so does the end of a session that was idle too long.

@@ -181,6 +181,12 @@ impl Pool {
         }
     }
 
+    /// Whether what a client has begun goes on with a message of a form.
+    pub fn goes_on_with(&self, id: usize, form: u32) -> bool {
+        let next = self.expected(id).said.filter(|_| self.seat(id).turn.is_some());
+        next.map_or(false, |it| matches!(self.tape.script.what(it), What::Form(it) if it == form))
+    }
+
     /// Takes a message by the number of its form.
     pub fn step(&mut self, id: usize, form: u32) -> Result<Step, Changed> {
         let is_next = match self.seat(id).turn {
@@ -371,13 +377,17 @@ impl Pool {
         self.causes.get(&said).copied().unwrap_or(0) > self.seat(id).begun
     }
 
-    /// Takes a request to cancel what the session of a process does. Answers whether there is one.
+    /// Takes a request to cancel what the sessions of a process do, of which there are several where its number was used
+    /// again, or recordings were joined. Answers whether there is one.
     pub fn cancel(&mut self, process: u32) -> bool {
-        let Some(connection) = self.tape.processes.get(&process) else {
-            return false;
-        };
-        let seat = self.connections[*connection].seat.as_mut();
-        seat.map(|it| it.cancels += 1).is_some()
+        let mut is_any = false;
+        for connection in self.tape.processes.get(&process).into_iter().flatten() {
+            if let Some(seat) = &mut self.connections[*connection].seat {
+                seat.cancels += 1;
+                is_any = true;
+            }
+        }
+        is_any
     }
 
     /// Whether a request to cancel has come, which is used up by that.

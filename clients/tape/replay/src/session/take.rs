@@ -55,7 +55,10 @@ impl Session<'_> {
             Some(form) => form,
             None => self.form_of(message)?,
         };
-        let step = match self.is_end_of_ignored(message) {
+        // The Sync may be that of what was said before.
+        let is_end =
+            self.is_end_of_ignored(message) && !self.shared.pool().goes_on_with(self.seat, form);
+        let step = match is_end {
             true => Step::Differs(None),
             false => self.shared.pool().step(self.seat, form)?,
         };

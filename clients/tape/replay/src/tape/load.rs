@@ -205,7 +205,7 @@ impl Tape {
         mark_ignored(&building.ends, &building.ignored, &mut building.script);
         mark_preparing(&building.ends, &mut building.script.said);
         if let Some(process) = building.process {
-            self.processes.insert(process, connection);
+            self.processes.entry(process).or_default().push(connection);
         }
         self.connections.push(Connection {
             number: building.number,
@@ -251,8 +251,9 @@ impl Tape {
     /// Finds for each notification the message after which it came, where its sender is recorded.
     fn find_causes(&mut self, notified: &[Notified]) {
         for notified in notified {
-            let sender = self.processes.get(&notified.process);
-            if let Some(cause) = sender.and_then(|it| self.last_said(*it, notified.time)) {
+            let senders = self.processes.get(&notified.process).into_iter().flatten();
+            let said = senders.rev().find_map(|it| self.last_said(*it, notified.time));
+            if let Some(cause) = said {
                 self.waits.insert(notified.at, Wait::Said(cause));
                 self.script.said[cause].is_cause = true;
             }

@@ -59,7 +59,7 @@ pub struct Tape {
     /// The offsets of the server's records, and when they passed, where that is wanted.
     times: Vec<(u64, u64)>,
     /// The connections by the process that a request to cancel names.
-    pub processes: HashMap<u32, usize>,
+    pub processes: HashMap<u32, Vec<usize>>,
 }
 
 /// A recorded connection that begins with a Startup.
