@@ -61,6 +61,9 @@ test_replay_shown_rules() {
     record_words startup:user=postgres,database=postgres,application_name=one read terminate end
     replay_command "$work/words.tape" '' "${client[@]}" startup:user=postgres,database=postgres,application_name=two end
     expect 'replay: a setting, its rule' 11 'ignore = ["application_name"]'
+    replay_command "$work/words.tape" '' "${client[@]}" startup:user=postgres,database=postgres,$'\u009b2J'=two end
+    expect 'replay: a setting with a control character' 11 '"\u009B2J"'
+    same 'replay: which no terminal gets' "$(grep -c $'\u009b' <<< "$errors")" 0
 }
 
 test_replay_rule_file() {
@@ -87,6 +90,9 @@ TOML
         read 'parse:s:SELECT $1::int' bind::s:6 execute::0 sync read "query:SET jit = off" read "parse::SET jit = on" bind::: \
         describe:P: execute::0 sync read "${rest[@]}"
     same 'replay: an ignored statement is answered' "$(grep -c "^C b'SET" <<< "$replayed")" 2
+    fits 'an ignored statement within an exchange' "--rules $work/rules.toml" "$as_postgres" read 'query:CREATE TEMPORARY TABLE tmp_7 (a int)' \
+        read "query:SET work_mem = '1MB'" read 'parse:s:SELECT $1::int' bind::s:5 execute::0 "parse::SET jit = on" bind::: execute::0 \
+        sync read "${rest[@]}"
     printf 'pattern = 1' > "$work/rules.toml"
     try "$programs/pg_replay" --rules "$work/rules.toml" "$work/words.tape" 0
     expect 'replay: a file that has no rules' 1 'unknown field'

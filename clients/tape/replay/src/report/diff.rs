@@ -6,12 +6,21 @@ use lines::escape as escaped;
 use once_cell::sync::OnceCell;
 use pgmsg::frontend::{Message, Target};
 use regex::Regex;
+use std::collections::HashMap;
 
 /// Longer texts are cut.
 const SHOWN: usize = 1000;
 
 /// Parts of a message with their names.
 pub type Parts = Vec<(String, Vec<u8>)>;
+
+/// The same by their names.
+pub type ByName<'p> = HashMap<&'p str, &'p [u8]>;
+
+/// Finds parts by their names, of two with one name the first.
+pub fn by_name(parts: &Parts) -> ByName<'_> {
+    parts.iter().rev().map(|(name, text)| (&name[..], &text[..])).collect()
+}
 
 /// A line for each part that differs.
 pub fn lines(allowed: &Allowed<'_>, recorded: &Side, received: &Side) -> String {
@@ -20,15 +29,13 @@ pub fn lines(allowed: &Allowed<'_>, recorded: &Side, received: &Side) -> String 
         return String::new();
     };
     let line = |name: &str, words: String| format!("\n  {}: {words}", escaped(name.as_bytes()));
-    let find = |all: &Parts, name: &str| {
-        all.iter().find(|(it, _)| it == name).map(|(_, text)| escaped(text))
-    };
-    let changed = one.iter().filter_map(|(name, text)| match find(&other, name) {
-        Some(text_there) if text_there == escaped(text) => None,
-        Some(text_there) => Some(line(name, words(&escaped(text), &text_there))),
+    let (before, after) = (by_name(&one), by_name(&other));
+    let changed = one.iter().filter_map(|(name, text)| match after.get(&name[..]) {
+        Some(text_there) if *text_there == text => None,
+        Some(text_there) => Some(line(name, words(&escaped(text), &escaped(text_there)))),
         None => Some(line(name, format!("[-{}-]", escaped(text)))),
     });
-    let added = other.iter().filter(|(name, _)| find(&one, name).is_none());
+    let added = other.iter().filter(|(name, _)| !before.contains_key(&name[..]));
     let added = added.map(|(name, text)| line(name, format!("{{+{}+}}", escaped(text))));
     changed.chain(added).map(cut).collect()
 }
@@ -75,10 +82,11 @@ fn words(one: &str, other: &str) -> String {
 /// The parts of a side that is a message, but for those that may differ.
 pub fn compared(allowed: &Allowed<'_>, side: &Side) -> Option<Parts> {
     let mut all = parts(side)?;
-    let is_value = |name: &str| name.strip_prefix("parameter ").and_then(|it| it.parse().ok());
+    let position = |name: &str| name.strip_prefix("parameter ").and_then(|it| it.parse().ok());
+    let is_any_value = allowed.any_value();
     match side {
         Side::Startup(_) => all.retain(|(name, _)| !allowed.rules.is_any_setting(name.as_bytes())),
-        _ => all.retain(|(name, _)| !is_value(name).map_or(false, |it| allowed.is_any_value(it))),
+        _ => all.retain(|(name, _)| !position(name).map_or(false, &is_any_value)),
     }
     Some(all)
 }

@@ -10,6 +10,7 @@ use crate::tape::{Ending, Tape, HEAD, MESSAGE_MOST};
 use lines::trace::{self, Style};
 use parting::parting;
 use pgmsg::backend::{Field, FieldKind, Message, TransactionStatus};
+use std::collections::HashSet;
 
 pub use parting::Parting;
 
@@ -112,11 +113,12 @@ pub struct Allowed<'r> {
 }
 
 impl Allowed<'_> {
-    /// Whether the value of a parameter may differ, from 1 on.
-    fn is_any_value(&self, position: usize) -> bool {
+    /// Tells whether the value of a parameter may differ, by its position from 1 on.
+    fn any_value(&self) -> impl Fn(usize) -> bool + '_ {
         let rules = self.rules;
         let free = self.statement.as_ref().map(|it| rules.free_parameters(&rules.text(it)));
-        rules.is_any_parameter(position) || free.map_or(false, |it| it.contains(&position))
+        let free: HashSet<usize> = free.into_iter().flatten().collect();
+        move |position| rules.is_any_parameter(position) || free.contains(&position)
     }
 }
 

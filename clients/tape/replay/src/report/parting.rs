@@ -182,9 +182,10 @@ impl<'a> Bodies<'a> {
         if one.values.len() != other.values.len() {
             return self.after("the number of values", &one.statement, &other.statement);
         }
+        let is_any_value = self.allowed.any_value();
         let mut pairs = one.values.iter().zip(other.values.iter()).enumerate();
-        let differing = pairs
-            .find(|(place, (one, other))| one != other && !self.allowed.is_any_value(place + 1));
+        let differing =
+            pairs.find(|(place, (one, other))| one != other && !is_any_value(place + 1));
         if let Some((position, _)) = differing {
             return self.of_values(position, one, other);
         }

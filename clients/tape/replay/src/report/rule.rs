@@ -1,6 +1,6 @@
 //! The rule that would let a difference be.
 
-use super::diff::{common, compared, Parts};
+use super::diff::{by_name, common, compared, ByName};
 use super::{Allowed, Side};
 use regex::bytes::Regex;
 
@@ -10,47 +10,52 @@ const CONTEXT: usize = 32;
 /// The rule that lets one side be as the other, where one does: as a part of a file of rules.
 pub fn of(allowed: &Allowed<'_>, recorded: &Side, received: &Side) -> Option<String> {
     let (one, other) = (compared(allowed, recorded)?, compared(allowed, received)?);
+    let (one, other) = (by_name(&one), by_name(&other));
     let rules = allowed.rules;
     match recorded {
         Side::Startup(_) => Some(of_settings(&one, &other)),
-        _ if get(&one, "kind") != get(&other, "kind") => None,
-        _ => match (get(&one, "query"), get(&other, "query")) {
+        _ if one.get("kind") != other.get("kind") => None,
+        _ => match (one.get("query"), other.get("query")) {
             (Some(one), Some(other)) => of_texts(&rules.text(one), &rules.text(other)),
             _ => of_parameters(allowed.statement.as_deref()?, &one, &other),
         },
     }
 }
 
-fn get<'p>(parts: &'p Parts, name: &str) -> Option<&'p [u8]> {
-    parts.iter().find(|(it, _)| it == name).map(|(_, text)| &text[..])
-}
-
 /// A text of TOML in quotes.
 fn quoted(text: &str) -> String {
-    match text.contains(['\'', '\n', '\r']) {
-        true => toml::Value::String(text.to_owned()).to_string(),
+    match text.contains(|it: char| it == '\'' || it.is_control()) {
+        true => escaped(text),
         false => format!("'{text}'"),
     }
 }
 
-fn of_settings(one: &Parts, other: &Parts) -> String {
-    let differs = |name: &str| get(one, name) != get(other, name);
-    let mut names: Vec<_> = one.iter().chain(other).map(|(name, _)| name.as_str()).collect();
+/// A text of TOML in double quotes, with escapes for all control characters: the library has them for those of ASCII alone.
+fn escaped(text: &str) -> String {
+    let text = toml::Value::String(text.to_owned()).to_string();
+    let escape = |it: char| match it.is_control() {
+        true => format!("\\u{:04X}", it as u32),
+        false => it.to_string(),
+    };
+    text.chars().map(escape).collect()
+}
+
+fn of_settings(one: &ByName<'_>, other: &ByName<'_>) -> String {
+    let mut names: Vec<_> = one.keys().chain(other.keys()).copied().collect();
     names.sort_unstable();
     names.dedup();
-    names.retain(|name| differs(name));
-    let names: Vec<_> =
-        names.into_iter().map(|it| toml::Value::String(it.to_owned()).to_string()).collect();
+    names.retain(|name| one.get(name) != other.get(name));
+    let names: Vec<_> = names.into_iter().map(escaped).collect();
     format!("[settings]\nignore = [{}]", names.join(", "))
 }
 
-fn of_parameters(statement: &[u8], one: &Parts, other: &Parts) -> Option<String> {
+fn of_parameters(statement: &[u8], one: &ByName<'_>, other: &ByName<'_>) -> Option<String> {
     let text = std::str::from_utf8(statement).ok()?;
-    let positions: Vec<_> = one
-        .iter()
-        .filter(|(name, _)| get(one, name) != get(other, name))
-        .filter_map(|(name, _)| name.strip_prefix("parameter "))
-        .collect();
+    let differing = one.iter().filter(|(name, text)| other.get(*name) != Some(*text));
+    let mut positions: Vec<u32> =
+        differing.filter_map(|(name, _)| name.strip_prefix("parameter ")?.parse().ok()).collect();
+    positions.sort_unstable();
+    let positions: Vec<_> = positions.iter().map(u32::to_string).collect();
     let pattern = format!("^{}$", regex::escape(text));
     (!positions.is_empty()).then(|| {
         format!(

@@ -179,7 +179,7 @@ impl Heard<'_> {
         }
         if let Ok(Message::ErrorResponse(fields)) = Message::read(frame) {
             let why = fields.value(FieldKind::Message).unwrap_or_default();
-            self.error = format!(": {}", why.to_str_lossy());
+            self.error = format!(": {}", lines::escape(&why));
         }
         match self.tags.split_first() {
             _ if tag == b'Z' && self.readies > 0 => self.readies -= 1,
