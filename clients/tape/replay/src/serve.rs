@@ -7,7 +7,7 @@ use crate::rules::Rules;
 use crate::session::{greet, Login};
 use crate::tape::{plain, Tape};
 use anyhow::Result;
-use net::{Failure, Listener, Sayer, ServerTls, Status, Workers};
+use net::{most_sessions, Failure, Listener, Sayer, ServerTls, Status, Workers};
 use std::collections::VecDeque;
 use std::sync::atomic::{AtomicBool, Ordering};
 use std::sync::{Arc, Mutex, MutexGuard, PoisonError};
@@ -15,8 +15,9 @@ use std::time::{Duration, Instant};
 use tokio::sync::{mpsc, oneshot, Notify, Semaphore};
 use tokio::time::sleep;
 
-/// The most clients at a time.
-const CLIENTS_MOST: usize = 1000;
+/// The descriptors of a session: of a client, and of a server to which it may be passed on.
+const DESCRIPTORS: u64 = 2;
+
 /// How long a client may take for its Startup while others wait for a place.
 const CROWDED_PATIENCE: Duration = Duration::from_secs(2);
 /// When it is looked again where no client can be accepted.
@@ -161,7 +162,7 @@ pub async fn serve(
     workers: &Arc<Workers>,
     mut ends: mpsc::Receiver<Result<(), Failure>>,
 ) -> Result<(), Failure> {
-    let places = Arc::new(Semaphore::new(CLIENTS_MOST));
+    let places = Arc::new(Semaphore::new(most_sessions(DESCRIPTORS, workers.count())));
     for listener in listeners {
         let (shared, places, workers) = (shared.clone(), places.clone(), workers.clone());
         tokio::spawn(async move {

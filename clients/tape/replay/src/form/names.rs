@@ -25,7 +25,9 @@ pub enum Effect {
     MakePortal(Vec<u8>, Arc<About>),
     MakeSavepoint(Vec<u8>),
     DropStatement(Vec<u8>),
+    DropStatements,
     DropPortal(Vec<u8>),
+    DropPortals,
     /// The savepoint goes, and those after it.
     Release(Vec<u8>),
     /// Those after it go.
@@ -43,7 +45,9 @@ impl Effect {
             Sort::Back => Effect::Back(name),
             Sort::Declare => Effect::MakePortal(name, about()),
             Sort::Prepare => Effect::MakeStatement(name, about()),
+            Sort::Deallocate if name == b"all" => Effect::DropStatements,
             Sort::Deallocate => Effect::DropStatement(name),
+            Sort::Close if name == b"all" => Effect::DropPortals,
             Sort::Close => Effect::DropPortal(name),
             Sort::Execute | Sort::Fetch => Effect::Nothing,
         }
@@ -191,9 +195,9 @@ impl Names {
                 let alike = self.savepoints.len();
                 self.savepoints.push((name, made(alike, Arc::default())));
             }
-            Effect::DropStatement(name) if name == b"all" => self.statements.clear(),
+            Effect::DropStatements => self.statements.clear(),
             Effect::DropStatement(name) => drop(self.statements.remove(&name)),
-            Effect::DropPortal(name) if name == b"all" => self.portals.clear(),
+            Effect::DropPortals => self.portals.clear(),
             Effect::DropPortal(name) => drop(self.portals.remove(&name)),
             Effect::Release(name) => self.cut_savepoints(&name, 0),
             Effect::Back(name) => self.cut_savepoints(&name, 1),

@@ -3,6 +3,9 @@
 
 use std::collections::VecDeque;
 
+/// How many messages that wait for an answer are looked through for the one that an answer is of.
+const LOOKED_AT: usize = 10_000;
+
 /// What a part of an answer waits for.
 #[derive(Clone, Copy, Debug, PartialEq, Eq)]
 pub enum Wait {
@@ -206,7 +209,8 @@ impl Causes {
     }
 
     fn heard_answer(&mut self, tag: u8) -> Target {
-        let Some(place) = self.queue.iter().position(|(_, sort)| sort.is_answered_by(tag)) else {
+        let mut asked = self.queue.iter().take(LOOKED_AT);
+        let Some(place) = asked.position(|(_, sort)| sort.is_answered_by(tag)) else {
             return self.front();
         };
         self.queue.drain(..place);
