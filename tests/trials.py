@@ -14,7 +14,7 @@ from concurrent.futures import ThreadPoolExecutor
 import crates
 import report
 import wrong_bodies
-from wrong_bodies import ACCEPTED, NOT_APPLIED, OF_SHAPE, REFUSED, UNDECIDED, UNREADABLE, Mutant
+from wrong_bodies import ACCEPTED, NOT_APPLIED, OF_SHAPE, REFUSED, UNCHECKED, UNDECIDED, UNREADABLE, Mutant
 
 # How often one that isn't refused is put beside others.
 TURNS = 2
@@ -87,7 +87,8 @@ class Trial:
         """Counts a verdict, and prints it; returns what is tried in place of a mutant that shows nothing."""
         # A function that reports name otherwise would never be judged.
         is_known = "has no function" not in why
-        if isinstance(it, Mutant) and verdict not in (REFUSED, ACCEPTED) and is_known:
+        shows_nothing = verdict not in (REFUSED, ACCEPTED) and (it.instead or verdict != UNCHECKED) and is_known
+        if isinstance(it, Mutant) and shows_nothing:
             print(f"shows nothing{'' if it.instead else ', and no other is left'}: {it}: {verdict}: {why}", flush=True)
             return [it.instead] if it.instead else []
         if verdict == it.due:
@@ -175,10 +176,11 @@ class Trial:
         if it.has_stray and said.is_judged and not it.laws and verdict_of(it, said)[0] != report.OPEN_GOAL:
             said = self.check([it], strays=False)
         if not said.is_judged:
-            lines = [f"{path}:{number}: {words}" for path, number, words in said.unread()] or said.lines[-1:]
-            return self.show(it, UNREADABLE, "; ".join(lines[:1]))
+            unread = [f"{path}:{number}: {words}" for path, number, words in said.unread()]
+            return self.show(it, UNREADABLE if unread else UNCHECKED, (unread or said.lines[-1:] or ["no line"])[0])
         verdict, why = verdict_of(it, said)
-        return self.show(it, NAMED.get(verdict, UNDECIDED), why)
+        # A check that was ended, or reached a limit, says nothing of what it judges.
+        return self.show(it, UNCHECKED if verdict == report.UNKNOWN else NAMED.get(verdict, UNDECIDED), why)
 
 
 # What a check says of one, in the words of a verdict.

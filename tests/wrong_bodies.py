@@ -11,7 +11,7 @@ import rules
 import sources
 
 REFUSED, ACCEPTED, OF_SHAPE = "refused", "accepted", "refused for shape alone"
-UNREADABLE, NOT_APPLIED, UNDECIDED = "does not read", "does not apply", "no verdict"
+UNREADABLE, NOT_APPLIED, UNDECIDED, UNCHECKED = "does not read", "does not apply", "no verdict", "no check"
 
 # The wrong bodies of a crate, the one that `rt ci` tries, and those by which the trials are tested.
 BY_HAND, MUST_FAIL = "wrong.edits", "must-fail"
