@@ -44,7 +44,7 @@ def files_of(called):
     src = called.folder / "src"
     texts = {path_of(file.relative_to(src)): file.read_text() for file in sorted(src.rglob("*.rt"))}
     places = {struct: path for path, text in texts.items() for struct in STRUCT.findall(text)}
-    modules = {path.replace("::", "_"): module(path, text, places) for path, text in texts.items() if EXPORT.search(text)}
+    modules = {path.replace("::", "_"): module(path, text, places) for path, text in texts.items() if MARK in text}
     root = "#![tactic(auto)]\n\n" + "".join(f"mod {name};\n" for name in modules)
     return {"lib.rt": root, **{f"{name}.rt": text for name, text in modules.items()}}
 
