@@ -26,6 +26,8 @@ enum status complain_of_memory(void)
 enum status complain_of_fault(const pgmsg_fault *fault)
 {
     enum status status = fault->number == PGMSG_OUT_OF_MEMORY ? STATUS_MEMORY : STATUS_PROTOCOL;
+    if (fault->words_len == 0) /* for which there was no memory */
+        return complain(status, "%s", pgmsg_strerror(fault->number));
     return complain(status, "%.*s", (int)fault->words_len, (const char *)fault->words);
 }
 

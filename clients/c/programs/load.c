@@ -28,6 +28,7 @@ struct load {
     off_t len; /* of the file when the load began */
     enum phase phase;
     enum status status; /* of what stopped it */
+    bool has_ended;     /* a CopyDone was put, also where an error came after it */
     bool is_stored;     /* the server says so */
     bool is_ready;      /* the server is, for the next query */
     uint64_t rows;
@@ -56,6 +57,7 @@ static void end_data(struct load *load)
         return;
     }
     load->phase = ENDED;
+    load->has_ended = true;
     PUT(load->connection, pgmsg_put_no_body('c', SPARE(load->connection)));
 }
 
@@ -179,7 +181,7 @@ static void explain_break(const struct load *load)
 {
     if (load->is_stored)
         complain(STATUS_BROKEN, "the server had confirmed %" PRIu64 " rows before", load->rows);
-    else if (load->phase == ENDED)
+    else if (load->has_ended)
         complain(STATUS_BROKEN, "the server had all data and confirmed nothing: the rows may be stored or not");
     else
         complain(STATUS_BROKEN, "the server confirmed nothing: no row is stored, since a COPY is one statement");

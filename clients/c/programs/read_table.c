@@ -20,7 +20,8 @@ static enum status print_row(const struct message *row)
         const char *text = is_null ? "NULL" : (const char *)row->body + cells[i].at;
         printf("%s%.*s", i > 0 ? "\t" : "", is_null ? 4 : (int)cells[i].len, text);
     }
-    return putchar('\n') == EOF ? complain(STATUS_LOCAL, "standard output can't be written") : STATUS_OK;
+    putchar('\n');
+    return STATUS_OK;
 }
 
 /* Takes what answers a query, up to the ReadyForQuery. */
@@ -53,6 +54,8 @@ int main(int argc, char **argv)
     PUT(&connection, pgmsg_put_query((const uint8_t *)query, (size_t)len, SPARE(&connection)));
     if ((status = connection_flush(&connection)) == STATUS_OK)
         status = print_rows(&connection);
+    if (status == STATUS_OK && fflush(stdout) == EOF)
+        status = complain(STATUS_LOCAL, "standard output can't be written");
     connection_terminate(&connection);
     connection_close(&connection);
     return status;
