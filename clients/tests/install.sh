@@ -68,7 +68,7 @@ test_cmake() {
     cat > "$work/cmake/CMakeLists.txt" << END
 cmake_minimum_required(VERSION 3.13)
 project(installed C)
-find_package(pg_message 0.1 REQUIRED)
+find_package(pg_message ${released%.*} REQUIRED)
 add_executable(installed "$PWD/c/tests/installed.c")
 target_link_libraries(installed pg_message::SHARED)
 END
@@ -78,4 +78,7 @@ END
     expect 'install: a program by CMake is built' 0
     try "$work/cmake/out/installed"
     same 'install: a program by CMake' "$status $output" "0 $released"
+    sed -i 's/pg_message [0-9.]*/pg_message 0.1/' "$work/cmake/CMakeLists.txt"
+    try cmake -S "$work/cmake" -B "$work/cmake/other" "-DCMAKE_PREFIX_PATH=$prefix"
+    same 'install: CMake refuses it for another interface' "$((status > 0)) $(grep -c 'version: '"$released" <<< "$errors")" '1 1'
 }
