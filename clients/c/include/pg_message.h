@@ -49,7 +49,8 @@ enum {
     PGMSG_MESSAGE_TOO_LONG = -5,
     /* A message was read as one of another kind. No call of this library returns it. */
     PGMSG_WRONG_FORMAT = -6,
-    /* A received body is longer than a length field can say. */
+    /* A received body is longer than a length field can say, or bytes follow the last part of a message
+ * of replication. */
     PGMSG_BODY_TOO_LONG = -7,
     /* No message that is known here, from a server or from a client, has this tag. */
     PGMSG_UNKNOWN_MESSAGE_TYPE = -8,

@@ -26,7 +26,8 @@ pub const MESSAGE_TOO_LONG: i32 = -5;
 /// A message was read as one of another kind. No call of this library returns it.
 pub const WRONG_FORMAT: i32 = -6;
 
-/// A received body is longer than a length field can say.
+/// A received body is longer than a length field can say, or bytes follow the last part of a message of
+/// replication.
 pub const BODY_TOO_LONG: i32 = -7;
 
 /// No message that is known here, from a server or from a client, has this tag.
