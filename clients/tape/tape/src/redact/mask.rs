@@ -9,6 +9,8 @@ const BOOL: u32 = 16;
 const BYTEA: u32 = 17;
 const JSONB: u32 = 3802;
 const NUMERIC: u32 = 1700;
+/// How long a date is without a time of day.
+const DATE_LEN: usize = 10;
 /// Where a UUID has hyphens, and how long it is.
 const HYPHENS: [usize; 4] = [8, 13, 18, 23];
 const UUID_LEN: usize = 36;
@@ -77,10 +79,16 @@ pub fn text(bytes: &mut [u8]) {
     }
 }
 
+/// Whether a text is a date, alone or with a time of day and an offset. What has a word, such as BC or the name of a time
+/// zone, is none: its letters are masked too.
 fn is_date(bytes: &[u8]) -> bool {
     let is_digit = |at: usize| bytes.get(at).map_or(false, u8::is_ascii_digit);
     let has_digits = [0, 1, 2, 3, 5, 6, 8, 9].into_iter().all(is_digit);
-    has_digits && bytes.get(4) == Some(&b'-') && bytes.get(7) == Some(&b'-')
+    let time = bytes.get(DATE_LEN..).unwrap_or_default();
+    let time = time.strip_prefix(b"T").unwrap_or(time);
+    let time = time.strip_suffix(b"Z").unwrap_or(time);
+    let has_time = time.iter().all(|it| it.is_ascii_digit() || b" :.+-".contains(it));
+    has_digits && bytes.get(4) == Some(&b'-') && bytes.get(7) == Some(&b'-') && has_time
 }
 
 /// A date becomes the first of 2000, and a time of day midnight.
@@ -252,12 +260,20 @@ mod tests {
 
     #[test]
     fn a_text_stays_of_its_length_and_its_kind() {
-        let table: [(&str, &str); 15] = [
+        let table: [(&str, &str); 23] = [
             ("", ""),
             ("Ann.Lee@example.org", "Xxx.Xxx@xxxxxxx.xxx"),
             ("+49 (30) 1234-5", "+00 (00) 0000-0"),
             ("1971-03-21", "2000-01-01"),
             ("1971-03-21 13:14:15.123456+02", "2000-01-01 00:00:00.000000+00"),
+            ("1971-03-21T13:14:15Z", "2000-01-01T00:00:00Z"),
+            ("1971-03-21 13:14:15-03:30", "2000-01-01 00:00:00-00:00"),
+            ("1971-03-21 Ann Lee, 41", "0000-00-00 Xxx Xxx, 00"),
+            ("1971-03-21T13:14:15 Ann", "0000-00-00X00:00:00 Xxx"),
+            ("1971-03-21 T. Z", "0000-00-00 X. X"),
+            ("1971-03-21\u{e9}", "0000-00-00\u{f8}"),
+            ("0044-03-15 BC", "0000-00-00 XX"),
+            ("1971-03-21 13:14:15 CET", "0000-00-00 00:00:00 XXX"),
             ("2147483647", "1000000000"),
             ("-12.50", "-10.00"),
             ("7", "1"),
