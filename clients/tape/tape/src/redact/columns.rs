@@ -1,10 +1,11 @@
 //! Which columns a row has, and which statement a Bind is of: sessions are followed so far.
 
+use super::asked::{Asked, Queue};
 use pgmsg::backend::{self, Column};
 use pgmsg::frontend::{self, Target};
 use pgmsg::Format;
 use std::cell::RefCell;
-use std::collections::{HashMap, VecDeque};
+use std::collections::HashMap;
 use std::rc::Rc;
 
 /// The name and the type of a column.
@@ -21,7 +22,7 @@ impl Named {
     }
 }
 
-type Columns = Rc<RefCell<Vec<Named>>>;
+pub type Columns = Rc<RefCell<Vec<Named>>>;
 
 /// A prepared statement. What isn't known of it comes with the server's answers.
 #[derive(Clone, Debug, Default)]
@@ -40,19 +41,9 @@ impl Statement {
 
 /// A portal, with the formats of its results.
 #[derive(Clone, Debug, Default)]
-struct Portal {
+pub struct Portal {
     columns: Columns,
     formats: Vec<Format>,
-}
-
-/// What a client asked for, to which the server has answers to come.
-enum Asked {
-    Describe(Statement),
-    DescribePortal(Columns),
-    Execute(Portal),
-    Query,
-    /// What ends with a ReadyForQuery alone.
-    Sync,
 }
 
 /// What is known of a session.
@@ -60,7 +51,7 @@ enum Asked {
 pub struct Session {
     statements: HashMap<Vec<u8>, Statement>,
     portals: HashMap<Vec<u8>, Portal>,
-    asked: VecDeque<Asked>,
+    asked: Queue,
     /// The columns of the rows of a Query.
     columns: Vec<Named>,
 }
@@ -114,11 +105,12 @@ impl Session {
             M::Describe(Target::Statement(name)) => Asked::Describe(self.statement(name)),
             M::Describe(Target::Portal(name)) => Asked::DescribePortal(self.portal(name).columns),
             M::Execute(execute) => Asked::Execute(self.portal(&execute.portal)),
-            M::Query(_) => Asked::Query,
-            M::Sync | M::FunctionCall(_) => Asked::Sync,
+            M::Startup(_) | M::Query(_) | M::FunctionCall(_) => Asked::Query,
+            M::Sync => Asked::Sync,
+            M::CopyDone | M::CopyFail(_) => Asked::DataEnd,
             _ => return,
         };
-        self.asked.push_back(asked);
+        self.asked.push(asked);
     }
 
     fn portal(&self, name: &[u8]) -> Portal {
@@ -132,41 +124,31 @@ impl Session {
             (M::ParameterDescription(types), Some(Asked::Describe(statement))) => {
                 *statement.types.borrow_mut() = types.to_vec();
             }
-            (M::RowDescription(columns), front) => {
-                let columns: Vec<Named> = columns.iter().map(Named::of).collect();
-                match front {
-                    Some(
-                        Asked::Describe(Statement { columns: known, .. })
-                        | Asked::DescribePortal(known),
-                    ) => {
-                        *known.borrow_mut() = columns;
-                        self.asked.pop_front();
-                    }
-                    _ => self.columns = columns,
-                }
+            (M::RowDescription(columns), _) => {
+                self.describe(columns.iter().map(Named::of).collect())
             }
-            (M::NoData, Some(Asked::Describe(_) | Asked::DescribePortal(_))) => {
-                drop(self.asked.pop_front())
-            }
-            (
+            (M::NoData, Some(Asked::Describe(_) | Asked::DescribePortal(_)))
+            | (
                 M::CommandComplete(_) | M::EmptyQueryResponse | M::PortalSuspended,
                 Some(Asked::Execute(_)),
-            ) => {
-                self.asked.pop_front();
-            }
-            (M::ErrorResponse(_), _) => self.pass_over(),
-            (M::ReadyForQuery(_), _) => {
-                self.pass_over();
-                self.asked.pop_front();
-            }
+            ) => self.asked.pop(),
+            (M::CopyInResponse(_) | M::CopyBothResponse(_), _) => self.asked.begin_copy(),
+            (M::ErrorResponse(_), _) => self.asked.fail(),
+            (M::ReadyForQuery(_), _) => self.asked.ready(),
             _ => {}
         }
     }
 
-    /// What is asked for up to the next Sync isn't answered.
-    fn pass_over(&mut self) {
-        while !matches!(self.asked.front(), None | Some(Asked::Query | Asked::Sync)) {
-            self.asked.pop_front();
+    /// Notes the columns of a statement or a portal that is described, or of the rows of a Query.
+    fn describe(&mut self, columns: Vec<Named>) {
+        match self.asked.front() {
+            Some(
+                Asked::Describe(Statement { columns: known, .. }) | Asked::DescribePortal(known),
+            ) => {
+                *known.borrow_mut() = columns;
+                self.asked.pop();
+            }
+            _ => self.columns = columns,
         }
     }
 }
@@ -188,8 +170,8 @@ impl Sessions {
 #[cfg(test)]
 mod tests {
     use super::*;
-    use pgmsg::backend::TransactionStatus;
-    use pgmsg::frontend::{Bind, Execute, Parse};
+    use pgmsg::backend::{CopyResponse, TransactionStatus};
+    use pgmsg::frontend::{Bind, Execute, Parse, Startup};
 
     fn parse(name: &'static str) -> frontend::Message<'static> {
         frontend::Message::Parse(Parse {
@@ -254,6 +236,98 @@ mod tests {
         assert_eq!(found(&session), [("b".to_owned(), 1)]);
         session.server(&B::CommandComplete("SELECT 1".into()));
         assert_eq!(found(&session), [("a".to_owned(), 0)]);
+    }
+
+    /// Has both sides say messages, a letter each by their tags; `_` is a Startup, and `>` and `<` change the side.
+    fn say(session: &mut Session, text: &str) {
+        use backend::Message as B;
+        use frontend::Message as F;
+        let copy = || CopyResponse { format: 0, columns: [Format::TEXT].into() };
+        let mut is_client = true;
+        for letter in text.chars() {
+            match (is_client, letter) {
+                (_, '>' | '<') => is_client = letter == '>',
+                (true, '_') => session.client(&F::Startup(Startup::default())),
+                (true, 'Q') => session.client(&F::Query("COPY".into())),
+                (true, 'E') => session.client(&F::Execute(Execute::default())),
+                (true, 'H') => session.client(&F::Flush),
+                (true, 'S') => session.client(&F::Sync),
+                (true, 'd') => session.client(&F::CopyData("1".into())),
+                (true, 'c') => session.client(&F::CopyDone),
+                (true, 'f') => session.client(&F::CopyFail("".into())),
+                (false, 'G') => session.server(&B::CopyInResponse(copy())),
+                (false, 'W') => session.server(&B::CopyBothResponse(copy())),
+                (false, 'd') => session.server(&B::CopyData("1".into())),
+                (false, 'c') => session.server(&B::CopyDone),
+                (false, 'C') => session.server(&B::CommandComplete("COPY 1".into())),
+                (false, 'E') => session.server(&B::ErrorResponse([].into())),
+                (false, 'Z') => session.server(&B::ReadyForQuery(TransactionStatus::Idle)),
+                other => panic!("{other:?}"),
+            }
+        }
+    }
+
+    #[test]
+    fn rows_have_their_columns_whatever_was_copied_before() {
+        let table = [
+            // A Sync is sent with the Execute, and another one after the data.
+            "ES<G>ddcS<CZ",
+            "EHS<G>dHSdcS<CZ",
+            "ESdcS<GCZ",
+            "ES<G>dfS<EZ",
+            "ESdfS<GEZ",
+            // One alone is sent, after the data.
+            "E<G>dcS<CZ",
+            "EdcS<GCZ",
+            "EH<G>dfS<EZ",
+            // The server reports an error while it takes data.
+            "ES<G>d<E>dcS<Z",
+            "ES<G>d<E>S<Z",
+            "ES<G>d<E>QfS<Z",
+            "ES<GEZ>dcS<Z",
+            "E<G>ddcS<EZ",
+            // The server doesn't take any.
+            "ES<EZ>cS<Z",
+            "ESdcS<EZZ",
+            // What comes in place of data is an error that ends them.
+            "EESE<GEZ>S<CZ",
+            "ES<G>QS<EZ",
+            "Q<G>Q<EZ",
+            // A Query has several of them, or one that fails.
+            "Q<G>dc<CG>dSHdc<CZ",
+            "Qdcdc<GCGCZ",
+            "Q<G>d<EZ>dc",
+            "Qdf<GEZ",
+            "QS<G>dc<CZ",
+            // Data go both ways.
+            "Q<W>d<dd>dc<cCZ",
+            "Q<W>d<E>dc<Z",
+            // The login is over, and what was sent with the Startup.
+            "_Q<ZCZ",
+        ];
+        for said in table {
+            let mut session = Session::default();
+            session.client(&parse("a"));
+            session.client(&frontend::Message::Describe(Target::Statement("a".into())));
+            say(&mut session, "S");
+            session.server(&described("a"));
+            say(&mut session, "<Z");
+            say(&mut session, said);
+            session.client(&frontend::Message::Bind(Bind {
+                statement: "a".into(),
+                ..Bind::default()
+            }));
+            say(&mut session, "ES");
+            assert_eq!(found(&session), [("a".to_owned(), 0)], "{said}");
+        }
+    }
+
+    #[test]
+    fn the_rows_of_a_query_that_is_sent_with_the_startup_have_its_columns() {
+        let mut session = Session::default();
+        say(&mut session, "_QES<Z");
+        session.server(&described("q"));
+        assert_eq!(found(&session), [("q".to_owned(), 0)]);
     }
 
     #[test]

@@ -2,6 +2,7 @@
 //!
 //! Each byte that is taken out has another one in its place, so that all lengths stay as they are.
 
+mod asked;
 mod columns;
 mod mask;
 mod rules;
