@@ -93,6 +93,23 @@ test_tape_redact_prepared() {
     same 'redact: the row is answered' "$(grep -c 'xxx.xxx@xxxxxxx.xxx' <<< "$replayed")" 1
 }
 
+# Rows after a COPY that has a Sync with its Execute and another one after its data, as libpq and tokio-postgres send them; and
+# statements whose names a pattern would make the same.
+test_tape_redact_followed() {
+    local client=("$(command -v python3)" -S -E -B tests/replay_client.py) tape=$work/words.tape
+    local words=(startup:user=postgres,database=postgres read 'query:CREATE TEMP TABLE copied (number int)' read)
+    words+=('parse:s_copy:COPY copied FROM STDIN' 'parse:s_mail:SELECT email FROM people WHERE phone = $1' describe:S:s_mail)
+    words+=(sync read bind::s_copy: execute::0 sync count:2 copydata:1 copydone sync read)
+    words+=('bind::s_mail:+49 30 654321' execute::0 sync read terminate end)
+    record_words "${words[@]}"
+    printf '%s\n' '[[redact.text]]' "pattern = 's_(\w+)'" '[[redact.column]]' 'name = "email"' > "$work/followed.toml"
+    try "$programs/pg_tape" redact "$tape" -r "$work/followed.toml" -o "$tape"
+    same 'redact: a column after a COPY, and names of statements' \
+        "$status $errors $(grep -cE 's_copy|s_mail|bob\.fox' "$tape")" '0  0'
+    fits 'statements whose names are redacted' '' "${words[@]}"
+    same 'redact: their row is answered' "$(grep -c 'xxx.xxx@xxxxxxx.xxx' <<< "$replayed")" 1
+}
+
 # Logins whose passwords are recorded.
 test_tape_redact_logins() {
     local user tape=$work/logins.tape
@@ -239,6 +256,7 @@ test_tape_view() {
 test_recordings() {
     test_tape_redact
     test_tape_redact_prepared
+    test_tape_redact_followed
     test_tape_redact_logins
     test_tape_edits
     test_tape_exports

@@ -96,9 +96,9 @@ pub enum Command {
     /// A file of rules in TOML, in which those of a replay are passed over, says which: `[[redact.column]]` name;
     /// `[[redact.parameter]]` statement, positions; `[[redact.statement]]` pattern, for the literals and the parameters of
     /// statements that it matches; `[[redact.text]]` pattern, for its first group or all that it matches in any text or
-    /// value. Without a rule passwords are found that SQL or a login has, verifiers by SCRAM-SHA-256 and MD5, and keys of
-    /// BackendKeyData and CancelRequest. In the place of a secret stands a value of its length and type. Says which rules
-    /// matched nothing.
+    /// value, names among them. Without a rule passwords are found that SQL or a login has, verifiers by SCRAM-SHA-256 and
+    /// MD5, and keys of BackendKeyData and CancelRequest. In the place of a secret stands a value of its length and type.
+    /// Says which rules matched nothing.
     Redact {
         /// The recording
         tape: PathBuf,

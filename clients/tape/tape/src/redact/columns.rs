@@ -1,6 +1,7 @@
 //! Which columns a row has, and which statement a Bind is of: sessions are followed so far.
 
 use super::asked::{Asked, Queue};
+use super::names::Names;
 use pgmsg::backend::{self, Column};
 use pgmsg::frontend::{self, Target};
 use pgmsg::Format;
@@ -54,6 +55,8 @@ pub struct Session {
     asked: Queue,
     /// The columns of the rows of a Query.
     columns: Vec<Named>,
+    /// The names of statements and portals that have secrets.
+    pub names: Names,
 }
 
 /// The format of a value by its position: none is text, one is that of all.

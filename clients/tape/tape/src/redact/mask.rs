@@ -16,7 +16,7 @@ const HYPHENS: [usize; 4] = [8, 13, 18, 23];
 const UUID_LEN: usize = 36;
 
 /// How a part of a message is masked.
-#[derive(Clone, Copy, Debug, PartialEq, Eq)]
+#[derive(Clone, Debug, PartialEq, Eq)]
 pub enum Mask {
     /// As a text, by what it looks like.
     Text,
@@ -26,17 +26,20 @@ pub enum Mask {
     Zeros,
     /// As a value of a type in a format.
     Value { type_id: u32, format: Format },
+    /// As these bytes, which are as many.
+    Bytes(Vec<u8>),
 }
 
 impl Mask {
     /// Masks bytes.
-    pub fn put(self, bytes: &mut [u8]) {
+    pub fn put(&self, bytes: &mut [u8]) {
         match self {
             Mask::Text => text(bytes),
             Mask::Letters => letters(bytes),
             Mask::Zeros => bytes.fill(0),
-            Mask::Value { type_id, format: Format::TEXT } => text_of(type_id, bytes),
-            Mask::Value { type_id, .. } => binary(type_id, bytes),
+            Mask::Value { type_id, format: Format::TEXT } => text_of(*type_id, bytes),
+            Mask::Value { type_id, .. } => binary(*type_id, bytes),
+            Mask::Bytes(with) => bytes.copy_from_slice(with),
         }
     }
 }
@@ -241,6 +244,10 @@ impl Places {
         if !part.is_empty() && at < self.len && part.len() <= self.len - at {
             self.all.push((at..at + part.len(), mask));
         }
+    }
+
+    pub fn is_empty(&self) -> bool {
+        self.all.is_empty()
     }
 
     pub fn all(self) -> Vec<(Range<usize>, Mask)> {

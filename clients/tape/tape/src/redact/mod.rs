@@ -5,6 +5,7 @@
 mod asked;
 mod columns;
 mod mask;
+mod names;
 mod rules;
 mod sql;
 mod values;
@@ -83,13 +84,10 @@ impl Redactor {
                 let message = self.message(item.connection, side, message);
                 What::Message { side, message, here }
             }
+            What::Opened(address) => What::Opened(self.searched(address)),
             What::Bytes { side, bytes } => {
                 self.unread += bytes.len() as u64;
-                let mut places = Places::new(&bytes);
-                self.rules.texts(&bytes, &mut places);
-                sql::secrets(&bytes, &mut places);
-                let places = places.all();
-                What::Bytes { side, bytes: masked(bytes, &places) }
+                What::Bytes { side, bytes: self.searched(bytes) }
             }
             What::Closed(side) => {
                 self.sessions.close(item.connection);
@@ -98,6 +96,15 @@ impl Redactor {
             what => what,
         };
         Item { what, ..item }
+    }
+
+    /// Bytes that are no message, without what patterns of texts match and without verifiers of passwords.
+    fn searched<'a>(&mut self, bytes: Cow<'a, [u8]>) -> Cow<'a, [u8]> {
+        let mut places = Places::new(&bytes);
+        self.rules.texts(&bytes, &mut places);
+        sql::secrets(&bytes, &mut places);
+        let places = places.all();
+        masked(bytes, &places)
     }
 
     fn message<'a>(&mut self, connection: u32, side: Side, message: Message<'a>) -> Message<'a> {
@@ -158,4 +165,121 @@ fn masked<'a>(bytes: Cow<'a, [u8]>, places: &[(std::ops::Range<usize>, Mask)]) -
         }
     }
     Cow::Owned(bytes)
+}
+
+#[cfg(test)]
+mod tests {
+    use super::*;
+    use pgmsg::backend::{
+        self, Column, Field, FieldKind, FunctionCallResponse, NegotiateProtocolVersion,
+        NotificationResponse, Other, ParameterStatus,
+    };
+    use pgmsg::frontend::{self, Bind, Execute, FunctionCall, Parse, Startup, Target};
+    use pgmsg::Format;
+
+    /// What takes secrets out by the pattern of a text.
+    fn redactor(pattern: &str) -> Redactor {
+        let rules = Rules::parse(&format!("[[redact.text]]\npattern = '{pattern}'")).unwrap();
+        Redactor { rules, sessions: Sessions::default(), unread: 0 }
+    }
+
+    /// The messages of a client that have texts, each of which is this one.
+    fn of_client(text: &str) -> Vec<frontend::Message<'_>> {
+        use frontend::Message as M;
+        vec![
+            M::Startup(Startup::new(&[(text, text)])),
+            M::Query(text.into()),
+            M::Parse(Parse { statement: text.into(), query: text.into(), types: [].into() }),
+            M::Bind(Bind {
+                portal: text.into(),
+                statement: text.into(),
+                values: [text.into()].into(),
+                ..Bind::default()
+            }),
+            M::Describe(Target::Statement(text.into())),
+            M::Describe(Target::Portal(text.into())),
+            M::Execute(Execute { portal: text.into(), max_rows: 0 }),
+            M::Close(Target::Statement(text.into())),
+            M::Close(Target::Portal(text.into())),
+            M::FunctionCall(FunctionCall {
+                object_id: 1,
+                formats: [].into(),
+                arguments: [text.into()].into(),
+                result_format: Format::TEXT,
+            }),
+            M::CopyData(text.into()),
+            M::CopyFail(text.into()),
+        ]
+    }
+
+    /// Those of a server.
+    fn of_server(text: &str) -> Vec<backend::Message<'_>> {
+        use backend::Message as M;
+        vec![
+            M::ParameterStatus(ParameterStatus { name: text.into(), value: text.into() }),
+            M::NegotiateProtocolVersion(NegotiateProtocolVersion {
+                minor: 0,
+                options: [text.into()].into(),
+            }),
+            M::RowDescription([Column::new("id", 23), Column::new(text, 25)].into()),
+            M::DataRow([text.into()].into()),
+            M::CommandComplete(text.into()),
+            M::CopyData(text.into()),
+            M::ErrorResponse([Field::new(FieldKind::Message, text)].into()),
+            M::NoticeResponse([Field::new(FieldKind::Other(b'!'), text)].into()),
+            M::NotificationResponse(NotificationResponse {
+                process_id: 1,
+                channel: text.into(),
+                payload: text.into(),
+            }),
+            M::FunctionCallResponse(FunctionCallResponse(text.into())),
+            M::Other(Other { tag: b'?', body: text.into() }),
+        ]
+    }
+
+    /// What has the messages of both sides, and other records with texts.
+    fn items(text: &str) -> Vec<What<'static>> {
+        let mut all = vec![
+            What::Opened(text.as_bytes().to_vec().into()),
+            What::Bytes { side: Side::Client, bytes: text.as_bytes().to_vec().into() },
+        ];
+        let item = |side, tag, bytes: Vec<u8>| What::Message {
+            side,
+            here: bytes.len(),
+            message: Message { tag, bytes: bytes.into() },
+        };
+        for message in of_client(text) {
+            let mut bytes = Vec::new();
+            message.write(&mut bytes).unwrap();
+            all.push(item(Side::Client, message.tag(), bytes));
+        }
+        for message in of_server(text) {
+            let mut bytes = Vec::new();
+            message.write(&mut bytes).unwrap();
+            all.push(item(Side::Server, message.tag(), bytes));
+        }
+        all
+    }
+
+    #[test]
+    fn a_pattern_reaches_each_text() {
+        let mut redactor = redactor(r"card-(\d+)");
+        for (what, wanted) in items("the card-4711").into_iter().zip(items("the card-1000")) {
+            let item = Item { connection: 1, time: 0, begins: true, what };
+            assert_eq!(redactor.item(item).what, wanted);
+        }
+    }
+
+    #[test]
+    fn names_of_statements_stay_different_within_their_session() {
+        let mut redactor = redactor(r"s_(\w+)");
+        let table = [(1, "s_ann", "s_xxx"), (1, "s_bob", "s_xxy"), (2, "s_bob", "s_xxx")];
+        for (connection, name, wanted) in table.iter().chain(&table) {
+            let mut bytes = Vec::new();
+            Execute { portal: name.into(), max_rows: 0 }.write(&mut bytes).unwrap();
+            let message = Message { tag: Some(b'E'), bytes: bytes.into() };
+            let message = redactor.message(*connection, Side::Client, message);
+            assert_eq!(Execute::read(message.body()).unwrap().portal, wanted, "{name}");
+        }
+    }
 }

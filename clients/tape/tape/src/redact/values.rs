@@ -29,6 +29,15 @@ fn search_words(words: &[u8], rules: &mut Rules, places: &mut Places) {
     sql::quoted_passwords(words, places);
 }
 
+/// Marks what is secret in the name of a statement or a portal.
+fn search_name(name: &[u8], session: &mut Session, rules: &mut Rules, places: &mut Places) {
+    let mut parts = Places::new(name);
+    search(name, rules, &mut parts);
+    if !parts.is_empty() {
+        places.add(name, Mask::Bytes(session.names.substitute(name, parts)));
+    }
+}
+
 fn search_values(values: &[Value<'_>], rules: &mut Rules, places: &mut Places) {
     values.iter().filter_map(|it| it.bytes()).for_each(|it| search(it, rules, places));
 }
@@ -36,20 +45,32 @@ fn search_values(values: &[Value<'_>], rules: &mut Rules, places: &mut Places) {
 /// Marks what is secret in a client's message.
 pub fn client(
     message: &frontend::Message<'_>,
-    session: &Session,
+    session: &mut Session,
     rules: &mut Rules,
     places: &mut Places,
 ) {
     use frontend::Message as M;
     match message {
         M::Startup(startup) => {
-            startup.settings.iter().for_each(|it| search(&it.value, rules, places))
+            let texts = startup.settings.iter().flat_map(|it| [it.name, it.value]);
+            texts.for_each(|it| search(&it, rules, places));
         }
         M::CancelRequest(cancel) => places.add(cancel.secret_key.0, Mask::Zeros),
         M::Password(answer) => password(*answer, places),
         M::Query(query) => search_sql(query, rules, places),
-        M::Parse(parse) => search_sql(&parse.query, rules, places),
-        M::Bind(it) => bind(it, session, rules, places),
+        M::Parse(parse) => {
+            search_name(&parse.statement, session, rules, places);
+            search_sql(&parse.query, rules, places);
+        }
+        M::Bind(it) => {
+            search_name(&it.portal, session, rules, places);
+            search_name(&it.statement, session, rules, places);
+            bind(it, session, rules, places);
+        }
+        M::Describe(target) | M::Close(target) => {
+            search_name(&target.name(), session, rules, places)
+        }
+        M::Execute(execute) => search_name(&execute.portal, session, rules, places),
         M::FunctionCall(call) => search_values(&call.arguments, rules, places),
         M::CopyData(text) | M::CopyFail(text) => search(text, rules, places),
         _ => {}
@@ -100,12 +121,21 @@ pub fn server(
         ) => {
             places.add(data.0, Mask::Letters);
         }
+        M::RowDescription(columns) => columns.iter().for_each(|it| search(&it.name, rules, places)),
         M::DataRow(values) => row(values, session, rules, places),
+        M::CommandComplete(tag) => search(tag, rules, places),
         M::ErrorResponse(fields) | M::NoticeResponse(fields) => {
             fields.iter().for_each(|it| search_words(&it.value, rules, places))
         }
-        M::NotificationResponse(it) => search(&it.payload, rules, places),
-        M::ParameterStatus(it) => search(&it.value, rules, places),
+        M::NotificationResponse(it) => {
+            [it.channel, it.payload].iter().for_each(|it| search(it, rules, places))
+        }
+        M::ParameterStatus(it) => {
+            [it.name, it.value].iter().for_each(|it| search(it, rules, places))
+        }
+        M::NegotiateProtocolVersion(it) => {
+            it.options.iter().for_each(|it| search(it, rules, places))
+        }
         M::FunctionCallResponse(it) => search_values(&[it.0], rules, places),
         M::CopyData(text) => search(text, rules, places),
         M::Other(it) => search(&it.body, rules, places),
