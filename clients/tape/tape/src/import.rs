@@ -8,6 +8,7 @@ use crate::layout::Taker;
 use crate::line::{write, Head, Place, Said, VERSION};
 use crate::output::Output;
 use crate::parse::{self, Line};
+use lines::escape;
 use memchr::memchr;
 use recording::{Kind, Side};
 use std::io::{self, BufRead, BufReader, Read};
@@ -104,7 +105,8 @@ fn fault(wrong: &Wrong, path: &Path, to: &Path, number: u64) -> Failure {
         Wrong::Json(why) => {
             let (words, column) = (why.to_string(), why.column());
             let words = words.split(" at line ").next().unwrap_or_default();
-            format!("{path}: line {number}, column {column}: {words}")
+            // They quote names of the file.
+            format!("{path}: line {number}, column {column}: {}", escape(words.as_bytes()))
         }
         _ => format!("{path}: line {number}: {wrong}"),
     };

@@ -24,7 +24,7 @@ fn fault(name: &str, lines: &[u8]) -> Option<String> {
 }
 
 /// Lines, and the fault that they have after its line. `|` is between lines, and letters stand for some of them.
-const FAULTS: [(&str, &str); 25] = [
+const FAULTS: [(&str, &str); 27] = [
     ("", "1: there is no line"),
     ("{}", "1: missing field `kind`"),
     ("[]", "1: invalid type: sequence, expected a line of a recording, which is an object"),
@@ -41,6 +41,14 @@ const FAULTS: [(&str, &str); 25] = [
     ),
     (r#"H|O|{P,"kind":"Query"}"#, "3: missing field `query`"),
     (r#"H|O|{P,"kind":"Query","query":"","a":1}"#, "3: unknown field `a`, expected `query`"),
+    (
+        r#"H|O|{P,"kind":"Query","query":"","\u001b[2J\u009b\n":1}"#,
+        r"3: unknown field `\x1b[2J\xc2\x9b\x0a`, expected `query`",
+    ),
+    (
+        r#"H|O|{P,"kind":"\u001b]0;a\u0007"}"#,
+        r"3: a client has no message of the kind `\x1b]0;a\x07`",
+    ),
     (r#"H|O|{P,"kind":"Query","query":"a\u0000"}"#, "3: the message can't be written: "),
     (r#"H|O|{"connection":1,"time":0,"kind":"Query","query":""}"#, "3: missing field `side`"),
     (
