@@ -2,6 +2,7 @@
 
 use crate::client::Client;
 use crate::item::{Item, Message, What};
+use crate::json::put_json;
 use crate::layout::Layout;
 use crate::parts::untyped;
 use crate::server::Server;
@@ -132,8 +133,7 @@ struct Line<'l, 'a> {
 /// Appends a line.
 pub fn put(out: &mut Vec<u8>, place: Place, said: &Said<'_>) {
     let kind = said.kind();
-    // Writing to a vector never fails, and each key is a string.
-    let _ = serde_json::to_writer(&mut *out, &Line { place, kind, said });
+    put_json(out, &Line { place, kind, said });
     out.push(b'\n');
 }
 

@@ -17,6 +17,7 @@ mod import;
 mod input;
 mod item;
 mod joiner;
+mod json;
 mod layout;
 mod line;
 mod merge;

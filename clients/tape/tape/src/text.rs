@@ -1,5 +1,6 @@
 //! Bytes in JSON: a string where they are a text, else an object with their Base64.
 
+use memchr::memchr_iter;
 use serde::de::{self, Deserialize, Deserializer, MapAccess, Visitor};
 use serde::ser::{Serialize, SerializeMap, Serializer};
 use std::borrow::Cow;
@@ -18,7 +19,12 @@ impl<'a> From<&'a [u8]> for Text<'a> {
 
 /// Whether a byte is a control character that no text has: one of ASCII other than tab, line feed and carriage return.
 fn is_no_text(byte: u8) -> bool {
-    byte < b' ' && !matches!(byte, b'\t' | b'\n' | b'\r')
+    byte.is_ascii_control() && !matches!(byte, b'\t' | b'\n' | b'\r')
+}
+
+/// Whether bytes have a control character above ASCII, which is one from U+0080 to U+009F.
+fn has_high_control(bytes: &[u8]) -> bool {
+    memchr_iter(0xc2, bytes).any(|at| bytes.get(at + 1).map_or(false, |it| *it < 0xa0))
 }
 
 /// Whether there is a byte like that. All are looked at, which a compiler does many at a time.
@@ -46,7 +52,7 @@ pub fn put_text(out: &mut Vec<u8>, bytes: &[u8]) {
 impl Text<'_> {
     /// The text, where the bytes are one: UTF-8 without control characters other than those of lines and columns.
     fn as_str(&self) -> Option<&str> {
-        match has(&self.0, is_no_text) {
+        match has(&self.0, is_no_text) || has_high_control(&self.0) {
             true => None,
             false => str::from_utf8(&self.0).ok(),
         }
@@ -112,16 +118,25 @@ mod tests {
 
     #[test]
     fn bytes_are_a_string_where_they_are_a_text_and_come_back() {
-        let table: [(&[u8], &str); 6] = [
+        let table: [(&[u8], &str); 12] = [
             (b"", r#""""#),
             (b"a\t\"b\"\r\n", r#""a\t\"b\"\r\n""#),
             ("é".as_bytes(), r#""é""#),
             (b"caf\xe9", r#"{"base64":"Y2Fm6Q=="}"#),
             (b"\0\0\0\x05", r#"{"base64":"AAAABQ=="}"#),
             (b"\x1b[2J", r#"{"base64":"G1sySg=="}"#),
+            (b"a\x7f", r#"{"base64":"YX8="}"#),
+            ("\u{80}".as_bytes(), r#"{"base64":"woA="}"#),
+            ("\u{9f}!".as_bytes(), r#"{"base64":"wp8h"}"#),
+            ("\u{e9}\u{9b}2J".as_bytes(), r#"{"base64":"w6nCmzJK"}"#),
+            ("\u{a0}\u{c2}\u{a9}~".as_bytes(), "\"\u{a0}\u{c2}\u{a9}~\""),
+            (b"\xc2", r#"{"base64":"wg=="}"#),
         ];
         for (bytes, json) in table {
             assert_eq!(serde_json::to_string(&Text::from(bytes)).unwrap(), json);
+            let mut out = Vec::new();
+            put_text(&mut out, bytes);
+            assert_eq!(String::from_utf8(out).unwrap(), json);
             assert_eq!(serde_json::from_str::<Text<'_>>(json).unwrap(), Text::from(bytes));
         }
         assert_eq!(
