@@ -74,7 +74,8 @@ fn line(what: &What<'_>, writer: &mut Writer) -> Option<(Side, String)> {
     match what {
         What::Message { side, message, .. } => Some((*side, shown(*side, message, writer))),
         What::LeftOut { side, tag, .. } => {
-            Some((*side, format!("{} {} left out", name(*side), char::from(*tag))))
+            let tag = escape(char::from(*tag).to_string().as_bytes());
+            Some((*side, format!("{} {tag} left out", name(*side))))
         }
         What::Bytes { side, bytes } => {
             Some((*side, format!("{} bytes {}", name(*side), escape(bytes))))
@@ -185,6 +186,21 @@ fn put_exchange(out: &mut Vec<u8>, one: &[&str], other: &[&str]) {
                 ChangeTag::Insert => '+',
             };
             put(out, &format!("{sign} {}", change.value()));
+        }
+    }
+}
+
+#[cfg(test)]
+mod tests {
+    use super::*;
+
+    #[test]
+    fn the_tag_of_a_message_that_is_left_out_is_escaped() {
+        let table = [(b'p', "p"), (0x1b, r"\x1b"), (0x9b, r"\xc2\x9b"), (0xe9, "\u{e9}")];
+        for (tag, shown) in table {
+            let what = What::LeftOut { side: Side::Client, tag, length: 9 };
+            let wanted = (Side::Client, format!("client {shown} left out"));
+            assert_eq!(line(&what, &mut Writer::default()), Some(wanted));
         }
     }
 }
