@@ -8,13 +8,17 @@ use crate::item::{Message, What};
 use crate::line::Writer;
 use lines::escape;
 use recording::Side;
-use similar::{capture_diff_slices, group_diff_ops, Algorithm, ChangeTag, DiffOp};
+use similar::{capture_diff_slices_deadline, group_diff_ops, Algorithm, ChangeTag, DiffOp};
 use std::collections::BTreeMap;
+use std::hash::Hash;
 use std::io::{self, Write};
 use std::path::Path;
+use std::time::{Duration, Instant};
 
 /// How many lines around a difference are shown.
 const AROUND: usize = 3;
+/// How long the fewest differences are looked for, of the exchanges of a connection, or of the lines of an exchange.
+const PATIENCE: Duration = Duration::from_secs(3);
 
 /// What both sides say in an exchange, a line each message.
 #[derive(Debug, Default, PartialEq, Eq)]
@@ -139,7 +143,7 @@ fn put_session(out: &mut Vec<u8>, number: u32, one: &[Exchange], other: &[Exchan
     let said = |all: &[Exchange]| all.iter().map(|it| it.client.clone()).collect::<Vec<_>>();
     let none = Exchange::default();
     let mut count = 0;
-    for op in capture_diff_slices(Algorithm::Myers, &said(one), &said(other)) {
+    for op in changes(&said(one), &said(other), PATIENCE) {
         let (left, right) = (op.old_range(), op.new_range());
         for at in 0..left.len().max(right.len()) {
             let (left, right) = (left.clone().nth(at), right.clone().nth(at));
@@ -152,6 +156,13 @@ fn put_session(out: &mut Vec<u8>, number: u32, one: &[Exchange], other: &[Exchan
         }
     }
     count
+}
+
+/// How one list becomes the other by the fewest changes, or, after a while, by more: what is left of both counts as different
+/// then, since the time grows with the square of what differs.
+fn changes<T: Eq + Hash + Ord>(one: &[T], other: &[T], patience: Duration) -> Vec<DiffOp> {
+    let deadline = Instant::now() + patience;
+    capture_diff_slices_deadline(Algorithm::Myers, one, other, Some(deadline))
 }
 
 fn heading(connection: u32, left: Option<usize>, right: Option<usize>) -> String {
@@ -174,7 +185,7 @@ fn heading(connection: u32, left: Option<usize>, right: Option<usize>) -> String
 
 /// Adds the lines of an exchange that differ, and some around them.
 fn put_exchange(out: &mut Vec<u8>, one: &[&str], other: &[&str]) {
-    let ops = capture_diff_slices(Algorithm::Myers, one, other);
+    let ops = changes(one, other, PATIENCE);
     for (at, group) in group_diff_ops(ops, AROUND).iter().enumerate() {
         if at > 0 {
             put(out, "  ..");
@@ -193,6 +204,45 @@ fn put_exchange(out: &mut Vec<u8>, one: &[&str], other: &[&str]) {
 #[cfg(test)]
 mod tests {
     use super::*;
+    use rand::rngs::SmallRng;
+    use rand::{Rng, SeedableRng};
+
+    /// What is left of lists, and what comes to them, by their changes.
+    fn applied(one: &[u32], other: &[u32], patience: Duration) -> (Vec<u32>, Vec<u32>) {
+        let (mut ones, mut others) = (Vec::new(), Vec::new());
+        for op in changes(one, other, patience) {
+            for change in op.iter_changes(one, other) {
+                let (is_old, is_new) =
+                    (change.tag() != ChangeTag::Insert, change.tag() != ChangeTag::Delete);
+                ones.extend(is_old.then(|| change.value()));
+                others.extend(is_new.then(|| change.value()));
+            }
+        }
+        (ones, others)
+    }
+
+    #[test]
+    fn changes_are_right_however_long_they_are_looked_for() {
+        let mut random = SmallRng::seed_from_u64(6);
+        for _ in 0..500 {
+            let [one, other] = [(); 2].map(|()| {
+                let count = random.gen_range(0..40);
+                (0..count).map(|_| random.gen_range(0..8)).collect::<Vec<u32>>()
+            });
+            for patience in [Duration::ZERO, Duration::from_nanos(2_000), PATIENCE] {
+                assert_eq!(applied(&one, &other, patience), (one.clone(), other.clone()));
+            }
+        }
+    }
+
+    #[test]
+    fn many_lines_that_all_differ_take_no_longer_than_they_may() {
+        let one: Vec<u32> = (0..300_000).collect();
+        let other: Vec<u32> = (300_000..600_000).collect();
+        let begun = Instant::now();
+        assert_eq!(applied(&one, &other, Duration::from_millis(100)), (one, other));
+        assert!(begun.elapsed() < Duration::from_secs(20), "{:?}", begun.elapsed());
+    }
 
     #[test]
     fn the_tag_of_a_message_that_is_left_out_is_escaped() {
