@@ -19,6 +19,8 @@ pub enum Unjoined {
     Missing(usize),
     #[error("all {0} bytes of the message are here")]
     All(usize),
+    #[error("a record holds {most} bytes at most, and {0} are to be in this one", most = MOST)]
+    TooLong(usize),
 }
 
 /// Where bytes of a message stand.
@@ -163,6 +165,9 @@ impl<W: Write> Joiner<W> {
         time: u64,
         content: &[u8],
     ) -> Result<(), Unjoined> {
+        if content.len() > MOST {
+            return Err(Unjoined::TooLong(content.len()));
+        }
         self.turns.take(kind, connection, content).map_err(Unjoined::Turn)?;
         Ok(self.out.add(kind, connection, time, content)?)
     }

@@ -100,6 +100,18 @@ fn each_fault_is_named_by_its_line() {
 }
 
 #[test]
+fn a_record_that_no_reader_takes_is_a_fault() {
+    let opened = |count| {
+        format!("{HEAD}\n{}", OPENED.replace(r#""""#, &format!("\"{}\"", "x".repeat(count))))
+    };
+    assert_eq!(fault("most", opened(recording::MOST).as_bytes()), None);
+    assert_eq!(
+        fault("more", opened(recording::MOST + 1).as_bytes()).as_deref(),
+        Some("line 2: a record holds 1048576 bytes at most, and 1048577 are to be in this one")
+    );
+}
+
+#[test]
 fn fields_may_stand_in_any_order() {
     let lines = [
         HEAD,
