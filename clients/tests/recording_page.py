@@ -28,6 +28,8 @@ for (const key of ["x", "j", "ArrowDown", "Enter", "t"]) {
   document.activeElement.dispatchEvent(new KeyboardEvent("keydown", { key, bubbles: true }));
 }
 """
+# A script that has the body keep what rows show of all messages.
+SUMMARIES = "document.body.dataset.summaries = JSON.stringify(lines.map(summary));"
 FLAGS = ["--headless", "--no-sandbox", "--disable-gpu", "--window-size=1200,900", "--virtual-time-budget=20000"]
 
 # The pictures of a page: what comes after its address.
@@ -87,6 +89,15 @@ def shown(browser, path, asked):
     return Page(browse(browser, path, asked, "--dump-dom"))
 
 
+def scripted(browser, path, asked, script):
+    """The page as a browser has it that runs a script after those of the page."""
+    text = pathlib.Path(path).read_text(encoding="utf-8")
+    with tempfile.TemporaryDirectory() as folder:
+        page = pathlib.Path(folder) / "scripted.html"
+        page.write_text(text.replace("</html>", f"<script>{script}</script></html>"), encoding="utf-8")
+        return shown(browser, page, asked)
+
+
 def draw(browser, path, folder):
     """Draws the pictures of a page."""
     for name, asked in PICTURES.items():
@@ -99,11 +110,7 @@ def draw(browser, path, folder):
 def check_keys(browser, path):
     """Keys go from the slowest exchanges to the first message of the third one, and change between light and dark."""
     slowest = shown(browser, path, "slowest&theme=dark")
-    text = pathlib.Path(path).read_text(encoding="utf-8")
-    with tempfile.TemporaryDirectory() as folder:
-        pressed = pathlib.Path(folder) / "pressed.html"
-        pressed.write_text(text.replace("</html>", f"<script>{PRESSED}</script></html>"), encoding="utf-8")
-        page = shown(browser, pressed, "theme=dark")
+    page = scripted(browser, path, "theme=dark", PRESSED)
     number = slowest.rows[2][1].split()[2].split(".")[0]
     chosen = [row for classes, row in page.rows if "chosen" in classes.split()]
     if (slowest.theme, page.theme) != ("dark", "light") or [row.split()[2] for row in chosen] != [number]:
@@ -139,6 +146,15 @@ def check_shown(browser, path, lines):
         sys.exit(f"the slowest exchanges are {slowest}")
 
 
+def check_summaries(browser, path, lines):
+    """Rows show the fields of all messages: none is undefined, and of a list each part is there."""
+    summaries = json.loads(scripted(browser, path, "", SUMMARIES).body["data-summaries"])
+    for line, summary in zip(lines, summaries, strict=True):
+        types = ", ".join(map(str, line.get("types", [])))
+        if "undefined" in summary or (line["kind"] == "ParameterDescription" and summary != types):
+            sys.exit(f"of {line} {summary!r} is shown")
+
+
 def micros(row):
     """The duration that a row begins with."""
     number, unit = re.match(r" *([\d.]+) (µs|ms|s)\b", row).groups()
@@ -148,7 +164,8 @@ def micros(row):
 def main():
     path = sys.argv[1]
     page = Page(pathlib.Path(path).read_text(encoding="utf-8"))
-    lines = [json.loads(line) for line in pathlib.Path(sys.argv[2]).read_text(encoding="utf-8").splitlines()][1:]
+    with open(sys.argv[2], encoding="utf-8") as file:
+        lines = [json.loads(line) for line in file][1:]
     check_data(page, lines)
     if page.addresses:
         sys.exit(f"the page asks for {page.addresses}")
@@ -160,6 +177,7 @@ def main():
     if len(lines) < MANY:
         check_shown(browser, path, lines)
         check_keys(browser, path)
+        check_summaries(browser, path, lines)
     for folder in sys.argv[3:]:
         draw(browser, path, folder)
     print(f"{len(lines)} messages are shown by {pathlib.Path(browser).name}, after {opened} ms")

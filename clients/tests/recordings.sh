@@ -242,9 +242,12 @@ test_tape_long() {
 test_tape_view() {
     local name
     many_lines > "$work/many.jsonl"
-    try "$programs/pg_tape" import "$work/many.jsonl" -o "$work/many.tape"
-    expect 'view: many messages' 0
-    for name in secret many; do
+    grep -v '"kind":"Cut"' tape/tape/kinds.jsonl > "$work/kinds.jsonl"
+    for name in many kinds; do
+        try "$programs/pg_tape" import "$work/$name.jsonl" -o "$work/$name.tape"
+        expect "view: messages are imported, of $name" 0
+    done
+    for name in secret many kinds; do
         try "$programs/pg_tape" view "$work/$name.tape" -o "$work/page.html"
         expect "view: a page is written, of $name" 0
         mkdir -p "out/pictures/$name"

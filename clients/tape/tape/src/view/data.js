@@ -10,10 +10,11 @@ function isNotice(line) {
   return line.kind === "NoticeResponse";
 }
 
-// Bytes as a text that can be shown: of Base64 what is written.
-function shown(bytes) {
-  if (bytes === null) return "NULL";
-  return typeof bytes === "string" ? bytes : `base64:${bytes.base64}`;
+// The value of a field as a text that can be shown: of Base64 what is written, and of a list all parts.
+function shown(value) {
+  if (value === null) return "NULL";
+  if (Array.isArray(value)) return value.map(shown).join(", ");
+  return typeof value === "object" ? `base64:${value.base64}` : String(value);
 }
 
 // What a row shows of a message.
@@ -21,11 +22,11 @@ function summary(line) {
   if (line.long) return `${line.long} bytes of JSON, which are left out here`;
   if (line.fields) return ["severity", "code", "message"].map((name) => line.fields[name]).filter(Boolean).map(shown).join(" ");
   if (line.query !== undefined) return shown(line.query);
-  if (line.columns) return line.columns.map((it) => (it.name === undefined ? it : shown(it.name))).join(", ");
-  if (line.values) return line.values.map(shown).join(", ");
+  if (line.columns) return shown(line.columns.map((it) => (it.name === undefined ? it : it.name)));
+  if (line.values) return shown(line.values);
   if (line.settings) return line.settings.map((it) => `${shown(it.name)}=${shown(it.value)}`).join(" ");
   const rest = Object.entries(line).filter(([name]) => !PLACE.has(name));
-  return rest.map(([, value]) => (typeof value === "object" && value ? shown(value) : String(value))).join(" ");
+  return rest.map(([, value]) => shown(value)).join(" ");
 }
 
 const PLACE = new Set(["connection", "time", "side", "kind", "exchange", "apart", "here"]);
