@@ -1,12 +1,17 @@
 //! How a program ends, and the signals that it takes.
 
-use std::io;
+use std::time::Duration;
+use std::{io, process, thread};
+use tokio::runtime::Builder;
 use tokio::signal::unix::{signal, Signal, SignalKind};
+use tokio::time::timeout;
 
 /// The number of SIGXFSZ, which comes where a file is longer than it may be.
 const FILE_SIZE: i32 = 25;
+/// What comes so soon after a Ctrl-C is the same one: a program that began this one may pass it on.
+const SAME: Duration = Duration::from_millis(250);
 
-/// The exit statuses. A second Ctrl-C ends a program by the signal itself, which a shell shows as 130 too.
+/// The exit statuses. A second Ctrl-C ends a program at once, with 130 too.
 #[derive(Clone, Copy, Debug, PartialEq, Eq)]
 #[repr(u8)]
 pub enum Status {
@@ -47,17 +52,93 @@ impl Failure {
     }
 }
 
-/// Waits for Ctrl-C or SIGTERM, and gives the status that they end in.
+/// Waits for Ctrl-C or SIGTERM, and gives the status that they end in. Another Ctrl-C ends the process then.
 pub async fn ended() -> io::Result<Status> {
     let (mut interrupt, mut terminate) =
         (signal(SignalKind::interrupt())?, signal(SignalKind::terminate())?);
-    Ok(tokio::select! {
+    let status = tokio::select! {
         _ = interrupt.recv() => Status::Interrupted,
         _ = terminate.recv() => Status::Terminated,
-    })
+    };
+    // Where there is no thread for that, the program ends by itself alone.
+    let _ = thread::Builder::new()
+        .name("interrupt".to_owned())
+        .spawn(|| Builder::new_current_thread().enable_all().build()?.block_on(end_by_interrupt()));
+    Ok(status)
+}
+
+/// Ends the process at the next Ctrl-C, whatever its other threads do. A SIGTERM doesn't: who has begun the program may send
+/// one after a Ctrl-C that has reached both.
+async fn end_by_interrupt() -> io::Result<()> {
+    let mut interrupt = signal(SignalKind::interrupt())?;
+    let _ = timeout(SAME, async { while interrupt.recv().await.is_some() {} }).await;
+    interrupt.recv().await;
+    process::exit(Status::Interrupted as i32)
 }
 
 /// Has a file that is too long be a failed write, and no reason to be killed.
 pub fn ignore_file_size() -> io::Result<Signal> {
     signal(SignalKind::from_raw(FILE_SIZE))
+}
+
+#[cfg(test)]
+mod tests {
+    use super::*;
+    use std::env;
+    use std::future::pending;
+    use std::io::{BufRead, BufReader};
+    use std::process::{Child, Command, Stdio};
+
+    /// Has `a_program` be one.
+    const IS_PROGRAM: &str = "NET_IS_PROGRAM";
+    /// How long the program takes to end by itself, and how often it gets a signal meanwhile.
+    const ENDING: Duration = Duration::from_secs(3);
+    const PAUSE: Duration = Duration::from_millis(100);
+
+    /// A program that says when it waits for a signal and when one came, and whose end takes long: a child of the other test.
+    #[test]
+    fn a_program() {
+        if env::var_os(IS_PROGRAM).is_none() {
+            return;
+        }
+        let runtime = Builder::new_current_thread().enable_all().build().unwrap();
+        runtime.block_on(async {
+            tokio::select! {
+                biased;
+                status = ended() => println!("ended {}", status.unwrap() as u8),
+                _ = async { println!("waiting"); pending::<()>().await } => {}
+            }
+            thread::sleep(ENDING);
+        });
+    }
+
+    fn kill(child: &Child, signal: &str) {
+        let command = format!("kill -{signal} {}", child.id());
+        assert!(Command::new("sh").args(["-c", &command]).status().unwrap().success());
+    }
+
+    /// The status of the program after a signal, and another one again and again.
+    fn status_after(first: &str, again: &str) -> Option<i32> {
+        let mut program = Command::new(env::current_exe().unwrap());
+        program.args(["--exact", "status::tests::a_program", "--nocapture"]).env(IS_PROGRAM, "");
+        let mut child = program.stdout(Stdio::piped()).spawn().unwrap();
+        let mut lines = BufReader::new(child.stdout.take().unwrap()).lines();
+        let mut read_until = |word: &str| while !lines.next().unwrap().unwrap().contains(word) {};
+        read_until("waiting");
+        kill(&child, first);
+        read_until("ended 1");
+        while child.try_wait().unwrap().is_none() {
+            kill(&child, again);
+            thread::sleep(PAUSE);
+        }
+        child.wait().unwrap().code()
+    }
+
+    #[test]
+    fn another_interrupt_ends_a_program_that_takes_long_to_end() {
+        let table = [("INT", "INT", 130), ("TERM", "INT", 130), ("INT", "TERM", 0)];
+        for (first, again, status) in table {
+            assert_eq!(status_after(first, again), Some(status), "{first}, {again}");
+        }
+    }
 }
