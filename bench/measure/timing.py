@@ -2,12 +2,59 @@
 
 import os
 import subprocess
+import time
 from statistics import median, quantiles
 
 # A timing takes about as much processor time, in nanoseconds, and at least so many passes, beside which
 # what is done once is little.
 TARGET = 6_000_000
 FEWEST = 8
+
+# A round is taken again where a fixed loop takes so much longer around it than at its fastest: others on the same host can
+# slow a processor down for seconds at a time. How fast it can be is looked at for some seconds before.
+SLOWER = 1.1
+LOOKED = 20
+
+
+class Pace:
+    """How fast a processor is."""
+
+    def __init__(self, core):
+        self.core, self.patience, self.rounds, self.again = core, 0, 0, 0
+        self.best, end = self.loop(), time.monotonic() + LOOKED
+        while time.monotonic() < end:
+            self.best = min(self.best, self.loop())
+            time.sleep(0.01)
+
+    def loop(self):
+        """The seconds of a fixed loop, on the processor of the programs where they have one."""
+        everywhere = os.sched_getaffinity(0)
+        if self.core is not None:
+            os.sched_setaffinity(0, {self.core})
+        begun = time.process_time()
+        sum(range(100_000))
+        taken = time.process_time() - begun
+        os.sched_setaffinity(0, everywhere)
+        return taken
+
+    def is_slow(self):
+        taken = min(self.loop() for _ in range(3))
+        self.best = min(self.best, taken)
+        return taken > SLOWER * self.best
+
+    def steady(self, take):
+        """What a round gives that was taken while the processor was fast, as long as the patience lasts."""
+        self.rounds += 1
+        while True:
+            begun, was_slow = time.monotonic(), self.is_slow()
+            found = take()
+            if not (was_slow or self.is_slow()) or self.patience <= 0:
+                return found
+            self.again += 1
+            self.patience -= time.monotonic() - begun
+
+    def words(self):
+        return f"Of {self.rounds + self.again} rounds {self.again} were taken again, since the processor was slower around them."
 
 
 class Program:
@@ -33,9 +80,9 @@ class Program:
 class Programs:
     """The programs of all sides, each in its orders, with the same bytes."""
 
-    def __init__(self, sides, folder):
+    def __init__(self, sides, folder, pace):
         self.sides = {side: programs for side, programs in sides.items() if programs}
-        self.input = folder / "input"
+        self.input, self.pace = folder / "input", pace
 
     def load(self, data):
         self.input.write_bytes(data)
@@ -62,18 +109,25 @@ class Programs:
             passes *= 4
         return max(FEWEST, round(passes * TARGET / max(taken, 1)))
 
-    def time(self, jobs, rounds, orders, piece=0):
+    def time(self, jobs, rounds, orders, patience, piece=0):
         """The nanoseconds of a pass, by job: a list for each order, of one for each round."""
+        self.pace.patience = patience
         passes = {job: self.passes(job, piece) for job in jobs}
         times = {job: [[] for _ in orders] for job in jobs}
         for turn in range(rounds):
             first = turn % len(jobs)
+            turned = jobs[first:] + jobs[:first]
             for order in orders:
-                for side, how in jobs[first:] + jobs[:first]:
-                    program = self.sides[side][order % len(self.sides[side])]
-                    count = passes[side, how]
-                    times[side, how][order].append(program.ask("time", how, piece, count) / count)
+                taken = self.pace.steady(lambda: [self.time_one(job, order, piece, passes[job]) for job in turned])
+                for job, each in zip(turned, taken):
+                    times[job][order].append(each)
         return times
+
+    def time_one(self, job, order, piece, passes):
+        """The nanoseconds of a pass."""
+        side, how = job
+        program = self.sides[side][order % len(self.sides[side])]
+        return program.ask("time", how, piece, passes) / passes
 
 
 def typical(times):
