@@ -63,6 +63,8 @@ test_read_table() {
     same 'read_table by SCRAM' "$status $output" $'0 1\ta\n2\tNULL'
     PGPASSWORD=wrong try "${read_table[@]}" by_scram of_c
     expect 'read_table by SCRAM with a wrong password' 3 28P01
+    try sh -c '"$@" > /dev/full' sh "${read_table[@]}" by_trust of_c
+    expect 'read_table whose output can not be written' 7 'standard output'
     try "${read_table[@]}" by_trust no_such_table
     expect 'read_table of a table that is not there' 4 42P01
     try "${read_table[@]}" by_trust
