@@ -38,6 +38,7 @@ class Pace:
         return taken
 
     def is_slow(self):
+        """Whether it is slower now than it has been."""
         taken = min(self.loop() for _ in range(3))
         self.best = min(self.best, taken)
         return taken > SLOWER * self.best
@@ -54,6 +55,7 @@ class Pace:
             self.patience -= time.monotonic() - begun
 
     def words(self):
+        """How many rounds were taken, and taken again."""
         return f"Of {self.rounds + self.again} rounds {self.again} were taken again, since the processor was slower around them."
 
 
