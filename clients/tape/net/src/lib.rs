@@ -21,7 +21,7 @@ pub use open::{front, open, FirstMessage, Front, OpenError, Opened};
 pub use options::{Bound, Listening, ServerOptions};
 pub use roots::SslMode;
 pub use say::Sayer;
-pub use status::{ended, ignore_file_size, Failure, Status};
+pub use status::{ignore_file_size, Endings, Failure, Status};
 pub use stream::{Accepted, Stream};
 pub use tls::ServerTls;
 pub use workers::{let_others, most_sessions, Workers};

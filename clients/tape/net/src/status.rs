@@ -52,19 +52,31 @@ impl Failure {
     }
 }
 
-/// Waits for Ctrl-C or SIGTERM, and gives the status that they end in. Another Ctrl-C ends the process then.
-pub async fn ended() -> io::Result<Status> {
-    let (mut interrupt, mut terminate) =
-        (signal(SignalKind::interrupt())?, signal(SignalKind::terminate())?);
-    let status = tokio::select! {
-        _ = interrupt.recv() => Status::Interrupted,
-        _ = terminate.recv() => Status::Terminated,
-    };
-    // Where there is no thread for that, the program ends by itself alone.
-    let _ = thread::Builder::new()
-        .name("interrupt".to_owned())
-        .spawn(|| Builder::new_current_thread().enable_all().build()?.block_on(end_by_interrupt()));
-    Ok(status)
+/// Ctrl-C and SIGTERM, by which a program is told to end.
+pub struct Endings {
+    interrupt: Signal,
+    terminate: Signal,
+}
+
+impl Endings {
+    /// Takes both from now on. A runtime of tokio must be there.
+    pub fn take() -> io::Result<Endings> {
+        let (interrupt, terminate) = (SignalKind::interrupt(), SignalKind::terminate());
+        Ok(Endings { interrupt: signal(interrupt)?, terminate: signal(terminate)? })
+    }
+
+    /// Waits for one that came since, and gives the status that it ends the program in. Another Ctrl-C ends the process then.
+    pub async fn wait(mut self) -> Status {
+        let status = tokio::select! {
+            _ = self.interrupt.recv() => Status::Interrupted,
+            _ = self.terminate.recv() => Status::Terminated,
+        };
+        // Where there is no thread for that, the program ends by itself alone.
+        let _ = thread::Builder::new().name("interrupt".to_owned()).spawn(|| {
+            Builder::new_current_thread().enable_all().build()?.block_on(end_by_interrupt())
+        });
+        status
+    }
 }
 
 /// Ends the process at the next Ctrl-C, whatever its other threads do. A SIGTERM doesn't: who has begun the program may send
@@ -85,7 +97,6 @@ pub fn ignore_file_size() -> io::Result<Signal> {
 mod tests {
     use super::*;
     use std::env;
-    use std::future::pending;
     use std::io::{BufRead, BufReader};
     use std::process::{Child, Command, Stdio};
 
@@ -103,11 +114,11 @@ mod tests {
         }
         let runtime = Builder::new_current_thread().enable_all().build().unwrap();
         runtime.block_on(async {
-            tokio::select! {
-                biased;
-                status = ended() => println!("ended {}", status.unwrap() as u8),
-                _ = async { println!("waiting"); pending::<()>().await } => {}
-            }
+            let endings = Endings::take().unwrap();
+            println!("waiting");
+            // A signal that comes before it is waited for counts too.
+            thread::sleep(PAUSE);
+            println!("ended {}", endings.wait().await as u8);
             thread::sleep(ENDING);
         });
     }

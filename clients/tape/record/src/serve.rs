@@ -6,7 +6,7 @@ use crate::printer::Printer;
 use crate::proxy::Proxy;
 use crate::tape::Tape;
 use net::{
-    ended, ignore_file_size, most_sessions, Bound, Failure, Sayer, ServerTls, Status, Upstream,
+    ignore_file_size, most_sessions, Bound, Endings, Failure, Sayer, ServerTls, Status, Upstream,
 };
 use std::io;
 use std::sync::atomic::{AtomicU64, Ordering};
@@ -14,7 +14,7 @@ use std::sync::Arc;
 use std::time::Duration;
 use tokio::runtime::Builder;
 use tokio::sync::{mpsc, Notify, Semaphore};
-use tokio::task::{spawn_blocking, JoinError, JoinHandle};
+use tokio::task::{spawn_blocking, JoinHandle};
 use tokio::time::timeout;
 
 /// How long a listener or the file may take to be closed.
@@ -32,7 +32,8 @@ pub fn serve(arguments: &Arguments, says: &Sayer) -> Result<Status, Failure> {
     // them up.
     let own = Builder::new_current_thread().enable_all().build().map_err(local)?;
     let _file_size = own.block_on(async { ignore_file_size() }).map_err(local)?;
-    let signal = own.spawn(ended());
+    let endings = own.block_on(async { Endings::take() }).map_err(local)?;
+    let signal = own.spawn(endings.wait());
     let workers = Arc::new(arguments.listening.workers().map_err(local)?);
     let (fails, failures) = mpsc::unbounded_channel();
     let tape = tape_of(arguments, says, fails)?;
@@ -111,7 +112,7 @@ fn proxy_of(
 /// What ends the program.
 struct Ends {
     failures: mpsc::UnboundedReceiver<Failure>,
-    signal: JoinHandle<io::Result<Status>>,
+    signal: JoinHandle<Status>,
     /// The status of the first session, where all ends with it.
     first: mpsc::UnboundedReceiver<Status>,
 }
@@ -125,7 +126,7 @@ async fn end(
     let (ended, is_told) = tokio::select! {
         biased;
         Some(failure) = ends.failures.recv() => (Err(failure), false),
-        status = &mut ends.signal => (Ok(status_of(status)), true),
+        status = &mut ends.signal => (Ok(status.unwrap_or(Status::Local)), true),
         Some(status) = ends.first.recv() => (Ok(status), false),
     };
     for each in accepting {
@@ -145,11 +146,6 @@ async fn end(
     };
     say_cancels(proxy);
     ended.map(|status| lost.unwrap_or(status))
-}
-
-/// The status of a signal, or that of the task which can't wait for one.
-fn status_of(status: Result<io::Result<Status>, JoinError>) -> Status {
-    status.ok().and_then(Result::ok).unwrap_or(Status::Local)
 }
 
 fn say_cancels(proxy: &Proxy) {

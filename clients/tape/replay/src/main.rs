@@ -14,7 +14,7 @@ mod tape;
 #[cfg(test)]
 mod mutants;
 
-use net::{Bound, Failure, Listener, Sayer, Status, Workers};
+use net::{Bound, Endings, Failure, Listener, Sayer, Status, Workers};
 use options::Options;
 use renewal::Renewal;
 use serve::{Settings, Shared};
@@ -42,8 +42,17 @@ fn login(path: &Path) -> Result<Login, Failure> {
     Login::new(password).map_err(|why| unread(&why))
 }
 
-/// What all sessions have, and what tells that all ends. A recording that is to be made is begun.
-async fn begin(options: &Options, tell: &Sayer) -> Result<(Shared, Ends, Vec<Listener>), Failure> {
+/// What serves, once it has been said where it listens.
+struct Begun {
+    /// What all sessions have.
+    shared: Shared,
+    listeners: Vec<Listener>,
+    ends: Ends,
+    endings: Endings,
+}
+
+/// Reads the recording, and listens. A recording that is to be made is begun.
+async fn begin(options: &Options, tell: &Sayer) -> Result<Begun, Failure> {
     let rules = Arc::new(options.rules()?);
     let (end, ends) = mpsc::channel(1);
     let fails = end.clone();
@@ -66,9 +75,16 @@ async fn begin(options: &Options, tell: &Sayer) -> Result<(Shared, Ends, Vec<Lis
         end,
     };
     options.check_paths()?;
+    // Signals are taken before it is said that the program listens, so that one which comes then finds it ready.
+    let endings = Endings::take().map_err(|why| Failure::new(Status::Local, why.to_string()))?;
     let says = |words| tell.say_plain(words);
     let Bound { listeners, tls } = options.listening.bind(options.listen_port, says).await?;
-    Ok((Shared::new(tape, rules, tell.clone(), tls, settings), ends, listeners))
+    Ok(Begun {
+        shared: Shared::new(tape, rules, tell.clone(), tls, settings),
+        listeners,
+        ends,
+        endings,
+    })
 }
 
 /// Serves until it is over, or a signal comes. Answers the status, and what all sessions have.
@@ -77,13 +93,13 @@ async fn run(
     tell: &Sayer,
     workers: &Arc<Workers>,
 ) -> Result<(Status, Arc<Shared>), Failure> {
-    let (shared, ends, listeners) = begin(options, tell).await?;
+    let Begun { shared, listeners, ends, endings } = begin(options, tell).await?;
     let shared = Arc::new(shared);
     let status = tokio::select! {
         end = serve::serve(shared.clone(), listeners, workers, ends) => serve::ended(&shared, end),
-        status = net::ended() => {
+        status = endings.wait() => {
             serve::ended(&shared, Ok(()));
-            status.map_err(|why| Failure::new(Status::Local, why.to_string()))?
+            status
         }
     };
     Ok((status, shared))
