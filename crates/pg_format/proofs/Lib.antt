@@ -1,3 +1,4 @@
+pub mod AsciiLemmas
 pub mod EndedTextsLemmas
 pub mod ExamplesLemmas
 pub mod FieldLemmas

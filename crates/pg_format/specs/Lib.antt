@@ -1,3 +1,4 @@
+pub mod Ascii
 pub mod EndedTexts
 pub mod Examples
 pub mod Field

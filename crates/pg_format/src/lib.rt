@@ -3,6 +3,7 @@
 //! body; and what a message from a server is (`BackendMessage`), whose decoding answers what its format means.
 #![tactic(auto)]
 
+mod ascii;
 mod copy;
 pub mod field;
 pub mod items;

@@ -7,6 +7,7 @@ ghost use Rattle.pg_format.specs.Format.Parts.{until_nul};
 ghost use Rattle.pg_format.specs.Format.Places.{EndsAfterNul, ReadsFrom};
 ghost use Rattle.pg_format.specs.Format.Tests.{utf8};
 
+use crate::ascii::is_ascii;
 use crate::nul::find_nul;
 use pg_base::ProtocolFault;
 use std::str;
@@ -26,6 +27,9 @@ pub fn utf8_text(bytes: &[u8]) -> Option<&str>
     ensures text { IfSome result (λ text. (text.now ≡ bytes.now) × (is_utf8 bytes.now ≡ true)) }
     ensures none { IfNone result (is_utf8 bytes.now ≡ false) }
 {
+    if is_ascii(bytes) {
+        return Some(unsafe { str::from_utf8_unchecked(bytes) });
+    }
     match str::from_utf8(bytes) {
         Ok(text) => Some(text),
         Err(_) => None,
