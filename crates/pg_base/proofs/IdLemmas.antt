@@ -17,9 +17,6 @@ decimal_length (suc k) n low high small =
 pub one_decimal : (a b : ℕ) → a < 2 ^ 64 → b < 2 ^ 64 → decimal a ≡ decimal b → a ≡ b
 one_decimal a b p q e = sym (decimal_is_IsNumeral a p).1 ∙ ap (digits_value 10) e ∙ (decimal_is_IsNumeral b q).1
 
-pub name_of_zero : (prefix : List ℕ) → name prefix 0 ≡ []
-name_of_zero prefix = refl
-
 pub name_of_other : (prefix : List ℕ) (n : ℕ) → n ≢ 0 → name prefix n ≡ prefix ++ decimal n
 name_of_other prefix n h = rw (ne_eqb n 0 h) refl
 

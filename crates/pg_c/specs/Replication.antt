@@ -1,6 +1,6 @@
 -- The messages of replication as a C program reads and passes them: one record has what all of the kinds have.
 pub mod Logical
-use Rattle.std.specs.Prelude.{◌≡◌, ◌≤◌, ℕ, List, length, Bool, true, false, ℤ, pos, Some, Result, Ok, Err}
+use Rattle.std.specs.Prelude.{◌≡◌, ◌≤◌, ℕ, List, length, Bool, false, ℤ, pos, Result, Ok, Err}
 use Rattle.pg_base.specs.declared.error.ProtocolFault.{ProtocolFault}
 use Rattle.pg_format.specs.Received.{max_body}
 use Rattle.pg_format.specs.Replication.{replication_letter}

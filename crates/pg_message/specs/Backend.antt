@@ -1,5 +1,5 @@
 -- What is decoded of a message that was written.
-use Rattle.std.specs.Prelude.{◌≡◌, ◌↔◌, ℕ, List, [], length, Result}
+use Rattle.std.specs.Prelude.{◌≡◌, ◌↔◌, List, length, Result}
 use Rattle.pg_base.specs.Format.{backend_tag}
 use Rattle.pg_base.specs.Numbers.{num}
 use Rattle.pg_base.specs.Text.{ended}

@@ -5,7 +5,6 @@ use Rattle.std.proofs.lemmas.Bool.{ne_eqb}
 use Rattle.pg_base.specs.declared.error.ProtocolFault.{ProtocolFault}
 use Rattle.pg_base.proofs.ReadingLemmas.{one_number}
 use Rattle.pg_format.specs.Format.{Means, IsFaultOf}
-use Rattle.pg_format.specs.Format.Parts.{be_u32, remaining}
 use Rattle.pg_format.specs.Messages as page
 use Rattle.pg_receive.specs.Authentication.{AuthenticationValue, requests}
 use Rattle.pg_receive.specs.Authentication.Any.{known_method, other_method, any_value_of, any_requests}

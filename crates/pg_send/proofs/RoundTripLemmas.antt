@@ -1,5 +1,5 @@
 -- Whether bytes are just so many values.
-use Rattle.std.proofs.Common.{◌≡◌, ℕ, ◌+◌, ◌-◌, ◌<◌, ◌≤◌, suc, zero, pos, negsuc, inl, inr, true, List, [], ◌∷◌, ◌++◌, length, take, drop, refl, sym, ap, ◌∙◌, arith, append_assoc, length-append, ℤ, int_lt, Some, None}
+use Rattle.std.proofs.Common.{◌≡◌, ℕ, ◌+◌, ◌-◌, ◌<◌, ◌≤◌, suc, zero, pos, negsuc, inl, inr, true, List, [], ◌++◌, length, take, drop, refl, sym, ap, ◌∙◌, arith, append_assoc, length-append, ℤ, int_lt, Some, None}
 use Rattle.std.proofs.lemmas.List.{append-nil, take-append-drop, take_all, length-take, length-drop}
 use Rattle.std.specs.Int.{w32, FitsUnsignedBits}
 use Rattle.std.proofs.lemmas.Int.{to_z-of_z, ints}

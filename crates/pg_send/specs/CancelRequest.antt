@@ -7,10 +7,6 @@ use Rattle.pg_send.specs.declared.message.cancel_request.CancelRequest.{CancelRe
 use Rattle.pg_base.specs.declared.error.ProtocolFault.{ProtocolFault}
 use Rattle.pg_format.specs.Format.{Means}
 
--- 1234 in the upper two bytes and 5678 in the lower, in the place of a version
-abbrev pub cancel_request_code : ℕ
-cancel_request_code = 80877102
-
 -- the code, the process and the key
 abbrev pub cancel_request_body : page.Cancel → List ℕ
 cancel_request_body cancel = page.first_message.Writes (page.cancelling cancel)

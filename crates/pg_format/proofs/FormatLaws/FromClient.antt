@@ -128,9 +128,6 @@ total_sasl_initial_response = total_exactly (total_record_of _ (λ a. record { m
 pub lawful_sasl_response : Lawful sasl_response
 lawful_sasl_response = lawful_remaining
 
-pub canonical_sasl_response : Canonical sasl_response
-canonical_sasl_response = canonical_remaining
-
 -- ---- without a tag
 
 pub lawful_setting : Lawful setting

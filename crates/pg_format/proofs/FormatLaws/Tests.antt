@@ -9,7 +9,7 @@ use Rattle.pg_base.specs.declared.error.ProtocolFault.{ProtocolFault}
 use Rattle.pg_base.specs.declared.error.ProtocolFault.TheVariants.{NotUtf8}
 use Rattle.pg_format.specs.Format.{Format, Lawful, Canonical, Total, IsRead, IsBroken}
 use Rattle.pg_format.specs.Format.Tests.{verify, utf8, checked, only, with_room, ReadsUnless, unless}
-use Rattle.pg_format.proofs.FormatLaws.Parts.{lawful_until_nul, canonical_until_nul, total_until_nul, lacks}
+use Rattle.pg_format.proofs.FormatLaws.Parts.{lawful_until_nul, total_until_nul, lacks}
 
 module _ {A : Type 0} {g : Format A} (Is : A → Type 0) (wrong : ProtocolFault) where
   module _ (eg : Lawful g) where
@@ -53,9 +53,6 @@ module _ {A : Type 0} {g : Format A} (Is : A → Type 0) (wrong : ProtocolFault)
 
 pub lawful_utf8 : Lawful utf8
 lawful_utf8 = lawful_verify IsUtf8 NotUtf8 lawful_until_nul
-
-pub canonical_utf8 : Canonical utf8
-canonical_utf8 = canonical_verify IsUtf8 NotUtf8 canonical_until_nul
 
 utf8_by : (text : List ℕ) (b : Bool) → is_utf8 text ≡ b → IsUtf8 text ⊎ ¬ (IsUtf8 text)
 utf8_by text true e = inl (IsUtf8-from_is_utf8 text e)
@@ -125,12 +122,6 @@ lawful_only Is eg = record {
   one_fault = eg.one_fault;
   never_both = λ len bytes rest a f p q. eg.never_both len bytes rest a f p.0 q;
   written = λ v rest fits. (eg.written v rest fits.0, fits.1);
-}
-
-pub canonical_only : {A : Type 0} {g : Format A} (Is : A → Type 0) → Canonical g → Canonical (only Is g)
-canonical_only Is cg = record {
-  same = λ bytes rest a h p. cg.same bytes rest a h p.0;
-  fits = λ bytes rest a h p. (cg.fits bytes rest a h p.0, p.1);
 }
 
 -- ---- room

@@ -7,7 +7,7 @@ use crate::lines::Lines;
 use crate::server::frame::push_frame;
 use crate::server::reply_line::reply_of;
 use pg_base::Error;
-use std::alloc::{AllocError, Global};
+use std::alloc::Global;
 
 /// The answers to the messages that the lines name, a line each, and then their frames.
 pub fn encode(alloc: Global, input: &[u8]) -> Result<String, Fault> {

@@ -1,5 +1,4 @@
 use Rattle.std.proofs.Common.{length, ap, arith}
-use Rattle.std.specs.List.{flat_map}
 use Rattle.pg_replication.proofs.LogicalListedLemmas.{length_step, length_end}
 use Rattle.pg_replication.proofs.logical.listed.EachPart.len.Goals as goal
 

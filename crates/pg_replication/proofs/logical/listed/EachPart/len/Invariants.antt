@@ -1,4 +1,4 @@
-use Rattle.std.proofs.Common.{◌≡◌, ◌+◌, ◌^◌, ◌<◌, ℕ, length}
+use Rattle.std.proofs.Common.{◌≡◌, ◌+◌, ◌^◌, ◌<◌, length}
 use Rattle.std.specs.List.{flat_map}
 use Rattle.pg_base.specs.Part.{saturated}
 use Rattle.pg_replication.proofs.logical.listed.EachPart.len.Given as goal

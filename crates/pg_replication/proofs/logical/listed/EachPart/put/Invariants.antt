@@ -1,4 +1,4 @@
-use Rattle.std.proofs.Common.{◌≡◌, ◌≤◌, ◌++◌, Bool, false, length, All}
+use Rattle.std.proofs.Common.{◌≡◌, ◌≤◌, ◌++◌, false, length, All}
 use Rattle.std.specs.List.{flat_map, list_any}
 use Rattle.pg_base.specs.Cutting.{max_length}
 use Rattle.pg_replication.proofs.logical.listed.EachPart.put.Given as goal
