@@ -227,6 +227,7 @@ static void test_ends(struct tally *tally)
     CHECK(tally, pgmsg_read_end('1', BYTES("!"), &fault) == 0);
     CHECK(tally, pgmsg_read_end('R', BYTES("\0\0\0\12" "A\0" "\351\0" "\0" "!"), &fault) == 9);
     CHECK(tally, pgmsg_read_end('R', BYTES("\0\0\0\10" "token"), &fault) == 9);
+    CHECK(tally, pgmsg_read_end('R', BYTES("\0\0\0\7" "!"), &fault) == 4);
     CHECK(tally, pgmsg_read_end('R', BYTES("\0\0\0\12" "A\0"), &fault) == PGMSG_MISSING_NUL && fault.at == 6);
     CHECK(tally, pgmsg_read_end('N', BYTES("VNOTICE\0" "\0" "!"), &fault) == 9);
     CHECK(tally, pgmsg_read_end('N', BYTES("VNOTICE\0"), &fault) == PGMSG_SHORT && fault.at == 8);

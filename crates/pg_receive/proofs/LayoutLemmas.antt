@@ -1,5 +1,5 @@
 -- Where the parts of a body end.
-use Rattle.std.proofs.Common.{◌≡◌, ◌≢◌, ℕ, zero, suc, ◌+◌, ◌*◌, ◌<◌, ◌≤◌, ℤ, List, [], ◌∷◌, ◌++◌, length, get_or, take, drop, Result, Ok, Err, IfOk, IfErr, refl, sym, ap, subst, ◌∙◌, arith, inl, inr, length-drop}
+use Rattle.std.proofs.Common.{true, false, ◌≡◌, ◌≢◌, ℕ, zero, suc, ◌+◌, ◌*◌, ◌<◌, ◌≤◌, ℤ, List, [], ◌∷◌, ◌++◌, length, get_or, take, drop, Result, Ok, Err, IfOk, IfErr, refl, sym, ap, subst, ◌∙◌, arith, inl, inr, length-drop}
 use Rattle.std.proofs.lemmas.Bool.{ne_eqb}
 use Rattle.std.proofs.lemmas.List.{take-append-drop, drop-drop}
 use Rattle.std.proofs.Math.Seq.{drop-length}
@@ -15,7 +15,7 @@ use Rattle.pg_format.specs.Format.Places.{IsReadAt, BreaksAt, EndsAt}
 use Rattle.pg_format.specs.Format.Sequences.{dep_pair}
 use Rattle.pg_format.specs.Messages.{field}
 use Rattle.pg_format.proofs.FormatLaws.Places.{lacks_at, none_at, one_more_at}
-use Rattle.pg_receive.specs.Layout.{name, asked, nothing}
+use Rattle.pg_receive.specs.Layout.{name, asked, is_alone, nothing}
 
 -- ---- items after their count
 
@@ -121,9 +121,12 @@ pub names_break_there : (body : List ℕ) (method : ℕ) (result : Result ℕ Pr
 names_break_there body method (Ok end) found is p = tt
 names_break_there body method (Err fault) found is p = fault_after_method body method fault found (rw is p)
 
-pub any_there : (body : List ℕ) (method : ℕ) → method ≢ 0 → method ≢ 3 → method ≢ 5 → method ≢ 10 → (v : List (List ℕ)) × (asked method).Reads (drop 4 body) v (drop (length body) body)
-any_there body method a b c d =
-    (drop 4 body ∷ [], rw (ne_eqb method 0 a, ne_eqb method 3 b, ne_eqb method 5 c, ne_eqb method 10 d) (drop 4 body, (refl, drop-length body), refl))
+pub any_there : (body : List ℕ) (method : ℕ) → is_alone method ≡ false → method ≢ 5 → method ≢ 10 → (v : List (List ℕ)) × (asked method).Reads (drop 4 body) v (drop (length body) body)
+any_there body method a b c =
+    (drop 4 body ∷ [], rw (a, ne_eqb method 5 b, ne_eqb method 10 c) (drop 4 body, (refl, drop-length body), refl))
+
+pub nothing_there : (body : List ℕ) (method : ℕ) → is_alone method ≡ true → (asked method).Reads (drop 4 body) [] (drop 4 body)
+nothing_there body method a = rw a (refl, refl)
 
 -- a kind without parts
 pub nothing_ends : (body : List ℕ) → EndsAt nothing body 0 0

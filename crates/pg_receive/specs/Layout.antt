@@ -1,6 +1,6 @@
 -- How far the parts of a body go that the documentation lists for its kind, whatever the encoding of their texts: for
 -- who wants no byte after them, and no list without its end.
-use Rattle.std.specs.Prelude.{◌≢◌, ℕ, ◌==◌, List, [], ◌∷◌}
+use Rattle.std.specs.Prelude.{◌≢◌, ℕ, ◌==◌, Bool, ◌||◌, List, [], ◌∷◌}
 use Rattle.pg_base.specs.declared.error.ProtocolFault.TheVariants.{UnknownStatus}
 use Rattle.pg_base.specs.declared.format.BackendMessageFormat.{BackendMessageFormat}
 use Rattle.pg_base.specs.declared.format.BackendMessageFormat.TheVariants as backend
@@ -31,14 +31,18 @@ name = only (λ text. text ≢ []) until_nul
 abbrev pub alone : List ℕ → List (List ℕ)
 alone bytes = bytes ∷ []
 
--- what follows the number of a method: nothing, a salt, names, or any bytes
+-- nothing follows the number of these methods: Ok, KerberosV5, CleartextPassword, SCMCredential, GSS and SSPI
+abbrev pub is_alone : ℕ → Bool
+is_alone method = (method == 0) || (method == 2) || (method == 3) || (method == 6) || (method == 7) || (method == 9)
+
+-- what follows the number of a method: nothing, a salt, names, or any bytes where data of an exchange follows and where no
+-- method has the number
 abbrev pub asked : ℕ → Format (List (List ℕ))
 asked method =
-    choose (method == 0) (success [])
-    (choose (method == 3) (success [])
+    choose (is_alone method) (success [])
     (choose (method == 5) (viewed alone (bytes_of 4))
     (choose (method == 10) (until_zero name)
-    (viewed alone remaining))))
+    (viewed alone remaining)))
 
 abbrev pub layout : BackendMessageFormat → Meaning
 layout backend.Authentication = means (dep_pair be_u32 asked)

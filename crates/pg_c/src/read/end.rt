@@ -17,7 +17,9 @@ use std::alloc::Global;
 
 /// The offset after the last part of a body, by the tag of its message: `body_len` where nothing follows
 /// the parts that the documentation lists. A body is refused where a part can't be read or a list has no
-/// end. Texts are any bytes, and data of a SASL exchange isn't looked at.
+/// end, and with PGMSG_UNKNOWN_MESSAGE_TYPE where the tag is none of the 21 that sqlx-postgres knows. Texts are
+/// any bytes, and data of an exchange by GSSAPI, SSPI or SASL isn't looked at, nor what follows the number of
+/// a method that no server has.
 #[unsafe(no_mangle)]
 pub extern "C" fn pgmsg_read_end(
     alloc: Global,

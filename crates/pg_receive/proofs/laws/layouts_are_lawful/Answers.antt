@@ -18,7 +18,7 @@ use Rattle.pg_format.proofs.FormatLaws.Sequences.{◌l⨾◌, lawful_dep_pair, l
 use Rattle.pg_format.proofs.FormatLaws.Takes.{takes_unsigned, takes_signed, takes_cell}
 use Rattle.pg_format.proofs.FormatLaws.Tests.{lawful_checked, lawful_only, lawful_with_room}
 use Rattle.pg_receive.specs.BackendKeyData.{raw_key_data}
-use Rattle.pg_receive.specs.Layout.{name, alone, asked, layout}
+use Rattle.pg_receive.specs.Layout.{name, alone, asked, is_alone, layout}
 use Rattle.pg_receive.proofs.RowDescriptionRawLemmas.{lawful_raw_column, raw_column_takes}
 use Rattle.pg_receive.proofs.laws.layouts_are_lawful.Goals as goal
 
@@ -51,11 +51,10 @@ lawful_fields = lawful_until_zero (lawful_only (λ f. f.0 ≢ 0) (lawful_unsigne
 
 lawful_asked : (method : ℕ) → Lawful (asked method)
 lawful_asked method =
-    lawful_choose (method == 0) (lawful_success [])
-    (lawful_choose (method == 3) (lawful_success [])
+    lawful_choose (is_alone method) (lawful_success [])
     (lawful_choose (method == 5) (lawful_viewed alone (lawful_bytes_of 4))
     (lawful_choose (method == 10) lawful_names
-    (lawful_viewed alone lawful_remaining))))
+    (lawful_viewed alone lawful_remaining)))
 
 lawful_key : Lawful raw_key_data
 lawful_key = lawful_record_of _ (λ a b e i. record { process_id = (e i).0; secret_key = (e i).1 }) (u32 l⨾ lawful_checked (λ key. key_fault (length key)) lawful_remaining)

@@ -1,6 +1,6 @@
 //! Where the parts of a body end that has no list, or one whose items are of one length.
 
-ghost use Rattle.std.specs.Prelude.{IfOk, IfErr};
+ghost use Rattle.std.specs.Prelude.{◌≡◌, IfOk, IfErr};
 ghost use Rattle.pg_format.specs.Format.{IsFaultOf};
 ghost use Rattle.pg_format.specs.Format.Lists.{counted_least};
 ghost use Rattle.pg_format.specs.Format.Parts.{until_nul, be_u32, be_i8, be_i16, remaining};
@@ -8,7 +8,7 @@ ghost use Rattle.pg_format.specs.Format.Sequences.{dep_pair, ◌⨾◌};
 ghost use Rattle.pg_format.specs.Messages.{column_codes};
 ghost use Rattle.pg_receive.specs.BackendKeyData.{raw_key_data};
 ghost use Rattle.pg_format.specs.Format.Places.{EndsAt};
-ghost use Rattle.pg_receive.specs.Layout.{asked, status};
+ghost use Rattle.pg_receive.specs.Layout.{asked, is_alone, status};
 
 use super::lists::names_end;
 use crate::message::copy::code_count;
@@ -16,13 +16,23 @@ use crate::message::{RawKeyData, ReadyForQuery, text_at};
 use pg_base::ProtocolFault;
 use pg_base::io::{bytes_at, i8_at, i16_at, u16_at, u32_at};
 
-// The numbers of the methods after which something is known to follow, or nothing.
+// The numbers of the methods after which nothing follows.
 const OK: u32 = 0;
+
+const KERBEROS_V5: u32 = 2;
 
 const CLEARTEXT_PASSWORD: u32 = 3;
 
+const SCM_CREDENTIAL: u32 = 6;
+
+const GSS: u32 = 7;
+
+const SSPI: u32 = 9;
+
+// The number of the method after which a salt follows.
 const MD5_PASSWORD: u32 = 5;
 
+// The number of the method after which names follow.
 const SASL: u32 = 10;
 
 /// The end of a request for authentication.
@@ -30,9 +40,11 @@ pub(super) fn request_end(body: &[u8]) -> Result<usize, ProtocolFault>
     ensures end { IfOk result (EndsAt (dep_pair be_u32 asked) body.now 0) }
     ensures fault { IfErr result (IsFaultOf (dep_pair be_u32 asked) body.now) }
 {
-    match u32_at(body, 0)? {
-        OK => Ok(4),
-        CLEARTEXT_PASSWORD => Ok(4),
+    let method = u32_at(body, 0)?;
+    if is_alone(method) {
+        return Ok(4);
+    }
+    match method {
         MD5_PASSWORD => {
             bytes_at(body, 4, 4)?;
             Ok(8)
@@ -40,6 +52,18 @@ pub(super) fn request_end(body: &[u8]) -> Result<usize, ProtocolFault>
         SASL => names_end(body, 4),
         _ => Ok(body.len()),
     }
+}
+
+// Whether nothing follows the number of a method.
+fn is_alone(method: u32) -> bool
+    ensures { result ≡ is_alone method }
+{
+    method == OK
+        || method == KERBEROS_V5
+        || method == CLEARTEXT_PASSWORD
+        || method == SCM_CREDENTIAL
+        || method == GSS
+        || method == SSPI
 }
 
 /// The end of a session's process and its key.
