@@ -72,7 +72,7 @@ impl LogicalMessage<'_> {
 
     /// The exact length of the message in bytes, or its first fault, in the order of its fields: `TooMany` for a row or
     /// columns of more than 65535, `TextHoldsNul` for a text that holds a NUL, and last `MessageTooLong`, for a message
-    /// that no CopyData can hold.
+    /// of more than 2147483643 bytes, which no CopyData can hold.
     pub fn checked_len(&self) -> Result<usize, ProtocolFault>
         ensures { result ≡ checked_len (content_fault self.now) (length (content self.now)) }
     {
@@ -98,6 +98,7 @@ impl LogicalMessage<'_> {
     /// says that nothing was written. A fault leaves `out` as it was.
     pub fn write(&self, out: &mut [u8]) -> Result<usize, ProtocolFault>
         ensures written { IsContentWritten self.now out.old out.new result }
+        ensures read { IfOk result (λ len. len ≤ length out.old → IsReadBack self.now) }
         ensures small { IfOk result (λ len. len ≤ max_length) }
     {
         let len = checked_len(self)?;
