@@ -2,15 +2,20 @@
 
 pub mod examples;
 
-ghost use Rattle.std.specs.Prelude.{Bool};
+ghost use Rattle.std.specs.Prelude.{Bool, ◌≡◌};
+ghost use Rattle.pg_base.specs.Derived.{IsEqualByValue};
 ghost use Rattle.pg_base.specs.declared.format.BackendMessageFormat.{BackendMessageFormat};
 ghost use Rattle.pg_base.specs.declared.format.FrontendMessageFormat.{FrontendMessageFormat};
 ghost use Rattle.pg_format.specs.Format.{Lawful, Canonical, Total};
-ghost use Rattle.pg_format.specs.Logical.{change};
-ghost use Rattle.pg_format.specs.Replication.{in_copy_data};
+ghost use Rattle.pg_format.specs.Logical.{change, logical_letter};
+ghost use Rattle.pg_format.specs.Replication.{in_copy_data, replication_letter};
 ghost use Rattle.pg_format.specs.declared.logical.LogicalKind.{LogicalKind};
 ghost use Rattle.pg_format.specs.declared.replication.ReplicationKind.{ReplicationKind};
 ghost use Rattle.pg_format.specs.Messages.{from_server, from_client, any_authentication, backend_key, first_message, function_call_response, negotiate_protocol_version, sasl_initial_response};
+
+use crate::logical::LogicalKind;
+use crate::protocol::ProtocolMessageKind;
+use crate::replication::ReplicationKind;
 
 /// A body from a server means one value or has one fault, never both and never neither; and what is
 /// written of a value is read as it.
@@ -69,3 +74,24 @@ pub fn messages_of_logical_replication()
     ensures lawful { (streamed : Bool) (kind : LogicalKind) → Lawful (change streamed kind) }
     ensures total { (streamed : Bool) (kind : LogicalKind) → Total (change streamed kind) }
 {}
+
+/// Kinds of message are equal where they are the same.
+pub fn kinds_are_equal_by_value()
+    ensures protocol { IsEqualByValue ⟦<ProtocolMessageKind as PartialEq>⟧.eq }
+    ensures replication { IsEqualByValue ⟦<ReplicationKind as PartialEq>⟧.eq }
+    ensures logical { IsEqualByValue ⟦<LogicalKind as PartialEq>⟧.eq }
+{}
+
+/// The number of a kind of message of replication is its letter.
+pub fn number_of_replication_kind(kind: ReplicationKind) -> u8
+    ensures { result ≡ replication_letter kind }
+{
+    kind as u8
+}
+
+/// The number of a kind of message of logical replication is its letter.
+pub fn number_of_logical_kind(kind: LogicalKind) -> u8
+    ensures { result ≡ logical_letter kind }
+{
+    kind as u8
+}
