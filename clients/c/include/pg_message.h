@@ -52,7 +52,8 @@ enum {
     /* A received body is longer than a length field can say, or bytes follow the last part of a message
  * of replication. */
     PGMSG_BODY_TOO_LONG = -7,
-    /* No message that is known here, from a server or from a client, has this tag. */
+    /* No message that is known here, from a server or from a client, has this tag; or no message of
+ * replication, no row and no value in one has this letter. */
     PGMSG_UNKNOWN_MESSAGE_TYPE = -8,
     /* A method of authentication that isn't known here. */
     PGMSG_UNKNOWN_AUTHENTICATION = -9,
@@ -77,7 +78,7 @@ enum {
     /* A text to be sent holds a NUL, or would end its list: the name of a setting or of a mechanism is
  * empty, or the letter of a field is 0. */
     PGMSG_TEXT_HOLDS_NUL = -19,
-    /* The values of a Bind can't be counted. */
+    /* More values of a Bind, or arguments of a FunctionCall, than a message can count. */
     PGMSG_BAD_PARAMS = -20,
     /* A session's secret key has fewer than 4 or more than 256 bytes. */
     PGMSG_BAD_KEY_LENGTH = -21,
@@ -696,8 +697,8 @@ int32_t pgmsg_read_command_complete(const uint8_t *body, size_t body_len, pgmsg_
  * in one, E in one that has failed. */
 int32_t pgmsg_read_ready(const uint8_t *body, size_t body_len, pgmsg_fault *fault);
 
-/* How the data of a COPY is spelled, by the body of a CopyInResponse or CopyOutResponse: how many
- * columns have a code. As many codes as there is room for are written. */
+/* How the data of a COPY is spelled, by the body of a CopyInResponse, a CopyOutResponse or a
+ * CopyBothResponse: how many columns have a code. As many codes as there is room for are written. */
 ptrdiff_t pgmsg_read_copy_response(const uint8_t *body, size_t body_len,
     pgmsg_copy_response *response, int16_t *codes, size_t codes_len, pgmsg_fault *fault);
 
@@ -734,12 +735,15 @@ ptrdiff_t pgmsg_read_negotiate_version(const uint8_t *body, size_t body_len,
 
 /* The offset after the last part of a body, by the tag of its message: `body_len` where nothing
  * follows the parts that the documentation lists. A body is refused where a part can't be read or a
- * list has no end. Texts are any bytes, and data of a SASL exchange isn't looked at. */
+ * list has no end, and with PGMSG_UNKNOWN_MESSAGE_TYPE where the tag is none of the 21 that
+ * sqlx-postgres knows: of a CopyBothResponse, a FunctionCallResponse and a NegotiateProtocolVersion
+ * too. Texts are any bytes, and data of an exchange by GSSAPI, SSPI or SASL isn't looked at, nor
+ * what follows the number of a method that no server has. */
 ptrdiff_t pgmsg_read_end(uint8_t tag, const uint8_t *body, size_t body_len, pgmsg_fault *fault);
 
 /* The first message of a connection at the front of a stream, or the one after an SSLRequest or a
- * GSSENCRequest: 1 where it is whole, 0 where more bytes are needed. It has no tag: `tag` is 0, and
- * `length` that of its length and its body. Refused where its length is below 8, or above `limit`,
+ * GSSENCRequest: 1 where it is whole, 0 where more bytes are needed. It has no tag: where it is whole,
+ * `tag` is 0, and `length` that of its length and its body. Refused where its length is below 8, or above `limit`,
  * which is PGMSG_MAX_FIRST_LENGTH for PostgreSQL's own servers: then, whatever comes next. */
 int32_t pgmsg_next_first_frame(const uint8_t *stream, size_t stream_len, size_t limit,
     pgmsg_frame *frame, pgmsg_fault *fault);
@@ -759,7 +763,8 @@ int32_t pgmsg_read_first(const uint8_t *body, size_t body_len, pgmsg_first *firs
 int32_t pgmsg_read_text(const uint8_t *body, size_t body_len, pgmsg_span *text, pgmsg_fault *fault);
 
 /* Whether a message has no body, as those of `pgmsg_put_no_body` have none: 0, or
- * PGMSG_TRAILING_BYTES where it has one. */
+ * PGMSG_TRAILING_BYTES where it has one, or PGMSG_BODY_TOO_LONG where that has more than 2147483643
+ * bytes. */
 int32_t pgmsg_read_no_body(const uint8_t *body, size_t body_len, pgmsg_fault *fault);
 
 /* A Parse, by its body. 0, or why it is refused. */
@@ -811,7 +816,7 @@ size_t pgmsg_read_settings(const uint8_t *body, size_t body_len, pgmsg_parameter
  * client is who it says, and 3 asks for its password as it is: nothing follows. 5 asks for the MD5
  * digest of its password, with the salt of four bytes that follows. 7 and 9 begin an exchange of
  * GSSAPI or SSPI, and 2 and 6 ask for Kerberos V5 and the credentials of a Unix socket, as servers
- * before versions 9.3 and 9.1 do: nothing follows. 8 is the next of an exchange of GSSAPI or SSPI,
+ * before versions 9.4 and 9.1 do: nothing follows. 8 is the next of an exchange of GSSAPI or SSPI,
  * 11 and 12 are the next and the last of a SASL exchange, whose data follows; 10 begins one, by
  * `pgmsg_put_authentication_sasl`. Of other numbers, or with another count of bytes, it is refused
  * with PGMSG_UNKNOWN_AUTHENTICATION. */
@@ -830,7 +835,8 @@ ptrdiff_t pgmsg_put_negotiate_version(uint16_t minor, const pgmsg_bytes *options
     size_t options_len, uint8_t *out, size_t out_len);
 
 /* The process that serves the client, and the secret key that a request to cancel its work has to
- * name too: 4 bytes, or up to 256 of a server that speaks version 3.2 of the protocol. */
+ * name too: 4 bytes, or up to 256 of a server that speaks version 3.2 of the protocol. Of another
+ * length it is refused with PGMSG_BAD_KEY_LENGTH. */
 ptrdiff_t pgmsg_put_backend_key_data(uint32_t process_id, const uint8_t *secret_key,
     size_t secret_key_len, uint8_t *out, size_t out_len);
 
@@ -840,17 +846,21 @@ ptrdiff_t pgmsg_put_parameter_status(const uint8_t *name, size_t name_len, const
     size_t value_len, uint8_t *out, size_t out_len);
 
 /* The server is ready for the next query. `status` is `I` where no transaction is open, `T` where
- * one is, and `E` where one is and has failed. */
+ * one is, and `E` where one is and has failed; another letter is refused with
+ * PGMSG_UNKNOWN_STATUS. */
 ptrdiff_t pgmsg_put_ready(uint8_t status, uint8_t *out, size_t out_len);
 
-/* The columns of a result. A name that holds a NUL is refused. */
+/* The columns of a result, at most 65535, else it is refused with PGMSG_TOO_MANY. A name that holds
+ * a NUL is refused. */
 ptrdiff_t pgmsg_put_columns(const pgmsg_column_text *columns, size_t columns_len, uint8_t *out,
     size_t out_len);
 
-/* The values of a row, each in the format that was asked for, or NULL. */
+/* The values of a row, each in the format that was asked for, or NULL: at most 65535, else it is
+ * refused with PGMSG_TOO_MANY. */
 ptrdiff_t pgmsg_put_row(const pgmsg_value *values, size_t values_len, uint8_t *out, size_t out_len);
 
-/* The types of the parameters of a statement. */
+/* The types of the parameters of a statement: at most 65535, else it is refused with
+ * PGMSG_TOO_MANY. */
 ptrdiff_t pgmsg_put_parameter_types(const uint32_t *types, size_t types_len, uint8_t *out,
     size_t out_len);
 
@@ -862,7 +872,7 @@ ptrdiff_t pgmsg_put_command_complete(const uint8_t *command, size_t command_len,
 /* Where the data of a COPY goes: to the server by a CopyInResponse, whose tag is `G`, from it by a
  * CopyOutResponse, `H`, and both ways by a CopyBothResponse, `W`; of other tags it is refused with
  * PGMSG_UNKNOWN_MESSAGE_TYPE. `format` is that of the data as a whole, and `codes` are those of the
- * columns: 0 is text and 1 binary. */
+ * columns, at most 32767, else it is refused with PGMSG_TOO_MANY: 0 is text and 1 binary. */
 ptrdiff_t pgmsg_put_copy_response(uint8_t tag, int8_t format, const int16_t *codes,
     size_t codes_len, uint8_t *out, size_t out_len);
 
@@ -923,10 +933,10 @@ ptrdiff_t pgmsg_read_logical(const uint8_t *content, size_t content_len, bool *s
 
 /* A message of logical replication, as the content of an XLogData, which `pgmsg_put_replication`
  * writes as a CopyData of the letter `w`. Refused with PGMSG_UNKNOWN_MESSAGE_TYPE where its letter
- * is of no kind, or that of an old row or of a value in its rows is; then with PGMSG_TOO_MANY where
- * a row has more than 65535 values or a table more columns, with PGMSG_TEXT_HOLDS_NUL for a NUL in
- * a `schema` or a `name`, also of a column, and with PGMSG_MESSAGE_TOO_LONG where it is longer than
- * 2147483643 bytes. */
+ * is of no kind, or that of an old row or of a value in its rows is; then for the first of its parts
+ * that breaks a limit, with PGMSG_TOO_MANY where a row has more than 65535 values or a table more
+ * columns, or with PGMSG_TEXT_HOLDS_NUL for a NUL in a `schema` or a `name`, also of a column; then
+ * with PGMSG_MESSAGE_TOO_LONG where it is longer than 2147483643 bytes. */
 ptrdiff_t pgmsg_put_logical(const pgmsg_logical_text *message, uint8_t *out, size_t out_len);
 
 /* What is at the front of a stream that is passed on: 1 for a whole message that is wanted whole,

@@ -57,7 +57,7 @@ class AuthenticationOk(Authentication, method=0):
 
 @dataclass(frozen=True, slots=True)
 class AuthenticationKerberosV5(Authentication, method=2):
-    """Asks for Kerberos V5, as servers before version 9.3 do."""
+    """Asks for Kerberos V5, as servers before version 9.4 do."""
 
 
 @dataclass(frozen=True, slots=True)

@@ -30,9 +30,11 @@ pub enum ProtocolFault {
         /// The kind that it is.
         got: BackendMessageFormat,
     },
-    /// A received body is longer than a length field can say: its length.
+    /// A received body is longer than a length field can say: its length. Or bytes follow its last part where none
+    /// may, as in a message of replication: the offset where they begin.
     BodyTooLong(usize),
-    /// No message from the server that this layer knows has this tag.
+    /// No message that this layer knows has this tag; or no message of replication, no row or no value in one has
+    /// this letter.
     UnknownMessageType(u8),
     /// A method of authentication that this layer doesn't speak.
     UnknownAuthentication(u32),
@@ -66,7 +68,8 @@ pub enum ProtocolFault {
     /// A text that the protocol ends with a NUL holds one; or what would end its list stands in it: a
     /// setting or a mechanism of authentication without a name, or a field of a notice with the letter 0.
     TextHoldsNul,
-    /// The parameters of a Bind are not as many values as it says.
+    /// The parameters of a Bind are not as many values as it says, or a Bind has more values, or a FunctionCall
+    /// more arguments, than a message can count.
     BadParams,
     /// The secret key of a session has fewer than 4 bytes, or more than 256: its length.
     BadKeyLength(usize),

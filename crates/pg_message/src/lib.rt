@@ -1,5 +1,5 @@
-//! The messages of the PostgreSQL wire protocol, version 3.0, in both directions: the one crate to
-//! depend on.
+//! The messages of the PostgreSQL wire protocol, version 3.0, with the keys and the negotiation of later
+//! minor versions, in both directions: the one crate to depend on.
 //!
 //! To send, make a message of [`message`] and append it to a buffer by its `encode_msg`, or many at
 //! once by [`message::encode_all`]. To receive, feed a [`message::FrameReader`] what the socket gives, take
@@ -8,8 +8,8 @@
 //! replication are in [`replication`].
 //!
 //! Except for the laws of both sides, everything stands in a crate below, where its contract is: `pg_base`,
-//! `pg_format`, `pg_send`, `pg_receive`, `pg_server` and `pg_frames`. The words of the contracts of `pg_base` are
-//! named from here as `Rattle.pg_message.specs.pg_base`, and so are those of the others.
+//! `pg_format`, `pg_send`, `pg_receive`, `pg_server`, `pg_replication` and `pg_frames`. The words of the contracts
+//! of `pg_base` are named from here as `Rattle.pg_message.specs.pg_base`, and so are those of the others.
 #![tactic(auto)]
 
 pub mod backend;

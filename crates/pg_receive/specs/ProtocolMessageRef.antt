@@ -25,7 +25,7 @@ pub record IsBorrowed (format : BackendMessageFormat) (body : List ℕ) (result 
   pub borrows : Borrows format body answer
   pub is : MatchResult answer (λ message. result ≡ Ok (messages.Other message)) (λ fault. result ≡ Err fault)
 
--- of the kinds that sqlx-postgres knows two say more here: a request of any method, and a key of any length
+-- of the kinds that sqlx-postgres knows two say more here: a request of any method, and a key of up to 256 bytes
 pub record ReadsKnown (format : BackendMessageFormat) (body : List ℕ) (result : Answer) : Type 0 where
   pub request : format ≡ formats.Authentication → Reads messages.Authentication any_requests any_borrowed body result
   pub key : format ≡ formats.BackendKeyData → Reads messages.BackendKeyData raw_key_data raw_key body result

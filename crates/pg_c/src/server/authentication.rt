@@ -61,7 +61,7 @@ impl<'a> AsItem<Mechanism<'a>> for PgmsgBytes<'a> {
 /// A request for authentication, by the number of its method and what follows it. 0 says that the client
 /// is who it says, and 3 asks for its password as it is: nothing follows. 5 asks for the MD5 digest of its
 /// password, with the salt of four bytes that follows. 7 and 9 begin an exchange of GSSAPI or SSPI, and 2 and
-/// 6 ask for Kerberos V5 and the credentials of a Unix socket, as servers before versions 9.3 and 9.1 do:
+/// 6 ask for Kerberos V5 and the credentials of a Unix socket, as servers before versions 9.4 and 9.1 do:
 /// nothing follows. 8 is the next of an exchange of GSSAPI or SSPI, 11 and 12 are the next and the last of a
 /// SASL exchange, whose data follows; 10 begins one, by `pgmsg_put_authentication_sasl`. Of other numbers, or
 /// with another count of bytes, it is refused with PGMSG_UNKNOWN_AUTHENTICATION.

@@ -15,7 +15,7 @@ pub fn own_messages_are_decoded()
 
 /// Of a message without a fault the readers of texts in any encoding read what it says: fields of a notice
 /// that a decoder would refuse, settings and columns whose names aren't UTF-8, the tag of a command, and a
-/// key of any length.
+/// key of 4 to 256 bytes.
 #[tactic(auto, using(crate::proofs::RawLemmas::read_raw))]
 pub fn own_messages_are_read_in_any_encoding()
     ensures { (m : Message) → fault m ≡ None → IsInRange m → IsReadRaw m }

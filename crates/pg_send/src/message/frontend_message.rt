@@ -33,8 +33,8 @@ pub trait FrontendMessage: Sized + Drop {
     fn body_len(&self) -> usize
         ensures { result ≡ saturated (length (law self.now).body) };
 
-    /// The first limit on counts that the message breaks: on parameter formats, result formats or
-    /// parameter types.
+    /// The first limit on counts that the message breaks: on parameter formats, result formats,
+    /// parameter types or values.
     fn count_fault(&self) -> Option<ProtocolFault>
         ensures { result ≡ (law self.now).count_fault };
 
@@ -72,7 +72,7 @@ pub trait FrontendMessage: Sized + Drop {
     }
 
     /// The exact length of the body in bytes, or the first limit that the message breaks: on
-    /// parameter formats, result formats, parameter types and then on the length.
+    /// a count, as [`FrontendMessage::count_fault`] gives it, and then on the length.
     final fn checked_body_len(&self) -> Result<usize, Error>
         ensures { result ≡ checked_len (fault (law self.now)) (length (law self.now).body) }
     {

@@ -9,8 +9,7 @@ use pg_base::io::Oid;
 use pg_base::io::part::{Number16, Number32, Then};
 use pg_base::{FrontendMessageFormat, ProtocolFault};
 
-/// Calls a function of the server. The answer is a FunctionCallResponse, which this layer doesn't
-/// read. Documentation: "Message Formats", FunctionCall (F).
+/// Calls a function of the server. The answer is a FunctionCallResponse. Documentation: "Message Formats", FunctionCall (F).
 #[derive(Drop)]
 pub struct FunctionCall<'a, V = Option<&'a [u8]>> {
     /// The function.

@@ -24,7 +24,7 @@ pub struct Startup<'a> {
     pub database: Option<&'a str>,
     /// Names and values of further settings. A NUL in one, or an empty name, is sent as it is;
     /// [`Startup::check_round_trip`] refuses it. A server that doesn't know a name that begins with
-    /// `_pq_.` answers with a message that this layer doesn't know.
+    /// `_pq_.` answers with a NegotiateProtocolVersion.
     pub params: &'a [(&'a str, &'a str)],
 }
 

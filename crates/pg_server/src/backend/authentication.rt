@@ -39,7 +39,7 @@ const SASL_FINAL: u32 = 12;
 pub enum AuthenticationText<'a> {
     /// The client is who it says.
     Ok,
-    /// Kerberos V5, as servers before version 9.3 ask.
+    /// Kerberos V5, as servers before version 9.4 ask.
     KerberosV5,
     /// Its password as it is.
     CleartextPassword,

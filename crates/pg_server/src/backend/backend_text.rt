@@ -25,13 +25,13 @@ pub trait BackendText: Sized + Drop {
     fn tag(&self) -> u8
         ensures { result ≡ tag (message self.now) };
 
-    /// The parts of the body. Their faults are those of the message: a list that is too long to be counted,
-    /// then a text that holds a NUL.
+    /// The parts of the body. The first fault among them, in their order, is that of the message: a list that is
+    /// too long to be counted, a text that holds a NUL, or a key of a length that no key has.
     fn parts(&self) -> Self::Body
         ensures { IsSame (Self.Body.part result) (part_of (law_of (message self.now))) };
 
-    /// The exact length of the whole message in bytes, or its first fault: of its counts, then of its
-    /// texts, then of its length.
+    /// The exact length of the whole message in bytes, or its first fault: of its parts, in their
+    /// order, then of its length.
     final fn checked_len(&self) -> Result<usize, ProtocolFault>
         ensures { result ≡ text_len (message self.now) }
     {

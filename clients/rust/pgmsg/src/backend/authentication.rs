@@ -29,7 +29,7 @@ const METHOD: usize = 4;
 pub enum Authentication<'a> {
     /// The client is accepted.
     Ok,
-    /// Kerberos V5 is wanted, by a server before version 9.3.
+    /// Kerberos V5 is wanted, by a server before version 9.4.
     KerberosV5,
     /// A password is wanted in clear.
     CleartextPassword,

@@ -28,7 +28,7 @@ const SSPI: u32 = 9;
 pub enum AnyAuthenticationRef<'a> {
     /// One of the methods of [`Authentication`](super::Authentication), or that the client is accepted.
     Known(AuthenticationRef<'a>),
-    /// Kerberos V5 is wanted, as of servers before version 9.3.
+    /// Kerberos V5 is wanted, as of servers before version 9.4.
     KerberosV5,
     /// The credentials of a Unix socket are wanted, as of servers before version 9.1.
     ScmCredential,
