@@ -698,7 +698,8 @@ int32_t pgmsg_read_command_complete(const uint8_t *body, size_t body_len, pgmsg_
 int32_t pgmsg_read_ready(const uint8_t *body, size_t body_len, pgmsg_fault *fault);
 
 /* How the data of a COPY is spelled, by the body of a CopyInResponse, a CopyOutResponse or a
- * CopyBothResponse: how many columns have a code. As many codes as there is room for are written. */
+ * CopyBothResponse: how many columns have a code. As many codes as there is room for are
+ * written. */
 ptrdiff_t pgmsg_read_copy_response(const uint8_t *body, size_t body_len,
     pgmsg_copy_response *response, int16_t *codes, size_t codes_len, pgmsg_fault *fault);
 
@@ -736,15 +737,15 @@ ptrdiff_t pgmsg_read_negotiate_version(const uint8_t *body, size_t body_len,
 /* The offset after the last part of a body, by the tag of its message: `body_len` where nothing
  * follows the parts that the documentation lists. A body is refused where a part can't be read or a
  * list has no end, and with PGMSG_UNKNOWN_MESSAGE_TYPE where the tag is none of the 21 that
- * sqlx-postgres knows: of a CopyBothResponse, a FunctionCallResponse and a NegotiateProtocolVersion
- * too. Texts are any bytes, and data of an exchange by GSSAPI, SSPI or SASL isn't looked at, nor
- * what follows the number of a method that no server has. */
+ * sqlx-postgres knows. Texts are any bytes, and data of an exchange by GSSAPI, SSPI or SASL isn't
+ * looked at, nor what follows the number of a method that no server has. */
 ptrdiff_t pgmsg_read_end(uint8_t tag, const uint8_t *body, size_t body_len, pgmsg_fault *fault);
 
 /* The first message of a connection at the front of a stream, or the one after an SSLRequest or a
- * GSSENCRequest: 1 where it is whole, 0 where more bytes are needed. It has no tag: where it is whole,
- * `tag` is 0, and `length` that of its length and its body. Refused where its length is below 8, or above `limit`,
- * which is PGMSG_MAX_FIRST_LENGTH for PostgreSQL's own servers: then, whatever comes next. */
+ * GSSENCRequest: 1 where it is whole, 0 where more bytes are needed. It has no tag: where it is
+ * whole, `tag` is 0, and `length` that of its length and its body. Refused where its length is
+ * below 8, or above `limit`, which is PGMSG_MAX_FIRST_LENGTH for PostgreSQL's own servers: then,
+ * whatever comes next. */
 int32_t pgmsg_next_first_frame(const uint8_t *stream, size_t stream_len, size_t limit,
     pgmsg_frame *frame, pgmsg_fault *fault);
 
@@ -933,10 +934,10 @@ ptrdiff_t pgmsg_read_logical(const uint8_t *content, size_t content_len, bool *s
 
 /* A message of logical replication, as the content of an XLogData, which `pgmsg_put_replication`
  * writes as a CopyData of the letter `w`. Refused with PGMSG_UNKNOWN_MESSAGE_TYPE where its letter
- * is of no kind, or that of an old row or of a value in its rows is; then for the first of its parts
- * that breaks a limit, with PGMSG_TOO_MANY where a row has more than 65535 values or a table more
- * columns, or with PGMSG_TEXT_HOLDS_NUL for a NUL in a `schema` or a `name`, also of a column; then
- * with PGMSG_MESSAGE_TOO_LONG where it is longer than 2147483643 bytes. */
+ * is of no kind, or that of an old row or of a value in its rows is; then for the first of its
+ * parts that breaks a limit, with PGMSG_TOO_MANY where a row has more than 65535 values or a table
+ * more columns, or with PGMSG_TEXT_HOLDS_NUL for a NUL in a `schema` or a `name`, also of a column;
+ * then with PGMSG_MESSAGE_TOO_LONG where it is longer than 2147483643 bytes. */
 ptrdiff_t pgmsg_put_logical(const pgmsg_logical_text *message, uint8_t *out, size_t out_len);
 
 /* What is at the front of a stream that is passed on: 1 for a whole message that is wanted whole,

@@ -30,7 +30,8 @@ pub const WRONG_FORMAT: i32 = -6;
 /// replication.
 pub const BODY_TOO_LONG: i32 = -7;
 
-/// No message that is known here, from a server or from a client, has this tag.
+/// No message that is known here, from a server or from a client, has this tag; or no message of
+/// replication, no row and no value in one has this letter.
 pub const UNKNOWN_MESSAGE_TYPE: i32 = -8;
 
 /// A method of authentication that isn't known here.
@@ -67,7 +68,7 @@ pub const BAD_LENGTH: i32 = -18;
 /// empty, or the letter of a field is 0.
 pub const TEXT_HOLDS_NUL: i32 = -19;
 
-/// The values of a Bind can't be counted.
+/// More values of a Bind, or arguments of a FunctionCall, than a message can count.
 pub const BAD_PARAMS: i32 = -20;
 
 /// A session's secret key has fewer than 4 or more than 256 bytes.

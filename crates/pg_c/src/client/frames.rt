@@ -19,8 +19,8 @@ const LENGTH: usize = 4;
 pub const MAX_FIRST_LENGTH: i32 = 10004;
 
 /// The first message of a connection at the front of a stream, or the one after an SSLRequest or a
-/// GSSENCRequest: 1 where it is whole, 0 where more bytes are needed. It has no tag: `tag` is 0, and
-/// `length` that of its length and its body. Refused where its length is below 8, or above `limit`,
+/// GSSENCRequest: 1 where it is whole, 0 where more bytes are needed. It has no tag: where it is whole,
+/// `tag` is 0, and `length` that of its length and its body. Refused where its length is below 8, or above `limit`,
 /// which is PGMSG_MAX_FIRST_LENGTH for PostgreSQL's own servers: then, whatever comes next.
 #[unsafe(no_mangle)]
 pub extern "C" fn pgmsg_next_first_frame(

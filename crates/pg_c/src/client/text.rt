@@ -45,7 +45,7 @@ pub extern "C" fn pgmsg_read_text(
 }
 
 /// Whether a message has no body, as those of `pgmsg_put_no_body` have none: 0, or PGMSG_TRAILING_BYTES
-/// where it has one.
+/// where it has one, or PGMSG_BODY_TOO_LONG where that has more than 2147483643 bytes.
 #[unsafe(no_mangle)]
 pub extern "C" fn pgmsg_read_no_body(alloc: Global, body: &[u8], fault: &mut PgmsgFault) -> i32
     ensures result { result ≤ℤ pos 0 }

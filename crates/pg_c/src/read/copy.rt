@@ -29,8 +29,8 @@ pub struct PgmsgCopyResponse {
     pub columns: i16,
 }
 
-/// How the data of a COPY is spelled, by the body of a CopyInResponse or CopyOutResponse: how many
-/// columns have a code. As many codes as there is room for are written.
+/// How the data of a COPY is spelled, by the body of a CopyInResponse, a CopyOutResponse or a
+/// CopyBothResponse: how many columns have a code. As many codes as there is room for are written.
 #[unsafe(no_mangle)]
 pub extern "C" fn pgmsg_read_copy_response(
     alloc: Global,

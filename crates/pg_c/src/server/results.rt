@@ -25,7 +25,7 @@ pub extern "C" fn pgmsg_put_command_complete(command: &[u8], out: &mut [u8]) -> 
 /// Where the data of a COPY goes: to the server by a CopyInResponse, whose tag is `G`, from it by a
 /// CopyOutResponse, `H`, and both ways by a CopyBothResponse, `W`; of other tags it is refused with
 /// PGMSG_UNKNOWN_MESSAGE_TYPE. `format` is that of the data as a whole, and `codes` are those of the
-/// columns: 0 is text and 1 binary.
+/// columns, at most 32767, else it is refused with PGMSG_TOO_MANY: 0 is text and 1 binary.
 #[unsafe(no_mangle)]
 pub extern "C" fn pgmsg_put_copy_response(
     tag: u8,

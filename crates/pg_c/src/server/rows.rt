@@ -53,7 +53,8 @@ impl<'a> AsItem<Option<&'a [u8]>> for PgmsgValue<'a> {
     }
 }
 
-/// The columns of a result. A name that holds a NUL is refused.
+/// The columns of a result, at most 65535, else it is refused with PGMSG_TOO_MANY. A name that holds a NUL is
+/// refused.
 #[unsafe(no_mangle)]
 pub extern "C" fn pgmsg_put_columns(columns: &[PgmsgColumnText<'_>], out: &mut [u8]) -> isize
     ensures { PutsServerMessage (row_description_of columns.now) out.old out.new result }
@@ -61,7 +62,8 @@ pub extern "C" fn pgmsg_put_columns(columns: &[PgmsgColumnText<'_>], out: &mut [
     put(&RowDescriptionText { columns }, out)
 }
 
-/// The values of a row, each in the format that was asked for, or NULL.
+/// The values of a row, each in the format that was asked for, or NULL: at most 65535, else it is refused with
+/// PGMSG_TOO_MANY.
 #[unsafe(no_mangle)]
 #[tactic(auto, using(crate::proofs::ServerListsLemmas::same_values))]
 pub extern "C" fn pgmsg_put_row(values: &[PgmsgValue<'_>], out: &mut [u8]) -> isize
@@ -70,7 +72,7 @@ pub extern "C" fn pgmsg_put_row(values: &[PgmsgValue<'_>], out: &mut [u8]) -> is
     put(&DataRowText { values }, out)
 }
 
-/// The types of the parameters of a statement.
+/// The types of the parameters of a statement: at most 65535, else it is refused with PGMSG_TOO_MANY.
 #[unsafe(no_mangle)]
 pub extern "C" fn pgmsg_put_parameter_types(types: &[u32], out: &mut [u8]) -> isize
     ensures { PutsServerMessage (messages.ParameterDescription types.now) out.old out.new result }

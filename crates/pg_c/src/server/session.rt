@@ -27,7 +27,8 @@ pub extern "C" fn pgmsg_put_negotiate_version(
 }
 
 /// The process that serves the client, and the secret key that a request to cancel its work has to name
-/// too: 4 bytes, or up to 256 of a server that speaks version 3.2 of the protocol.
+/// too: 4 bytes, or up to 256 of a server that speaks version 3.2 of the protocol. Of another length it is
+/// refused with PGMSG_BAD_KEY_LENGTH.
 #[unsafe(no_mangle)]
 pub extern "C" fn pgmsg_put_backend_key_data(
     process_id: u32,
@@ -53,7 +54,7 @@ pub extern "C" fn pgmsg_put_parameter_status(name: &[u8], value: &[u8], out: &mu
 }
 
 /// The server is ready for the next query. `status` is `I` where no transaction is open, `T` where one
-/// is, and `E` where one is and has failed.
+/// is, and `E` where one is and has failed; another letter is refused with PGMSG_UNKNOWN_STATUS.
 #[unsafe(no_mangle)]
 #[tactic(auto, using(crate::proofs::ServerLettersLemmas::ready_found, crate::proofs::ServerLettersLemmas::put_by_letter, crate::proofs::ServerLettersLemmas::refused_by_letter))]
 pub extern "C" fn pgmsg_put_ready(status: u8, out: &mut [u8]) -> isize
