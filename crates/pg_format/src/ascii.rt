@@ -5,8 +5,7 @@ ghost use Rattle.pg_format.specs.Ascii.{IsLow};
 
 use std::simd::prelude::*;
 
-/// Whether all bytes are ASCII. The standard library's test for UTF-8 takes four instructions for each of
-/// the few bytes that most texts have.
+/// Whether all bytes are ASCII.
 #[inline(always)]
 pub(crate) fn is_ascii(bytes: &[u8]) -> bool
     ensures { IsTrue result ↔ All IsLow bytes.now }

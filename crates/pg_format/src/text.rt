@@ -23,16 +23,28 @@ pub fn split_text(bytes: &[u8]) -> Option<(&[u8], &[u8])>
 }
 
 /// The bytes as text, where they are UTF-8.
+#[inline(always)]
 pub fn utf8_text(bytes: &[u8]) -> Option<&str>
     ensures text { IfSome result (λ text. (text.now ≡ bytes.now) × (is_utf8 bytes.now ≡ true)) }
     ensures none { IfNone result (is_utf8 bytes.now ≡ false) }
 {
-    if is_ascii(bytes) {
+    if is_utf8(bytes) {
         return Some(unsafe { str::from_utf8_unchecked(bytes) });
     }
+    None
+}
+
+// Whether bytes are UTF-8. Most texts are ASCII, and few bytes, of which the standard library's test takes one by one.
+#[inline(never)]
+fn is_utf8(bytes: &[u8]) -> bool
+    ensures { result ≡ is_utf8 bytes.now }
+{
+    if is_ascii(bytes) {
+        return true;
+    }
     match str::from_utf8(bytes) {
-        Ok(text) => Some(text),
-        Err(_) => None,
+        Ok(_) => true,
+        Err(_) => false,
     }
 }
 
