@@ -7,6 +7,10 @@
 
 enum { ROUNDS = 101 };
 
+/* A round is taken again where a fixed loop takes so much longer around it than at its fastest, for so many seconds. */
+#define SLOWER 1.1
+#define PATIENCE 5.0
+
 /* A call that is timed: so often, with a sum of what it gives, which keeps the work from being left out. */
 typedef uint64_t timed(const void *what, int times);
 
