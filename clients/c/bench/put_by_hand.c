@@ -44,35 +44,6 @@ static bool holds_nul(struct text text)
     return memchr(text.bytes, 0, text.len) != NULL;
 }
 
-/* The bytes that follow the first of a character in UTF-8, or -1 where none begins so. */
-static int bytes_after(uint8_t first)
-{
-    return first < 0x80 ? 0 : first < 0xc2 ? -1 : first < 0xe0 ? 1 : first < 0xf0 ? 2 : first < 0xf5 ? 3 : -1;
-}
-
-static bool is_utf8(struct text text)
-{
-    for (size_t i = 0; i < text.len;) {
-        uint64_t eight;
-        if (text.len - i >= 8 && (memcpy(&eight, text.bytes + i, 8), (eight & 0x8080808080808080) == 0)) {
-            i += 8;
-            continue;
-        }
-        const uint8_t *at = text.bytes + i;
-        int after = bytes_after(*at);
-        if (after < 0 || text.len - i <= (size_t)after)
-            return false;
-        for (int j = 1; j <= after; j++)
-            if ((at[j] & 0xc0) != 0x80)
-                return false;
-        if ((at[0] == 0xe0 && at[1] < 0xa0) || (at[0] == 0xed && at[1] > 0x9f) || (at[0] == 0xf0 && at[1] < 0x90)
-            || (at[0] == 0xf4 && at[1] > 0x8f))
-            return false;
-        i += 1 + (size_t)after;
-    }
-    return true;
-}
-
 ptrdiff_t hand_no_body(uint8_t tag, uint8_t *out, size_t out_len)
 {
     switch (tag) {
@@ -86,8 +57,6 @@ ptrdiff_t hand_no_body(uint8_t tag, uint8_t *out, size_t out_len)
 
 ptrdiff_t hand_query(struct text query, uint8_t *out, size_t out_len)
 {
-    if (!is_utf8(query))
-        return PGMSG_NOT_UTF8;
     size_t len = query.len + 1;
     if (len > MOST_BYTES - 4)
         return PGMSG_MESSAGE_TOO_LONG;
