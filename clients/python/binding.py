@@ -5,6 +5,7 @@ pkg-config finds the library: PKG_CONFIG_PATH names PREFIX/lib/pkgconfig of `cli
 
 import os
 import pathlib
+import shlex
 import subprocess
 import tempfile
 
@@ -25,7 +26,7 @@ def preprocessed(header):
     with tempfile.TemporaryDirectory() as empty:
         for name in KNOWN:
             pathlib.Path(empty, name).touch()
-        words = [os.environ.get("CC", "cc"), "-E", "-P", "-nostdinc", f"-I{empty}", str(header)]
+        words = [*shlex.split(os.environ.get("CC", "cc")), "-E", "-P", "-nostdinc", f"-I{empty}", str(header)]
         return subprocess.run(words, check=True, stdout=subprocess.PIPE, text=True).stdout
 
 

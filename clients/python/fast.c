@@ -180,6 +180,15 @@ struct asked {
     size_t longest;
 };
 
+/* Refuses what comes after these rows: by the next call where there are some, so that they are given, and memory is there. */
+static int refuse_later(PyObject *rows, int32_t number, const pgmsg_fault *fault)
+{
+    if (number != PGMSG_OUT_OF_MEMORY && PyList_Size(rows) > 0)
+        return 0;
+    refuse(number, number == PGMSG_OUT_OF_MEMORY ? NULL : fault);
+    return -1;
+}
+
 /* Reads a row and moves on behind it. 1, or 0 with how many bytes are needed, which are none where no row is at the
  * front, and more than a message may have where the row is too long; -1 after an error. */
 static int take_row(struct stream *stream, struct cells *cells, PyObject *view, const struct asked *asked, PyObject *rows,
@@ -191,20 +200,16 @@ static int take_row(struct stream *stream, struct cells *cells, PyObject *view, 
     if (stream->at < stream->len && stream->bytes[stream->at] != 'D')
         return 0;
     int32_t whole = cut(stream, OF_SERVER, 0, &frame, &fault);
-    if (whole < 0) {
-        refuse(whole, &fault);
-        return -1;
-    }
+    if (whole < 0)
+        return refuse_later(rows, whole, &fault);
     if (whole == 0 || frame.length > asked->longest) {
         *needed = frame.length;
         return 0;
     }
     Py_ssize_t offset = stream->at + (Py_ssize_t)frame.body.at;
     ptrdiff_t count = read_cells(cells, stream->bytes + offset, frame.body.len, &fault);
-    if (count < 0) {
-        refuse((int32_t)count, count == PGMSG_OUT_OF_MEMORY ? NULL : &fault);
-        return -1;
-    }
+    if (count < 0)
+        return refuse_later(rows, (int32_t)count, &fault);
     PyObject *row = row_of(view, stream->bytes + offset, offset, cells->items, count, asked->kind);
     if (row == NULL || PyList_Append(rows, row) < 0) {
         Py_XDECREF(row);
@@ -215,10 +220,11 @@ static int take_row(struct stream *stream, struct cells *cells, PyObject *view, 
     return 1;
 }
 
-/* Whether an error waits for the next call, so that the rows before it are given. */
+/* Whether a cell that isn't UTF-8 waits for the next call, so that the rows before it are given. No other exception may wait:
+ * it could be one of a signal. */
 static bool is_put_off(PyObject *rows)
 {
-    bool waits = PyList_Size(rows) > 0 && !PyErr_ExceptionMatches(PyExc_MemoryError);
+    bool waits = PyList_Size(rows) > 0 && PyErr_ExceptionMatches(PyExc_UnicodeDecodeError);
     if (waits)
         PyErr_Clear();
     return waits;

@@ -206,7 +206,7 @@ def executions(
     formats: Iterable[int] = (), result_formats: Iterable[int] = (), limit: int = 0,
 ) -> bytes:
     """The bytes of a Bind and an Execute for each of many values, written in one call. A Sync has to follow."""
-    return _fast.binds(many, statement, portal, array("H", formats), array("H", result_formats), limit)
+    return _fast.binds(many, statement, portal, array("H", numbers(16, formats)), array("H", numbers(16, result_formats)), limit)
 
 
 def read_values(call: Callable[..., int], body: bytes, it: Any) -> tuple[bytes | None, ...]:

@@ -135,13 +135,11 @@ class ClientStream(Stream[BackendMessage]):
 
     def runs(self, kind: Any = str) -> Iterator[BackendMessage | list[tuple[Any, ...]]]:
         """As iterating, but rows that come one after the other are a list, as `rows` gives them."""
-        while True:
-            if rows := self.rows(kind):
-                yield rows
-            elif (message := self._alone(self._next)) is not None:
-                yield message
-            else:
-                return
+        while (run := self._alone(self._run, KINDS[kind])) is not None:
+            yield run
+
+    def _run(self, kind: int) -> BackendMessage | list[tuple[Any, ...]] | None:
+        return self._rows(kind) or self._next()
 
 
 # What answers what a server asked for, where that isn't a password.
