@@ -32,15 +32,16 @@ enum status md5_of_password(const char *password, const char *user, const uint8_
     static const char digits[] = "0123456789abcdef";
     uint8_t inner[MD5_LENGTH];
     char text[2 * MD5_LENGTH];
-    if (!md5(password, strlen(password), user, strlen(user), inner))
-        return complain_of_libcrypto("MD5");
-    for (size_t i = 0; i < MD5_LENGTH; i++) {
+    bool is_made = md5(password, strlen(password), user, strlen(user), inner);
+    for (size_t i = 0; is_made && i < MD5_LENGTH; i++) {
         text[2 * i] = digits[inner[i] >> 4];
         text[2 * i + 1] = digits[inner[i] & 15];
     }
-    if (!md5(text, sizeof text, salt, 4, digest))
-        return complain_of_libcrypto("MD5");
-    return STATUS_OK;
+    is_made = is_made && md5(text, sizeof text, salt, 4, digest);
+    /* With the user's name the text is as good as the password. */
+    OPENSSL_cleanse(inner, sizeof inner);
+    OPENSSL_cleanse(text, sizeof text);
+    return is_made ? STATUS_OK : complain_of_libcrypto("MD5");
 }
 
 enum status make_nonce(char nonce[NONCE_ROOM])
@@ -67,25 +68,27 @@ static bool make_keys(const uint8_t salted[SHA_LENGTH], const uint8_t *said, siz
                       struct scram_keys *keys)
 {
     uint8_t client_key[SHA_LENGTH], stored_key[SHA_LENGTH], server_key[SHA_LENGTH];
-    if (!hmac_of_text(salted, "Client Key", client_key)
-        || EVP_Digest(client_key, SHA_LENGTH, stored_key, NULL, EVP_sha256(), NULL) != 1
-        || !hmac(stored_key, said, said_len, keys->proof) || !hmac_of_text(salted, "Server Key", server_key)
-        || !hmac(server_key, said, said_len, keys->signature))
-        return false;
-    for (size_t i = 0; i < SHA_LENGTH; i++)
+    bool are_made = hmac_of_text(salted, "Client Key", client_key)
+        && EVP_Digest(client_key, SHA_LENGTH, stored_key, NULL, EVP_sha256(), NULL) == 1
+        && hmac(stored_key, said, said_len, keys->proof) && hmac_of_text(salted, "Server Key", server_key)
+        && hmac(server_key, said, said_len, keys->signature);
+    for (size_t i = 0; are_made && i < SHA_LENGTH; i++)
         keys->proof[i] ^= client_key[i];
-    return true;
+    OPENSSL_cleanse(client_key, sizeof client_key);
+    OPENSSL_cleanse(stored_key, sizeof stored_key);
+    OPENSSL_cleanse(server_key, sizeof server_key);
+    return are_made;
 }
 
 enum status scram_keys_of(const char *password, const struct salting *salting, const uint8_t *said,
                           size_t said_len, struct scram_keys *keys)
 {
     uint8_t salted[SHA_LENGTH];
-    if (PKCS5_PBKDF2_HMAC(password, (int)strlen(password), salting->salt, (int)salting->salt_len,
-                          (int)salting->iterations, EVP_sha256(), SHA_LENGTH, salted) != 1
-        || !make_keys(salted, said, said_len, keys))
-        return complain_of_libcrypto("SHA-256");
-    return STATUS_OK;
+    bool are_made = PKCS5_PBKDF2_HMAC(password, (int)strlen(password), salting->salt, (int)salting->salt_len,
+                                      (int)salting->iterations, EVP_sha256(), SHA_LENGTH, salted) == 1
+        && make_keys(salted, said, said_len, keys);
+    OPENSSL_cleanse(salted, sizeof salted);
+    return are_made ? STATUS_OK : complain_of_libcrypto("SHA-256");
 }
 
 void base64_of(const uint8_t bytes[SHA_LENGTH], char text[SHA_BASE64_ROOM])

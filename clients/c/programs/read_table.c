@@ -54,7 +54,7 @@ int main(int argc, char **argv)
     PUT(&connection, pgmsg_put_query((const uint8_t *)query, (size_t)len, SPARE(&connection)));
     if ((status = connection_flush(&connection)) == STATUS_OK)
         status = print_rows(&connection);
-    if (status == STATUS_OK && fflush(stdout) == EOF)
+    if (status == STATUS_OK && (fflush(stdout) == EOF || ferror(stdout)))
         status = complain(STATUS_LOCAL, "standard output can't be written");
     connection_terminate(&connection);
     connection_close(&connection);
