@@ -126,7 +126,7 @@ record_of() {
     reap "$recording"
     same "recording: $1" "$? $(cat "$work/lines")" "0 $3"
     reap "$faking"
-    cmp "$work/said" "$work/passed" > "$work/difference"
+    cmp "$work/said" "$work/passed" > "$work/difference" 2>&1
     same "recording: $1, passed unchanged" "$(cat "$work/difference")$(cat "$work/heard")" 'any client'
     if [ -n "${PG_TOOL:-}" ]; then
         same "recording: $1, as pg_tool stream" "$(cat "$work/lines")" "$("$PG_TOOL" stream < "$work/said")"

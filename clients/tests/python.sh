@@ -66,7 +66,7 @@ prepare_package() {
 # The unit tests on the package in a folder.
 test_python_units() {
     try run_python "$2" -m unittest discover -s python/tests "${@:3}"
-    expect "python, $1: $(grep -o 'Ran [0-9]* tests' <<< "$errors")" 0 OK
+    expect "python, $1: $(grep -o 'Ran [1-9][0-9]* tests' <<< "$errors")" 0 OK
 }
 
 # A copy of what is installed whose library can have its memory refused.
@@ -187,7 +187,7 @@ test_python_tapes() {
     fi
     PATH=$bin:$PATH PG_RECORD=$PWD/$programs/pg_record PG_REPLAY=$PWD/$programs/pg_replay \
         try run_python "$work/package" -m unittest discover -s tests -p python_tapes.py
-    expect "python, tests on recordings: $(grep -o 'Ran [0-9]* tests' <<< "$errors")" 0 OK
+    expect "python, tests on recordings: $(grep -o 'Ran [1-9][0-9]* tests' <<< "$errors")" 0 OK
     if ! "$builder" -c 'import pytest, psycopg2' 2> /dev/null; then
         echo "left out: the example by the fixture, which needs pytest and psycopg2 of $builder (apt-get install python3-pytest python3-psycopg2)"
         return

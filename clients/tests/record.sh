@@ -126,7 +126,7 @@ test_bytes_through() {
     try through "$programs/pg_copy" by_copy "$work/some_rows"
     same 'rows to the server pass unchanged' "$status $output" '0 COPY 100000'
     query_through 'COPY by_copy TO STDOUT' > "$work/rows_back"
-    cmp "$work/some_rows" "$work/rows_back" > "$work/difference"
+    cmp "$work/some_rows" "$work/rows_back" > "$work/difference" 2>&1
     same 'rows from the server pass unchanged' "$(cat "$work/difference")" ''
     same 'each of them is recorded' "$(grep -c '^CopyData ' "$work/lines")" 100000
     try env PGSSLMODE=require PGHOST=127.0.0.1 PGPORT="$record_port" "$bin/psql" -X -c 'SELECT 1'

@@ -74,7 +74,7 @@ test_taped_sessions() {
     stop_taping "$tape"
     read_back 'sessions' "$tape"
     same 'six sessions are recorded, each to its end' "$(count_records O) $(count_records C)" '6 6'
-    read_recording "$tape" 6 B | cmp - "$work/raw" > "$work/difference"
+    read_recording "$tape" 6 B | cmp - "$work/raw" > "$work/difference" 2>&1
     same 'what a client gets is what is recorded' "$(cat "$work/difference")" ''
     same 'what it says too' "$(read_recording "$tape" 6 F | head -c 41 | od -An -tx1)" "$(printf "$startup" | od -An -tx1)"
     same_lines 'sessions of psql' "$tape"

@@ -58,7 +58,7 @@ test_tape_redact() {
     same 'redact: lengths stay' "$(wc -c < "$redacted")" "$(wc -c < "$tape")"
     kinds='s/^.*"kind":"\([A-Za-z]*\)".*/\1/'
     sed "$kinds" "$work/secret.jsonl" > "$work/kinds"
-    same 'redact: so do the kinds of messages' "$(sed "$kinds" "$work/redacted.jsonl" | cmp - "$work/kinds")" ''
+    same 'redact: so do the kinds of messages' "$(sed "$kinds" "$work/redacted.jsonl" | cmp - "$work/kinds" 2>&1)" ''
     try "$programs/pg_tape" diff "$tape" "$redacted"
     expect 'redact: what differs is shown' 1
     same 'redact: as lines of both' "$(grep -c '^[-+] server DataRow' "$work/output" | sed 's/^[1-9][0-9]*$/some/')" some
@@ -139,7 +139,7 @@ test_tape_edits() {
     expect 'split: a recording a session' 0
     same 'split: their names' "$(ls "$work/parts" | tr '\n' ' ')" '000001.tape 000002.tape 000003.tape '
     try "$programs/pg_tape" merge "$work"/parts/*.tape -o "$work/merged.tape"
-    same 'merge: of the parts it is the whole' "$status $(cmp "$tape" "$work/merged.tape")" '0 '
+    same 'merge: of the parts it is the whole' "$status $(cmp "$tape" "$work/merged.tape" 2>&1)" '0 '
     try "$programs/pg_tape" drop "$tape" 2 -o "$work/two.tape"
     expect 'drop: a session' 0
     read_recording "$work/two.tape" > "$work/records"
@@ -166,7 +166,7 @@ test_tape_exports() {
     same 'export: a recording that is cut' "$status $(tail -n 1 "$work/script.jsonl" | grep -c '"kind":"Cut"')" '0 1'
     try "$programs/pg_tape" import tape/tape/kinds.jsonl -o "$work/kinds.tape"
     expect 'import: messages of all kinds' 0
-    same 'export: the same lines' "$("$programs/pg_tape" export "$work/kinds.tape" | cmp - tape/tape/kinds.jsonl)" ''
+    same 'export: the same lines' "$("$programs/pg_tape" export "$work/kinds.tape" | cmp - tape/tape/kinds.jsonl 2>&1)" ''
     cat "$work"/*.jsonl tape/tape/kinds.jsonl > "$work/lines"
     try python3 -B tests/recording_lines.py schema tape/tape/recording.schema.json "$work/lines"
     if [ "$status" = 3 ]; then
