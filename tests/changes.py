@@ -27,7 +27,7 @@ def differ(since, folder):
 def changed(since):
     """The changed lines of each file that changed, from 0, by its path from the top."""
     found, path = {}, None
-    for line in git("diff", "-U0", "--no-renames", since, "--", "crates").splitlines():
+    for line in git("diff", "-U0", "--no-renames", "--no-ext-diff", "--no-textconv", "--no-color", "--src-prefix=a/", "--dst-prefix=b/", since, "--", "crates").splitlines():
         if line.startswith(("--- a/", "+++ b/")):
             path = line[6:]
             found.setdefault(path, set())

@@ -87,7 +87,7 @@ class Trial:
         """Counts a verdict, and prints it; returns what is tried in place of a mutant that shows nothing."""
         # A function that reports name otherwise would never be judged.
         is_known = "has no function" not in why
-        shows_nothing = verdict not in (REFUSED, ACCEPTED) and (it.instead or verdict != UNCHECKED) and is_known
+        shows_nothing = verdict not in (REFUSED, ACCEPTED, NOT_APPLIED) and (it.instead or verdict != UNCHECKED) and is_known
         if isinstance(it, Mutant) and shows_nothing:
             print(f"shows nothing{'' if it.instead else ', and no other is left'}: {it}: {verdict}: {why}", flush=True)
             return [it.instead] if it.instead else []
