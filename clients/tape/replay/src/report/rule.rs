@@ -70,6 +70,10 @@ fn of_parameters(statement: &[u8], one: &ByName<'_>, other: &ByName<'_>) -> Opti
 fn of_texts(one: &[u8], other: &[u8]) -> Option<String> {
     let (one, other) = (std::str::from_utf8(one).ok()?, std::str::from_utf8(other).ok()?);
     let (front, back) = common(one, other);
+    // Where nothing is the same around the difference, the rule would fit other texts too.
+    if front + back == 0 {
+        return None;
+    }
     let (gone, come) = (&one[front..one.len() - back], &other[front..other.len() - back]);
     let before = near(&one[..front], true);
     let after = near(&one[one.len() - back..], false);
@@ -101,4 +105,15 @@ fn like(one: &str, other: &str) -> Option<&'static str> {
         Regex::new(&format!("^(?:{pattern})$")).map_or(false, |it| it.is_match(text.as_bytes()))
     };
     patterns.into_iter().find(|pattern| fits(one, pattern) && fits(other, pattern))
+}
+
+#[cfg(test)]
+mod tests {
+    use super::of_texts;
+
+    #[test]
+    fn a_rule_has_what_stands_around_the_difference() {
+        assert!(of_texts(b"select 'a1'", b"select 'a2'").is_some());
+        assert_eq!(of_texts(b"BEGIN", b"begin"), None);
+    }
 }
