@@ -28,6 +28,7 @@ same_faults (faults.WrongFormat f g) (faults.WrongFormat h i) e =
     cc
 same_faults (faults.BodyTooLong n) (faults.BodyTooLong m) e = search rules
 same_faults (faults.UnknownMessageType n) (faults.UnknownMessageType m) e = search rules
+same_faults (faults.UnknownLetter n) (faults.UnknownLetter m) e = search rules
 same_faults (faults.UnknownAuthentication n) (faults.UnknownAuthentication m) e = search rules
 same_faults (faults.UnknownStatus n) (faults.UnknownStatus m) e = search rules
 same_faults faults.UnknownSeverity faults.UnknownSeverity e = refl
@@ -43,4 +44,5 @@ same_faults faults.BadParams faults.BadParams e = refl
 same_faults (faults.BadKeyLength n) (faults.BadKeyLength m) e = search rules
 same_faults (faults.UnknownCode n) (faults.UnknownCode m) e = search rules
 same_faults (faults.ValueLength k l) (faults.ValueLength m n) e = search rules
+same_faults (faults.TrailingBytes n) (faults.TrailingBytes m) e = search rules
 same_faults a b e = absurd (never e)

@@ -16,6 +16,7 @@ fault_words (faults.MessageTooLong length) = codes "message size out of range fo
 fault_words (faults.WrongFormat expected got) = codes "Postgres protocol error: expected " ++ format_name expected ++ codes ", got " ++ format_name got
 fault_words (faults.BodyTooLong length) = codes "message body out of range for protocol: " ++ decimal length
 fault_words (faults.UnknownMessageType tag) = codes "unknown message type: " ++ decimal tag
+fault_words (faults.UnknownLetter letter) = codes "unknown letter: " ++ decimal letter
 fault_words (faults.UnknownAuthentication method) = codes "unknown authentication method: " ++ decimal method
 fault_words (faults.UnknownStatus status) = codes "unknown transaction status: " ++ decimal status
 fault_words faults.UnknownSeverity = codes "unknown severity"
@@ -31,6 +32,7 @@ fault_words faults.BadParams = codes "params are not num_params values"
 fault_words (faults.BadKeyLength length) = codes "secret key length out of range for protocol: " ++ decimal length
 fault_words (faults.UnknownCode code) = codes "unknown code: " ++ decimal code
 fault_words (faults.ValueLength at length) = codes "bad value length at offset " ++ (decimal at ++ (codes ": " ++ signed_decimal length))
+fault_words (faults.TrailingBytes at) = codes "expected the end of the message at offset " ++ decimal at
 
 abbrev pub error_words : Error → List ℕ
 error_words (Protocol None fault) = fault_words fault

@@ -30,12 +30,13 @@ pub enum ProtocolFault {
         /// The kind that it is.
         got: BackendMessageFormat,
     },
-    /// A received body is longer than a length field can say: its length. Or bytes follow its last part where none
-    /// may, as in a message of replication: the offset where they begin.
+    /// A received body is longer than a length field can say: its length.
     BodyTooLong(usize),
-    /// No message that this layer knows has this tag; or no message of replication, no row or no value in one has
-    /// this letter.
+    /// No message that this layer knows has this tag, or no message of replication has this letter.
     UnknownMessageType(u8),
+    /// No part of a message has this letter where one is chosen by its letter: a row or a value of logical
+    /// replication, or what a Describe or a Close names.
+    UnknownLetter(u8),
     /// A method of authentication that this layer doesn't speak.
     UnknownAuthentication(u32),
     /// No transaction status has this letter.
@@ -82,6 +83,10 @@ pub enum ProtocolFault {
         /// The length.
         length: i32,
     },
+    /// Bytes follow the last part of a message that ends with it, from this offset on.
+    TrailingBytes {
+        at: usize,
+    },
 }
 
 impl fmt::Display for ProtocolFault {
@@ -114,6 +119,7 @@ impl fmt::Display for ProtocolFault {
                 write!(f, "message body out of range for protocol: {length}")
             }
             ProtocolFault::UnknownMessageType(tag) => write!(f, "unknown message type: {tag}"),
+            ProtocolFault::UnknownLetter(letter) => write!(f, "unknown letter: {letter}"),
             ProtocolFault::UnknownAuthentication(method) => {
                 write!(f, "unknown authentication method: {method}")
             }
@@ -141,6 +147,9 @@ impl fmt::Display for ProtocolFault {
             ProtocolFault::UnknownCode(code) => write!(f, "unknown code: {code}"),
             ProtocolFault::ValueLength { at, length } => {
                 write!(f, "bad value length at offset {at}: {length}")
+            }
+            ProtocolFault::TrailingBytes { at } => {
+                write!(f, "expected the end of the message at offset {at}")
             }
         }
     }

@@ -5,7 +5,7 @@ use Rattle.std.proofs.lemmas.List.{drop_more}
 use Rattle.pg_base.proofs.ReadingLemmas.{number_fits, signed_fits}
 use Rattle.pg_base.specs.Reading.{Number}
 use Rattle.pg_base.specs.declared.error.ProtocolFault.{ProtocolFault}
-use Rattle.pg_base.specs.declared.error.ProtocolFault.TheVariants.{UnknownMessageType}
+use Rattle.pg_base.specs.declared.error.ProtocolFault.TheVariants.{UnknownLetter}
 use Rattle.pg_format.proofs.FormatLaws.Lists.{lawful_times}
 use Rattle.pg_format.proofs.FormatLaws.Places.{items_then_fault}
 use Rattle.pg_format.proofs.FormatLaws.Logical.{lawful_datum, lawful_table_column}
@@ -49,7 +49,7 @@ sized_takes : (bytes value rest : List ℕ) → sized.Reads bytes value rest →
 sized_takes bytes value rest p = omega (arith, number_fits 4 bytes p.0.0 p.1.mid p.1.first, ap length p.1.second.1, length-append p.0.1 rest)
 
 datum_takes : (first second third fourth : Bool) (byte : ℕ) (bytes rest : List ℕ) (d : Datum)
-    → (choose first (success null) (choose second (success unchanged) (choose third (case_of text text_of sized) (choose fourth (case_of binary binary_of sized) (fail (UnknownMessageType byte)))))).Reads bytes d rest
+    → (choose first (success null) (choose second (success unchanged) (choose third (case_of text text_of sized) (choose fourth (case_of binary binary_of sized) (fail (UnknownLetter byte)))))).Reads bytes d rest
     → length rest ≤ length bytes
 datum_takes true second third fourth byte bytes rest d p = omega (arith, ap length p.1)
 datum_takes false true third fourth byte bytes rest d p = omega (arith, ap length p.1)
@@ -96,7 +96,7 @@ column_name body at end c p =
     text_stands body p.reads.mid c.name name.mid (at + 1) (after_byte body p.reads.mid at c.flags p.reads.first) name.first
 
 text_by : (first second third fourth : Bool) (byte : ℕ) (bytes rest t : List ℕ)
-    → (choose first (success null) (choose second (success unchanged) (choose third (case_of text text_of sized) (choose fourth (case_of binary binary_of sized) (fail (UnknownMessageType byte)))))).Reads bytes (text t) rest
+    → (choose first (success null) (choose second (success unchanged) (choose third (case_of text text_of sized) (choose fourth (case_of binary binary_of sized) (fail (UnknownLetter byte)))))).Reads bytes (text t) rest
     → sized.Reads bytes t rest
 text_by true second third fourth byte bytes rest t p = absurd (cc p.0)
 text_by false true third fourth byte bytes rest t p = absurd (cc p.0)
@@ -105,7 +105,7 @@ text_by false false false true byte bytes rest t p = absurd (cc p.2)
 text_by false false false false byte bytes rest t p = absurd p
 
 binary_by : (first second third fourth : Bool) (byte : ℕ) (bytes rest t : List ℕ)
-    → (choose first (success null) (choose second (success unchanged) (choose third (case_of text text_of sized) (choose fourth (case_of binary binary_of sized) (fail (UnknownMessageType byte)))))).Reads bytes (binary t) rest
+    → (choose first (success null) (choose second (success unchanged) (choose third (case_of text text_of sized) (choose fourth (case_of binary binary_of sized) (fail (UnknownLetter byte)))))).Reads bytes (binary t) rest
     → sized.Reads bytes t rest
 binary_by true second third fourth byte bytes rest t p = absurd (cc p.0)
 binary_by false true third fourth byte bytes rest t p = absurd (cc p.0)

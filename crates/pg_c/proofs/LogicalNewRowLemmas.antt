@@ -6,7 +6,7 @@ use Rattle.pg_base.proofs.NumbersLemmas.{number_4, number_at, wide_enough}
 use Rattle.pg_base.specs.Numbers.{num}
 use Rattle.pg_base.specs.Reading.{BeginsWith, Number}
 use Rattle.pg_base.specs.declared.error.ProtocolFault.{ProtocolFault}
-use Rattle.pg_base.specs.declared.error.ProtocolFault.TheVariants.{BodyTooLong}
+use Rattle.pg_base.specs.declared.error.ProtocolFault.TheVariants.{TrailingBytes}
 use Rattle.pg_format.proofs.FormatLaws.Lists.{lawful_times}
 use Rattle.pg_format.proofs.FormatLaws.Logical.{lawful_datum, total_datum}
 use Rattle.pg_format.proofs.ListedLemmas.{listed_stand, short_after}
@@ -64,10 +64,10 @@ pub gives_alone : (streamed : Bool) (bytes : List ℕ) (list : PgmsgList) (relat
 gives_alone streamed bytes list relation e second = rw e (record { number = None; relation = relation; head = record { first = (refl, refl); second = second }; is = refl })
 
 -- bytes that follow the last value
-pub trails_at : (bytes : List ℕ) (at : ℕ) → at < length bytes → Trails (length bytes) (drop at bytes) (BodyTooLong at)
+pub trails_at : (bytes : List ℕ) (at : ℕ) → at < length bytes → Trails (length bytes) (drop at bytes) (TrailingBytes at)
 trails_at bytes at lt =
     let place : at ≡ length bytes - length (drop at bytes) = omega (arith, lt, length-drop at bytes) in
-    record { some = omega (arith, lt, length-drop at bytes); is = ap BodyTooLong place }
+    record { some = omega (arith, lt, length-drop at bytes); is = ap TrailingBytes place }
 
 -- the numbers that stand in front
 pub record Head (streamed : Bool) (bytes : List ℕ) : Type 0 where

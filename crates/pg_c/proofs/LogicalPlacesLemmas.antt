@@ -3,7 +3,7 @@ use Rattle.std.specs.Prelude.{◌==◌}
 use Rattle.std.proofs.Common.{◌≡◌, ℕ, ◌+◌, ◌-◌, ◌≤◌, Bool, true, false, ℤ, List, [], ◌∷◌, ◌++◌, length, drop, Option, Some, refl, sym, ap, ◌∙◌, arith, append_assoc, length-append, length-drop}
 use Rattle.std.proofs.lemmas.List.{drop-drop, drop_at, drop_all, take_at}
 use Rattle.pg_base.specs.Reading.{Number, Signed, Text}
-use Rattle.pg_base.specs.declared.error.ProtocolFault.TheVariants.{UnknownMessageType}
+use Rattle.pg_base.specs.declared.error.ProtocolFault.TheVariants.{UnknownLetter}
 use Rattle.pg_format.specs.Format.{Format, Means}
 use Rattle.pg_format.specs.Format.Lists.{counted}
 use Rattle.pg_format.specs.Format.Parts.{be_u32, fail}
@@ -73,7 +73,7 @@ counted_stand g bytes mid rest at place end items e p q r =
 pub new_stands : (bytes mid : List ℕ) (at : ℕ) (values : List Datum) → Behind bytes at mid → new_tuple.Reads mid (tt, values) [] → ListStands datum bytes (row_place at values) values
 new_stands bytes mid at values p q = counted_stand datum bytes q.mid [] (at + 1) (at + 3) (length bytes) values (omega arith) (after_letter 78 bytes mid q.mid at p q.first) (at_end bytes) q.second
 
-row_by : (first second : Bool) (byte : ℕ) (mid rest : List ℕ) (o : page.Old) → (choose first (case_of key key_of tuple) (choose second (case_of whole whole_of tuple) (fail (UnknownMessageType byte)))).Reads mid o rest
+row_by : (first second : Bool) (byte : ℕ) (mid rest : List ℕ) (o : page.Old) → (choose first (case_of key key_of tuple) (choose second (case_of whole whole_of tuple) (fail (UnknownLetter byte)))).Reads mid o rest
     → tuple.Reads mid (old_values o) rest
 row_by true second byte mid rest o q = rw q.2 q.1
 row_by false true byte mid rest o q = rw q.2 q.1

@@ -29,6 +29,7 @@ fault_number (faults.MessageTooLong length) = too_long_number
 fault_number (faults.WrongFormat expected got) = negsuc 5
 fault_number (faults.BodyTooLong length) = negsuc 6
 fault_number (faults.UnknownMessageType tag) = negsuc 7
+fault_number (faults.UnknownLetter letter) = negsuc 29
 fault_number (faults.UnknownAuthentication method) = negsuc 8
 fault_number (faults.UnknownStatus status) = negsuc 9
 fault_number faults.UnknownSeverity = negsuc 10
@@ -44,6 +45,7 @@ fault_number faults.BadParams = negsuc 19
 fault_number (faults.BadKeyLength length) = negsuc 20
 fault_number (faults.UnknownCode code) = negsuc 21
 fault_number (faults.ValueLength at length) = negsuc 23
+fault_number (faults.TrailingBytes at) = negsuc 24
 
 abbrev pub refusal_number : Error → ℤ
 refusal_number (Protocol reading fault) = fault_number fault
@@ -54,6 +56,7 @@ abbrev pub place_in : ProtocolFault → ℕ
 place_in (faults.Short at needed got) = at
 place_in (faults.MissingNul at) = at
 place_in (faults.ValueLength at length) = at
+place_in (faults.TrailingBytes at) = at
 place_in fault = 0
 
 abbrev pub fault_place : Error → ℕ

@@ -1,8 +1,8 @@
 //! The messages as functions for C, and for languages that call C.
 //!
 //! Nothing is kept after a call and no memory changes hands: a message is written into the caller's
-//! bytes, and what is read is given as places in the bytes that were passed. `clients/header` makes
-//! the C header of the functions that are marked as exported, and `clients/exports.py` exports them.
+//! bytes, and what is read is given as places in the bytes that were passed. `packaging/header` makes
+//! the C header of the functions that are marked as exported, and `packaging/exports.py` exports them.
 #![tactic(auto)]
 
 pub mod client;

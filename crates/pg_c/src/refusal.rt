@@ -26,12 +26,11 @@ pub const MESSAGE_TOO_LONG: i32 = -5;
 /// A message was read as one of another kind. No call of this library returns it.
 pub const WRONG_FORMAT: i32 = -6;
 
-/// A received body is longer than a length field can say, or bytes follow the last part of a message of
-/// replication.
+/// A received body is longer than a length field can say.
 pub const BODY_TOO_LONG: i32 = -7;
 
-/// No message that is known here, from a server or from a client, has this tag; or no message of
-/// replication, no row and no value in one has this letter.
+/// No message that is known here, from a server or from a client, has this tag, or no message of
+/// replication has this letter.
 pub const UNKNOWN_MESSAGE_TYPE: i32 = -8;
 
 /// A method of authentication that isn't known here.
@@ -98,6 +97,9 @@ pub const NOT_FRAMES: i32 = -28;
 /// A message that is wanted whole is longer than the caller takes.
 pub const FRAME_TOO_LONG: i32 = -29;
 
+/// No row and no value of logical replication has this letter.
+pub const UNKNOWN_LETTER: i32 = -30;
+
 /// What is wrong with bytes that were read. `number` is what the call returned. `at` is an offset
 /// in them, where the fault has one, else 0. `words` are `words_len` bytes of ASCII, none where
 /// there was no memory for them.
@@ -133,6 +135,7 @@ pub fn number_of_fault(fault: ProtocolFault) -> i32
         ProtocolFault::WrongFormat { .. } => WRONG_FORMAT,
         ProtocolFault::BodyTooLong(_) => BODY_TOO_LONG,
         ProtocolFault::UnknownMessageType(_) => UNKNOWN_MESSAGE_TYPE,
+        ProtocolFault::UnknownLetter(_) => UNKNOWN_LETTER,
         ProtocolFault::UnknownAuthentication(_) => UNKNOWN_AUTHENTICATION,
         ProtocolFault::UnknownStatus(_) => UNKNOWN_STATUS,
         ProtocolFault::UnknownSeverity => UNKNOWN_SEVERITY,
@@ -148,6 +151,7 @@ pub fn number_of_fault(fault: ProtocolFault) -> i32
         ProtocolFault::BadKeyLength(_) => BAD_KEY_LENGTH,
         ProtocolFault::UnknownCode(_) => UNKNOWN_CODE,
         ProtocolFault::ValueLength { .. } => BAD_VALUE_LENGTH,
+        ProtocolFault::TrailingBytes { .. } => TRAILING_BYTES,
     }
 }
 
@@ -159,7 +163,8 @@ fn place_of(error: Error) -> usize
         Error::Protocol {
             fault: ProtocolFault::Short { at, .. }
             | ProtocolFault::MissingNul { at }
-            | ProtocolFault::ValueLength { at, .. },
+            | ProtocolFault::ValueLength { at, .. }
+            | ProtocolFault::TrailingBytes { at },
             ..
         } => at,
         _ => 0,

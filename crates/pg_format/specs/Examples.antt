@@ -2,7 +2,7 @@
 -- value that they mean, or beside the fault that they have.
 use Rattle.std.specs.Prelude.{◌≡◌, ℕ, pos, negsuc, true, false, List, [], ◌∷◌, ◌++◌, codes, replicate, Option, Some, None}
 use Rattle.pg_base.specs.declared.error.ProtocolFault.{ProtocolFault}
-use Rattle.pg_base.specs.declared.error.ProtocolFault.TheVariants.{BadKeyLength, BodyTooLong, MissingNul, UnknownMessageType, UnknownSeverity, ValueLength}
+use Rattle.pg_base.specs.declared.error.ProtocolFault.TheVariants.{BadKeyLength, TrailingBytes, MissingNul, UnknownLetter, UnknownSeverity, ValueLength}
 use Rattle.pg_base.specs.declared.format.BackendMessageFormat.{BackendMessageFormat}
 use Rattle.pg_base.specs.declared.format.FrontendMessageFormat.{FrontendMessageFormat}
 use Rattle.pg_format.specs.Format.{Format, Means, IsFaultOf}
@@ -49,7 +49,7 @@ IgnoresABody g = Means g (7 ∷ []) tt
 
 -- a byte where no body is due is a fault, at that byte
 abbrev pub RefusesABody : Format (Unit {0}) → Type 0
-RefusesABody g = IsFaultOf g (7 ∷ []) (BodyTooLong 0)
+RefusesABody g = IsFaultOf g (7 ∷ []) (TrailingBytes 0)
 
 -- ---- requests for authentication: the number of the method, then what it needs
 
@@ -309,7 +309,7 @@ startup_of_ann = record {
 }
 
 abbrev pub startup_and_a_byte : FaultExample
-startup_and_a_byte = record { bytes = 0 ∷ 3 ∷ 0 ∷ 0 ∷ 0 ∷ 7 ∷ []; fault = BodyTooLong 5 }
+startup_and_a_byte = record { bytes = 0 ∷ 3 ∷ 0 ∷ 0 ∷ 0 ∷ 7 ∷ []; fault = TrailingBytes 5 }
 
 abbrev pub startup_without_a_value : FaultExample
 startup_without_a_value = record {
@@ -380,7 +380,7 @@ abbrev pub progress_of_258_bytes : Example ℕ
 progress_of_258_bytes = record { bytes = 0 ∷ 0 ∷ 0 ∷ 0 ∷ 0 ∷ 0 ∷ 1 ∷ 2 ∷ []; value = 258 }
 
 abbrev pub progress_and_a_byte : FaultExample
-progress_and_a_byte = record { bytes = 0 ∷ 0 ∷ 0 ∷ 0 ∷ 0 ∷ 0 ∷ 1 ∷ 2 ∷ 7 ∷ []; fault = BodyTooLong 8 }
+progress_and_a_byte = record { bytes = 0 ∷ 0 ∷ 0 ∷ 0 ∷ 0 ∷ 0 ∷ 1 ∷ 2 ∷ 7 ∷ []; fault = TrailingBytes 8 }
 
 -- ---- logical replication: what follows the letter
 
@@ -503,4 +503,4 @@ rollback_of_g = record {
 
 -- the letter of the new row, where that of the old one is due
 abbrev pub delete_of_a_new_row : FaultExample
-delete_of_a_new_row = record { bytes = 0 ∷ 0 ∷ 64 ∷ 5 ∷ 78 ∷ 0 ∷ 0 ∷ []; fault = UnknownMessageType 78 }
+delete_of_a_new_row = record { bytes = 0 ∷ 0 ∷ 64 ∷ 5 ∷ 78 ∷ 0 ∷ 0 ∷ []; fault = UnknownLetter 78 }

@@ -3,7 +3,7 @@
 -- of what follows the letter. `streamed` says that it stands between a Stream Start and a Stream Stop. Positions (LSN)
 -- count the bytes of the log, clocks microseconds since the beginning of the year 2000.
 use Rattle.std.specs.Prelude.{◌≢◌, ℕ, ◌==◌, ℤ, Bool, true, false, List, length, Option, Some, None}
-use Rattle.pg_base.specs.declared.error.ProtocolFault.TheVariants.{UnknownMessageType}
+use Rattle.pg_base.specs.declared.error.ProtocolFault.TheVariants.{UnknownLetter}
 use Rattle.pg_format.specs.declared.logical.LogicalKind.{LogicalKind}
 use Rattle.pg_format.specs.declared.logical.LogicalKind.TheVariants as logical
 use Rattle.pg_format.specs.Format.{Format}
@@ -60,7 +60,7 @@ datum_by byte =
     (choose (byte == 117) (success unchanged)
     (choose (byte == 116) (case_of text text_of sized)
     (choose (byte == 98) (case_of binary binary_of sized)
-    (fail (UnknownMessageType byte)))))
+    (fail (UnknownLetter byte)))))
 
 abbrev pub with_datum_letter : Datum → ℕ × Datum
 with_datum_letter datum = (datum_letter datum, datum)
@@ -93,7 +93,7 @@ whole_of (key columns) = None
 whole_of (whole columns) = Some columns
 
 abbrev pub old_by : ℕ → Format Old
-old_by byte = choose (byte == 75) (case_of key key_of tuple) (choose (byte == 79) (case_of whole whole_of tuple) (fail (UnknownMessageType byte)))
+old_by byte = choose (byte == 75) (case_of key key_of tuple) (choose (byte == 79) (case_of whole whole_of tuple) (fail (UnknownLetter byte)))
 
 abbrev pub with_old_letter : Old → ℕ × Old
 with_old_letter old = (old_letter old, old)

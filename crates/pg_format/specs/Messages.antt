@@ -6,7 +6,7 @@ use Rattle.pg_base.specs.declared.format.BackendMessageFormat.TheVariants as bac
 use Rattle.pg_base.specs.declared.format.FrontendMessageFormat.{FrontendMessageFormat}
 use Rattle.pg_base.specs.declared.format.FrontendMessageFormat.TheVariants as frontend
 use Rattle.pg_base.specs.declared.error.ProtocolFault.{ProtocolFault}
-use Rattle.pg_base.specs.declared.error.ProtocolFault.TheVariants.{UnknownStatus, UnknownMessageType, UnknownAuthentication, BadKeyLength, UnknownCode}
+use Rattle.pg_base.specs.declared.error.ProtocolFault.TheVariants.{UnknownStatus, UnknownLetter, UnknownAuthentication, BadKeyLength, UnknownCode}
 use Rattle.pg_format.specs.Format.{Format}
 use Rattle.pg_format.specs.Format.Parts.{until_nul, be_u8, be_u16, be_u32, be_i8, be_i16, be_i32, bytes_of, remaining, one_of, success, fail}
 use Rattle.pg_format.specs.Format.Sequences.{dep_pair, ◌⨾◌, record_of, mapped, case_of, choose}
@@ -112,7 +112,7 @@ pub record Targeted : Type 0 where
   pub name : List ℕ
 
 abbrev pub targeted : Format Targeted
-targeted = exactly (record_of (λ t. (t.target, t.name)) (one_of target_of target_letter UnknownMessageType ⨾ until_nul))
+targeted = exactly (record_of (λ t. (t.target, t.name)) (one_of target_of target_letter UnknownLetter ⨾ until_nul))
 
 -- CommandComplete (B): the tag of the command, here with the NUL that ends it
 abbrev pub command_complete : Format (List ℕ)

@@ -2,7 +2,7 @@
 -- "Streaming Replication Protocol": (B) is sent by the server, (F) by the client. A message begins with a letter, which
 -- says its kind; a format here is of what follows the letter.
 use Rattle.std.specs.Prelude.{◌≢◌, ℕ, ◌==◌, ℤ, Bool, true, false, List, Option, Some, None, if◌then◌else◌}
-use Rattle.pg_base.specs.declared.error.ProtocolFault.TheVariants.{UnknownMessageType}
+use Rattle.pg_base.specs.declared.error.ProtocolFault.TheVariants.{UnknownLetter}
 use Rattle.pg_format.specs.declared.replication.ReplicationKind.{ReplicationKind}
 use Rattle.pg_format.specs.declared.replication.ReplicationKind.TheVariants as contents
 use Rattle.pg_format.specs.Format.{Format}
@@ -116,7 +116,7 @@ abbrev pub read_letter : ℕ → ℕ → Option (Unit {0})
 read_letter own byte = if byte == own then Some tt else None
 
 abbrev pub letter : ℕ → Format (Unit {0})
-letter own = one_of (read_letter own) (λ _. own) UnknownMessageType
+letter own = one_of (read_letter own) (λ _. own) UnknownLetter
 
 -- the whole of the data: a letter, and what it says
 abbrev pub replication : (kind : ReplicationKind) → Format (in_copy_data kind).Value

@@ -11,7 +11,7 @@ use pg_base::io::part::{Nothing, Number32, Number64, Part, Slice, Then};
 use pg_base::io::{Ended, MAX_BODY, Sink, bytes_at, i16_at, i32_at, i64_at, u8_at, u32_at, u64_at};
 
 /// The fields that a body of at most [`MAX_BODY`] bytes has from an offset on. Nothing may follow them, else the
-/// body is refused with `BodyTooLong` from there on.
+/// body is refused with `TrailingBytes` from there on.
 pub fn fields_from<'a, F: Item<'a>>(body: &'a [u8], at: usize) -> Result<F, ProtocolFault>
     requires within { at ≤ length body.now }
     requires short { length body.now ≤ MAX_BODY }
@@ -19,7 +19,7 @@ pub fn fields_from<'a, F: Item<'a>>(body: &'a [u8], at: usize) -> Result<F, Prot
 {
     let (fields, end) = F::item_at(body, at)?;
     if end < body.len() {
-        return Err(ProtocolFault::BodyTooLong(end));
+        return Err(ProtocolFault::TrailingBytes { at: end });
     }
     Ok(fields)
 }

@@ -3,7 +3,9 @@ pub mod FrontendPiecesLemmas
 pub mod FrontendReaderLemmas
 pub mod PiecesLemmas
 pub mod ProtocolFrameLemmas
+pub mod RawFrameLemmas
 pub mod RelayHeadLemmas
+pub mod RelayKeepsLemmas
 pub mod RelayLemmas
 pub mod RelayMessagesLemmas
 pub mod RelayOneWayLemmas

@@ -1,6 +1,5 @@
 -- The front of a stream of the whole protocol is one of three: a whole message, one that goes on, or a fault.
-use Rattle.std.proofs.Common.{◌≡◌, ◌+◌, ℕ, ℤ, pos, List, ◌++◌, length, inl, inr, sym, ap, ◌∙◌, arith}
-use Rattle.std.proofs.lemmas.Int.{ints}
+use Rattle.std.proofs.Common.{◌≡◌, ◌+◌, ℕ, pos, List, ◌++◌, length, inl, inr, sym, ap, ◌∙◌, arith}
 use Rattle.pg_base.specs.Format.{IsBackendTag}
 use Rattle.pg_base.specs.declared.error.ProtocolFault.{ProtocolFault}
 use Rattle.pg_base.specs.declared.error.ProtocolFault.TheVariants.{UnknownMessageType, BadLength}
@@ -8,39 +7,24 @@ use Rattle.pg_format.specs.Protocol.{IsProtocolTag}
 use Rattle.pg_format.specs.declared.protocol.ProtocolMessageKind.TheVariants as kinds
 use Rattle.pg_frames.specs.ProtocolFrame.{Whole, WantsMore, IsStreamFault}
 use Rattle.pg_frames.specs.Stream as known
-use Rattle.pg_frames.specs.Stream.{Announces}
-use Rattle.pg_frames.proofs.StreamLemmas.{one_announced, begins_announces, begins_fits, announces_fits, announces_stays}
-
-fault_announces : (bytes : List ℕ) (fault : ProtocolFault) → IsStreamFault bytes fault → (tag : ℕ) × ((announced : ℤ) × Announces bytes tag announced)
-fault_announces bytes fault (inl p) = (p.tag, (p.announced, p.announces))
-fault_announces bytes fault (inr p) = (p.tag, (p.announced, p.announces))
+use Rattle.pg_frames.proofs.RawFrameLemmas as raw
+use Rattle.pg_frames.proofs.StreamLemmas.{one_announced, begins_announces, announces_fits, announces_stays}
 
 pub whole_wants_none : (bytes : List ℕ) → Whole bytes → WantsMore bytes → ⊥
-whole_wants_none bytes p (inl short) = omega (arith, short, begins_fits bytes p.tag p.body p.rest p.begins)
-whole_wants_none bytes p (inr on) =
-    let one = one_announced bytes p.tag on.tag (pos (4 + length p.body)) (pos on.announced) (begins_announces bytes p.tag p.body p.rest p.begins) on.announces in
-    let counts : pos (4 + length p.body) ≡ pos on.announced = one.1 in
-    let same : 4 + length p.body ≡ on.announced = cc in
-    omega (arith, same, on.short, begins_fits bytes p.tag p.body p.rest p.begins)
+whole_wants_none bytes p wants = raw.whole_wants_none bytes (raw.known_whole bytes p) (raw.known_wants bytes wants)
 
 pub fault_not_whole : (bytes : List ℕ) (fault : ProtocolFault) → IsStreamFault bytes fault → Whole bytes → ⊥
 fault_not_whole bytes fault (inl f) p =
     let one = one_announced bytes p.tag f.tag (pos (4 + length p.body)) f.announced (begins_announces bytes p.tag p.body p.rest p.begins) f.announces in
     f.unknown (rw (← one.0) p.known)
-fault_not_whole bytes fault (inr f) p =
-    let one = one_announced bytes p.tag f.tag (pos (4 + length p.body)) f.announced (begins_announces bytes p.tag p.body p.rest p.begins) f.announces in
-    omega (arith, ints, one.1, f.low)
+fault_not_whole bytes fault (inr f) p = raw.low_not_whole bytes fault (raw.known_low bytes fault f) (raw.known_whole bytes p)
 
 pub fault_wants_none : (bytes : List ℕ) (fault : ProtocolFault) → IsStreamFault bytes fault → WantsMore bytes → ⊥
-fault_wants_none bytes fault f (inl short) =
-    let there = fault_announces bytes fault f in
-    omega (arith, short, announces_fits bytes there.0 there.1.0 there.1.1)
+fault_wants_none bytes fault (inl f) (inl short) = omega (arith, short, announces_fits bytes f.tag f.announced f.announces)
 fault_wants_none bytes fault (inl f) (inr on) =
     let one = one_announced bytes on.tag f.tag (pos on.announced) f.announced on.announces f.announces in
     f.unknown (rw (← one.0) on.known)
-fault_wants_none bytes fault (inr f) (inr on) =
-    let one = one_announced bytes on.tag f.tag (pos on.announced) f.announced on.announces f.announces in
-    omega (arith, ints, one.1, f.low, on.least)
+fault_wants_none bytes fault (inr f) wants = raw.low_wants_none bytes fault (raw.known_low bytes fault f) (raw.known_wants bytes wants)
 
 pub one_fault : (bytes : List ℕ) (f g : ProtocolFault) → IsStreamFault bytes f → IsStreamFault bytes g → f ≡ g
 one_fault bytes f g (inl p) (inl q) = p.is ∙ ap UnknownMessageType (one_announced bytes p.tag q.tag p.announced q.announced p.announces q.announces).0 ∙ sym q.is

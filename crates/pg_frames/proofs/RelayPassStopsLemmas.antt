@@ -5,7 +5,7 @@ use Rattle.std.proofs.lemmas.List.{append_cancel_right, take-append-drop}
 use Rattle.pg_frames.specs.Pieces.{joined}
 use Rattle.pg_frames.specs.declared.frontend.frame.Expects.{Expects}
 use Rattle.pg_frames.specs.Relay.Answer.{bytes_in}
-use Rattle.pg_frames.specs.Relay.Pass.{HasAdded, HasPassed, PassesOn}
+use Rattle.pg_frames.specs.Relay.Pass.{Conduct, Standing, HoldsWanted, Passed, HasAdded, HasPassed, PassesOn}
 use Rattle.pg_frames.specs.Relay.Pass.Stops.{StopsAtRelay, StopsAtEvent, Stops, StopsIn}
 use Rattle.pg_frames.specs.Relay.{Relaying, passed, Takes}
 use Rattle.pg_frames.specs.declared.relay.answer.Answer.{Answer}
@@ -63,20 +63,24 @@ added_front wanted Answers user relay piece old out by at rest e p = record {
 }
 
 -- what comes next doesn't pass
-pub stops_here : {U : Type 0} (wanted : U → ℕ → ℕ → Bool) (Answers : U → Option ℕ → List ℕ → Answer → List ℕ → U → Type 0) (Exhausts : U → Option ℕ → List ℕ → U → Type 0) (user : U) (relay : Relaying) (piece : List ℕ) (room : ℕ) (old out : List ℕ) (by : U) (at : Relaying) (rest : List ℕ) (later : U) (after : Relaying) (error : RelayError) → Ends rest piece → HasAdded old out (PassesOn wanted Answers user relay piece by (with_held at rest)) → (StopsAtRelay wanted by at rest later after error ⊎ StopsAtEvent wanted Answers Exhausts by at rest room out later after error) → Stops wanted Answers Exhausts user relay piece room old out later after error
-stops_here wanted Answers Exhausts user relay piece room old out by at rest later after error e p why = record {
+pub stops_here : {U : Type 0} (acts : Conduct U) (old : Standing U) (piece : List ℕ) (at : Standing U) (rest : List ℕ) (new : Standing U) (error : RelayError) (e : Ends rest piece) → 0 < length rest → HasAdded old.out.items at.out.items (PassesOn acts.wanted acts.answers old.user old.relay piece at.user (with_held at.relay rest)) → (length rest < length piece → HoldsWanted acts at) → new.out.items ≡ at.out.items → (StopsAtRelay acts at rest new error ⊎ StopsAtEvent acts at rest new error) → Stops acts old piece new error
+stops_here acts old piece at rest new error e some p held out why = record {
   front = e.0;
   rest = rest;
   parts = e.1;
-  by = by;
+  some = some;
   at = at;
-  passed = added_front wanted Answers user relay piece old out by at rest e p;
+  passed = record {
+    added = added_front acts.wanted acts.answers old.user old.relay piece old.out.items at.out.items at.user at.relay rest e p;
+    held = λ front. held (omega (arith, front, ap length e.1, length-append e.0 rest));
+  };
+  out = out;
   why = why;
 }
 
 -- in one of some pieces
-pub stops_in : {U : Type 0} (wanted : U → ℕ → ℕ → Bool) (Answers : U → Option ℕ → List ℕ → Answer → List ℕ → U → Type 0) (Exhausts : U → Option ℕ → List ℕ → U → Type 0) (user : U) (relay : Relaying) (pieces : List (Bor (List ℕ))) (i : ℕ) (d : Bor (List ℕ)) (room : ℕ) (old sent : List ℕ) (by : U) (at : Relaying) (new : List ℕ) (later : U) (after : Relaying) (error : RelayError) → i < length pieces → HasAdded old sent (PassesOn wanted Answers user relay (joined (take i pieces)) by at) → Stops wanted Answers Exhausts by at (get_or pieces i d).now room sent new later after error → StopsIn wanted Answers Exhausts user relay pieces room old new later after error
-stops_in wanted Answers Exhausts user relay pieces i d room old sent by at new later after error lt p s =
+pub stops_in : {U : Type 0} (acts : Conduct U) (old : Standing U) (pieces : List (Bor (List ℕ))) (i : ℕ) (d : Bor (List ℕ)) (at new : Standing U) (error : RelayError) → i < length pieces → Passed acts old (joined (take i pieces)) at → Stops acts at (get_or pieces i d).now new error → StopsIn acts old pieces new error
+stops_in acts old pieces i d at new error lt p s =
     let piece = get_or pieces i d in
     let are : pieces ≡ take i pieces ++ piece ∷ drop (suc i) pieces = sym (take-append-drop i pieces) ∙ ap (λ (l : List (Bor (List ℕ))). take i pieces ++ l) (drop-cons pieces i d lt) in
-    record { before = take i pieces; piece = piece; following = drop (suc i) pieces; are = are; by = by; at = at; sent = sent; passed = p; stops = s }
+    record { before = take i pieces; piece = piece; following = drop (suc i) pieces; are = are; at = at; passed = p; stops = s }

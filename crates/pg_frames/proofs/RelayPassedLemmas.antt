@@ -141,7 +141,7 @@ pub added_none : {U : Type 0} (wanted : U → ℕ → ℕ → Bool) (Answers : U
 added_none wanted Answers user relay out = record { added = []; adds = sym (append-nil out); are = λ start first before sent p. rw (append-nil before, append-nil sent) p }
 
 -- some bytes have passed, and then more
-added_more : {U : Type 0} (wanted : U → ℕ → ℕ → Bool) (Answers : U → Option ℕ → List ℕ → Answer → List ℕ → U → Type 0) (user : U) (relay : Relaying) (bytes old out : List ℕ) (by : U) (at : Relaying) (more new : List ℕ) (later : U) (after : Relaying) → HasAdded old out (PassesOn wanted Answers user relay bytes by at) → HasAdded out new (PassesOn wanted Answers by at more later after) → HasAdded old new (PassesOn wanted Answers user relay (bytes ++ more) later after)
+pub added_more : {U : Type 0} (wanted : U → ℕ → ℕ → Bool) (Answers : U → Option ℕ → List ℕ → Answer → List ℕ → U → Type 0) (user : U) (relay : Relaying) (bytes old out : List ℕ) (by : U) (at : Relaying) (more new : List ℕ) (later : U) (after : Relaying) → HasAdded old out (PassesOn wanted Answers user relay bytes by at) → HasAdded out new (PassesOn wanted Answers by at more later after) → HasAdded old new (PassesOn wanted Answers user relay (bytes ++ more) later after)
 added_more wanted Answers user relay bytes old out by at more new later after p q = record {
   added = p.added ++ q.added;
   adds = q.adds ∙ ap (λ (l : List ℕ). l ++ q.added) p.adds ∙ append_assoc old p.added q.added;
@@ -152,10 +152,8 @@ added_more wanted Answers user relay bytes old out by at more new later after p 
 }
 
 -- one more piece
-pub added_piece : {U : Type 0} (wanted : U → ℕ → ℕ → Bool) (Answers : U → Option ℕ → List ℕ → Answer → List ℕ → U → Type 0) (user : U) (relay : Relaying) (pieces : List (Bor (List ℕ))) (i : ℕ) (d : Bor (List ℕ)) (old out : List ℕ) (by : U) (at : Relaying) (new : List ℕ) (later : U) (after : Relaying) → i < length pieces → HasAdded old out (PassesOn wanted Answers user relay (joined (take i pieces)) by at) → HasAdded out new (PassesOn wanted Answers by at (get_or pieces i d).now later after) → HasAdded old new (PassesOn wanted Answers user relay (joined (take (i + 1) pieces)) later after)
-added_piece wanted Answers user relay pieces i d old out by at new later after lt p q =
+pub joined_piece : (pieces : List (Bor (List ℕ))) (i : ℕ) (d : Bor (List ℕ)) → i < length pieces → joined (take (i + 1) pieces) ≡ joined (take i pieces) ++ (get_or pieces i d).now
+joined_piece pieces i d lt =
     let piece = get_or pieces i d in
     let fronts : take (i + 1) pieces ≡ take i pieces ++ piece ∷ [] = rw add-one (take-suc pieces i d lt) in
-    let all : joined (take (i + 1) pieces) ≡ joined (take i pieces) ++ piece.now =
-    ap joined fronts ∙ joined-append (take i pieces) (piece ∷ []) ∙ ap (λ (l : List ℕ). joined (take i pieces) ++ l) (append-nil piece.now) in
-    rw all (added_more wanted Answers user relay (joined (take i pieces)) old out by at piece.now new later after p q)
+    ap joined fronts ∙ joined-append (take i pieces) (piece ∷ []) ∙ ap (λ (l : List ℕ). joined (take i pieces) ++ l) (append-nil piece.now)

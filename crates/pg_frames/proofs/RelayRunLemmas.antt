@@ -1,6 +1,7 @@
 -- Bytes are frames one after the other in one way.
 use Rattle.std.specs.Prelude.{◌==◌}
 use Rattle.std.proofs.Common.{◌≡◌, ◌<◌, ◌≤◌, ℕ, ℤ, Bool, true, false, List, [], ◌∷◌, ◌++◌, length, Option, refl, sym, ap, ◌∙◌, arith, length-append}
+use Rattle.std.proofs.lemmas.Bool.{eqb-true}
 use Rattle.pg_base.proofs.CuttingLemmas.{parts_at}
 use Rattle.pg_frames.specs.Frontend.Frame.{Follows}
 use Rattle.pg_frames.specs.declared.frontend.frame.Expects.{Expects}
@@ -57,6 +58,10 @@ run_less state rest frame after tag next last e f r = less state rest frame afte
 pub some_bytes : (bytes : List ℕ) (empty : Bool) → empty ≡ (length bytes == 0) → empty ≡ false → 0 < length bytes
 some_bytes [] empty e f = absurd (let clash : true ≡ false = sym e ∙ f in cc)
 some_bytes (b ∷ bs) empty e f = omega arith
+
+pub no_bytes : (bytes : List ℕ) (empty : Bool) → empty ≡ (length bytes == 0) → empty ≡ true → bytes ≡ []
+no_bytes [] empty e f = refl
+no_bytes (b ∷ bs) empty e f = absurd (omega (arith, eqb-true (length (b ∷ bs)) 0 (sym e ∙ f)))
 
 pub no_frames : (state : Expects) (rest : List ℕ) → rest ≡ [] → IsRun state rest state
 no_frames state rest e = record { frames = []; lead = refl; are = e }

@@ -2,6 +2,7 @@
 //! function is a law. Those of clones call the clone; the others do nothing.
 
 pub mod protocol;
+pub mod raw;
 
 ghost use Rattle.std.specs.Prelude.{◌≡◌, ◌++◌, Ok};
 ghost use Rattle.pg_frames.specs.Laws.{IsReadOneWay, ReadsAll, StreamsCompose, NeverBoth, FaultIsNeither, HasOneFault, FaultStays, ReadingsAgree};

@@ -24,7 +24,8 @@ use std::marker::Model;
 /// block that it fills. It uses a block again once no body shares it. What is left after the last
 /// whole message is copied at most once when more is fed. It keeps a block of up to 64 KiB. A larger
 /// one it gives back as soon as all is handed out and, since all was handed out before, it held 64 KiB
-/// at most. It looks at a message twice at most, when its length is there and when it is whole.
+/// at most. It keeps how long the message at the front is, so that it needn't look at it at each piece. No
+/// clause says how the reader uses memory and time; tests see when it asks for memory and gives it back.
 #[derive(Drop)]
 pub struct FrameReader {
     block: Block,

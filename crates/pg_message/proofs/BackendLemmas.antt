@@ -1,10 +1,12 @@
 -- A message that is written is decoded to what it says.
-use Rattle.std.proofs.Common.{◌≡◌, ℕ, ◌+◌, ◌≤◌, List, [], length, None, refl, sym, ap, ◌∙◌, arith}
+use Rattle.std.proofs.Common.{◌≡◌, ℕ, ◌+◌, ◌≤◌, List, [], ◌++◌, length, Option, None, refl, sym, ap, subst, ◌∙◌, arith, length-append}
+use Rattle.std.proofs.lemmas.Bool.{le-leb}
 use Rattle.std.proofs.lemmas.List.{append-nil}
 use Rattle.pg_base.specs.Cutting.{max_length}
 use Rattle.pg_base.specs.Format.{backend_tag}
 use Rattle.pg_base.specs.Numbers.{num}
 use Rattle.pg_base.specs.declared.error.Error.{Error}
+use Rattle.pg_format.specs.Field.{signed64}
 use Rattle.pg_format.specs.Format.{Means}
 use Rattle.pg_format.specs.Messages as page
 use Rattle.pg_format.specs.Notices.{Field}
@@ -35,9 +37,17 @@ use Rattle.pg_server.specs.declared.backend.no_body.NoBodyText.{NoBodyText}
 use Rattle.pg_server.specs.declared.backend.no_body.NoBodyText.TheVariants as bare
 use Rattle.pg_server.specs.declared.backend.notice.NoticeKind.{NoticeKind}
 use Rattle.pg_server.specs.declared.backend.notice.NoticeKind.TheVariants as kinds
-use Rattle.pg_base.proofs.TaggedLemmas.{len_fits}
+use Rattle.pg_base.specs.Part.{byte, number64}
+use Rattle.pg_base.specs.Tagged.{first_fault}
+use Rattle.pg_base.specs.declared.error.ProtocolFault.{ProtocolFault}
+use Rattle.pg_base.proofs.TaggedLemmas.{len_fits, no_part_fault}
+use Rattle.pg_replication.specs.Logical.{ReadsLogical}
+use Rattle.pg_replication.specs.Logical.LogicalText.{content, content_part}
+use Rattle.pg_replication.specs.Logical.XLogMessage.{piece_of}
+use Rattle.pg_replication.specs.declared.logical.xlog_message.XLogMessage.{XLogMessage}
+use Rattle.pg_replication.proofs.LogicalTextLemmas as logical
 use Rattle.pg_server.proofs.BackendMessageLemmas.{own_message, own_request}
-use Rattle.pg_message.specs.Backend.{IsDecoded, IsCopyDecoded, IsBareDecoded, IsNoticeDecoded, IsDecodedBack, IsAskedBack, noticed, numbered}
+use Rattle.pg_message.specs.Backend.{IsDecoded, IsCopyDecoded, IsBareDecoded, IsNoticeDecoded, IsDecodedBack, IsAskedBack, IsReadInPiece, noticed, numbered, streamed}
 
 small : (m : Message) → fault m ≡ None → 4 + length (body m) ≤ max_length
 small m e = len_fits (law_of m).part_fault (length (body m)) e
@@ -110,3 +120,34 @@ asked_back (message.Authentication request) e r h = λ read. (
   (λ is. (request, means (message.Authentication request) e r h, is)),
 )
 asked_back other e r h = tt
+
+-- ---- a message of logical replication
+
+-- what is as long as a body within the limits at most, and has no other fault, has none
+within : (own : Option ProtocolFault) (len : ℕ) → own ≡ None → 4 + len ≤ max_length → first_fault own len ≡ None
+within own len e fits = rw (e, le-leb (len + 4) max_length (omega (arith, fits))) refl
+
+-- the content of the piece is a part of the body
+inside : (it : XLogMessage) → length (content it.message) ≤ length (body (streamed it))
+inside it =
+    let start = (number64 it.start).text in
+    let end = (number64 it.end).text in
+    let clock = (signed64 it.clock).text in
+    let log = content it.message in
+    let all : body (streamed it) ≡ (byte 119).text ++ (start ++ (end ++ (clock ++ log))) = refl in
+    omega (
+      arith,
+      ap length all,
+      length-append (byte 119).text (start ++ (end ++ (clock ++ log))),
+      length-append start (end ++ (clock ++ log)),
+      length-append end (clock ++ log),
+      length-append clock log,
+    )
+
+pub read_in_piece : (it : XLogMessage) → fault (streamed it) ≡ None → IsInRange (streamed it) → (content_part it.message).IsInRange → IsReadInPiece it
+read_in_piece it e r range is_streamed piece answer numbered means reads =
+    let same : piece ≡ piece_of it = (own_message (streamed it) e r tt piece).0 means in
+    let own = (content_part it.message).fault in
+    let fits : 4 + length (content it.message) ≤ max_length = omega (arith, inside it, small (streamed it) e) in
+    let none = within own (length (content it.message)) (no_part_fault own (length (body (streamed it))) e) fits in
+    logical.own_message it.message none range is_streamed answer numbered (subst (λ p. ReadsLogical is_streamed p.content answer) same reads)

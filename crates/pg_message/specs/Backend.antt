@@ -1,5 +1,5 @@
 -- What is decoded of a message that was written.
-use Rattle.std.specs.Prelude.{◌≡◌, ◌↔◌, List, length, Result}
+use Rattle.std.specs.Prelude.{◌≡◌, ◌↔◌, Bool, List, length, Result}
 use Rattle.pg_base.specs.Format.{backend_tag}
 use Rattle.pg_base.specs.Numbers.{num}
 use Rattle.pg_base.specs.Text.{ended}
@@ -7,6 +7,8 @@ use Rattle.pg_base.specs.declared.error.Error.{Error}
 use Rattle.pg_format.specs.Format.{Format, Means}
 use Rattle.pg_format.specs.Messages as page
 use Rattle.pg_format.specs.Notices.{Field, read_part}
+use Rattle.pg_format.specs.Replication.{XLogData, replication}
+use Rattle.pg_format.specs.declared.replication.ReplicationKind.TheVariants as contents
 use Rattle.pg_receive.specs.Authentication.{value_of}
 use Rattle.pg_receive.specs.Authentication.Any.{any_value_of, any_requests}
 use Rattle.pg_receive.specs.BackendKeyData.{raw_key_data}
@@ -34,6 +36,10 @@ use Rattle.pg_receive.specs.Response.{NoticeValue, notice_of}
 use Rattle.pg_receive.specs.Response.Fields.{fields_in}
 use Rattle.pg_format.specs.declared.received.BackendMessage.{Ghosts}
 use Rattle.pg_format.specs.declared.received.ReceivedMessage.{ReceivedMessage}
+use Rattle.pg_replication.specs.Logical.{LogicalAnswer, ReadsLogical}
+use Rattle.pg_replication.specs.Logical.LogicalText.{IsNumbered, IsSaid}
+use Rattle.pg_replication.specs.contracts.logical.xlog_message.XLogMessageBackendText.TheImpl as xlog_message
+use Rattle.pg_replication.specs.declared.logical.xlog_message.XLogMessage.{XLogMessage}
 use Rattle.pg_server.specs.Backend.Copy.{response_of}
 use Rattle.pg_server.specs.Backend.Message as message
 use Rattle.pg_server.specs.Backend.Message.{Message, tag, body}
@@ -107,3 +113,15 @@ IsReadRaw (message.Notice kind fields) = fields_in (body (message.Notice kind fi
 IsReadRaw (message.ParameterStatus setting) = IsMeant raw_parameter_status setting (message.ParameterStatus setting)
 IsReadRaw (message.RowDescription columns) = IsMeant raw_row_description columns (message.RowDescription columns)
 IsReadRaw other = Unit {0}
+
+-- ---- a message of logical replication
+
+-- the message to a client that it is written as
+abbrev pub streamed : XLogMessage → Message
+streamed it = xlog_message.ghosts.message it
+
+-- whatever piece of the log its body means, the content of that piece is read as the message, and as no other
+abbrev pub IsReadInPiece : XLogMessage → Type 0
+IsReadInPiece it =
+    (is_streamed : Bool) (piece : XLogData) (answer : LogicalAnswer) → IsNumbered is_streamed it.message → Means (replication contents.XLogData) (body (streamed it)) piece
+    → ReadsLogical is_streamed piece.content answer → IsSaid it.message answer

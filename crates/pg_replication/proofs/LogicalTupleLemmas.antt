@@ -3,7 +3,7 @@ use Rattle.std.specs.Prelude.{◌≡◌, ◌≢◌, ℕ, ◌+◌, ◌≤◌, Lis
 use Rattle.std.proofs.Common.{refl, ap, ◌∙◌, arith, length-drop}
 use Rattle.std.proofs.lemmas.Bool.{eq-eqb, ne_eqb}
 use Rattle.pg_base.specs.declared.error.ProtocolFault.{ProtocolFault}
-use Rattle.pg_base.specs.declared.error.ProtocolFault.TheVariants.{UnknownMessageType}
+use Rattle.pg_base.specs.declared.error.ProtocolFault.TheVariants.{UnknownLetter}
 use Rattle.pg_base.specs.Numbers.{num}
 use Rattle.pg_base.specs.Reading.{BeginsWith, Number}
 use Rattle.pg_format.specs.Format.{Format}
@@ -37,7 +37,7 @@ letter_stands own byte body at same within p =
       reads = (byte, front, rw same (rw (eq-eqb own own refl) refl));
     }
 
-pub letter_breaks : (own byte : ℕ) (body : List ℕ) (at : ℕ) → byte ≢ own → Number 1 (drop at body) byte (drop (at + 1) body) → BreaksAt (letter own) body at (UnknownMessageType byte)
+pub letter_breaks : (own byte : ℕ) (body : List ℕ) (at : ℕ) → byte ≢ own → Number 1 (drop at body) byte (drop (at + 1) body) → BreaksAt (letter own) body at (UnknownLetter byte)
 letter_breaks own byte body at other p =
     let front = byte_first (drop at body) byte (drop (at + 1) body) p in
     rw front (rw (ne_eqb byte own other) refl, refl)

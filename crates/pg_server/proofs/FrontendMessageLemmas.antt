@@ -2,7 +2,7 @@
 use Rattle.std.proofs.Common.{◌≡◌, ℕ, ◌-◌, List, [], length, take, drop, refl, ap, subst, arith, length-drop}
 use Rattle.std.proofs.lemmas.List.{take_all, drop_all}
 use Rattle.pg_base.specs.declared.error.ProtocolFault.{ProtocolFault}
-use Rattle.pg_base.specs.declared.error.ProtocolFault.TheVariants.{BodyTooLong}
+use Rattle.pg_base.specs.declared.error.ProtocolFault.TheVariants.{TrailingBytes}
 use Rattle.pg_format.specs.Format.{Format}
 use Rattle.pg_format.specs.Format.Ends.{Trails, exactly}
 use Rattle.pg_format.specs.Format.Places.{IsReadAt}
@@ -34,4 +34,4 @@ pub trailing : (body : List ℕ) (at : ℕ) (fault : FrontendFault) → TrailsAt
     → (on_page : ProtocolFault) × IsOnPage fault on_page × Trails (length body) (drop at body) on_page
 trailing body at fault p =
     let place : at ≡ length body - length (drop at body) = omega (arith, p.some, length-drop at body) in
-    (BodyTooLong at, rw p.is refl, record { some = omega (arith, p.some, length-drop at body); is = ap BodyTooLong place })
+    (TrailingBytes at, rw p.is refl, record { some = omega (arith, p.some, length-drop at body); is = ap TrailingBytes place })

@@ -33,12 +33,12 @@ pub record ReadsKey (body : List ℕ) (read : PgmsgKeyData) : Type 0 where
   pub process_id : read.process_id ≡ key.process_id
   pub secret_key : part body read.secret_key ≡ Some key.secret_key
 
--- the body means the text of a tag, and this is it; the rows are those of the body
+-- the body means the text of a tag, and this is it, with its rows
 pub record ReadsCommand (body : List ℕ) (read : PgmsgCommand) : Type 0 where
   pub text : List ℕ
   pub means : Means tag_text body text
   pub place : part body read.tag ≡ Some text
-  pub rows : read.rows ≡ row_count body
+  pub rows : read.rows ≡ row_count text
 
 -- the letter of the status that the body means, as a number
 pub record IsStatusLetter (body : List ℕ) (result : ℤ) : Type 0 where

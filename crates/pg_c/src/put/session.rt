@@ -126,7 +126,7 @@ impl<'a> Composed for SaslResponse<'a> {
     ghost snug = { λ _. refl };
 
     fn letter(&self) -> u8 {
-        FrontendMessageFormat::PasswordPolymorphic as u8
+        <Self as Composed>::FORMAT as u8
     }
 
     #[inline(always)]

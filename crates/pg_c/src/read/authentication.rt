@@ -112,7 +112,8 @@ pub extern "C" fn pgmsg_read_mechanisms(body: &[u8], mechanisms: &mut [PgmsgSpan
 }
 
 /// The challenge of a SASL exchange, by the body of an Authentication of method 11. Salt and nonce are
-/// written where their rooms are long enough. 0, or why it is refused.
+/// written where their rooms are long enough. 0, or why it is refused: with PGMSG_NOT_UTF8 where an item
+/// isn't UTF-8, which RFC 5802 asks for.
 #[unsafe(no_mangle)]
 pub extern "C" fn pgmsg_read_challenge(
     alloc: Global,

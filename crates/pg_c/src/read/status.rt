@@ -201,7 +201,7 @@ pub extern "C" fn pgmsg_read_command_complete(
                     at: 0,
                     len: text.len(),
                 },
-                rows: rows_affected(body),
+                rows: rows_affected(text),
             };
             0
         }

@@ -11,7 +11,7 @@ use std::alloc::Global;
 
 /// One direction of a connection that is passed on. Set `limit` to the most bytes of a message that is taken
 /// whole, `left` to 0, and `is_first` where a client's first message comes next; `pgmsg_relay_next` moves the
-/// last two on.
+/// last two on, and leaves `limit` as it is.
 #[repr(C)]
 #[derive(Clone, Copy)]
 pub struct PgmsgRelay {

@@ -77,7 +77,7 @@ pub struct PgmsgReplication {
 
 /// What the data of a CopyData says in replication, of either side. Places are in `content`. 0, or why it is refused:
 /// of a letter of no kind with
-/// PGMSG_UNKNOWN_MESSAGE_TYPE, and where bytes follow the last part of a message with PGMSG_BODY_TOO_LONG.
+/// PGMSG_UNKNOWN_MESSAGE_TYPE, and where bytes follow the last part of a message with PGMSG_TRAILING_BYTES.
 #[unsafe(no_mangle)]
 pub extern "C" fn pgmsg_read_replication(
     alloc: Global,

@@ -2,7 +2,7 @@
 use Rattle.std.specs.Prelude.{◌≡◌, ℕ, List, [], ◌∷◌, length, ◌⊎◌}
 use Rattle.std.proofs.Common.{refl, sym, ap, ◌∙◌, arith, inl, inr}
 use Rattle.pg_base.specs.declared.error.ProtocolFault.{ProtocolFault}
-use Rattle.pg_base.specs.declared.error.ProtocolFault.TheVariants.{BodyTooLong}
+use Rattle.pg_base.specs.declared.error.ProtocolFault.TheVariants.{TrailingBytes}
 use Rattle.pg_format.specs.Format.{Format, Lawful, Canonical, Total, IsRead, IsBroken}
 use Rattle.pg_format.specs.Format.Parts.{offset}
 use Rattle.pg_format.specs.Format.Ends.{exactly, loosely}
@@ -14,7 +14,7 @@ module _ {A : Type 0} {g : Format A} (eg : Lawful g) where
   one_fault len bytes e f (inr p) (inl q) = absurd (eg.never_both len bytes p.mid p.value f p.reads q)
   one_fault len bytes e f (inr p) (inr q) =
       let same = eg.one_value bytes p.mid q.mid p.value q.value p.reads q.reads in
-      p.breaks.is ∙ ap (λ (l : List ℕ). BodyTooLong (offset len l)) same.1 ∙ sym q.breaks.is
+      p.breaks.is ∙ ap (λ (l : List ℕ). TrailingBytes (offset len l)) same.1 ∙ sym q.breaks.is
 
   never_both : (len : ℕ) (bytes rest : List ℕ) (a : A) (f : ProtocolFault) → (exactly g).Reads bytes a rest → (exactly g).Breaks len bytes f → ⊥
   never_both len bytes rest a f p (inl q) = eg.never_both len bytes [] a f p.0 q
@@ -48,7 +48,7 @@ module _ {A : Type 0} {g : Format A} (tg : Total g) where
   by_rest : (len : ℕ) (bytes rest : List ℕ) (a : A) → g.Reads bytes a rest → IsRead (exactly g) bytes ⊎ IsBroken (exactly g) len bytes
   by_rest len bytes [] a p = inl (a, [], (p, refl))
   by_rest len bytes (b ∷ bs) a p =
-      inr (BodyTooLong (offset len (b ∷ bs)), inr (record { value = a; mid = b ∷ bs; reads = p; breaks = record { some = omega arith; is = refl } }))
+      inr (TrailingBytes (offset len (b ∷ bs)), inr (record { value = a; mid = b ∷ bs; reads = p; breaks = record { some = omega arith; is = refl } }))
 
   by_value : (len : ℕ) (bytes : List ℕ) → IsRead g bytes ⊎ IsBroken g len bytes → IsRead (exactly g) bytes ⊎ IsBroken (exactly g) len bytes
   by_value len bytes (inl p) = by_rest len bytes p.1 p.0 p.2

@@ -3,7 +3,7 @@ use Rattle.std.specs.Prelude.{◌≡◌, ◌≢◌, ℕ, ◌-◌, ◌==◌, Bool
 use Rattle.std.proofs.Common.{refl, sym, ◌∙◌, inl, inr, arith}
 use Rattle.std.proofs.lemmas.Bool.{eqb-true}
 use Rattle.pg_base.specs.Reading.{BeginsWith, Text}
-use Rattle.pg_base.specs.declared.error.ProtocolFault.TheVariants.{UnknownMessageType, UnknownCode}
+use Rattle.pg_base.specs.declared.error.ProtocolFault.TheVariants.{UnknownLetter, UnknownCode}
 use Rattle.pg_base.specs.declared.format.FrontendMessageFormat.{FrontendMessageFormat}
 use Rattle.pg_base.specs.declared.format.FrontendMessageFormat.TheVariants as frontend
 use Rattle.pg_format.specs.Format.{Lawful, Canonical, Total, IsRead, IsBroken}
@@ -64,13 +64,13 @@ statement_or_other letter true e portal p = absurd (cc p)
 statement_or_other letter false e t p = portal_or_none letter (letter == 80) refl t p
 
 pub lawful_targeted : Lawful targeted
-lawful_targeted = lawful_exactly (lawful_record_of _ (λ a b e i. record { target = (e i).0; name = (e i).1 }) (lawful_one_of target_of target_letter UnknownMessageType target_again l⨾ lawful_until_nul))
+lawful_targeted = lawful_exactly (lawful_record_of _ (λ a b e i. record { target = (e i).0; name = (e i).1 }) (lawful_one_of target_of target_letter UnknownLetter target_again l⨾ lawful_until_nul))
 
 pub canonical_targeted : Canonical targeted
-canonical_targeted = canonical_exactly (canonical_record_of _ (canonical_one_of target_of target_letter UnknownMessageType (λ letter t p. statement_or_other letter (letter == 83) refl t p) c⨾ canonical_until_nul))
+canonical_targeted = canonical_exactly (canonical_record_of _ (canonical_one_of target_of target_letter UnknownLetter (λ letter t p. statement_or_other letter (letter == 83) refl t p) c⨾ canonical_until_nul))
 
 pub total_targeted : Total targeted
-total_targeted = total_exactly (total_record_of _ (λ a. record { target = a.0; name = a.1 }) (λ a. refl) (total_one_of target_of target_letter UnknownMessageType t⨾ total_until_nul))
+total_targeted = total_exactly (total_record_of _ (λ a. record { target = a.0; name = a.1 }) (λ a. refl) (total_one_of target_of target_letter UnknownLetter t⨾ total_until_nul))
 
 pub lawful_execute : Lawful execute
 lawful_execute = lawful_exactly (lawful_record_of _ (λ a b e i. record { portal = (e i).0; limit = (e i).1 }) (lawful_until_nul l⨾ lawful_unsigned 4 tt))

@@ -1,7 +1,7 @@
 -- The laws of the messages of logical replication: what follows the letter means one value, or has one fault.
 use Rattle.std.specs.Prelude.{ℕ, ◌==◌, Bool, true, false, Some, None}
 use Rattle.std.proofs.Common.{refl}
-use Rattle.pg_base.specs.declared.error.ProtocolFault.TheVariants.{UnknownMessageType}
+use Rattle.pg_base.specs.declared.error.ProtocolFault.TheVariants.{UnknownLetter}
 use Rattle.pg_format.specs.declared.logical.LogicalKind.{LogicalKind}
 use Rattle.pg_format.specs.declared.logical.LogicalKind.TheVariants as logical
 use Rattle.pg_format.specs.Format.{Lawful, Total}
@@ -41,7 +41,7 @@ lawful_datum_by byte =
     (lawful_choose (byte == 117) (lawful_success unchanged)
     (lawful_choose (byte == 116) (lawful_case_of text text_of lawful_sized)
     (lawful_choose (byte == 98) (lawful_case_of binary binary_of lawful_sized)
-    (lawful_fail_before 0 (λ _. UnknownMessageType byte)))))
+    (lawful_fail_before 0 (λ _. UnknownLetter byte)))))
 
 total_datum_by : (byte : ℕ) → Total (datum_by byte)
 total_datum_by byte =
@@ -49,7 +49,7 @@ total_datum_by byte =
     (total_choose (byte == 117) (total_success unchanged)
     (total_choose (byte == 116) (total_case_of text text_of total_sized)
     (total_choose (byte == 98) (total_case_of binary binary_of total_sized)
-    (total_fail_before 0 (λ _. UnknownMessageType byte)))))
+    (total_fail_before 0 (λ _. UnknownLetter byte)))))
 
 pub lawful_datum : Lawful datum
 lawful_datum = lawful_mapped (λ v. v.1) with_datum_letter (lawful_dep_pair datum_by u8 lawful_datum_by)
@@ -70,10 +70,10 @@ total_new_tuple : Total new_tuple
 total_new_tuple = total_letter 78 t⨾ total_tuple
 
 lawful_old_by : (byte : ℕ) → Lawful (old_by byte)
-lawful_old_by byte = lawful_choose (byte == 75) (lawful_case_of key key_of lawful_tuple) (lawful_choose (byte == 79) (lawful_case_of whole whole_of lawful_tuple) (lawful_fail_before 0 (λ _. UnknownMessageType byte)))
+lawful_old_by byte = lawful_choose (byte == 75) (lawful_case_of key key_of lawful_tuple) (lawful_choose (byte == 79) (lawful_case_of whole whole_of lawful_tuple) (lawful_fail_before 0 (λ _. UnknownLetter byte)))
 
 total_old_by : (byte : ℕ) → Total (old_by byte)
-total_old_by byte = total_choose (byte == 75) (total_case_of key key_of total_tuple) (total_choose (byte == 79) (total_case_of whole whole_of total_tuple) (total_fail_before 0 (λ _. UnknownMessageType byte)))
+total_old_by byte = total_choose (byte == 75) (total_case_of key key_of total_tuple) (total_choose (byte == 79) (total_case_of whole whole_of total_tuple) (total_fail_before 0 (λ _. UnknownLetter byte)))
 
 lawful_old_tuple : Lawful old_tuple
 lawful_old_tuple = lawful_mapped (λ v. v.1) with_old_letter (lawful_dep_pair old_by u8 lawful_old_by)

@@ -2,7 +2,7 @@
 use Rattle.std.specs.Prelude.{◌≡◌, ℕ, Some}
 use Rattle.std.proofs.Common.{refl}
 use Rattle.std.proofs.lemmas.Bool.{eq-eqb}
-use Rattle.pg_base.specs.declared.error.ProtocolFault.TheVariants.{UnknownMessageType}
+use Rattle.pg_base.specs.declared.error.ProtocolFault.TheVariants.{UnknownLetter}
 use Rattle.pg_format.specs.declared.replication.ReplicationKind.{ReplicationKind}
 use Rattle.pg_format.specs.declared.replication.ReplicationKind.TheVariants as contents
 use Rattle.pg_format.specs.Format.{Lawful, Total}
@@ -100,10 +100,10 @@ own_letter : (own : ℕ) → read_letter own own ≡ Some tt
 own_letter own = rw (eq-eqb own own refl) refl
 
 pub lawful_letter : (own : ℕ) → Lawful (letter own)
-lawful_letter own = lawful_one_of (read_letter own) (λ _. own) UnknownMessageType (λ _. own_letter own)
+lawful_letter own = lawful_one_of (read_letter own) (λ _. own) UnknownLetter (λ _. own_letter own)
 
 pub total_letter : (own : ℕ) → Total (letter own)
-total_letter own = total_one_of (read_letter own) (λ _. own) UnknownMessageType
+total_letter own = total_one_of (read_letter own) (λ _. own) UnknownLetter
 
 pub lawful_replication : (kind : ReplicationKind) → Lawful (replication kind)
 lawful_replication kind = lawful_record_of _ (λ a b e i. (e i).1) (lawful_letter (replication_letter kind) l⨾ lawful_in_copy_data kind)

@@ -1,7 +1,7 @@
 -- Where a body ends.
 use Rattle.std.specs.Prelude.{◌≡◌, ℕ, ◌<◌, List, [], length, ◌⊎◌}
 use Rattle.pg_base.specs.declared.error.ProtocolFault.{ProtocolFault}
-use Rattle.pg_base.specs.declared.error.ProtocolFault.TheVariants.{BodyTooLong}
+use Rattle.pg_base.specs.declared.error.ProtocolFault.TheVariants.{TrailingBytes}
 use Rattle.pg_format.specs.Format.{Format}
 use Rattle.pg_format.specs.Format.Parts.{offset}
 use Rattle.pg_format.specs.Format.Sequences.{BreaksAfter}
@@ -9,7 +9,7 @@ use Rattle.pg_format.specs.Format.Sequences.{BreaksAfter}
 -- bytes where there are to be none
 pub record Trails (len : ℕ) (bytes : List ℕ) (fault : ProtocolFault) : Type 0 where
   pub some : 0 < length bytes
-  pub is : fault ≡ BodyTooLong (offset len bytes)
+  pub is : fault ≡ TrailingBytes (offset len bytes)
 
 -- nothing follows, else it is a fault
 abbrev pub exactly : {A : Type 0} → Format A → Format A

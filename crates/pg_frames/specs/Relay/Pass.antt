@@ -1,11 +1,11 @@
 -- What a relay has passed on, and what its user answered.
 pub mod Stops
-use Rattle.std.specs.Prelude.{◌≡◌, ◌+◌, ◌<◌, ◌⊎◌, ℕ, Bool, false, List, [], ◌∷◌, ◌++◌, length, Option, Result, IfOk, Vec, vec_capacity}
+use Rattle.std.specs.Prelude.{◌≡◌, ◌+◌, ◌<◌, ◌≤◌, ◌⊎◌, ℕ, Bool, false, List, [], ◌∷◌, ◌++◌, length, Option, Result, IfOk, Vec, vec_capacity}
 use Rattle.std.specs.declared.alloc.Global.{Global}
 use Rattle.pg_frames.specs.declared.frontend.frame.Expects.{Expects}
 use Rattle.pg_frames.specs.Relay.Answer.{bytes_in, Lead, Fits, placed}
 use Rattle.pg_frames.specs.Relay.Head.{HasHead, IsFrame}
-use Rattle.pg_frames.specs.Relay.{Relaying, is_wanted, IsTaken, bytes_of}
+use Rattle.pg_frames.specs.Relay.{Relaying, is_wanted, IsTaken, WouldTake, bytes_of}
 use Rattle.pg_frames.specs.declared.relay.answer.Answer.{Answer}
 use Rattle.pg_frames.specs.declared.relay.answer.Answer.TheVariants.{Keep, Omit, Replace, AddBefore, AddAfter}
 use Rattle.pg_frames.specs.declared.relay.event.Event.{Event}
@@ -80,6 +80,41 @@ pub record HasAdded (old new : List ℕ) (Are : List ℕ → Type 0) : Type 0 wh
 abbrev pub PassesOn : {U : Type 0} → (U → ℕ → ℕ → Bool) → (U → Option ℕ → List ℕ → Answer → List ℕ → U → Type 0) → U → Relaying → List ℕ → U → Relaying → List ℕ → Type 0
 PassesOn {U = U} wanted Answers user relay bytes later new added =
     (start : Expects) (first : U) (before sent : List ℕ) → HasPassed wanted Answers start first before sent user relay → HasPassed wanted Answers start first (before ++ bytes) (sent ++ added) later new
+
+-- what a user of a relay does: the frames that it wants whole, what it may answer and may be then, and for which frames it
+-- may find no memory
+pub record Conduct (U : Type 0) : Type 1 where
+  pub wanted : U → ℕ → ℕ → Bool
+  pub answers : U → Option ℕ → List ℕ → Answer → List ℕ → U → Type 0
+  pub exhausts : U → Option ℕ → List ℕ → U → Type 0
+
+abbrev pub conduct_of : {U : Type 0} → (U → ℕ → ℕ → Bool) → (U → Option ℕ → List ℕ → Answer → List ℕ → U → Type 0) → (U → Option ℕ → List ℕ → U → Type 0) → Conduct U
+conduct_of wanted answers exhausts = record { wanted = wanted; answers = answers; exhausts = exhausts }
+
+-- how all stands that a call may change: the user, the relay, and the buffer for what goes out
+pub record Standing (U : Type 0) : Type 0 where
+  pub user : U
+  pub relay : Relaying
+  pub out : Vec ℕ Global
+
+abbrev pub standing_of : {U : Type 0} → U → Relaying → Vec ℕ Global → Standing U
+standing_of user relay out = record { user = user; relay = relay; out = out }
+
+-- the frame whose front is held is one that the user wants whole
+abbrev pub HoldsWanted : {U : Type 0} → Conduct U → Standing U → Type 0
+HoldsWanted acts at = WouldTake (acts.wanted at.user) at.relay.limit at.relay.expects at.relay.held
+
+-- what a call keeps, whether it is refused or not: the limit, the room of the buffer, and that what is held is wanted
+pub record Keeps {U : Type 0} (acts : Conduct U) (old new : Standing U) : Type 0 where
+  pub limit : new.relay.limit ≡ old.relay.limit
+  pub room : vec_capacity old.out ≤ vec_capacity new.out
+  pub held : HoldsWanted acts old → HoldsWanted acts new
+
+-- these bytes have passed: what goes out for them follows the old bytes of the buffer, and after any bytes what is held is
+-- wanted
+pub record Passed {U : Type 0} (acts : Conduct U) (old : Standing U) (bytes : List ℕ) (new : Standing U) : Type 0 where
+  pub added : HasAdded old.out.items new.out.items (PassesOn acts.wanted acts.answers old.user old.relay bytes new.user new.relay)
+  pub held : 0 < length bytes → HoldsWanted acts new
 
 -- what goes out for what came
 pub record PutsAnswer {U : Type 0} (Answers : U → Option ℕ → List ℕ → Answer → List ℕ → U → Type 0) (user : U) (state : Expects) (tag : Option ℕ) (frame : List ℕ) (next : Expects) (later : U) (old new : List ℕ) : Type 0 where

@@ -10,6 +10,13 @@ use Rattle.pg_frames.specs.declared.raw_frame.RawFrame.{RawFrame}
 abbrev pub RawLiesAtFront : List ℕ → RawFrame → Type 0
 RawLiesAtFront stream frame = Begins stream frame.tag frame.body.now frame.rest.now
 
+-- a whole message stands at the front
+pub record Whole (bytes : List ℕ) : Type 0 where
+  pub tag : ℕ
+  pub body : List ℕ
+  pub rest : List ℕ
+  pub begins : Begins bytes tag body rest
+
 -- the message goes on after the bytes that have come
 pub record GoesOn (bytes : List ℕ) : Type 0 where
   pub tag : ℕ

@@ -1,12 +1,12 @@
 //! A piece of a stream passed on, with its user's answers.
 
-ghost use Rattle.std.specs.Prelude.{◌≡◌, ◌++◌, ℕ, List, [], Option, OnOk, IfErr, OnErr, vec_capacity};
+ghost use Rattle.std.specs.Prelude.{◌≡◌, ◌≤◌, ◌++◌, ℕ, List, [], Option, OnOk, IfErr, OnErr, vec_capacity};
 ghost use Rattle.pg_frames.specs.declared.frontend.frame.Expects.{Expects};
 ghost use Rattle.pg_frames.specs.Pieces.{joined};
 ghost use Rattle.pg_frames.specs.declared.relay.answer.Answer.{Answer};
 ghost use Rattle.pg_frames.specs.declared.relay.answer.Answer.TheVariants.{Keep};
-ghost use Rattle.pg_frames.specs.Relay.Pass.{GivesAnswer, HasAdded, IsTooSmall, PassesOn, PutsAnswer, PutsOut};
-ghost use Rattle.pg_frames.specs.Relay.Pass.Stops.{AnswerStops, EventStops, Stops, StopsIn};
+ghost use Rattle.pg_frames.specs.Relay.Pass.{GivesAnswer, IsTooSmall, Keeps, Passed, PutsAnswer, PutsOut, conduct_of, standing_of};
+ghost use Rattle.pg_frames.specs.Relay.Pass.Stops.{AnswerStops, EventStops, Stops, StopsIn, asked_frame};
 
 use crate::frontend::Expects;
 use crate::relay::Relay;
@@ -58,6 +58,9 @@ impl Answers for All {
 /// may be written and cleared between two calls, and may hold bytes of the caller's own, such as a server's answer to
 /// a request for encryption. Where no frame is changed, what went out and what the relay holds is what came.
 ///
+/// The limit stays, and so does the room that `out` has. What the relay holds is the front of a frame that its user
+/// wants whole.
+///
 /// An error is that of [`Relay::next`] at what comes next, or of [`Answer::place`] at the user's answer, or it is
 /// `OutOfMemory`, where the answer found none or `out` has no room for what goes out next. `out` then holds the bytes
 /// that it held before, and after them what went out for all that came before. After an error the connection is at its
@@ -69,10 +72,14 @@ pub fn pass_piece<U: Answers>(
     piece: &[u8],
     out: &mut Vec<u8>,
 ) -> Result<(), RelayError>
-    ensures passed { OnOk result (HasAdded out.old.items out.new.items
-        (PassesOn U.wanted U.answers user.old relay.old piece.now user.new relay.new)) }
-    ensures stops { IfErr result (Stops U.wanted U.answers U.exhausts user.old relay.old piece.now
-        (vec_capacity out.new) out.old.items out.new.items user.new relay.new) }
+    ensures keeps { Keeps (conduct_of U.wanted U.answers U.exhausts)
+        (standing_of user.old relay.old out.old) (standing_of user.new relay.new out.new) }
+    ensures passed { OnOk result (Passed (conduct_of U.wanted U.answers U.exhausts)
+        (standing_of user.old relay.old out.old) piece.now
+        (standing_of user.new relay.new out.new)) }
+    ensures stops { IfErr result (Stops (conduct_of U.wanted U.answers U.exhausts)
+        (standing_of user.old relay.old out.old) piece.now
+        (standing_of user.new relay.new out.new)) }
 {
     let mut rest = piece;
     while !rest.is_empty() {
@@ -92,11 +99,14 @@ pub fn pass_pieces<U: Answers>(
     pieces: &[&[u8]],
     out: &mut Vec<u8>,
 ) -> Result<(), RelayError>
-    ensures passed { OnOk result (HasAdded out.old.items out.new.items
-        (PassesOn U.wanted U.answers user.old relay.old (joined pieces.now) user.new relay.new)) }
-    ensures stops { IfErr result (StopsIn U.wanted U.answers U.exhausts user.old relay.old
-        pieces.now
-        (vec_capacity out.new) out.old.items out.new.items user.new relay.new) }
+    ensures keeps { Keeps (conduct_of U.wanted U.answers U.exhausts)
+        (standing_of user.old relay.old out.old) (standing_of user.new relay.new out.new) }
+    ensures passed { OnOk result (Passed (conduct_of U.wanted U.answers U.exhausts)
+        (standing_of user.old relay.old out.old) (joined pieces.now)
+        (standing_of user.new relay.new out.new)) }
+    ensures stops { IfErr result (StopsIn (conduct_of U.wanted U.answers U.exhausts)
+        (standing_of user.old relay.old out.old) pieces.now
+        (standing_of user.new relay.new out.new)) }
 {
     for piece in pieces {
         pass_piece(alloc, relay, user, piece, out)?;
@@ -116,9 +126,10 @@ fn put_out<U: Answers>(
 ) -> Result<(), RelayError>
     ensures puts { OnOk result
         (PutsOut U.answers user.old expects event.entry next user.new out.old.items out.new.items) }
-    ensures stops { IfErr result (EventStops U.answers U.exhausts user.old expects event.entry next
-        user.new (vec_capacity out.new) out.old.items out.new.items) }
+    ensures stops { IfErr result (EventStops (conduct_of U.wanted U.answers U.exhausts) user.old
+        expects event.entry next user.new out.old.items out.new) }
     ensures same { OnErr result (out.new.items ≡ out.old.items) }
+    ensures capacity { vec_capacity out.old ≤ vec_capacity out.new }
 {
     match event {
         Event::Frame { tag, bytes } => {
@@ -144,10 +155,12 @@ fn put_answer<U: Answers>(
     out: &mut Vec<u8>,
 ) -> Result<(), RelayError>
     ensures puts { OnOk result
-        (PutsAnswer U.answers user.old expects tag frame.now next user.new out.old.items out.new.items) }
-    ensures stops { IfErr result (AnswerStops U.answers U.exhausts user.old expects tag frame.now next
-        user.new (vec_capacity out.new) out.old.items out.new.items) }
+        (PutsAnswer U.answers user.old expects tag frame.now next user.new
+        out.old.items out.new.items) }
+    ensures stops { IfErr result (AnswerStops (conduct_of U.wanted U.answers U.exhausts) user.old
+        (asked_frame expects tag frame.now next) user.new out.old.items out.new) }
     ensures same { OnErr result (out.new.items ≡ out.old.items) }
+    ensures capacity { vec_capacity out.old ≤ vec_capacity out.new }
 {
     let mut added = Vec::new(alloc);
     let answer = user.answer(tag, frame, &mut added)?;
@@ -162,6 +175,7 @@ fn add_both(out: &mut Vec<u8>, first: &[u8], second: &[u8]) -> Result<(), AllocE
     ensures added { OnOk result (out.new.items ≡ out.old.items ++ (first.now ++ second.now)) }
     ensures same { OnErr result (out.new.items ≡ out.old.items) }
     ensures full { OnErr result (IsTooSmall out.new (out.old.items ++ (first.now ++ second.now))) }
+    ensures capacity { vec_capacity out.old ≤ vec_capacity out.new }
 {
     out.reserve(first.len() + second.len())?;
     out.put_slice(first);

@@ -2,7 +2,9 @@
 
 ghost use Rattle.std.specs.Prelude.{◌≡◌, None};
 ghost use Rattle.pg_server.specs.Backend.Message.{Message, fault, IsInRange, IsReadable};
-ghost use Rattle.pg_message.specs.Backend.{IsDecodedBack, IsAskedBack, IsReadRaw};
+ghost use Rattle.pg_replication.specs.Logical.LogicalText.{content_part};
+ghost use Rattle.pg_replication.specs.declared.logical.xlog_message.XLogMessage.{XLogMessage};
+ghost use Rattle.pg_message.specs.Backend.{IsDecodedBack, IsAskedBack, IsReadRaw, IsReadInPiece, streamed};
 
 /// A message without a fault, of a kind that has a type, is decoded as that type by its tag and body to
 /// what it says, or memory runs out. A request for authentication by any method is read as that request,
@@ -19,4 +21,11 @@ pub fn own_messages_are_decoded()
 #[tactic(auto, using(crate::proofs::RawLemmas::read_raw))]
 pub fn own_messages_are_read_in_any_encoding()
     ensures { (m : Message) → fault m ≡ None → IsInRange m → IsReadRaw m }
+{}
+
+/// A message of logical replication that is written as a whole CopyData, without a fault and with numbers in
+/// the ranges of their types, is read as itself, and as no other: its CopyData means a piece of the log, whose
+/// content is read.
+pub fn own_log_messages_are_read()
+    ensures { (it : XLogMessage) → fault (streamed it) ≡ None → IsInRange (streamed it) → (content_part it.message).IsInRange → IsReadInPiece it }
 {}

@@ -7,12 +7,12 @@ use pg_base::ProtocolFault;
 
 /// Whether a message has no body, as the documentation says of BindComplete, CloseComplete, CopyDone,
 /// EmptyQueryResponse, NoData, ParseComplete and PortalSuspended, whose bodies are else ignored.
-/// Refused with `BodyTooLong` from offset 0 on where it has one.
+/// Refused with `TrailingBytes` from offset 0 on where it has one.
 pub fn check_no_body(body: &[u8]) -> Result<(), ProtocolFault>
     ensures { ReadsAs empty (λ _. tt) body.now result }
 {
     if !body.is_empty() {
-        return Err(ProtocolFault::BodyTooLong(0));
+        return Err(ProtocolFault::TrailingBytes { at: 0 });
     }
     Ok(())
 }

@@ -2,7 +2,7 @@
 use Rattle.std.specs.Prelude.{◌≡◌, ℕ, ◌==◌, ◌||◌, Bool, List, [], ◌∷◌, Option, Some, None, Result, Ok, Err, if◌then◌else◌}
 use Rattle.std.specs.Option.{option_or}
 use Rattle.pg_base.specs.declared.error.ProtocolFault.{ProtocolFault}
-use Rattle.pg_base.specs.declared.error.ProtocolFault.TheVariants.{UnknownMessageType}
+use Rattle.pg_base.specs.declared.error.ProtocolFault.TheVariants.{UnknownLetter}
 use Rattle.pg_format.specs.Logical as page
 use Rattle.pg_format.proofs.FormatLaws.Logical.{total_datum}
 use Rattle.pg_replication.specs.declared.logical.datum.Datum.{Datum}
@@ -23,7 +23,7 @@ abbrev pub is_kind : ℕ → Bool
 is_kind byte = byte == 110 || (byte == 117 || (byte == 116 || byte == 98))
 
 abbrev pub kind_fault : DatumText → Option ProtocolFault
-kind_fault it = if is_kind it.kind then None else Some (UnknownMessageType it.kind)
+kind_fault it = if is_kind it.kind then None else Some (UnknownLetter it.kind)
 
 -- that of the first that has one
 abbrev pub kinds_fault : List DatumText → Option ProtocolFault

@@ -59,13 +59,13 @@ impl<'a> DatumText<'a> {
         DatumText { kind, value }
     }
 
-    // `UnknownMessageType` for another kind.
+    // `UnknownLetter` for another kind.
     fn fault(&self) -> Option<ProtocolFault>
         ensures { result ≡ kind_fault self.now }
     {
         match self.kind {
             NULL | UNCHANGED | TEXT | BINARY => None,
-            other => Some(ProtocolFault::UnknownMessageType(other)),
+            other => Some(ProtocolFault::UnknownLetter(other)),
         }
     }
 
@@ -128,7 +128,7 @@ fn datum_by(letter: u8, body: &[u8], at: usize) -> Result<(Datum<'_>, usize), Pr
             let (SizedBytes(value), end) = SizedBytes::item_at(body, at)?;
             Ok((Datum::Binary(value), end))
         }
-        other => Err(ProtocolFault::UnknownMessageType(other)),
+        other => Err(ProtocolFault::UnknownLetter(other)),
     }
 }
 

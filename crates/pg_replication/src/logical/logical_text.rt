@@ -79,8 +79,8 @@ impl LogicalMessage<'_> {
         checked_len(self)
     }
 
-    /// Adds the message to the buffer, which grows at most once: its letter and its fields, which are the content of an
-    /// XLogData. The number of the transaction is there where the message has one.
+    /// Adds the message to the buffer: its letter and its fields, which are the content of an XLogData. The number of
+    /// the transaction is there where the message has one.
     ///
     /// Every refusal leaves the bytes of the buffer as they were: a fault, exactly where there is one and before memory
     /// is asked for, or `OutOfMemory`, only where the spare room doesn't hold the message.

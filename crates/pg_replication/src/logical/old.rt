@@ -56,7 +56,7 @@ fn old_by(letter: u8, body: &[u8], at: usize) -> Result<(Old<'_>, usize), Protoc
             let (tuple, end) = Tuple::item_at(body, at)?;
             Ok((Old::Whole(tuple), end))
         }
-        other => Err(ProtocolFault::UnknownMessageType(other)),
+        other => Err(ProtocolFault::UnknownLetter(other)),
     }
 }
 
@@ -103,7 +103,7 @@ impl<'a> Item<'a> for NewLetter {
         if letter == NEW {
             return Ok((NewLetter, at + 1));
         }
-        Err(ProtocolFault::UnknownMessageType(letter))
+        Err(ProtocolFault::UnknownLetter(letter))
     }
 }
 

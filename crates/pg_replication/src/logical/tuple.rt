@@ -32,7 +32,7 @@ pub struct Tuple<'a> {
 impl<'a> Tuple<'a> {
     ghost use Rattle.pg_replication.specs.Logical.Tuple.{datums, shown_datum, shown_text, kinds_fault, IsMade};
 
-    /// These values, to be written. One of another kind than the four is refused with `UnknownMessageType`.
+    /// These values, to be written. One of another kind than the four is refused with `UnknownLetter`.
     pub fn of(given: &'a [DatumText<'a>]) -> Result<Tuple<'a>, ProtocolFault>
         ensures { IsMade datums (kinds_fault given.now) (map shown_text given.now) result }
     {

@@ -58,7 +58,7 @@ impl<'a> Composed for Bind<'a> {
     ghost snug = { λ _. refl };
 
     fn letter(&self) -> u8 {
-        FrontendMessageFormat::Bind as u8
+        <Self as Composed>::FORMAT as u8
     }
 
     // Refused with `BadParams` where `params` is not `num_params` values.

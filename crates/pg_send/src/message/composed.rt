@@ -24,7 +24,8 @@ pub trait Composed: Sized + Drop {
     /// The room that is reserved is that of the body.
     ghost snug: { (message : Self) → hint (law message) ≡ saturated (length (law message).body) };
 
-    /// The tag, as a byte.
+    /// The tag, as a byte. A type without parameters of types and constants gives it as the number of its `FORMAT`,
+    /// which the clause then ties to the law; of another type the value of a constant isn't known here.
     fn letter(&self) -> u8
         ensures { result ≡ tag (law self.now) };
 

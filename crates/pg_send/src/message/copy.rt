@@ -115,7 +115,7 @@ impl<'a> Composed for CopyFailRef<'a> {
     ghost snug = { λ _. refl };
 
     fn letter(&self) -> u8 {
-        FrontendMessageFormat::CopyFail as u8
+        <Self as Composed>::FORMAT as u8
     }
 
     // Refused with `TextHoldsNul` where it holds a NUL.
@@ -142,7 +142,7 @@ impl Composed for CopyDone {
     ghost snug = { λ _. refl };
 
     fn letter(&self) -> u8 {
-        FrontendMessageFormat::CopyDone as u8
+        <Self as Composed>::FORMAT as u8
     }
 
     #[inline(always)]

@@ -29,7 +29,7 @@ impl Composed for Execute {
     ghost snug = { λ _. refl };
 
     fn letter(&self) -> u8 {
-        FrontendMessageFormat::Execute as u8
+        <Self as Composed>::FORMAT as u8
     }
 
     #[inline(always)]

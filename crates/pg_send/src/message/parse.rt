@@ -36,7 +36,7 @@ impl<'a> Composed for Parse<'a> {
     ghost snug = { λ _. refl };
 
     fn letter(&self) -> u8 {
-        FrontendMessageFormat::Parse as u8
+        <Self as Composed>::FORMAT as u8
     }
 
     // Refused with `TextHoldsNul` where its query holds a NUL.

@@ -24,7 +24,7 @@ impl<'a> Composed for Query<'a> {
     ghost snug = { λ _. refl };
 
     fn letter(&self) -> u8 {
-        FrontendMessageFormat::Query as u8
+        <Self as Composed>::FORMAT as u8
     }
 
     // Refused with `TextHoldsNul` where it holds a NUL.

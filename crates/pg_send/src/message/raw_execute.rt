@@ -31,7 +31,7 @@ impl<'a> Composed for RawExecute<'a> {
     ghost snug = { λ _. refl };
 
     fn letter(&self) -> u8 {
-        FrontendMessageFormat::Execute as u8
+        <Self as Composed>::FORMAT as u8
     }
 
     // Refused with `TextHoldsNul` where its name holds a NUL.

@@ -31,7 +31,7 @@ impl<'a> Composed for SaslInitial<'a> {
     ghost snug = { λ _. refl };
 
     fn letter(&self) -> u8 {
-        FrontendMessageFormat::PasswordPolymorphic as u8
+        <Self as Composed>::FORMAT as u8
     }
 
     // Refused with `TextHoldsNul` where the name holds a NUL.

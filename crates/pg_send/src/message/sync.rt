@@ -24,7 +24,7 @@ impl Composed for Sync {
     ghost snug = { λ _. refl };
 
     fn letter(&self) -> u8 {
-        FrontendMessageFormat::Sync as u8
+        <Self as Composed>::FORMAT as u8
     }
 
     #[inline(always)]

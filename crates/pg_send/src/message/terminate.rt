@@ -23,7 +23,7 @@ impl Composed for Terminate {
     ghost snug = { λ _. refl };
 
     fn letter(&self) -> u8 {
-        FrontendMessageFormat::Terminate as u8
+        <Self as Composed>::FORMAT as u8
     }
 
     #[inline(always)]

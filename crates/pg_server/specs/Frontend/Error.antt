@@ -23,12 +23,12 @@ fault_words (faults.FirstTooLong length limit) = codes "expected a first message
 abbrev pub IsOnPage : FrontendFault → ProtocolFault → Type 0
 IsOnPage (faults.UnknownTag tag) fault = ⊥
 IsOnPage (faults.UnknownCode code) fault = fault ≡ page.UnknownCode code
-IsOnPage (faults.UnknownTarget letter) fault = fault ≡ page.UnknownMessageType letter
+IsOnPage (faults.UnknownTarget letter) fault = fault ≡ page.UnknownLetter letter
 IsOnPage (faults.Short at needed got) fault = fault ≡ page.Short at needed got
 IsOnPage (faults.MissingNul at) fault = fault ≡ page.MissingNul at
 IsOnPage (faults.ValueLength at length) fault = fault ≡ page.ValueLength at length
 IsOnPage (faults.KeyLength length) fault = fault ≡ page.BadKeyLength length
-IsOnPage (faults.TrailingBytes at) fault = fault ≡ page.BodyTooLong at
+IsOnPage (faults.TrailingBytes at) fault = fault ≡ page.TrailingBytes at
 IsOnPage (faults.BadLength length) fault = ⊥
 IsOnPage (faults.FirstTooLong length limit) fault = ⊥
 

@@ -4,7 +4,7 @@ use Rattle.pg_format.specs.Messages.{Bind, Parse, Execute, FunctionCall, SaslIni
 use Rattle.pg_format.specs.Messages as page
 use Rattle.pg_format.specs.Format.{Format}
 use Rattle.pg_format.specs.Format.Parts.{one_of}
-use Rattle.pg_base.specs.declared.error.ProtocolFault.TheVariants.{UnknownMessageType}
+use Rattle.pg_base.specs.declared.error.ProtocolFault.TheVariants.{UnknownLetter}
 use Rattle.pg_server.specs.declared.frontend.bind.BindRef.{BindRef}
 use Rattle.pg_server.specs.declared.frontend.parse.ParseRef.{ParseRef}
 use Rattle.pg_server.specs.declared.frontend.execute.ExecuteRef.{ExecuteRef}
@@ -26,7 +26,7 @@ shown_execute e = record { portal = e.portal.now; limit = e.limit }
 
 -- the letter that says of what kind a name is
 abbrev pub target_format : Format page.Target
-target_format = one_of page.target_of page.target_letter UnknownMessageType
+target_format = one_of page.target_of page.target_letter UnknownLetter
 
 abbrev pub shown_target : Target → page.Target
 shown_target targets.Statement = page.statement

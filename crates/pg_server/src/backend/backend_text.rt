@@ -56,7 +56,7 @@ pub trait BackendText: Sized + Drop {
     }
 }
 
-/// Adds tag, length and body of a message to the buffer, which grows at most once.
+/// Adds tag, length and body of a message to the buffer.
 ///
 /// Every refusal leaves the bytes of the buffer as they were: a fault, exactly where there is one and
 /// before memory is asked for, or `OutOfMemory`, only where the spare room doesn't hold the message.

@@ -4,7 +4,7 @@ ghost use Rattle.std.specs.Prelude.{Some};
 ghost use Rattle.pg_server.specs.Frontend.Error.{fault_words};
 
 use pg_base::ProtocolFault::{
-    BadLength, MissingNul, Short, UnknownCode, UnknownMessageType, ValueLength,
+    BadLength, MissingNul, Short, TrailingBytes, UnknownCode, UnknownMessageType, ValueLength,
 };
 use std::fmt::{self, Display};
 
@@ -72,9 +72,7 @@ impl Display for FrontendFault {
                 Display::fmt(&ValueLength { at, length }, f)
             }
             FrontendFault::KeyLength(length) => write!(f, "bad secret key length: {length}"),
-            FrontendFault::TrailingBytes { at } => {
-                write!(f, "expected the end of the message at offset {at}")
-            }
+            FrontendFault::TrailingBytes { at } => Display::fmt(&TrailingBytes { at }, f),
             FrontendFault::BadLength(length) => Display::fmt(&BadLength(length), f),
             FrontendFault::FirstTooLong { length, limit } => {
                 write!(

@@ -3,7 +3,7 @@ use Rattle.std.specs.Prelude.{◌≡◌, ◌⊎◌, ℕ, ◌==◌, ℤ, true, Li
 use Rattle.std.specs.Option.{option_or}
 use Rattle.std.specs.Borrow.{Bor}
 use Rattle.pg_base.specs.declared.error.ProtocolFault.{ProtocolFault}
-use Rattle.pg_base.specs.declared.error.ProtocolFault.TheVariants.{UnknownMessageType}
+use Rattle.pg_base.specs.declared.error.ProtocolFault.TheVariants.{UnknownMessageType, UnknownLetter}
 use Rattle.pg_format.specs.Logical as page
 use Rattle.pg_format.specs.Logical.{in_change_stream, logical_letter, IsNoLogicalLetter}
 use Rattle.pg_format.specs.declared.logical.LogicalKind.{LogicalKind}
@@ -125,7 +125,7 @@ abbrev pub old_fault : PgmsgLogicalText → Option ProtocolFault
 old_fault t =
     if t.old_letter == 75 then kinds_fault t.old_values.now else (
     if t.old_letter == 79 then kinds_fault t.old_values.now else
-    Some (UnknownMessageType t.old_letter))
+    Some (UnknownLetter t.old_letter))
 
 abbrev pub sent_fault : PgmsgLogicalText → Option ProtocolFault
 sent_fault t = if t.old_letter == 0 then None else old_fault t

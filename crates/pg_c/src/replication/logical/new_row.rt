@@ -75,7 +75,7 @@ pub(crate) fn read_new_row(
 {
     let end = give_items::<PgmsgDatum>(content, list, values)?;
     if end < content.len() {
-        return Err(ProtocolFault::BodyTooLong(end));
+        return Err(ProtocolFault::TrailingBytes { at: end });
     }
     *message = given_row(content, streamed, list);
     Ok(list.count)

@@ -105,8 +105,8 @@ pub struct PgmsgLogical {
 /// versions 1 to 3 of the protocol: how many values its `new_row` has, 0 where it has none. As many as there is room for
 /// are written, and `pgmsg_read_tuple` gives all. `streamed` is the caller's, false before the first message of a slot,
 /// and passed with each in order: a Stream Start sets it, and a Stream Stop clears it. Places are in `content`. A message
-/// is refused with PGMSG_UNKNOWN_MESSAGE_TYPE where no kind of message, of row or of value has a letter, and with
-/// PGMSG_BODY_TOO_LONG where bytes follow its last part.
+/// is refused with PGMSG_UNKNOWN_MESSAGE_TYPE where no kind has its letter, with PGMSG_UNKNOWN_LETTER where no row
+/// or value has one, and with PGMSG_TRAILING_BYTES where bytes follow its last part.
 #[unsafe(no_mangle)]
 pub extern "C" fn pgmsg_read_logical(
     alloc: Global,

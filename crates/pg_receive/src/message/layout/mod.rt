@@ -55,7 +55,7 @@ pub fn body_end(kind: BackendMessageFormat, body: &[u8]) -> Result<usize, Protoc
 }
 
 /// Whether a body of at most [`MAX_BODY`] bytes consists of the parts of its kind, as [`body_end`] finds
-/// them, and nothing else. Refused as there, and with `BodyTooLong` from the offset on where bytes follow.
+/// them, and nothing else. Refused as there, and with `TrailingBytes` from the offset on where bytes follow.
 pub fn check_exact(kind: BackendMessageFormat, body: &[u8]) -> Result<(), ProtocolFault>
     requires { length body.now ≤ MAX_BODY }
     ensures exact { IfOk result (λ _. EndsAt (exact_layout kind) body.now 0 (length body.now)) }
@@ -63,7 +63,7 @@ pub fn check_exact(kind: BackendMessageFormat, body: &[u8]) -> Result<(), Protoc
 {
     let end = body_end(kind, body)?;
     if end < body.len() {
-        return Err(ProtocolFault::BodyTooLong(end));
+        return Err(ProtocolFault::TrailingBytes { at: end });
     }
     Ok(())
 }

@@ -98,6 +98,6 @@ fn old_of<'a>(text: &PgmsgLogicalText<'a>) -> Result<Old<'a>, ProtocolFault>
     match text.old_letter {
         b'K' => Ok(Old::Key(Tuple::of(text.old_values)?)),
         b'O' => Ok(Old::Whole(Tuple::of(text.old_values)?)),
-        other => Err(ProtocolFault::UnknownMessageType(other)),
+        other => Err(ProtocolFault::UnknownLetter(other)),
     }
 }

@@ -52,10 +52,11 @@ pub struct PgmsgLogicalText<'a> {
 }
 
 /// A message of logical replication, as the content of an XLogData, which `pgmsg_put_replication` writes as a CopyData
-/// of the letter `w`. Refused with PGMSG_UNKNOWN_MESSAGE_TYPE where its letter is of no kind, or that of an old row or
-/// of a value in its rows is; then for the first of its parts that breaks a limit, with PGMSG_TOO_MANY where a row has
-/// more than 65535 values or a table more columns, or with PGMSG_TEXT_HOLDS_NUL for a NUL in a `schema` or a `name`, also
-/// of a column; then with PGMSG_MESSAGE_TOO_LONG where it is longer than 2147483643 bytes.
+/// of the letter `w`. Refused with PGMSG_UNKNOWN_MESSAGE_TYPE where its letter is of no kind, and with
+/// PGMSG_UNKNOWN_LETTER where that of an old row or of a value in its rows is; then for the first of its parts that breaks
+/// a limit, with PGMSG_TOO_MANY where a row has more than 65535 values or a table more columns, or with
+/// PGMSG_TEXT_HOLDS_NUL for a NUL in a `schema` or a `name`, also of a column; then with PGMSG_MESSAGE_TOO_LONG where it is
+/// longer than 2147483643 bytes.
 #[unsafe(no_mangle)]
 pub extern "C" fn pgmsg_put_logical(message: &PgmsgLogicalText<'_>, out: &mut [u8]) -> isize
     ensures { PutsLogical message.now out.old out.new result }

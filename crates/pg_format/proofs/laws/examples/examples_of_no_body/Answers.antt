@@ -1,6 +1,6 @@
 use Rattle.std.specs.Prelude.{[], ◌∷◌}
 use Rattle.std.proofs.Common.{refl, arith, inr}
-use Rattle.pg_base.specs.declared.error.ProtocolFault.TheVariants.{BodyTooLong}
+use Rattle.pg_base.specs.declared.error.ProtocolFault.TheVariants.{TrailingBytes}
 use Rattle.pg_format.specs.Format.{Means, IsFaultOf}
 use Rattle.pg_format.specs.Messages.{no_body, empty}
 use Rattle.pg_format.proofs.laws.examples.examples_of_no_body.Goals as goal
@@ -9,7 +9,7 @@ ignored : Means no_body (7 ∷ []) tt
 ignored = (7 ∷ [], (refl, refl), refl)
 
 -- what is too long begins at the first byte
-too_long : IsFaultOf empty (7 ∷ []) (BodyTooLong 0)
+too_long : IsFaultOf empty (7 ∷ []) (TrailingBytes 0)
 too_long = inr (record { value = tt; mid = 7 ∷ []; reads = (refl, refl); breaks = record { some = omega arith; is = refl } })
 
 pub returns-clause-bound_with_a_body : goal.returns-clause-bound_with_a_body

@@ -1,6 +1,6 @@
 use Rattle.std.proofs.Common.{◌≡◌, drop, length, refl, inl, inr, arith}
 use Rattle.std.proofs.lemmas.Result.{err_from_is_err_and}
-use Rattle.pg_base.specs.declared.error.ProtocolFault.TheVariants.{BodyTooLong}
+use Rattle.pg_base.specs.declared.error.ProtocolFault.TheVariants.{TrailingBytes}
 use Rattle.pg_c.proofs.LogicalNewRowLemmas.{new_row_breaks, new_row_reads, new_row_datums, trails_at}
 use Rattle.pg_c.proofs.replication.logical.new_row.read_new_row.Goals as goal
 
@@ -19,7 +19,7 @@ returns-then-end-content-clause-fault c =
     let gives = c.in_ok-end.ensures.items in
     inr (
       c.requires.short,
-      new_row_breaks c.args.streamed bytes c.args.list c.requires (BodyTooLong end)
+      new_row_breaks c.args.streamed bytes c.args.list c.requires (TrailingBytes end)
           (inr (record { value = gives.items; mid = drop end bytes; reads = gives.read.reads; breaks = trails_at bytes end c.if-end-content.true })),
     )
 
