@@ -1,4 +1,4 @@
-"""Reads a recording of pg_record, by the page of its format in clients/tape/recording/src/lib.rs:
+"""Reads a recording of pg_record, by the page of its format in programs/recording/src/lib.rs:
 
     read_recording.py FILE              a line for each record: offset, time, connection, kind, length of the content
     read_recording.py FILE NUMBER F|B   the bytes of a connection's client or server, joined

@@ -8,8 +8,8 @@ mod server;
 pub mod trace;
 
 pub use client::client_line;
-pub use escape::{escape, is_control};
-pub use server::{left_out_line, server_line, server_name};
+pub use escape::{escape, is_control, is_obeyed};
+pub use server::{left_out_line, server_line};
 
 use std::fmt;
 use std::io::Write;

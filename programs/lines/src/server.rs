@@ -1,17 +1,10 @@
-//! A server's message as `pg_tool stream` prints it.
+//! A server's message as `pg_tool stream` prints it, and the three kinds that it doesn't know.
 
-use crate::{put, put_bytes, trace};
+use crate::trace::server_name;
+use crate::{put, put_bytes};
 
 /// The length of a length field, which counts itself.
 const LENGTH_FIELD: usize = 4;
-
-/// The tags of FunctionCallResponse, CopyBothResponse and NegotiateProtocolVersion.
-const UNKNOWN_TO_PG_TOOL: &[u8] = b"VWv";
-
-/// The name of a server's message, or `None` where `pg_tool stream` refuses its tag.
-pub fn server_name(tag: u8) -> Option<&'static str> {
-    trace::server_name(tag).filter(|_| !UNKNOWN_TO_PG_TOOL.contains(&tag))
-}
 
 fn name_of(tag: u8) -> &'static str {
     server_name(tag).unwrap_or("Unknown")

@@ -9,7 +9,7 @@ use rand::seq::SliceRandom;
 use rand::{Rng, SeedableRng};
 
 /// A first message that opens a session.
-pub const STARTUP: &[u8] = b"\0\0\0\x13\0\x03\0\0user\0ann\0\0";
+pub const STARTUP: &[u8] = b"\0\0\0\x12\0\x03\0\0user\0ann\0\0";
 
 /// How a client may begin.
 const FIRST: [&[u8]; 6] = [
@@ -25,9 +25,9 @@ const FIRST: [&[u8]; 6] = [
 pub const OF_CLIENT: [&[u8]; 17] = [
     b"Q\0\0\0\x0dSELECT 1\0",
     b"Q\0\0\0\x10SAVEPOINT a\0",
-    b"Q\0\0\0\x0eFETCH \"x\0",
+    b"Q\0\0\0\x0dFETCH \"x\0",
     b"P\0\0\0\x10\0SELECT 2\0\0\0",
-    b"P\0\0\0\x11sSELECT 2\0\0\0",
+    b"P\0\0\0\x11s\0SELECT 2\0\0\0",
     b"B\0\0\0\x11\0\0\0\0\0\x01\0\0\0\x015\0\0",
     b"E\0\0\0\x09\0\0\0\0\0",
     b"D\0\0\0\x06P\0",
@@ -171,4 +171,18 @@ fn resident() -> u64 {
     let status = std::fs::read_to_string("/proc/self/status").unwrap_or_default();
     let line = status.lines().find_map(|it| it.strip_prefix("VmRSS:"));
     line.and_then(|it| it.trim().trim_end_matches(" kB").parse().ok()).unwrap_or_default()
+}
+
+#[cfg(test)]
+mod tests {
+    use super::*;
+
+    #[test]
+    fn each_message_is_as_long_as_it_says() {
+        let all = OF_CLIENT.iter().chain(&OF_SERVER).map(|it| &it[1..]).chain([STARTUP]);
+        for message in all {
+            let length = u32::from_be_bytes([message[0], message[1], message[2], message[3]]);
+            assert_eq!(message.len(), length as usize, "{message:?}");
+        }
+    }
 }

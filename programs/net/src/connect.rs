@@ -37,7 +37,7 @@ enum Place {
 
 impl Upstream {
     /// Finds the addresses of the host.
-    pub async fn find(
+    pub(crate) async fn find(
         address: Address,
         mode: SslMode,
         roots: Option<&Path>,
@@ -57,6 +57,11 @@ impl Upstream {
         let encrypts = mode != SslMode::Disable;
         let connector = encrypts.then(|| connector(mode, roots)).transpose()?;
         Ok(Upstream { address, place, mode, connector })
+    }
+
+    /// Why there is no session, where the server takes too long.
+    pub fn is_late(&self) -> String {
+        format!("no connection to {}: it takes too long", self.address)
     }
 
     /// A connection, encrypted as the mode has it.

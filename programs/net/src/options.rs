@@ -1,7 +1,8 @@
 //! Options that programs share.
 
+use crate::roots::SYSTEM;
 use crate::{Address, Failure, Listener, ServerTls, SslMode, Status, Upstream, Workers};
-use clap::Args;
+use clap::{Args, ValueEnum};
 use std::env;
 use std::path::{Path, PathBuf};
 
@@ -87,10 +88,12 @@ pub struct ServerOptions {
     /// The server's port; PGPORT where it isn't said, else 5432
     #[arg(short = 'p', value_name = "PORT")]
     port: Option<String>,
-    /// Whether the connection to the server is encrypted, and its certificate verified, as libpq has it
-    #[arg(long, value_enum, value_name = "MODE", default_value = "disable")]
-    sslmode: SslMode,
-    /// The trusted roots, in a file or by `system` those of the system; ~/.postgresql/root.crt where it isn't said
+    /// Whether the connection to the server is encrypted, and its certificate verified, as libpq has it; PGSSLMODE where it
+    /// isn't said, else verify-full with the roots of the system, else disable
+    #[arg(long, value_enum, value_name = "MODE")]
+    sslmode: Option<SslMode>,
+    /// The trusted roots, in a file or by `system` those of the system, for verify-full alone; PGSSLROOTCERT where it isn't
+    /// said, else ~/.postgresql/root.crt
     #[arg(long, value_name = "FILE")]
     sslrootcert: Option<PathBuf>,
 }
@@ -124,8 +127,36 @@ impl ServerOptions {
         Ok(Address::of_server(&host.unwrap_or_else(|| usual_host(number)), number))
     }
 
+    /// The mode that is named, or the usual one with these roots. As in libpq the roots of the system, which would trust
+    /// any host that has a certificate, have no weaker mode than `verify-full`.
+    fn mode(&self, roots: Option<&Path>) -> Result<SslMode, Failure> {
+        let usage = |words: String| Failure::new(Status::Usage, words);
+        let of_name = |name: String| {
+            let mode = SslMode::from_str(&name, false);
+            mode.map_err(|_| usage(format!("no sslmode has the name {name}")))
+        };
+        let named = match self.sslmode {
+            None => variable("PGSSLMODE").map(of_name).transpose()?,
+            mode => mode,
+        };
+        match (roots == Some(Path::new(SYSTEM)), named) {
+            (true, None | Some(SslMode::VerifyFull)) => Ok(SslMode::VerifyFull),
+            (true, _) => {
+                Err(usage("the roots of the system need the sslmode verify-full".to_owned()))
+            }
+            (false, named) => Ok(named.unwrap_or(SslMode::Disable)),
+        }
+    }
+
     /// Finds the server.
     pub async fn find(&self) -> Result<Upstream, Failure> {
-        Upstream::find(self.address()?, self.sslmode, self.sslrootcert.as_deref()).await
+        let roots = self.sslrootcert.clone().or_else(|| variable("PGSSLROOTCERT").map(Into::into));
+        let mode = self.mode(roots.as_deref())?;
+        Upstream::find(self.address()?, mode, roots.as_deref()).await
+    }
+
+    /// Finds a server to which bytes are passed on unread, encrypted or not.
+    pub async fn find_unread(&self) -> Result<Upstream, Failure> {
+        Upstream::find(self.address()?, SslMode::Disable, None).await
     }
 }

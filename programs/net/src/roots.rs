@@ -24,7 +24,7 @@ pub enum SslMode {
 }
 
 /// The name by which libpq asks for the system's roots.
-const SYSTEM: &str = "system";
+pub(crate) const SYSTEM: &str = "system";
 
 /// The file of roots that libpq looks for.
 fn usual_roots() -> Option<PathBuf> {

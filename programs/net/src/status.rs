@@ -1,7 +1,8 @@
 //! How a program ends, and the signals that it takes.
 
+use std::future::pending;
 use std::time::Duration;
-use std::{io, process, thread};
+use std::{fs, io, process, thread};
 use tokio::runtime::Builder;
 use tokio::signal::unix::{signal, Signal, SignalKind};
 use tokio::time::timeout;
@@ -32,9 +33,11 @@ pub enum Status {
     Damaged = 10,
     /// A client does otherwise than the recorded one.
     Different = 11,
+    /// Either of two recorded messages may be meant, which were answered otherwise.
+    Ambiguous = 12,
     /// Ctrl-C.
     Interrupted = 130,
-    /// SIGTERM.
+    /// SIGTERM or SIGHUP.
     Terminated = 143,
 }
 
@@ -52,24 +55,37 @@ impl Failure {
     }
 }
 
-/// Ctrl-C and SIGTERM, by which a program is told to end.
+/// Ctrl-C, SIGTERM and SIGHUP, by which a program is told to end.
 pub struct Endings {
     interrupt: Signal,
     terminate: Signal,
+    /// None where the program is to go on when its terminal is gone.
+    hangup: Option<Signal>,
 }
 
 impl Endings {
-    /// Takes both from now on. A runtime of tokio must be there.
+    /// Takes them from now on. A runtime of tokio must be there.
     pub fn take() -> io::Result<Endings> {
-        let (interrupt, terminate) = (SignalKind::interrupt(), SignalKind::terminate());
-        Ok(Endings { interrupt: signal(interrupt)?, terminate: signal(terminate)? })
+        let hangup = SignalKind::hangup();
+        Ok(Endings {
+            interrupt: signal(SignalKind::interrupt())?,
+            terminate: signal(SignalKind::terminate())?,
+            hangup: (!is_ignored(hangup)).then(|| signal(hangup)).transpose()?,
+        })
     }
 
     /// Waits for one that came since, and gives the status that it ends the program in. Another Ctrl-C ends the process then.
     pub async fn wait(mut self) -> Status {
+        let hung_up = async {
+            match &mut self.hangup {
+                Some(hangup) => hangup.recv().await,
+                None => pending().await,
+            }
+        };
         let status = tokio::select! {
             _ = self.interrupt.recv() => Status::Interrupted,
             _ = self.terminate.recv() => Status::Terminated,
+            _ = hung_up => Status::Terminated,
         };
         // Where there is no thread for that, the program ends by itself alone.
         let _ = thread::Builder::new().name("interrupt".to_owned()).spawn(|| {
@@ -77,6 +93,14 @@ impl Endings {
         });
         status
     }
+}
+
+/// Whether the process was begun with a signal ignored, as nohup does with SIGHUP.
+fn is_ignored(signal: SignalKind) -> bool {
+    let status = fs::read_to_string("/proc/self/status").unwrap_or_default();
+    let ignored = status.lines().find_map(|line| line.strip_prefix("SigIgn:"));
+    let ignored = ignored.and_then(|it| u64::from_str_radix(it.trim(), 16).ok());
+    ignored.unwrap_or_default() >> (signal.as_raw_value() - 1) & 1 == 1
 }
 
 /// Ends the process at the next Ctrl-C, whatever its other threads do. A SIGTERM doesn't: who has begun the program may send
@@ -97,8 +121,8 @@ pub fn ignore_file_size() -> io::Result<Signal> {
 mod tests {
     use super::*;
     use std::env;
-    use std::io::{BufRead, BufReader};
-    use std::process::{Child, Command, Stdio};
+    use std::io::{BufRead, BufReader, Lines};
+    use std::process::{Child, ChildStdout, Command, Stdio};
 
     /// Has `a_program` be one.
     const IS_PROGRAM: &str = "NET_IS_PROGRAM";
@@ -123,6 +147,23 @@ mod tests {
         });
     }
 
+    /// Begins the program, in a shell after a command of that, and gives what it prints.
+    fn begin(before: &str) -> (Child, Lines<BufReader<ChildStdout>>) {
+        let mut shell = Command::new("sh");
+        shell
+            .args(["-c", &format!("{before}; exec \"$0\" \"$@\"")])
+            .arg(env::current_exe().unwrap());
+        shell.args(["--exact", "status::tests::a_program", "--nocapture"]).env(IS_PROGRAM, "");
+        let mut child = shell.stdout(Stdio::piped()).spawn().unwrap();
+        let lines = BufReader::new(child.stdout.take().unwrap()).lines();
+        (child, lines)
+    }
+
+    /// Reads up to a line that has a word.
+    fn read_until(lines: &mut Lines<BufReader<ChildStdout>>, word: &str) -> String {
+        lines.map(Result::unwrap).find(|line| line.contains(word)).unwrap()
+    }
+
     fn kill(child: &Child, signal: &str) {
         let command = format!("kill -{signal} {}", child.id());
         assert!(Command::new("sh").args(["-c", &command]).status().unwrap().success());
@@ -130,14 +171,10 @@ mod tests {
 
     /// The status of the program after a signal, and another one again and again.
     fn status_after(first: &str, again: &str) -> Option<i32> {
-        let mut program = Command::new(env::current_exe().unwrap());
-        program.args(["--exact", "status::tests::a_program", "--nocapture"]).env(IS_PROGRAM, "");
-        let mut child = program.stdout(Stdio::piped()).spawn().unwrap();
-        let mut lines = BufReader::new(child.stdout.take().unwrap()).lines();
-        let mut read_until = |word: &str| while !lines.next().unwrap().unwrap().contains(word) {};
-        read_until("waiting");
+        let (mut child, mut lines) = begin(":");
+        read_until(&mut lines, "waiting");
         kill(&child, first);
-        read_until("ended 1");
+        read_until(&mut lines, "ended 1");
         while child.try_wait().unwrap().is_none() {
             kill(&child, again);
             thread::sleep(PAUSE);
@@ -147,9 +184,28 @@ mod tests {
 
     #[test]
     fn another_interrupt_ends_a_program_that_takes_long_to_end() {
-        let table = [("INT", "INT", 130), ("TERM", "INT", 130), ("INT", "TERM", 0)];
+        let table =
+            [("INT", "INT", 130), ("TERM", "INT", 130), ("HUP", "INT", 130), ("INT", "TERM", 0)];
         for (first, again, status) in table {
             assert_eq!(status_after(first, again), Some(status), "{first}, {again}");
         }
+    }
+
+    /// What a program says of its end by SIGHUP and then Ctrl-C, after a command of a shell.
+    fn ended_after(before: &str) -> String {
+        let (mut child, mut lines) = begin(before);
+        read_until(&mut lines, "waiting");
+        kill(&child, "HUP");
+        thread::sleep(2 * PAUSE);
+        kill(&child, "INT");
+        let ended = read_until(&mut lines, "ended");
+        child.wait().unwrap();
+        ended
+    }
+
+    #[test]
+    fn a_hangup_ends_a_program_unless_it_was_begun_to_stay() {
+        assert_eq!(ended_after(":"), "ended 143");
+        assert_eq!(ended_after("trap '' HUP"), "ended 130");
     }
 }

@@ -88,7 +88,7 @@ impl Direction {
         for range in self.found.mechanisms.iter().rev().filter(|_| self.drops_binding) {
             let offer = without_binding(&self.held[range.clone()]).unwrap_or_default();
             if !offer.is_empty() {
-                self.passing -= range.len() - offer.len();
+                self.passing = self.passing - range.len() + offer.len();
                 let rest = self.held.split_off(range.end);
                 self.held.truncate(range.start);
                 self.held.extend_from_slice(&offer);
@@ -162,13 +162,45 @@ pub fn first_end(up: &Direction, down: &Direction) -> Option<Side> {
     }
 }
 
-/// A server's offer of mechanisms without those with channel binding; nothing where it can't be read.
+/// A server's offer of mechanisms without those with channel binding; nothing where it has none, or can't be read.
 fn without_binding(message: &[u8]) -> Result<Vec<u8>, Fault> {
     let mut offer = Vec::new();
     if let Authentication::Sasl(mechanisms) = Authentication::read(&message[MESSAGE_HEAD..])? {
         let mut left = mechanisms.into_vec();
+        let offered = left.len();
         left.retain(|name| !name.ends_with(b"-PLUS"));
-        Authentication::Sasl(left.into()).write(&mut offer)?;
+        if left.len() < offered {
+            Authentication::Sasl(left.into()).write(&mut offer)?;
+        }
     }
     Ok(offer)
+}
+
+#[cfg(test)]
+mod tests {
+    use super::*;
+
+    /// What passes of an offer of these mechanisms, each with its NUL, and what follows the last one.
+    fn passes(mechanisms: &[u8]) -> BytesMut {
+        let mut stream = vec![b'R', 0, 0, 0, 8 + mechanisms.len() as u8, 0, 0, 0, 10];
+        stream.extend_from_slice(mechanisms);
+        let framer = Framer::new(Side::Server, true, true);
+        let mut direction = Direction::new(Side::Server, Some(framer), true, &stream);
+        direction.look();
+        direction.drop_binding();
+        assert_eq!(direction.passing, direction.held.len());
+        direction.held
+    }
+
+    #[test]
+    fn an_offer_loses_channel_binding_alone() {
+        let without = b"R\0\0\0\x17\0\0\0\x0aSCRAM-SHA-256\0\0";
+        assert_eq!(passes(b"SCRAM-SHA-256-PLUS\0SCRAM-SHA-256\0\0"), &without[..]);
+        assert_eq!(passes(b"SCRAM-SHA-256-PLUS\0SCRAM-SHA-256\0"), &without[..]);
+        assert_eq!(passes(b"SCRAM-SHA-256\0\0"), &without[..]);
+        // A list that doesn't end, of which nothing is taken.
+        assert_eq!(passes(b"SCRAM-SHA-256\0"), &b"R\0\0\0\x16\0\0\0\x0aSCRAM-SHA-256\0"[..]);
+        assert_eq!(passes(b"A"), &b"R\0\0\0\x09\0\0\0\x0aA"[..]);
+        assert_eq!(passes(b""), &b"R\0\0\0\x08\0\0\0\x0a"[..]);
+    }
 }

@@ -2,7 +2,7 @@
 
 use crate::pass::{Begin, Link};
 use crate::session::{NoLink, Session};
-use net::{front, Front, OpenError, Stream};
+use net::{front, FirstMessage, Front, OpenError, Stream};
 use tokio::io::{AsyncReadExt, AsyncWriteExt};
 
 /// What the server makes of a request.
@@ -25,7 +25,7 @@ pub async fn link(session: &mut Session<'_>, mut client: Stream) -> Result<Link,
         }
         let mut server = match connected.take() {
             Some(server) => server,
-            None => session.connect().await?,
+            None => session.connect(&mut client, waits_for_answer(&front)).await?,
         };
         let (begin, from_server) = match front {
             Front::SslRequest(length) | Front::GssEncRequest(length) => {
@@ -46,6 +46,15 @@ pub async fn link(session: &mut Session<'_>, mut client: Stream) -> Result<Link,
             _ => (Begin::Encrypted, Vec::new()),
         };
         return Ok(Link { client, server, from_client, from_server, begin });
+    }
+}
+
+/// Whether a client that begins so waits for the server to say something.
+fn waits_for_answer(front: &Front) -> bool {
+    match front {
+        Front::SslRequest(_) | Front::GssEncRequest(_) => true,
+        Front::Message(first, _) => matches!(first, FirstMessage::Startup),
+        Front::Tls | Front::End => false,
     }
 }
 

@@ -21,7 +21,7 @@ mod mutants;
 
 pub use pass::{pass, Begin, Link};
 pub use session::NoLink;
-pub use tape::{Over, Tape};
+pub use tape::{Over, Recorded, Tape};
 
 use arguments::Arguments;
 use net::{Failure, Sayer, Status};

@@ -10,6 +10,8 @@ use std::time::Duration;
 use tokio::sync::watch;
 use tokio::time::timeout;
 
+/// The room that is kept for lines which are to come.
+const ROOM: usize = 64 << 10;
 /// How long the last lines may take once a signal has come.
 const PATIENCE: Duration = Duration::from_millis(500);
 
@@ -73,6 +75,7 @@ impl Output {
         let mut waiting = self.waiting.lock();
         waiting.1 += lines.len() as u64;
         waiting.0.append(lines);
+        lines.shrink_to(ROOM);
         self.waiting.is_called.notify_one();
         waiting.1
     }

@@ -5,14 +5,18 @@ use crate::direction::{first_end, Direction};
 use crate::framer::{decoder_of, Framer};
 use crate::session::{NoLink, OPENING};
 use crate::tape::{Over, Tape};
-use net::{Stream, Upstream};
+use net::{Sayer, Stream, Upstream};
+use pgmsg::backend::{Field, FieldKind, Message};
 use pgmsg::Decoder;
 use recording::{Kind, Side};
 use std::future::poll_fn;
+use std::io;
 use std::time::Duration;
-use tokio::io::{AsyncRead, AsyncReadExt};
+use tokio::io::{AsyncRead, AsyncReadExt, AsyncWriteExt};
 use tokio::time::timeout;
 
+/// The code of an error: no connection to the server.
+const NO_CONNECTION: &str = "08006";
 /// How long a client may take to hang up after the server did.
 const CLOSING: Duration = Duration::from_secs(2);
 
@@ -38,7 +42,7 @@ pub enum Begin {
 
 impl Link {
     /// Where the server may be asked again in another way, passes on the Startup of so many bytes that the client has said, and
-    /// takes the answer.
+    /// takes the answer. Without one the client is told so.
     pub async fn start(
         self,
         upstream: &Upstream,
@@ -51,12 +55,16 @@ impl Link {
         }
         let (startup, rest) = self.from_client.split_at(length);
         tape.take(number, &[(Kind::Bytes(Side::Client), startup)]).await?;
-        let (server, from_server) = timeout(OPENING, upstream.start(self.server, startup))
-            .await
-            .map_err(|_| NoLink::late())?
-            .map_err(|why| NoLink::Unreachable(format!("{why:#}")))?;
-        let (client, from_client) = (self.client, rest.to_vec());
-        Ok(Link { client, server, from_client, from_server, begin: Begin::Open })
+        let (mut client, from_client) = (self.client, rest.to_vec());
+        let words = match timeout(OPENING, upstream.start(self.server, startup)).await {
+            Ok(Ok((server, from_server))) => {
+                return Ok(Link { client, server, from_client, from_server, begin: Begin::Open });
+            }
+            Ok(Err(why)) => format!("{why:#}"),
+            Err(_) => upstream.is_late(),
+        };
+        refuse(&mut client, &tape.says, &words).await;
+        Err(NoLink::Unreachable(words))
     }
 }
 
@@ -93,12 +101,37 @@ pub async fn pass(tape: &Tape, number: u32, leaves_out: bool, link: Link) -> Res
             }
         })
         .await;
-        first = first.or_else(|| first_end(&up, &down));
+        if let (None, Some(side)) = (first, first_end(&up, &down)) {
+            tape.note_end(number, side);
+            first = Some(side);
+        }
     }
     tape.close_connection(number, first.unwrap_or(Side::Server)).await?;
     // A socket that is closed before it is read to its end may take back what was written to it.
     let _ = timeout(CLOSING, discard(&mut client)).await;
     Ok(())
+}
+
+/// Ends the connection of a client that gets no session by an error, as a server does.
+pub async fn refuse(client: &mut Stream, says: &Sayer, words: &str) {
+    let words = says.named(words);
+    let fields = [
+        Field::new(FieldKind::LocalizedSeverity, "FATAL"),
+        Field::new(FieldKind::Severity, "FATAL"),
+        Field::new(FieldKind::Code, NO_CONNECTION),
+        Field::new(FieldKind::Message, &words),
+    ];
+    let mut error = Vec::new();
+    if Message::ErrorResponse(fields.into()).write(&mut error).is_err() {
+        return;
+    }
+    let told = async {
+        client.write_all(&error).await?;
+        client.shutdown().await?;
+        discard(client).await;
+        io::Result::Ok(())
+    };
+    let _ = timeout(CLOSING, told).await;
 }
 
 /// Records what is new, most often one record.

@@ -9,8 +9,10 @@ use std::collections::BTreeMap;
 use std::fmt::Display;
 use std::io::Write;
 
-/// The longest message that is shown.
-const LONGEST_SHOWN: usize = 64 << 20;
+/// The longest message that is shown, and the most bytes that are held of all messages which aren't whole.
+const HELD_MOST: usize = 64 << 20;
+/// So many bytes of a message are held whatever is held of others.
+const HELD_LEAST: usize = 64 << 10;
 
 /// Prints the lines of connections.
 pub struct Printer {
@@ -27,6 +29,8 @@ struct Out {
     bytes: Vec<u8>,
     /// What was to be said on standard error.
     said: Vec<String>,
+    /// How many bytes all directions hold.
+    held: usize,
 }
 
 /// A direction of a connection.
@@ -49,7 +53,7 @@ impl Printer {
             only,
             shows_numbers,
             all: BTreeMap::new(),
-            out: Out { bytes: Vec::new(), said: Vec::new() },
+            out: Out { bytes: Vec::new(), said: Vec::new(), held: 0 },
         }
     }
 
@@ -75,6 +79,7 @@ impl Printer {
             }
             (Kind::Closed, Some(both)) => {
                 both.iter().for_each(|direction| lines.end(direction, &mut self.out));
+                self.out.held -= both.iter().map(|direction| direction.bytes.len()).sum::<usize>();
                 self.all.remove(&number);
             }
             (_, None) => {}
@@ -145,18 +150,21 @@ impl Lines {
             return;
         }
         let mut held = std::mem::take(&mut direction.bytes);
+        out.held -= held.len();
         held.extend_from_slice(content);
         let count = self.print_whole(direction, &held, out);
         held.drain(..count);
+        held.shrink_to(HELD_LEAST);
+        out.held += held.len();
         direction.bytes = held;
     }
 
     /// Prints messages, and gives how many bytes are passed over.
     fn print_whole(&self, direction: &mut Direction, bytes: &[u8], out: &mut Out) -> usize {
-        let mut at = 0;
+        let (mut at, room) = (0, HELD_MOST.saturating_sub(out.held).max(HELD_LEAST));
         loop {
             match self.next(direction, &bytes[at..]) {
-                Ok(Next::Incomplete { needed, .. }) if needed > LONGEST_SHOWN => {
+                Ok(Next::Incomplete { needed, .. }) if needed > room => {
                     out.said.push(format!("a message of {needed} bytes isn't shown"));
                     (direction.left, direction.skipped) = (needed, 0);
                     direction.skip(&bytes[at..]);
@@ -194,7 +202,7 @@ impl Lines {
     /// Whether there is a line of a message by its tag. The decoder judges those of a client.
     fn has_line(&self, side: Side, tag: u8) -> bool {
         let is_server_line = side == Side::Server && !matches!(self.form, Form::Trace(_));
-        !is_server_line || lines::server_name(tag).is_some()
+        !is_server_line || trace::server_name(tag).is_some()
     }
 
     fn print(&self, side: Side, frame: &Frame<'_>, out: &mut Vec<u8>) {
@@ -251,4 +259,54 @@ fn side_of(side: Side) -> trace::Side {
 fn put(out: &mut Vec<u8>, text: impl Display) {
     // Writing to a vector never fails.
     let _ = write!(out, "{text}");
+}
+
+#[cfg(test)]
+mod tests {
+    use super::*;
+
+    fn printer(form: Form, connections: u32) -> Printer {
+        let mut printer = Printer::new(form, None, false);
+        (1..=connections).for_each(|number| printer.take(number, Kind::Opened, b"a"));
+        printer
+    }
+
+    #[test]
+    fn each_kind_of_a_server_has_its_line() {
+        let stream = b"v\0\0\0\x0c\0\x03\0\0\0\0\0\0W\0\0\0\x07\0\0\0V\0\0\0\x08\xff\xff\xff\xffZ\0\0\0\x05I";
+        for form in [Form::Server, Form::Lines] {
+            let mut printer = printer(form, 1);
+            printer.take(1, Kind::Bytes(Side::Server), stream);
+            assert_eq!(
+                String::from_utf8_lossy(printer.lines()),
+                "NegotiateProtocolVersion 12 0003000000000000\nCopyBothResponse 7 000000\n\
+                 FunctionCallResponse 8 ffffffff\nReadyForQuery 5 49\n"
+            );
+        }
+    }
+
+    /// The bytes that directions hold, and have room for.
+    fn held(printer: &Printer) -> (usize, usize) {
+        let all = || printer.all.values().flatten().map(|direction| &direction.bytes);
+        (all().map(Vec::len).sum(), all().map(Vec::capacity).sum())
+    }
+
+    #[test]
+    fn all_connections_together_hold_little() {
+        let (mut printer, connections) = (printer(Form::Lines, 8), 8);
+        let (length, piece) = (48 << 20, vec![0; 16 << 20]);
+        for number in 1..=connections {
+            let mut begun = vec![b'D'];
+            begun.extend_from_slice(&u32::to_be_bytes(length));
+            begun.extend_from_slice(&piece);
+            printer.take(number, Kind::Bytes(Side::Server), &begun);
+            assert!(held(&printer).0 <= HELD_MOST);
+        }
+        assert!(printer.said().contains(&"a message of 50331649 bytes isn't shown".to_owned()));
+        printer.take(1, Kind::Bytes(Side::Server), &piece);
+        printer.take(1, Kind::Bytes(Side::Server), &piece[5..]);
+        assert!(held(&printer).1 <= HELD_MOST);
+        (1..=connections).for_each(|number| printer.take(number, Kind::Closed, b"F"));
+        assert_eq!(printer.out.held, 0);
+    }
 }

@@ -4,7 +4,7 @@ use crate::arguments::{Arguments, Form};
 use crate::output::Output;
 use crate::printer::Printer;
 use crate::proxy::Proxy;
-use crate::tape::Tape;
+use crate::tape::{Recorded, Tape};
 use net::{
     ignore_file_size, most_sessions, Bound, Endings, Failure, Sayer, ServerTls, Status, Upstream,
 };
@@ -65,7 +65,8 @@ fn tape_of(
     says: &Sayer,
     fails: mpsc::UnboundedSender<Failure>,
 ) -> Result<Tape, Failure> {
-    let file = arguments.output.as_deref().map(|path| (path, arguments.keep_passing));
+    let create = |path| Recorded::create(path, arguments.keep_passing);
+    let file = arguments.output.as_deref().map(create).transpose()?;
     let form = arguments.form().or_else(|| Some(Form::Server).filter(|_| file.is_none()));
     let told = fails.clone();
     let lines = form.map(|form| {
@@ -74,12 +75,15 @@ fn tape_of(
         (printer, output)
     });
     let fails = Box::new(move |failure| drop(fails.send(failure)));
-    Tape::new(file, lines, says.clone(), fails)
+    Ok(Tape::new(file, lines, says.clone(), fails))
 }
 
 /// Finds the server, and listens.
 async fn begin(arguments: &Arguments, says: &Sayer) -> Result<(Upstream, Bound), Failure> {
-    let upstream = arguments.server.find().await?;
+    let upstream = match arguments.encryption {
+        true => arguments.server.find_unread().await?,
+        false => arguments.server.find().await?,
+    };
     let says = |words| says.say_plain(words);
     let bound = arguments.listening.bind(arguments.listen_port, says).await?;
     Ok((upstream, bound))

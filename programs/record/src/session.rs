@@ -1,7 +1,7 @@
 //! A client's connection, and the one to the server that it is passed on to.
 
 use crate::encryption;
-use crate::pass::{pass, Begin, Link};
+use crate::pass::{pass, refuse, Begin, Link};
 use crate::proxy::Proxy;
 use crate::tape::Over;
 use net::{FirstMessage, OpenError, Opened, Status, Stream};
@@ -100,9 +100,9 @@ impl<'p> Session<'p> {
             opened = net::open(client, proxy.tls.as_ref()) => opened?.ok_or(NoLink::Gone)?,
             () = proxy.run_out(begun) => return Err(NoLink::late()),
         };
-        self.count(&opened.first);
-        let server = self.connect().await?;
-        let Opened { stream: client, bytes: from_client, first, length } = opened;
+        let Opened { stream: mut client, bytes: from_client, first, length } = opened;
+        let server = self.connect(&mut client, matches!(first, FirstMessage::Startup)).await?;
+        self.count(&first);
         let from_server = Vec::new();
         let link = Link { client, server, from_client, from_server, begin: Begin::First };
         match first {
@@ -120,13 +120,19 @@ impl<'p> Session<'p> {
         }
     }
 
-    /// Records that the connection is opened, and connects to the server.
-    pub async fn connect(&mut self) -> Result<Stream, NoLink> {
+    /// Records that the connection is opened, and connects to the server. Where that fails, tells it to the client, if that
+    /// waits for an answer.
+    pub async fn connect(&mut self, client: &mut Stream, waits: bool) -> Result<Stream, NoLink> {
         self.number = self.proxy.tape.open(&self.peer).await?;
-        match timeout_at(self.begun + OPENING, self.proxy.upstream.connect()).await {
-            Err(_) => Err(NoLink::late()),
-            Ok(Err(why)) => Err(NoLink::Unreachable(format!("{why:#}"))),
-            Ok(Ok(server)) => Ok(server),
+        let upstream = &self.proxy.upstream;
+        let words = match timeout_at(self.begun + OPENING, upstream.connect()).await {
+            Ok(Ok(server)) => return Ok(server),
+            Ok(Err(why)) => format!("{why:#}"),
+            Err(_) => upstream.is_late(),
+        };
+        if waits {
+            refuse(client, &self.proxy.says, &words).await;
         }
+        Err(NoLink::Unreachable(words))
     }
 }

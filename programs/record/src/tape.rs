@@ -4,6 +4,7 @@ use crate::output::Output;
 use crate::printer::Printer;
 use net::{let_others, Failure, Sayer, Status};
 use recording::{Kind, Lost, Side};
+use std::collections::HashMap;
 use std::path::{Path, PathBuf};
 use std::sync::atomic::{AtomicBool, Ordering};
 use std::sync::{Mutex, MutexGuard, PoisonError};
@@ -24,12 +25,14 @@ pub struct Tape {
     lines: Option<Printed>,
     /// How many connections have been opened.
     opened: Mutex<u32>,
-    says: Sayer,
+    /// Those of which one side has ended, and the other is to.
+    ending: Mutex<HashMap<u32, Side>>,
+    pub(crate) says: Sayer,
     fails: Fails,
 }
 
 /// A recording, and its file.
-struct Recorded {
+pub struct Recorded {
     tape: recording::Tape,
     path: PathBuf,
     /// What passes does so also where it can't be recorded any more.
@@ -50,35 +53,41 @@ fn lock<T>(mutex: &Mutex<T>) -> MutexGuard<'_, T> {
 }
 
 impl Recorded {
-    fn new(path: &Path, goes_on: bool) -> Result<Recorded, Failure> {
-        let tape = recording::Tape::create(path)
-            .map_err(|why| Failure::new(Status::Unrecorded, format!("{} {why}", path.display())))?;
-        Ok(Recorded {
+    /// A recording whose file words name by a path. What passes may go on where it can't be recorded any more.
+    pub fn new(tape: recording::Tape, path: &Path, goes_on: bool) -> Recorded {
+        Recorded {
             tape,
             path: path.to_owned(),
             goes_on,
             is_lost: AtomicBool::new(false),
             is_ending: AtomicBool::new(false),
-        })
+        }
+    }
+
+    /// The same with a new file.
+    pub fn create(path: &Path, goes_on: bool) -> Result<Recorded, Failure> {
+        let tape = recording::Tape::create(path)
+            .map_err(|why| Failure::new(Status::Unrecorded, format!("{} {why}", path.display())))?;
+        Ok(Recorded::new(tape, path, goes_on))
     }
 }
 
 impl Tape {
-    /// Makes the file of a recording, and prints, where each is asked for.
+    /// Records and prints, where each is asked for.
     pub fn new(
-        file: Option<(&Path, bool)>,
+        file: Option<Recorded>,
         lines: Option<(Printer, Output)>,
         says: Sayer,
         fails: Fails,
-    ) -> Result<Tape, Failure> {
-        let file = file.map(|(path, goes_on)| Recorded::new(path, goes_on)).transpose()?;
-        Ok(Tape {
+    ) -> Tape {
+        Tape {
             file,
             lines: lines.map(|(printer, output)| Printed { printer: Mutex::new(printer), output }),
             opened: Mutex::new(0),
+            ending: Mutex::default(),
             says,
             fails,
-        })
+        }
     }
 
     /// Takes the opening of a connection, and gives its number.
@@ -114,8 +123,14 @@ impl Tape {
         self.judge(file, file.tape.write(end))
     }
 
+    /// Notes that a side of a connection has ended, which is recorded with the end of the other, or with that of all.
+    pub fn note_end(&self, connection: u32, first: Side) {
+        lock(&self.ending).insert(connection, first);
+    }
+
     /// Takes the end of a connection, of which a side closed it first.
     pub async fn close_connection(&self, connection: u32, first: Side) -> Result<(), Over> {
+        lock(&self.ending).remove(&connection);
         let content = [Kind::Bytes(first).letter()];
         self.take(connection, &[(Kind::Closed, &content)]).await
     }
@@ -177,9 +192,15 @@ impl Tape {
         }
     }
 
-    /// Ends the recording, once what is being written is: that may take for ever where the file is a pipe. A file without
+    /// Ends the recording, and the connections of which one side has ended, once what is being written is: that may take for ever where the file is a pipe. A file without
     /// a record is taken away where no server could be reached.
     pub fn close(&self, is_unreachable: bool) {
+        // No session records the end of its connection meanwhile.
+        let mut ending = lock(&self.ending);
+        for (connection, first) in ending.drain() {
+            let content = [Kind::Bytes(first).letter()];
+            let _ = self.put(connection, &[(Kind::Closed, &content)]);
+        }
         if let Some(file) = &self.file {
             file.is_ending.store(true, Ordering::Relaxed);
             file.tape.close();

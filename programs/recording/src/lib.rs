@@ -49,11 +49,15 @@
 #![forbid(unsafe_code)]
 
 mod copy;
+mod identity;
+mod partial;
 mod read;
 mod turns;
 mod write;
 
 pub use copy::Copy;
+pub use identity::Identity;
+pub use partial::{nameless, Partial, Unnamed};
 pub use read::{Damage, Reader, Record};
 pub use turns::Turns;
 pub use write::{Lost, Tape};

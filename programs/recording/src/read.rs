@@ -14,6 +14,8 @@ pub struct Record<'a> {
     /// Where the content begins in the file.
     pub content_at: u64,
     pub content: &'a [u8],
+    /// That of the content.
+    pub checksum: u32,
 }
 
 /// Why a recording can't be read on. What it shows follows the file's name; `about` puts both together.
@@ -152,6 +154,7 @@ impl<R: Read> Reader<R> {
             time: head.time,
             content_at: at + RECORD_HEAD as u64,
             content: &self.content[..head.len],
+            checksum: four(&self.content[head.len..]),
         }))
     }
 

@@ -1,10 +1,10 @@
 //! A recording that is written.
 
 use crate::{crc32, file_head, put_record, record_head, Kind, HEAD, RECORD_HEAD, RECORD_TAIL};
-use std::fs::{self, File, OpenOptions};
+use std::fs::{self, File, Metadata, OpenOptions, Permissions};
 use std::io::{self, IoSlice, Write};
 use std::mem;
-use std::os::unix::fs::OpenOptionsExt;
+use std::os::unix::fs::{MetadataExt, OpenOptionsExt, PermissionsExt};
 use std::path::Path;
 use std::sync::{Mutex, MutexGuard, PoisonError};
 use std::time::{Instant, SystemTime, UNIX_EPOCH};
@@ -52,13 +52,23 @@ impl Tape {
     pub fn create(path: &Path) -> Result<Tape, String> {
         let mut options = OpenOptions::new();
         options.append(true).create(true).mode(0o600);
-        let mut file = options.open(path).map_err(|why| format!("can't be opened: {why}"))?;
-        if file.metadata().map_or(false, |it| it.is_file() && it.len() > 0) {
-            return Err("has something in it: name a file for a new recording".to_owned());
+        let file = options.open(path).map_err(|why| format!("can't be opened: {why}"))?;
+        if let Some(it) = file.metadata().ok().filter(Metadata::is_file) {
+            if it.len() > 0 {
+                return Err("has something in it: name a file for a new recording".to_owned());
+            }
+            // The file may be an empty one that others could read.
+            file.set_permissions(Permissions::from_mode(0o600))
+                .map_err(|why| format!("can't be kept from others: {why}"))?;
         }
+        Tape::begin(file).map_err(|why| format!("can't be written: {why}"))
+    }
+
+    /// Begins a recording in an empty file.
+    pub fn begin(mut file: File) -> io::Result<Tape> {
         let now = SystemTime::now().duration_since(UNIX_EPOCH).unwrap_or_default();
         let head = file_head(now.as_micros() as u64);
-        file.write_all(&head).map_err(|why| format!("can't be written: {why}"))?;
+        file.write_all(&head)?;
         let begun = HEAD as u64;
         let queue = Queue { bytes: Vec::new(), added: begun };
         let out = Out { file, spare: Vec::new(), written: begun, is_closed: false };
@@ -124,11 +134,17 @@ impl Tape {
         lock(&self.out).is_closed = true;
     }
 
-    /// Takes the file away where it has no record, so that its name can be used again.
+    /// Takes the file away where it has no record, so that its name can be used again. Where a link led to the file, both
+    /// stay, and the file is empty.
     pub fn forget(&self, path: &Path) {
-        let is_empty = |it: fs::Metadata| it.is_file() && it.len() == HEAD as u64;
-        if lock(&self.out).file.metadata().map_or(false, is_empty) {
-            let _ = fs::remove_file(path);
+        let out = lock(&self.out);
+        let is_empty = |it: &Metadata| it.is_file() && it.len() == HEAD as u64;
+        if let Some(own) = out.file.metadata().ok().filter(is_empty) {
+            let is_own = |it: Metadata| (it.dev(), it.ino()) == (own.dev(), own.ino());
+            let _ = match fs::symlink_metadata(path).map_or(false, is_own) {
+                true => fs::remove_file(path),
+                false => out.file.set_len(0),
+            };
         }
     }
 }
@@ -177,6 +193,28 @@ fn write_all(file: &mut File, parts: [&[u8]; 4]) -> io::Result<()> {
 mod tests {
     use super::*;
     use crate::{Reader, Side};
+
+    #[test]
+    fn an_empty_file_that_others_can_read_is_kept_from_them() {
+        let path = tempfile::NamedTempFile::new().unwrap().into_temp_path();
+        fs::set_permissions(&path, Permissions::from_mode(0o644)).unwrap();
+        Tape::create(&path).unwrap();
+        assert_eq!(fs::metadata(&path).unwrap().mode() & 0o777, 0o600);
+    }
+
+    #[test]
+    fn a_link_is_not_taken_away_for_its_file() {
+        let folder = tempfile::tempdir().unwrap();
+        let (path, link) = (folder.path().join("tape"), folder.path().join("link"));
+        std::os::unix::fs::symlink(&path, &link).unwrap();
+        Tape::create(&link).unwrap().forget(&link);
+        assert_eq!(
+            (fs::read_link(&link).unwrap(), fs::metadata(&path).unwrap().len()),
+            (path.clone(), 0)
+        );
+        Tape::create(&link).unwrap().forget(&path);
+        assert!(!path.exists());
+    }
 
     #[test]
     fn what_is_added_is_read() {

@@ -51,9 +51,12 @@ struct Begun {
     endings: Endings,
 }
 
-/// Reads the recording, and listens. A recording that is to be made is begun.
+/// Listens, and reads the recording: clients that come meanwhile wait. A recording that is to be made is begun.
 async fn begin(options: &Options, tell: &Sayer) -> Result<Begun, Failure> {
     let rules = Arc::new(options.rules()?);
+    options.check_paths()?;
+    let mut addresses = Vec::new();
+    let bound = options.listening.bind(options.listen_port, |it| addresses.push(it)).await?;
     let (end, ends) = mpsc::channel(1);
     let fails = end.clone();
     let fails = move |failure| drop(fails.try_send(Err(failure)));
@@ -70,15 +73,15 @@ async fn begin(options: &Options, tell: &Sayer) -> Result<Begun, Failure> {
         again: options.again,
         any_order: options.any_order,
         goes_on: options.go_on,
+        is_strict: options.strict,
         login: options.scram.as_deref().map(login).transpose()?,
         renewal,
         end,
     };
-    options.check_paths()?;
     // Signals are taken before it is said that the program listens, so that one which comes then finds it ready.
     let endings = Endings::take().map_err(|why| Failure::new(Status::Local, why.to_string()))?;
-    let says = |words| tell.say_plain(words);
-    let Bound { listeners, tls } = options.listening.bind(options.listen_port, says).await?;
+    addresses.into_iter().for_each(|it| tell.say_plain(it));
+    let Bound { listeners, tls } = bound;
     Ok(Begun {
         shared: Shared::new(tape, rules, tell.clone(), tls, settings),
         listeners,
@@ -97,10 +100,10 @@ async fn run(
     let shared = Arc::new(shared);
     let status = tokio::select! {
         end = serve::serve(shared.clone(), listeners, workers, ends) => serve::ended(&shared, end),
-        status = endings.wait() => {
-            serve::ended(&shared, Ok(()));
-            status
-        }
+        status = endings.wait() => match serve::ended(&shared, Ok(())) {
+            found @ (Status::Different | Status::Ambiguous) if options.strict => found,
+            _ => status,
+        },
     };
     Ok((status, shared))
 }
@@ -109,9 +112,9 @@ async fn run(
 fn renew(shared: &Shared, options: &Options, tell: &Sayer) -> Result<(), Failure> {
     if let Some(renewal) = &shared.renewal {
         let renewed = shared.pool().renewed();
-        let count = renewal.end(&renewed)?;
+        let (new, gone) = renewal.end(&renewed)?;
         let path = options.file.display();
-        tell.say(format!("{count} sessions are new in {path}, and {} gone", renewed.len()));
+        tell.say(format!("{new} sessions are new in {path}, and {gone} gone"));
     }
     Ok(())
 }

@@ -51,14 +51,33 @@ impl Next {
     }
 }
 
+/// How many clients came, how many of them found a connection, and how many of their messages were as recorded.
+#[derive(Debug, Default)]
+struct Reached {
+    claims: u64,
+    seats: u64,
+    fits: u64,
+}
+
+/// A recorded message has the form that a client's has which said the same before.
+fn check_form(tape: &Tape, said: usize, message: &[u8]) {
+    let is_startup = tape.connections.iter().any(|it| it.startup == said);
+    if let (What::Form(form), false) = (tape.script.what(said), is_startup) {
+        let mut former = tape.former_at(said, &Arc::default()).expect(UNCHANGED);
+        assert_eq!(tape.forms.find(former.message(Some(message[0]), &message[HEAD..])), form);
+    }
+}
+
 /// Says something to a recording by a pool of one client.
-fn say(mutants: &mut Mutants, tape: &Arc<Tape>, pool: &mut Pool) {
+fn say(mutants: &mut Mutants, tape: &Arc<Tape>, pool: &mut Pool, reached: &mut Reached) {
     let mut former = Former::new(Arc::new(Rules::default()));
     let form = tape.forms.find(former.message(None, &STARTUP[4..]));
     mutants.took(1);
+    reached.claims += 1;
     let Claim::Seat(seat) = pool.claim(form) else {
         return;
     };
+    reached.seats += 1;
     let said = said_by(mutants, tape, seat);
     let mut next =
         Next { said: Some(tape.connections[seat].startup + 1), window: Window::default() };
@@ -68,6 +87,7 @@ fn say(mutants: &mut Mutants, tape: &Arc<Tape>, pool: &mut Pool) {
         let form = next.form(tape, &mut former, message);
         match pool.step(seat, form).expect(UNCHANGED) {
             Step::Fits(fit) => {
+                reached.fits += 1;
                 former.settle(form);
                 if fit.is_idle {
                     former.end_transaction();
@@ -91,7 +111,7 @@ fn say(mutants: &mut Mutants, tape: &Arc<Tape>, pool: &mut Pool) {
 
 #[test]
 fn anything_that_is_recorded_or_said_is_taken() {
-    let mut mutants = Mutants::of_variables(SAID);
+    let (mut mutants, mut reached) = (Mutants::of_variables(SAID), Reached::default());
     let path = std::env::temp_dir().join(format!("mutants.{}", std::process::id()));
     while mutants.go_on() {
         std::fs::write(&path, mutants.recording()).expect("a file");
@@ -107,16 +127,20 @@ fn anything_that_is_recorded_or_said_is_taken() {
         let tape = Arc::new(tape);
         let mut pool = Pool::new(tape.clone(), true, true, false);
         for _ in 0..40 {
-            say(&mut mutants, &tape, &mut pool);
+            say(&mut mutants, &tape, &mut pool, &mut reached);
         }
         let mut window = Window::default();
         for said in 0..tape.script.len() {
-            tape.message(said).expect(UNCHANGED);
+            let message = tape.message(said).expect(UNCHANGED);
+            check_form(&tape, said, &message);
             for part in tape.heard_of(said) {
                 tape.heard(part, &mut window).expect(UNCHANGED);
             }
         }
     }
+    println!("{reached:?}");
+    assert!(reached.seats * 2 > reached.claims, "few clients find a connection");
+    assert!(reached.fits > reached.seats, "few messages are as recorded");
     mutants.end("messages, recorded and said again");
 }
 

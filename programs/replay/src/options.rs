@@ -48,9 +48,6 @@ pub struct Options {
     /// Literals of this kind may differ in the text of SQL
     #[arg(long, value_name = "KIND", value_enum)]
     any_literal: Vec<LiteralKind>,
-    /// Names may differ, which they may without it
-    #[arg(long, hide = true)]
-    any_name: bool,
     /// With --again: a connection is served again as soon as its client is gone, for which another one waits some seconds
     #[arg(long)]
     pub any_order: bool,
@@ -64,6 +61,13 @@ pub struct Options {
     /// by a server once a statement has failed, until it rolls back as recorded
     #[arg(long)]
     pub go_on: bool,
+    /// Refuses a request that fits two recorded ones with different answers, where nothing tells which one the client means,
+    /// and ends with status 12; without it, a line says so. A signal ends the program with status 11 or 12 then, too, where
+    /// a client has differed or was refused. `--strict=false` after it takes it back
+    #[arg(long, value_name = "BOOL", num_args = 0..=1, require_equals = true, default_value_t = false,
+          default_missing_value = "true", action = clap::ArgAction::Set, overrides_with = "strict", hide_possible_values = true,
+          hide_default_value = true)]
+    pub strict: bool,
     /// Serves the recording again when all of it is replayed
     #[arg(long)]
     pub again: bool,
@@ -104,12 +108,19 @@ impl Options {
             true => (Status::Usage, with_usage(&why.to_string())),
             false => (Status::Ok, why.to_string()),
         })?;
-        let listens = options.listen_port.is_some() || !options.listening.listen.is_empty();
-        let has_use = options.recorded() != Recorded::Nothing || !options.server.is_given();
-        match listens && has_use {
-            true => Ok(options),
-            false => Err((Status::Usage, format!("{USAGE}\n"))),
+        match options.lack() {
+            None => Ok(options),
+            Some(why) => Err((Status::Usage, with_usage(why))),
         }
+    }
+
+    /// What the arguments lack for a replay.
+    fn lack(&self) -> Option<&'static str> {
+        if self.listen_port.is_none() && self.listening.listen.is_empty() {
+            return Some("where to listen is missing: LISTEN_PORT, or --listen ADDRESS");
+        }
+        let has_use = self.recorded() != Recorded::Nothing || !self.server.is_given();
+        (!has_use).then_some("a server has a use with --record-missing or --record-all alone")
     }
 
     /// What is recorded.

@@ -1,15 +1,15 @@
 //! The recording of what a replay passes on to a server, and of the sessions that it takes the place of.
 
-use crate::options::{Options, Recorded};
+use crate::options::{self, Options};
 use anyhow::anyhow;
 use net::{Failure, Sayer, Status, Stream, Upstream};
-use pg_record::{Link, NoLink, Tape};
-use recording::{Copy, Damage, Kind, Reader};
+use pg_record::{Link, NoLink, Recorded, Tape};
+use recording::{nameless, Copy, Damage, Identity, Kind, Partial, Reader, Unnamed};
 use std::collections::{HashMap, HashSet};
-use std::fs::{self, File, OpenOptions};
+use std::fs::{File, OpenOptions};
 use std::future::Future;
 use std::io::{self, BufReader, BufWriter, Write};
-use std::os::unix::fs::OpenOptionsExt;
+use std::os::unix::io::AsRawFd;
 use std::path::{Path, PathBuf};
 use std::sync::{Mutex, PoisonError};
 use std::time::Duration;
@@ -26,7 +26,8 @@ pub struct Renewal {
     /// What passes in this run.
     pub tape: Tape,
     upstream: Upstream,
-    /// The file of this run.
+    /// The file of this run, which has no name, and a path by which it is opened.
+    _run: File,
     run: PathBuf,
     /// The recording that will have the sessions, and whether it keeps those that it has.
     path: PathBuf,
@@ -43,11 +44,9 @@ fn unread(path: &Path, why: Damage) -> Failure {
     Failure::new(Status::Damaged, why.about(path))
 }
 
-/// A name beside a file, of this process.
-fn beside(path: &Path, what: &str) -> PathBuf {
-    let mut name = path.as_os_str().to_owned();
-    name.push(format!(".{}{what}", std::process::id()));
-    name.into()
+/// Opens a recording.
+fn open(path: &Path) -> Result<Reader<BufReader<File>>, Damage> {
+    Reader::new(BufReader::with_capacity(ROOM, File::open(path)?))
 }
 
 /// What a server answers within the time that it has.
@@ -62,23 +61,34 @@ impl Renewal {
         tell: &Sayer,
         fails: impl Fn(Failure) + Send + Sync + 'static,
     ) -> Result<Option<Renewal>, Failure> {
-        if options.recorded() == Recorded::Nothing {
+        if options.recorded() == options::Recorded::Nothing {
             return Ok(None);
         }
         let path = options.file.clone();
-        let run = beside(&path, "");
+        let failed = |why| unwritten(&path, &why);
         let upstream = options.server.find().await?;
-        let tape = Tape::new(Some((&run, false)), None, tell.clone(), Box::new(fails))?;
-        let keeps_old = options.recorded() == Recorded::Missing && path.exists();
-        Ok(Some(Renewal { tape, upstream, run, path, keeps_old, new: Mutex::default() }))
+        let file = nameless(&path).map_err(failed)?;
+        let run = PathBuf::from(format!("/proc/self/fd/{}", file.as_raw_fd()));
+        let recorded = recording::Tape::begin(file.try_clone().map_err(failed)?).map_err(failed)?;
+        let recorded = Recorded::new(recorded, &path, false);
+        let tape = Tape::new(Some(recorded), None, tell.clone(), Box::new(fails));
+        let keeps_old = options.recorded() == options::Recorded::Missing;
+        Ok(Some(Renewal {
+            tape,
+            upstream,
+            _run: file,
+            run,
+            path,
+            keeps_old,
+            new: Mutex::default(),
+        }))
     }
 
-    /// The recording that is replayed beside: one without a session where all is recorded.
+    /// The recording that is replayed beside: one without a session where there is none, or all is recorded.
     pub fn replayed(&self) -> &Path {
-        if self.keeps_old {
-            &self.path
-        } else {
-            &self.run
+        match self.keeps_old && self.path.exists() {
+            true => &self.path,
+            false => &self.run,
         }
     }
 
@@ -107,58 +117,72 @@ impl Renewal {
 
     /// What is recorded of this run.
     pub fn recorded(&self) -> Result<Reader<BufReader<File>>, Damage> {
-        Reader::new(BufReader::with_capacity(ROOM, File::open(&self.run)?))
+        open(&self.run)
     }
 
-    /// Puts the new sessions into the recording, without old ones that they take the place of. Answers how many are new.
-    pub fn end(&self, replaced: &HashSet<u32>) -> Result<usize, Failure> {
+    /// Puts the new sessions into the recording, without old ones that they take the place of, as far as these are there
+    /// still. Answers how many are new, and how many gone.
+    pub fn end(&self, replaced: &HashSet<u64>) -> Result<(usize, usize), Failure> {
         self.tape.close(false);
         let new = self.new.lock().unwrap_or_else(PoisonError::into_inner);
-        if !new.is_empty() {
-            let part = beside(&self.path, ".new");
-            let written = self.write(&part, replaced, &new).and_then(|()| {
-                fs::rename(&part, &self.path).map_err(|why| unwritten(&self.path, &why))
-            });
-            if let Err(why) = written {
-                let _ = fs::remove_file(&part);
-                return Err(why);
+        let failed = |why: io::Error| unwritten(&self.path, &why);
+        while !new.is_empty() {
+            let partial = Partial::beside(&self.path).map_err(failed)?;
+            let gone = self.write(&partial, replaced, &new)?;
+            match partial.name() {
+                Ok(()) => return Ok((new.len(), gone)),
+                // What the recording is now is read again.
+                Err(Unnamed::Changed) => {}
+                Err(Unnamed::File(why)) => return Err(failed(why)),
             }
         }
-        Ok(new.len())
+        Ok((0, 0))
     }
 
+    /// Writes the recording as it will be. Answers how many of its sessions are gone.
     fn write(
         &self,
-        part: &Path,
-        replaced: &HashSet<u32>,
+        partial: &Partial,
+        replaced: &HashSet<u64>,
         new: &HashSet<u32>,
-    ) -> Result<(), Failure> {
-        let failed = |why: io::Error| unwritten(part, &why);
-        let mut options = OpenOptions::new();
-        let file = options.write(true).create_new(true).mode(0o600).open(part).map_err(failed)?;
-        let open = |path: &Path| {
-            let file = File::open(path).map_err(Damage::from);
-            let reader = file.and_then(|it| Reader::new(BufReader::with_capacity(ROOM, it)));
-            reader.map_err(|why| unread(path, why))
-        };
-        let run = open(&self.run)?;
-        let old = if self.keeps_old { Some(open(&self.path)?) } else { None };
+    ) -> Result<usize, Failure> {
+        let failed = |why: io::Error| unwritten(&self.path, &why);
+        let file = OpenOptions::new().append(true).open(partial.path()).map_err(failed)?;
+        let damaged = |why| unread(&self.path, why);
+        let run = self.recorded().map_err(damaged)?;
+        let old = self.old().map_err(damaged)?;
         let begun = old.as_ref().map_or(run.begun(), Reader::begun);
         let later = run.begun().saturating_sub(begun);
         let copy = Copy::new(BufWriter::with_capacity(ROOM, file), begun).map_err(failed)?;
         let mut joined = Joined { copy, numbers: HashMap::new(), opened: 0, time: 0 };
+        let mut gone = HashSet::new();
         if let Some(old) = old {
-            joined.add(old, &self.path, 0, |it| !replaced.contains(&it))?;
+            gone = self.find(replaced).map_err(damaged)?;
+            joined.add(old, &self.path, 0, |it| !gone.contains(&it))?;
         }
-        joined.add(run, &self.run, later, |it| new.contains(&it))?;
-        joined.copy.end().map(drop).map_err(failed)
+        joined.add(run, &self.path, later, |it| new.contains(&it))?;
+        joined.copy.end().map_err(failed)?;
+        Ok(gone.len())
     }
-}
 
-/// The file of the run is needed by nobody then.
-impl Drop for Renewal {
-    fn drop(&mut self) {
-        let _ = fs::remove_file(&self.run);
+    /// The recording as it is now, where there is one whose sessions stay.
+    fn old(&self) -> Result<Option<Reader<BufReader<File>>>, Damage> {
+        match self.keeps_old.then(|| open(&self.path)) {
+            Some(Err(Damage::File(why))) if why.kind() == io::ErrorKind::NotFound => Ok(None),
+            old => old.transpose(),
+        }
+    }
+
+    /// The numbers that some sessions have in the recording now: one each, where a session is in it twice.
+    fn find(&self, sessions: &HashSet<u64>) -> Result<HashSet<u32>, Damage> {
+        let (mut reader, mut all) = (open(&self.path)?, HashMap::<u32, Identity>::new());
+        let begun = reader.begun();
+        while let Some(record) = reader.read()? {
+            all.entry(record.connection).or_default().add(begun, &record);
+        }
+        let numbers = all.into_iter().map(|(number, it)| (it.number(), number));
+        let numbers: HashMap<u64, u32> = numbers.collect();
+        Ok(sessions.iter().filter_map(|it| numbers.get(it).copied()).collect())
     }
 }
 

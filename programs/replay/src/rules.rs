@@ -9,7 +9,7 @@ use std::collections::HashSet;
 use std::path::Path;
 
 /// What may differ.
-#[derive(Default)]
+#[derive(Clone, Default)]
 pub struct Rules {
     replaced: Vec<(Regex, String)>,
     parameters: Vec<(Regex, Vec<usize>)>,
@@ -44,6 +44,16 @@ impl Rules {
             settings: file.settings.ignore.into_iter().map(String::into_bytes).collect(),
             ..Rules::default()
         })
+    }
+
+    /// These rules, and those of another text.
+    pub fn and(&self, text: &str) -> Result<Rules> {
+        let (mut all, more) = (self.clone(), Rules::parse(text)?);
+        all.replaced.extend(more.replaced);
+        all.parameters.extend(more.parameters);
+        all.ignored.extend(more.ignored);
+        all.settings.extend(more.settings);
+        Ok(all)
     }
 
     /// Adds what the options let differ.

@@ -2,7 +2,7 @@
 
 use crate::pool::Pool;
 use crate::renewal::Renewal;
-use crate::report::{Allowed, Report, Side};
+use crate::report::{doubt, Adviser, Allowed, Report, Side};
 use crate::rules::Rules;
 use crate::session::{greet, Login};
 use crate::tape::{plain, Tape};
@@ -19,7 +19,7 @@ use tokio::time::sleep;
 const DESCRIPTORS: u64 = 2;
 
 /// How long a client may take for its Startup while others wait for a place.
-const CROWDED_PATIENCE: Duration = Duration::from_secs(2);
+const CROWDED_PATIENCE: Duration = Duration::from_secs(1);
 /// When it is looked again where no client can be accepted.
 const PAUSE: Duration = Duration::from_millis(50);
 
@@ -27,6 +27,7 @@ const PAUSE: Duration = Duration::from_millis(50);
 pub struct Shared {
     pub tape: Arc<Tape>,
     pub rules: Arc<Rules>,
+    adviser: Adviser,
     pool: Mutex<Pool>,
     /// Something came that a session may wait for of others.
     pub stirred: Notify,
@@ -41,6 +42,9 @@ pub struct Shared {
     /// What is recorded beside.
     pub renewal: Option<Renewal>,
     is_different: AtomicBool,
+    /// A client that may mean either of two recorded messages ends by that.
+    pub is_strict: bool,
+    is_ambiguous: AtomicBool,
     /// Clients whose Startup hasn't come, the oldest first.
     openings: Mutex<VecDeque<Opening>>,
     end: mpsc::Sender<Result<(), Failure>>,
@@ -56,6 +60,7 @@ pub struct Settings {
     pub again: bool,
     pub any_order: bool,
     pub goes_on: bool,
+    pub is_strict: bool,
     pub login: Option<Login>,
     pub renewal: Option<Renewal>,
     /// What tells that all ends, and how.
@@ -74,6 +79,7 @@ impl Shared {
         let pool = Pool::new(tape.clone(), settings.again, settings.any_order, gives_back);
         Shared {
             pool: Mutex::new(pool),
+            adviser: Adviser::new(tape.clone(), rules.clone()),
             tape,
             rules,
             stirred: Notify::new(),
@@ -87,6 +93,8 @@ impl Shared {
             login: settings.login,
             renewal: settings.renewal,
             is_different: AtomicBool::new(false),
+            is_strict: settings.is_strict,
+            is_ambiguous: AtomicBool::new(false),
             openings: Mutex::new(VecDeque::new()),
             end: settings.end,
         }
@@ -94,6 +102,11 @@ impl Shared {
 
     pub fn pool(&self) -> MutexGuard<'_, Pool> {
         self.pool.lock().unwrap_or_else(PoisonError::into_inner)
+    }
+
+    /// What may differ, with the text of the statement of a Bind.
+    pub fn allowed(&self, statement: Option<Vec<u8>>) -> Allowed<'_> {
+        Allowed { rules: &self.rules, adviser: &self.adviser, statement }
     }
 
     fn openings(&self) -> MutexGuard<'_, VecDeque<Opening>> {
@@ -105,14 +118,29 @@ impl Shared {
         self.tell.say_plain(report.words());
     }
 
-    /// Ends the oldest connection without a Startup, where others wait for a place.
-    fn make_place(&self) {
-        let mut openings = self.openings();
-        openings.retain(|(_, go)| !go.is_closed());
-        if openings.front().map_or(false, |(begun, _)| begun.elapsed() >= CROWDED_PATIENCE) {
-            if let Some((_, go)) = openings.pop_front() {
-                let _ = go.send(());
+    /// Tells that a client may mean another message than it is answered, which was answered otherwise: once for a request
+    /// where that is let pass, and else by what ends the session.
+    pub fn tell_doubt(&self, said: usize, rival: usize) -> Option<Report> {
+        let report = self.is_strict.then(|| Report::of_doubt(&self.tape, said, rival));
+        match &report {
+            Some(report) => {
+                self.is_ambiguous.store(true, Ordering::Relaxed);
+                self.tell.say_plain(report.words());
             }
+            None => {
+                self.pool().pass_over_rivals(said);
+                self.tell.say(format!("note: {}", doubt(&self.tape, said, rival)));
+            }
+        }
+        report
+    }
+
+    /// Ends the connections that have had their time for a Startup, where others wait for a place.
+    fn make_places(&self) {
+        let mut openings = self.openings();
+        let late = openings.partition_point(|(begun, _)| begun.elapsed() >= CROWDED_PATIENCE);
+        for (_, go) in openings.drain(..late) {
+            let _ = go.send(());
         }
     }
 
@@ -183,16 +211,18 @@ pub fn ended(shared: &Shared, ended: Result<(), Failure>) -> Status {
     let unsaid = {
         let pool = shared.pool();
         let unsaid = pool.first_unsaid().filter(|_| pool.is_done());
-        unsaid.map(|said| (pool.connection_of(said), said))
+        unsaid.map(|said| (shared.tape.connection_of(said), said))
     };
     let mut is_different = shared.is_different.load(Ordering::Relaxed);
-    if let (Some((connection, said)), false, true) = (unsaid, is_different, ended.is_ok()) {
+    let is_ambiguous = shared.is_ambiguous.load(Ordering::Relaxed);
+    let is_told = is_different || is_ambiguous || ended.is_err();
+    if let (Some((connection, said)), false) = (unsaid, is_told) {
         is_different = true;
         let recorded =
             shared.tape.message(said).map_or_else(|why| Side::Words(why.to_string()), Side::read);
         let received = Side::Words("no client said it".to_owned());
         let place = (Some(connection), shared.tape.script.number(said));
-        let allowed = Allowed { rules: &shared.rules, statement: None };
+        let allowed = shared.allowed(None);
         shared.tell.say_plain(Report::new(place, &allowed, &recorded, &received, None).words());
     }
     let status = match ended {
@@ -200,6 +230,8 @@ pub fn ended(shared: &Shared, ended: Result<(), Failure>) -> Status {
             shared.tell.say(&failure);
             failure.status
         }
+        // A client that is refused may then differ.
+        Ok(()) if is_ambiguous => Status::Ambiguous,
         Ok(()) if is_different => Status::Different,
         Ok(()) => Status::Ok,
     };
@@ -208,7 +240,7 @@ pub fn ended(shared: &Shared, ended: Result<(), Failure>) -> Status {
     status
 }
 
-/// Accepts clients. Where that can't be now, the oldest that says nothing gives its place.
+/// Accepts clients. Where that can't be now, those that have said nothing for a while give their places.
 async fn accept(
     shared: &Arc<Shared>,
     listener: &Listener,
@@ -220,7 +252,7 @@ async fn accept(
             match places.clone().try_acquire_owned() {
                 Ok(place) => break place,
                 Err(_) => {
-                    shared.make_place();
+                    shared.make_places();
                     sleep(PAUSE).await;
                 }
             }
@@ -236,7 +268,7 @@ async fn accept(
                 });
             }
             Err(why) if may_pass(&why) => {
-                shared.make_place();
+                shared.make_places();
                 sleep(PAUSE).await;
             }
             Err(why) => return Err(why),

@@ -241,7 +241,14 @@ mod tests {
         let other: Vec<u32> = (300_000..600_000).collect();
         let begun = Instant::now();
         assert_eq!(applied(&one, &other, Duration::from_millis(100)), (one, other));
-        assert!(begun.elapsed() < Duration::from_secs(20), "{:?}", begun.elapsed());
+        assert!(begun.elapsed() < Duration::from_secs(60), "{:?}", begun.elapsed());
+    }
+
+    #[test]
+    fn what_turns_a_text_is_escaped() {
+        let what = What::Bytes { side: Side::Client, bytes: "a\u{202e}b".as_bytes().into() };
+        let wanted = (Side::Client, r"client bytes a\xe2\x80\xaeb".to_owned());
+        assert_eq!(line(&what, &mut Writer::default()), Some(wanted));
     }
 
     #[test]

@@ -17,6 +17,8 @@ pub enum Status {
     Local = 7,
     /// A file is no recording, or no export of one, or has a fault.
     Damaged = 10,
+    /// A recording from which secrets were taken may have more, where their places can't be told.
+    Untold = 13,
 }
 
 /// Why the program ends, with its status.
@@ -48,8 +50,17 @@ impl Failure {
         Failure::new(Status::Local, format!("{} can't be read: {why}", path.display()))
     }
 
-    /// A file that can't be written.
+    /// A file that can't be written. Where nobody reads a pipe any more, as after `head`, there are no words.
     pub fn unwritten(path: &Path, why: &io::Error) -> Failure {
-        Failure::new(Status::Local, format!("{} can't be written: {why}", path.display()))
+        let words = match why.kind() {
+            io::ErrorKind::BrokenPipe => String::new(),
+            _ => format!("{} can't be written: {why}", path.display()),
+        };
+        Failure::new(Status::Local, words)
+    }
+
+    /// Whether there is something to say of it.
+    pub fn has_words(&self) -> bool {
+        !self.words.is_empty()
     }
 }

@@ -61,7 +61,9 @@ fn run(command: &Command) -> Result<Status> {
             remove::remove(tape, connections, *keep, output)?
         }
         Command::Split { tape, folder } => split::split(tape, folder)?,
-        Command::Redact { tape, rules, output } => redact::redact(tape, rules.as_deref(), output)?,
+        Command::Redact { tape, rules, output } => {
+            return redact::redact(tape, rules.as_deref(), output)
+        }
         Command::View { tape, output } => view::view(tape, output)?,
         Command::Diff { one, other } => return diff::diff(one, other),
     }
@@ -70,7 +72,9 @@ fn run(command: &Command) -> Result<Status> {
 
 fn main() -> ExitCode {
     let status = run(&Options::parse().command).unwrap_or_else(|failure| {
-        say(&failure);
+        if failure.has_words() {
+            say(&failure);
+        }
         failure.status
     });
     ExitCode::from(status as u8)

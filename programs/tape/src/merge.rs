@@ -58,11 +58,11 @@ impl Source {
 pub fn merge(paths: &[PathBuf], to: &Path) -> Result<()> {
     let all: Vec<&Path> = paths.iter().map(PathBuf::as_path).collect();
     let bar = Bar::new("merge", &all);
+    let mut out = Output::create(to)?;
     let sources: Result<Vec<Source>> = all.iter().map(|path| Source::open(path, &bar)).collect();
     let mut sources = sources?;
     let begun = sources.iter().map(|it| it.tape.begun()).min().unwrap_or_default();
     let unwritten = |why| Failure::unwritten(to, &why);
-    let mut out = Output::create(to)?;
     let mut copy = Copy::new(&mut out, begun).map_err(unwritten)?;
     let mut numbers = Numbers::default();
     let time_of =

@@ -7,8 +7,9 @@ use std::path::PathBuf;
 /// Exports, imports, edits, compares, redacts and shows recordings of pg_record.
 ///
 /// Ends with 0; with 1 where two recordings differ; with 2 for wrong arguments or rules; with 7 where a file can't be read
-/// or written; with 10 where a recording, or an export of one, has a fault. A file that is written has its name only when
-/// all of it is there, and takes the place of one of that name.
+/// or written; with 10 where a recording, or an export of one, has a fault; with 13 where a recording from which secrets were
+/// taken may have more. A file that is written has its name only when all of it is there, and takes the place of one of that
+/// name, unless another program has changed that one meanwhile.
 #[derive(Parser, Debug)]
 #[command(name = "pg_tape", version, disable_help_subcommand = true)]
 pub struct Options {
@@ -97,8 +98,9 @@ pub enum Command {
     /// `[[redact.parameter]]` statement, positions; `[[redact.statement]]` pattern, for the literals and the parameters of
     /// statements that it matches; `[[redact.text]]` pattern, for its first group or all that it matches in any text or
     /// value, names among them. Without a rule passwords are found that SQL or a login has, verifiers by SCRAM-SHA-256 and
-    /// MD5, and keys of BackendKeyData and CancelRequest. In the place of a secret stands a value of its length and type.
-    /// Says which rules matched nothing.
+    /// MD5, and keys of BackendKeyData and CancelRequest. In the place of a password stands `xxxxxxxx`, and in that of any
+    /// other secret a value of its length and type, wherever the secret stands in the recording. Says which rules matched
+    /// nothing, and how many values can't be told from secrets: then it ends with 13.
     Redact {
         /// The recording
         tape: PathBuf,

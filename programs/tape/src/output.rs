@@ -1,19 +1,15 @@
 //! Where output goes: standard output, or a file that has it only when all of it is there.
 
-use crate::failure::{Failure, Result};
-use std::fs::{self, OpenOptions};
+use crate::failure::{Failure, Result, Status};
+use recording::Partial;
+use std::fs::{self, File, Metadata, OpenOptions};
 use std::io::{self, BufWriter, Write};
-use std::os::unix::fs::OpenOptionsExt;
+use std::os::unix::fs::MetadataExt;
+use std::os::unix::io::AsFd;
 use std::path::{Path, PathBuf};
 
 /// How much is written at once.
 const ROOM: usize = 1 << 17;
-
-/// The name of a file that is written, until all of it is there.
-struct Partial {
-    path: PathBuf,
-    name: PathBuf,
-}
 
 /// A recording or an export of one may hold secrets: nobody else may read the file.
 pub struct Output {
@@ -22,8 +18,29 @@ pub struct Output {
     path: PathBuf,
 }
 
+/// A file that is open only while it is written, so that any number of them can be at hand.
+struct Appended(PathBuf);
+
+impl Write for Appended {
+    fn write(&mut self, bytes: &[u8]) -> io::Result<usize> {
+        OpenOptions::new().append(true).open(&self.0)?.write(bytes)
+    }
+
+    fn flush(&mut self) -> io::Result<()> {
+        Ok(())
+    }
+}
+
+/// Whether a file is the one that standard output goes to, which a path like /dev/stdout leads to.
+fn is_stdout(file: &Metadata) -> bool {
+    let stdout = io::stdout().as_fd().try_clone_to_owned().map(File::from);
+    let is_same = |it: Metadata| (it.dev(), it.ino()) == (file.dev(), file.ino());
+    stdout.and_then(|it| it.metadata()).map_or(false, is_same)
+}
+
 impl Output {
-    /// Output to a file, which takes the place of one that is there.
+    /// Output to a file, which takes the place of one that is there. It is begun before what another file has is read, so that
+    /// this one may have it, too.
     pub fn create(path: &Path) -> Result<Output> {
         Output::with_room(path, ROOM)
     }
@@ -31,35 +48,31 @@ impl Output {
     /// The same, where so many bytes are written at once.
     pub fn with_room(path: &Path, room: usize) -> Result<Output> {
         let failed = |why| Failure::unwritten(path, &why);
-        let is_regular = fs::metadata(path).map_or(true, |it| it.is_file());
-        let (file, partial) = match is_regular {
-            false => (OpenOptions::new().write(true).open(path).map_err(failed)?, None),
-            true => {
-                let mut name = path.as_os_str().to_owned();
-                name.push(format!(".{}", std::process::id()));
-                let partial = Partial { path: path.to_owned(), name: name.into() };
-                let mut options = OpenOptions::new();
-                options.write(true).create_new(true).mode(0o600);
-                (options.open(&partial.name).map_err(failed)?, Some(partial))
+        let (file, partial): (Box<dyn Write>, _) = match fs::metadata(path) {
+            Ok(it) if is_stdout(&it) => return Ok(Output::to_stdout()),
+            Ok(it) if !it.is_file() => {
+                (Box::new(OpenOptions::new().write(true).open(path).map_err(failed)?), None)
+            }
+            _ => {
+                let partial = Partial::beside(path).map_err(failed)?;
+                (Box::new(Appended(partial.path().to_owned())), Some(partial))
             }
         };
-        Ok(Output {
-            writer: BufWriter::with_capacity(room, Box::new(file)),
-            partial,
-            path: path.to_owned(),
-        })
+        let writer = BufWriter::with_capacity(room, file);
+        Ok(Output { writer, partial, path: path.to_owned() })
+    }
+
+    fn to_stdout() -> Output {
+        Output {
+            writer: BufWriter::with_capacity(ROOM, Box::new(io::stdout())),
+            partial: None,
+            path: "standard output".into(),
+        }
     }
 
     /// Output to a file, or to standard output where none is named.
     pub fn to(path: Option<&Path>) -> Result<Output> {
-        match path {
-            Some(path) => Output::create(path),
-            None => Ok(Output {
-                writer: BufWriter::with_capacity(ROOM, Box::new(io::stdout())),
-                partial: None,
-                path: "standard output".into(),
-            }),
-        }
+        path.map_or_else(|| Ok(Output::to_stdout()), Output::create)
     }
 
     /// Writes bytes.
@@ -70,25 +83,8 @@ impl Output {
     /// Writes what is left, and gives the file its name.
     pub fn end(mut self) -> Result<()> {
         self.writer.flush().map_err(|why| Failure::unwritten(&self.path, &why))?;
-        match self.partial.take() {
-            None => Ok(()),
-            Some(partial) => {
-                let renamed = fs::rename(&partial.name, &partial.path);
-                if renamed.is_err() {
-                    let _ = fs::remove_file(&partial.name);
-                }
-                renamed.map_err(|why| Failure::unwritten(&partial.path, &why))
-            }
-        }
-    }
-}
-
-/// Takes away a file that isn't whole.
-impl Drop for Output {
-    fn drop(&mut self) {
-        if let Some(partial) = self.partial.take() {
-            let _ = fs::remove_file(partial.name);
-        }
+        let named = self.partial.take().map_or(Ok(()), Partial::name);
+        named.map_err(|why| Failure::new(Status::Local, format!("{} {why}", self.path.display())))
     }
 }
 

@@ -11,9 +11,9 @@ use std::path::Path;
 
 /// Copies a recording without the connections that are named, or with those alone.
 pub fn remove(path: &Path, named: &[Choice], keeps: bool, to: &Path) -> Result<()> {
+    let mut out = Output::create(to)?;
     let mut tape = Tape::open(path, &Bar::new("drop", &[path]))?;
     let unwritten = |why| Failure::unwritten(to, &why);
-    let mut out = Output::create(to)?;
     let mut copy = Copy::new(&mut out, tape.begun()).map_err(unwritten)?;
     let (mut choices, mut numbers) = (Choices::new(named), Numbers::default());
     while let Some(record) = tape.read()? {

@@ -103,8 +103,8 @@ pub fn server_messages() -> Vec<backend::Message<'static>> {
             value: "UTC".into(),
         }),
         M::NegotiateProtocolVersion(backend::NegotiateProtocolVersion {
-            minor: 0,
             options: ["_pq_.a".into()].into(),
+            ..Default::default()
         }),
         M::ReadyForQuery(TransactionStatus::Idle),
         M::RowDescription(

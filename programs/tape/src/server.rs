@@ -208,7 +208,7 @@ fn key<'t>(it: &'t Key<'_>) -> backend::BackendKeyData<'t> {
 }
 
 fn negotiation<'t>(it: &'t Negotiation<'_>) -> backend::NegotiateProtocolVersion<'t> {
-    backend::NegotiateProtocolVersion { minor: it.minor, options: texts(&it.options) }
+    backend::NegotiateProtocolVersion { major: 3, minor: it.minor, options: texts(&it.options) }
 }
 
 fn notification<'t>(it: &'t Notification<'_>) -> backend::NotificationResponse<'t> {

@@ -2,6 +2,7 @@
 
 use std::env;
 use std::ffi::OsString;
+use std::fs;
 use std::io::{BufRead, BufReader};
 use std::process::{Child, ChildStderr, Command, ExitStatus, Stdio};
 use std::sync::mpsc::{self, Receiver, RecvTimeoutError};
@@ -13,7 +14,7 @@ use rustix::process::{kill_process, Pid, Signal};
 use crate::Error;
 
 /// How long a program may take to listen, or to end.
-pub const PATIENCE: Duration = Duration::from_secs(10);
+const PATIENCE: Duration = Duration::from_secs(60);
 
 /// How the line begins that names the port.
 const LISTENING: &str = "listening on 127.0.0.1 port ";
@@ -54,21 +55,19 @@ impl Program {
         self.port
     }
 
-    /// The number of the process.
-    pub fn process_id(&self) -> u32 {
-        self.child.id()
-    }
-
     /// The lines that the program has written so far, without the one that names the port.
     pub fn said(&mut self) -> String {
         self.said.extend(self.lines.try_iter());
         self.said.join("\n")
     }
 
-    /// Those that say more than how many sessions were replayed.
+    /// Those that say more than how many sessions were replayed, and that aren't notes.
     pub fn differences(&mut self) -> String {
         self.said();
-        let lines = self.said.iter().filter(|line| !line.ends_with(" sessions are replayed"));
+        let is_more = |line: &&String| {
+            !line.ends_with(" sessions are replayed") && !line.starts_with("pg_replay: note: ")
+        };
+        let lines = self.said.iter().filter(is_more);
         lines.map(String::as_str).collect::<Vec<_>>().join("\n")
     }
 
@@ -82,6 +81,28 @@ impl Program {
             thread::sleep(Duration::from_millis(5));
         }
         Ok(true)
+    }
+
+    /// Waits until no file of the program has grown for a moment, since clients that are gone may have said more.
+    pub fn await_quiet(&self) {
+        let (end, mut last) = (Instant::now() + PATIENCE, None);
+        while Instant::now() < end && last != Some(self.written()) {
+            last = Some(self.written());
+            thread::sleep(Duration::from_millis(200));
+        }
+    }
+
+    /// The size of all files that the program holds open, of which some have no name.
+    fn written(&self) -> u64 {
+        let files = fs::read_dir(format!("/proc/{}/fd", self.child.id()));
+        let files = files.into_iter().flatten().flatten();
+        files.filter_map(|file| fs::metadata(file.path()).ok()).map(|it| it.len()).sum()
+    }
+
+    /// Ends the program at once: pg_replay leaves its recording as it was.
+    pub fn kill(&mut self) -> Result<(), Error> {
+        self.child.kill()?;
+        self.end().map(drop)
     }
 
     /// Ends the program where it runs, and returns its status, with all lines read that it wrote.

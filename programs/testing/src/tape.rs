@@ -5,9 +5,11 @@ use std::ffi::OsString;
 use std::fs;
 use std::path::{Path, PathBuf};
 use std::thread;
-use std::time::{Duration, Instant};
+use std::time::Duration;
 
-use crate::program::{Program, PATIENCE};
+use tempfile::{Builder, TempPath};
+
+use crate::program::Program;
 use crate::Error;
 
 /// How long pg_replay may take to end after the last session of the recording.
@@ -63,7 +65,8 @@ impl Options {
         }
     }
 
-    /// Replays a recording.
+    /// Replays a recording. A client is refused where it may mean another session whose answer differs, unless
+    /// `--strict=false` is among the [`arguments`](Options::arguments).
     pub fn replay(self, path: impl AsRef<Path>) -> Result<Tape, Error> {
         let path = path.as_ref().to_owned();
         if !path.exists() {
@@ -71,7 +74,7 @@ impl Options {
         }
         let order = if self.is_whole { &[][..] } else { &["--any-order", "--again"] };
         let mut arguments = words(order);
-        arguments.push("--go-on".into());
+        arguments.extend(words(&["--go-on", "--strict"]));
         arguments.extend(self.arguments);
         arguments.push(path.clone().into());
         let work = Work::Replay { is_whole: self.is_whole };
@@ -82,24 +85,24 @@ impl Options {
     /// recording takes the place of the old one once the tape is finished.
     pub fn renew(self, path: impl AsRef<Path>) -> Result<Tape, Error> {
         let path = path.as_ref().to_owned();
-        let new = cleared(&path)?;
-        if path.exists() {
-            fs::copy(&path, &new)?;
-        }
+        folder(&path)?;
         let mut arguments = words(&["--record-missing", "--any-order", "--again", "--go-on"]);
         arguments.extend(self.address());
         arguments.extend(self.arguments);
-        arguments.push(new.into());
+        arguments.push(path.clone().into());
         Tape::start("pg_replay", &arguments, path, Work::Renew)
     }
 
     /// Makes a recording anew. It takes the place of an old one once the tape is finished.
     pub fn record(self, path: impl AsRef<Path>) -> Result<Tape, Error> {
         let path = path.as_ref().to_owned();
-        let new = cleared(&path)?;
+        // The name is of this run alone: others may record beside it.
+        let mut name = path.file_name().unwrap_or_default().to_owned();
+        name.push(".");
+        let new = Builder::new().prefix(&name).tempfile_in(folder(&path)?)?.into_temp_path();
         let mut arguments: Vec<OsString> = self.address().collect();
-        arguments.extend(["-o".into(), new.into()]);
-        Tape::start("pg_record", &arguments, path, Work::Record)
+        arguments.extend(["-o".into(), new.as_os_str().to_owned()]);
+        Tape::start("pg_record", &arguments, path, Work::Record(new))
     }
 
     /// The words that name the server.
@@ -120,15 +123,18 @@ impl Options {
 pub struct Tape {
     path: PathBuf,
     program: Program,
-    work: Work,
-    is_finished: bool,
+    /// None once it is over.
+    work: Option<Work>,
 }
 
-#[derive(Debug, Clone, Copy, PartialEq, Eq)]
+#[derive(Debug)]
 enum Work {
-    Record,
+    /// The new recording, until it takes the place of the old one.
+    Record(TempPath),
     Renew,
-    Replay { is_whole: bool },
+    Replay {
+        is_whole: bool,
+    },
 }
 
 impl Tape {
@@ -139,7 +145,7 @@ impl Tape {
         work: Work,
     ) -> Result<Tape, Error> {
         let program = Program::start(name, arguments)?;
-        Ok(Tape { path, program, work, is_finished: false })
+        Ok(Tape { path, program, work: Some(work) })
     }
 
     /// The host that clients connect to.
@@ -154,7 +160,7 @@ impl Tape {
 
     /// Whether the recording is being made.
     pub fn is_recorded(&self) -> bool {
-        self.work == Work::Record
+        matches!(self.work, Some(Work::Record(_)))
     }
 
     /// What pg_replay has reported so far: nothing where no client differed, or where the recording is being made.
@@ -172,11 +178,11 @@ impl Tape {
     }
 
     fn close(&mut self) -> Result<(), Error> {
-        self.is_finished = true;
-        match self.work {
-            Work::Record => self.close_recording(),
-            Work::Renew => self.close_renewal(),
-            Work::Replay { is_whole } => self.close_replay(is_whole),
+        match self.work.take() {
+            None => Ok(()),
+            Some(Work::Record(new)) => self.close_recording(new),
+            Some(Work::Renew) => self.close_renewal(),
+            Some(Work::Replay { is_whole }) => self.close_replay(is_whole),
         }
     }
 
@@ -191,49 +197,39 @@ impl Tape {
     }
 
     fn close_renewal(&mut self) -> Result<(), Error> {
-        let new = new_path(&self.path);
-        await_quiet(&with_end(&new, &format!(".{}", self.program.process_id())));
-        let differs = !self.program.differences().is_empty();
-        // The recording is written once the program is told to end.
-        let status = self.program.end()?;
-        if differs {
+        self.program.await_quiet();
+        if !self.program.differences().is_empty() {
+            // Told to end, the program would put into the recording what a run that fails has said.
+            self.program.kill()?;
             return Err(Error::Differs { path: self.path.clone(), said: self.program.said() });
         }
+        let status = self.program.end()?;
         if status.code() != Some(TOLD_TO_END) {
             return Err(self.program.failed(format!("ended with {status}")));
-        }
-        if new.exists() {
-            fs::rename(new, &self.path)?;
         }
         Ok(())
     }
 
-    fn close_recording(&mut self) -> Result<(), Error> {
-        let new = new_path(&self.path);
-        await_quiet(&new);
+    fn close_recording(&mut self, new: TempPath) -> Result<(), Error> {
+        self.program.await_quiet();
         // The program has words only for what it couldn't pass on or record.
         if self.program.has_ended(Duration::ZERO)? || !self.program.said().is_empty() {
-            let failed = self.program.failed("failed");
-            fs::remove_file(&new)?;
-            return Err(failed);
+            return Err(self.program.failed("failed"));
         }
         self.program.end()?;
         if fs::metadata(&new)?.len() <= HEAD {
-            fs::remove_file(&new)?;
             return Err(Error::NoClient(self.port()));
         }
-        Ok(fs::rename(new, &self.path)?)
+        Ok(new.persist(&self.path).map_err(|why| why.error)?)
     }
 }
 
 impl Drop for Tape {
     fn drop(&mut self) {
-        if self.is_finished {
-            return;
-        }
-        if thread::panicking() && !matches!(self.work, Work::Replay { .. }) {
+        let is_made = matches!(self.work, Some(Work::Record(_) | Work::Renew));
+        if thread::panicking() && is_made {
             // A test that failed leaves the old recording.
-            let _ = fs::remove_file(new_path(&self.path));
+            let _ = self.program.kill();
         } else if let Err(why) = self.close() {
             if thread::panicking() {
                 eprintln!("{why}");
@@ -249,35 +245,10 @@ fn words(all: &[&str]) -> Vec<OsString> {
     all.iter().map(Into::into).collect()
 }
 
-/// Where a recording is made, beside the one whose place it takes.
-fn new_path(path: &Path) -> PathBuf {
-    with_end(path, ".new")
-}
-
-/// The same, where nothing is any more.
-fn cleared(path: &Path) -> Result<PathBuf, Error> {
-    let new = new_path(path);
-    if let Some(folder) = path.parent() {
-        fs::create_dir_all(folder)?;
-    }
-    if new.exists() {
-        fs::remove_file(&new)?;
-    }
-    Ok(new)
-}
-
-fn with_end(path: &Path, end: &str) -> PathBuf {
-    let mut name = path.as_os_str().to_owned();
-    name.push(end);
-    name.into()
-}
-
-/// Waits until a recording has grown no more for a moment, since clients that are gone may have said more.
-fn await_quiet(path: &Path) {
-    let size = || path.metadata().map(|it| it.len()).ok();
-    let (end, mut last) = (Instant::now() + PATIENCE, None);
-    while Instant::now() < end && size().is_some() && last != size() {
-        last = size();
-        thread::sleep(Duration::from_millis(200));
-    }
+/// The folder of a recording, which is made where it isn't there.
+fn folder(path: &Path) -> Result<&Path, Error> {
+    let folder = path.parent().filter(|it| !it.as_os_str().is_empty());
+    let folder = folder.unwrap_or_else(|| Path::new("."));
+    fs::create_dir_all(folder)?;
+    Ok(folder)
 }

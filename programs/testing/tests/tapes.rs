@@ -5,7 +5,7 @@ use std::io::{Read, Write};
 use std::net::{TcpListener, TcpStream};
 use std::path::PathBuf;
 use std::time::Duration;
-use std::{env, fs, process, thread};
+use std::{fs, thread};
 
 use pgmsg_testing::{Error, Options, Tape};
 
@@ -71,6 +71,43 @@ fn only_what_is_missing_is_recorded() {
 }
 
 #[test]
+fn of_runs_at_once_each_adds_what_it_records() {
+    let path = recorded("at-once", &["SELECT 1"]);
+    let renew = || Options::new().server("127.0.0.1", server()).renew(&path).unwrap();
+    let (one, other, failing) = (renew(), renew(), renew());
+    for (tape, query) in [(&one, "SELECT 2"), (&other, "SELECT 3"), (&failing, "SELECT 4")] {
+        assert_eq!(ask(tape, &[query]), [query]);
+    }
+    one.finish().unwrap();
+    let failed = thread::spawn(move || {
+        let _tape = failing;
+        panic!("a test fails");
+    });
+    assert!(failed.join().is_err());
+    other.finish().unwrap();
+    let tape = Options::new().whole().replay(&path).unwrap();
+    for query in ["SELECT 1", "SELECT 2", "SELECT 3"] {
+        assert_eq!(ask(&tape, &[query]), [query]);
+    }
+    tape.finish().unwrap();
+    assert_eq!(fs::read_dir(path.parent().unwrap()).unwrap().count(), 1);
+}
+
+#[test]
+fn of_recordings_at_once_each_is_whole() {
+    let path = folder("recorded-at-once").join("its.tape");
+    let record = || Options::new().server("127.0.0.1", server()).record(&path).unwrap();
+    let (one, other) = (record(), record());
+    ask(&one, &["SELECT 1"]);
+    ask(&other, &["SELECT 2"]);
+    other.finish().unwrap();
+    one.finish().unwrap();
+    let tape = Options::new().whole().replay(&path).unwrap();
+    assert_eq!(ask(&tape, &["SELECT 1"]), ["SELECT 1"]);
+    tape.finish().unwrap();
+}
+
+#[test]
 fn a_recording_that_is_missing_or_no_recording_is_named() {
     let path = folder("none").join("none.tape");
     let why = Options::new().replay(&path).unwrap_err();
@@ -87,6 +124,23 @@ fn a_recording_that_is_missing_or_no_recording_is_named() {
 fn options_of_pg_replay_are_passed_on() {
     let path = recorded("options", &["SELECT 1"]);
     let tape = Options::new().arguments(["--any-literal", "number"]).replay(path).unwrap();
+    assert_eq!(ask(&tape, &["SELECT 2"]), ["SELECT 1"]);
+    tape.finish().unwrap();
+}
+
+#[test]
+fn an_answer_that_may_be_another_sessions_is_refused() {
+    let path = folder("either").join("its.tape");
+    let tape = Options::new().server("127.0.0.1", server()).record(&path).unwrap();
+    assert_eq!(ask(&tape, &["SELECT 1"]), ["SELECT 1"]);
+    assert_eq!(ask(&tape, &["SELECT 2"]), ["SELECT 2"]);
+    tape.finish().unwrap();
+    let any_number = Options::new().arguments(["--any-literal", "number"]);
+    let tape = any_number.clone().replay(&path).unwrap();
+    assert!(ask(&tape, &["SELECT 2"]).is_empty());
+    let why = tape.finish().unwrap_err();
+    assert!(why.to_string().contains("a client may mean either: SELECT 1"), "{why}");
+    let tape = any_number.arguments(["--strict=false"]).replay(path).unwrap();
     assert_eq!(ask(&tape, &["SELECT 2"]), ["SELECT 1"]);
     tape.finish().unwrap();
 }
@@ -122,9 +176,8 @@ fn recorded(name: &str, queries: &[&str]) -> PathBuf {
 }
 
 fn folder(name: &str) -> PathBuf {
-    let folder = env::temp_dir().join(format!("pgmsg-testing-{}-{name}", process::id()));
-    fs::create_dir_all(&folder).unwrap();
-    folder
+    let folder = tempfile::Builder::new().prefix(&format!("pgmsg-testing-{name}-")).tempdir();
+    folder.unwrap().into_path()
 }
 
 /// Starts a server, and returns its port.

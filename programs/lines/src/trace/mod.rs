@@ -122,7 +122,7 @@ pub fn encryption_answer(out: &mut Vec<u8>, style: Style, request: &Message<'_>,
 }
 
 /// The name of a server's message.
-pub(crate) fn server_name(tag: u8) -> Option<&'static str> {
+pub fn server_name(tag: u8) -> Option<&'static str> {
     server::kind(tag).map(|kind| kind.name)
 }
 

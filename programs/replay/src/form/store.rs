@@ -29,6 +29,11 @@ impl Forms {
         *self.numbers.entry(key_of(form)).or_insert(next)
     }
 
+    /// How many there are.
+    pub fn len(&self) -> usize {
+        self.numbers.len()
+    }
+
     /// The number of a form, or `UNRECORDED`.
     pub fn find(&self, form: &[u8]) -> u32 {
         self.numbers.get(&key_of(form)).copied().unwrap_or(UNRECORDED)

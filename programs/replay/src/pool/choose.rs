@@ -39,7 +39,7 @@ impl Pool {
     }
 
     /// The turns that begin as one, where so many messages of it were said, and there are others to take.
-    fn like(&self, turn: usize, count: usize) -> Vec<usize> {
+    pub(super) fn like(&self, turn: usize, count: usize) -> Vec<usize> {
         let first = self.core(turn).next().map(|it| self.tape.script.what(it));
         match first {
             Some(What::Form(first)) if count > 0 && !self.tape.is_single() => {
@@ -89,7 +89,7 @@ impl Pool {
 
     /// Whether a turn is free, or has a client that may as well have the session's. That client isn't ahead of the session,
     /// which has said so many messages that none may leave out.
-    fn can_change(&self, id: usize, other: usize, count: usize) -> bool {
+    pub(super) fn can_change(&self, id: usize, other: usize, count: usize) -> bool {
         match self.holders.get(&other).copied() {
             Some(holder) if holder == id => false,
             Some(holder) => {
@@ -112,14 +112,14 @@ impl Pool {
     }
 
     /// Whether so many messages of two turns are the same, where those that are compared as bytes are of one length.
-    fn says_alike(&self, one: usize, other: usize, count: usize) -> bool {
+    pub(super) fn says_alike(&self, one: usize, other: usize, count: usize) -> bool {
         let what = |said: usize| self.tape.script.what(said);
         let pairs = self.core(one).zip(self.core(other)).take(count);
         pairs.filter(|(one, other)| what(*one) == what(*other)).count() == count
     }
 
     /// Whether two turns are the same for so many messages and their answers.
-    fn is_alike(&self, one: usize, other: usize, count: usize) -> Result<bool, Changed> {
+    pub(super) fn is_alike(&self, one: usize, other: usize, count: usize) -> Result<bool, Changed> {
         if !self.says_alike(one, other, count) {
             return Ok(false);
         }
@@ -137,6 +137,7 @@ impl Pool {
 
     /// Exchanges two turns, of which another client may have the second. That one goes on at the same message.
     fn change(&mut self, id: usize, own: usize, other: usize) {
+        self.note_jump(id, other);
         let holder = self.holders.insert(other, id);
         self.seat_mut(id).take_instead(own, other);
         let Some(holder) = holder else {

@@ -47,7 +47,7 @@ impl Pool {
         self.connections.iter().any(|it| it.seat.is_some())
     }
 
-    fn free(&self) -> impl Iterator<Item = usize> + '_ {
+    pub(super) fn free(&self) -> impl Iterator<Item = usize> + '_ {
         let all = self.connections.iter().enumerate();
         all.filter(|(_, it)| it.seat.is_none() && it.rounds <= self.round).map(|(number, _)| number)
     }
@@ -73,6 +73,7 @@ impl Pool {
             cancels: 0,
             begun: self.caused,
             taken: Vec::new(),
+            is_pooled: false,
         });
     }
 
@@ -83,11 +84,11 @@ impl Pool {
             return;
         };
         connection.rounds += 1;
+        connection.is_replayed |= is_replayed;
         if let Some(turn) = seat.turn.filter(|it| self.holders.get(it) == Some(&id)) {
             self.holders.remove(&turn);
         }
         self.done += 1;
-        self.replayed += usize::from(is_replayed);
     }
 
     /// Ends a session that goes on with a server, and takes the place of a recorded one: others may take what it took.

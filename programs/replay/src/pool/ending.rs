@@ -9,9 +9,9 @@ impl Pool {
         !self.again && self.done >= self.tape.connections.len()
     }
 
-    /// How many sessions were replayed without a difference.
+    /// How many recorded sessions were replayed without a difference, each counted once.
     pub fn replayed(&self) -> usize {
-        self.replayed
+        self.connections.iter().filter(|it| it.is_replayed).count()
     }
 
     /// The first recorded message that no client said, of those that may not be left out.
@@ -24,15 +24,9 @@ impl Pool {
             .next()
     }
 
-    /// The number of the connection of a message.
-    pub fn connection_of(&self, said: usize) -> u32 {
-        let place = self.tape.connections.partition_point(|it| it.startup <= said);
-        self.tape.connections[place.max(1) - 1].number
-    }
-
-    /// The numbers of connections in whose place a client went on with a server, and of which no other client took a part. The
+    /// The identities of connections in whose place a client went on with a server, and of which no other client took a part. The
     /// login is no part, unless nothing else was said.
-    pub fn renewed(&self) -> HashSet<u32> {
+    pub fn renewed(&self) -> HashSet<u64> {
         let all = self.tape.connections.iter().zip(&self.connections);
         let renewed = all.filter(|(recorded, it)| {
             let is_login = recorded.turns.is_empty();
@@ -40,6 +34,6 @@ impl Pool {
                 && (!is_login || it.rounds == 0)
                 && recorded.turns.clone().all(|turn| self.uses[turn] == 0)
         });
-        renewed.map(|(recorded, _)| recorded.number).collect()
+        renewed.map(|(recorded, _)| recorded.identity).collect()
     }
 }

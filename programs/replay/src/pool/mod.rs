@@ -6,11 +6,14 @@
 mod choose;
 mod claims;
 mod ending;
+mod rivals;
+#[cfg(test)]
+mod tests;
 
 pub use claims::Claim;
 
 use crate::tape::{Changed, Ending, Tape, What};
-use std::collections::HashMap;
+use std::collections::{HashMap, HashSet};
 use std::ops::Range;
 use std::sync::Arc;
 
@@ -37,6 +40,8 @@ struct Seat {
     begun: u64,
     /// The turns that it took, where it may give them back.
     taken: Vec<usize>,
+    /// It took turns of several connections.
+    is_pooled: bool,
 }
 
 #[derive(Clone, Debug, Default)]
@@ -45,6 +50,8 @@ struct ConnectionState {
     seat: Option<Seat>,
     /// How many clients had it and are gone.
     rounds: usize,
+    /// A client that had it did as recorded.
+    is_replayed: bool,
     /// A client went on with a server in its place.
     is_renewed: bool,
 }
@@ -64,11 +71,12 @@ pub struct Pool {
     by_first: Vec<(u32, u32)>,
     /// Messages that prepare statements, by their forms. Only the connections of a pool say them at other places.
     preparing: HashMap<u32, usize>,
+    /// The forms of messages that may have rivals.
+    apart: HashSet<u32>,
     /// When messages were said that others wait for, by their count.
     causes: HashMap<usize, u64>,
     caused: u64,
     done: usize,
-    replayed: usize,
 }
 
 /// What becomes of a message.
@@ -92,6 +100,8 @@ pub struct Fit {
     pub hangs_up: bool,
     /// The recording ends after it, before the answer was whole.
     pub is_cut: bool,
+    /// Another message that fits as well, and was answered otherwise.
+    pub rival: Option<usize>,
 }
 
 /// What is expected of a session.
@@ -132,6 +142,7 @@ impl Pool {
         });
         let preparing = preparing.collect();
         Pool {
+            apart: rivals::forms_apart(&tape),
             preparing,
             again,
             gives_back,
@@ -143,7 +154,6 @@ impl Pool {
             causes: HashMap::new(),
             caused: 0,
             done: 0,
-            replayed: 0,
             tape,
         }
     }
@@ -194,15 +204,21 @@ impl Pool {
             None => self.take_turn(id, form),
         };
         if is_next {
-            return Ok(Step::Fits(self.advance(id)));
+            return self.fits(id);
         }
         if let Some(said) = self.preparing.get(&form) {
             return Ok(Step::Prepares(*said));
         }
         match self.choose_again(id, form)? {
-            true => Ok(Step::Fits(self.advance(id))),
+            true => self.fits(id),
             false => Ok(Step::Differs(self.expected(id).said)),
         }
+    }
+
+    /// Takes the message that a session is at.
+    fn fits(&mut self, id: usize) -> Result<Step, Changed> {
+        let rival = self.rival(id)?;
+        Ok(Step::Fits(Fit { rival, ..self.advance(id) }))
     }
 
     /// The place in a turn, from one on, of a message of a form: the next one, or the first one after those that may be
@@ -255,6 +271,9 @@ impl Pool {
         });
         let at = found.and_then(|turn| self.find(turn, 0, form));
         if let (Some(turn), Some(at)) = (found, at) {
+            if found != own {
+                self.note_jump(id, turn);
+            }
             self.hold(id, turn, at);
         }
         at.is_some()
@@ -327,6 +346,7 @@ impl Pool {
             is_idle: is_turn_over && tape.snapshot_after(turn).is_none(),
             hangs_up: is_end && connection.ending == Ending::ByServer,
             is_cut: is_end && connection.ending == Ending::Unrecorded { is_idle: false },
+            rival: None,
         }
     }
 

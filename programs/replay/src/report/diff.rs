@@ -10,6 +10,8 @@ use std::collections::HashMap;
 
 /// Longer texts are cut.
 const SHOWN: usize = 1000;
+/// So many parts are shown.
+const PARTS_MOST: usize = 40;
 
 /// Parts of a message with their names.
 pub type Parts = Vec<(String, Vec<u8>)>;
@@ -37,7 +39,12 @@ pub fn lines(allowed: &Allowed<'_>, recorded: &Side, received: &Side) -> String 
     });
     let added = other.iter().filter(|(name, _)| !before.contains_key(&name[..]));
     let added = added.map(|(name, text)| line(name, format!("{{+{}+}}", escaped(text))));
-    changed.chain(added).map(cut).collect()
+    let mut all = changed.chain(added);
+    let shown: String = all.by_ref().take(PARTS_MOST).map(cut).collect();
+    match all.count() {
+        0 => shown,
+        more => format!("{shown}\n  and {more} more"),
+    }
 }
 
 fn cut(mut line: String) -> String {

@@ -1,6 +1,8 @@
 //! What is said about a difference, here and to the client.
 
+mod advice;
 mod diff;
+mod doubt;
 mod parting;
 mod rule;
 
@@ -12,6 +14,8 @@ use parting::parting;
 use pgmsg::backend::{Field, FieldKind, Message, TransactionStatus};
 use std::collections::HashSet;
 
+pub use advice::Adviser;
+pub use doubt::sentence as doubt;
 pub use parting::Parting;
 
 /// Longer texts are cut.
@@ -92,7 +96,7 @@ impl Side {
         String::from_utf8_lossy(&out).trim_end_matches('\n').to_owned()
     }
 
-    fn line(&self) -> String {
+    pub(super) fn line(&self) -> String {
         let mut line = match self {
             Side::Words(words) => words.clone(),
             _ => self.trace(),
@@ -108,6 +112,7 @@ impl Side {
 /// What may differ in what is compared.
 pub struct Allowed<'r> {
     pub rules: &'r Rules,
+    pub adviser: &'r Adviser,
     /// The text of the statement of a Bind.
     pub statement: Option<Vec<u8>>,
 }
@@ -145,14 +150,22 @@ impl Report {
         let part = part.or_else(|| parting(allowed, recorded, received));
         let part = part.map_or(String::new(), |it| format!(": {}", it.words(recorded, received)));
         let rule = rule::of(allowed, recorded, received);
-        let rule = rule.map_or(String::new(), |it| {
-            format!("\nto let this differ, in a file for --rules:\n{it}")
-        });
+        let rule = rule.map_or(String::new(), |it| allowed.adviser.words(&it));
         Report {
             is_startup: number == 1,
             sentence: format!("message {number}{connection} isn't the recorded one{part}"),
             sides: format!("recorded: {}\nreceived: {}", recorded.line(), received.line()),
             more: diff::lines(allowed, recorded, received) + &rule,
+        }
+    }
+
+    /// Of a message of a client that may mean another one, which isn't let pass.
+    pub fn of_doubt(tape: &Tape, said: usize, rival: usize) -> Report {
+        Report {
+            is_startup: tape.is_startup(said),
+            sentence: doubt(tape, said, rival),
+            sides: doubt::ADVICE.to_owned(),
+            more: String::new(),
         }
     }
 

@@ -4,7 +4,7 @@ use super::passing::pass_all;
 use super::{linger, say, Session, Taping};
 use crate::form::{Former, UNRECORDED};
 use crate::pool::Claim;
-use crate::report::{fatal, Allowed, Report, Side};
+use crate::report::{fatal, Report, Side};
 use crate::serve::Shared;
 use anyhow::Result;
 use net::{open, FirstMessage, Stream};
@@ -146,8 +146,7 @@ async fn differ(shared: &Shared, mut guest: Guest, connection: Option<usize>) {
     };
     let number = connection.map(|it| shared.tape.connections[it].number);
     let received = Side::Startup(guest.startup);
-    let allowed = Allowed { rules: &shared.rules, statement: None };
-    let report = Report::new((number, 1), &allowed, &recorded, &received, None);
+    let report = Report::new((number, 1), &shared.allowed(None), &recorded, &received, None);
     shared.tell_difference(&report);
     let _ = guest.stream.write_all(&report.error()).await;
     let _ = guest.stream.flush().await;

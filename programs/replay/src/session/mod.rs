@@ -13,7 +13,7 @@ pub use login::Login;
 pub use taping::Taping;
 
 use crate::form::Former;
-use crate::report::{Allowed, Parting, Report, Side};
+use crate::report::{Parting, Report, Side};
 use crate::serve::Shared;
 use crate::tape::{Changed, Cutter, Ending, Place, SpokenReader};
 use anyhow::Result;
@@ -35,6 +35,8 @@ const READ_AT_ONCE: usize = 64 << 10;
 #[derive(Clone, Copy, Debug, PartialEq, Eq)]
 enum State {
     Serving,
+    /// What is to be sent is sent in its time, unless the client says more before: the server hung up after it.
+    HangingUp,
     /// What is to be sent is sent, and nothing more is taken.
     Ending,
     /// The client said what isn't recorded, and goes on with the server where there is one.
@@ -124,9 +126,12 @@ impl<'s> Session<'s> {
         startup: usize,
         bytes: Vec<u8>,
     ) -> Result<Option<bool>> {
-        self.out.add(&self.shared.tape, startup, self.heard_at);
-        self.next = Some(startup + 1);
-        self.end_without_turns();
+        let rival = self.shared.pool().rival_of_login(self.seat);
+        if self.passes(startup, rival) {
+            self.out.add(&self.shared.tape, startup, self.heard_at);
+            self.next = Some(startup + 1);
+            self.end_without_turns();
+        }
         self.note(&bytes).await;
         let ends = self.talk(&mut stream, bytes).await;
         if self.state == State::Missing && ends.is_ok() {
@@ -148,10 +153,19 @@ impl<'s> Session<'s> {
         let expected = self.shared.pool().expected(self.seat);
         match expected.ending {
             _ if expected.has_turns => {}
-            Ending::ByServer => self.state = State::Ending,
+            Ending::ByServer => self.state = State::HangingUp,
             Ending::Unrecorded { is_idle: false } => self.differ_at_cut(),
             _ => {}
         }
+    }
+
+    /// Whether the session goes on where another message fits that was answered otherwise, if one does.
+    fn passes(&mut self, said: usize, rival: Option<usize>) -> bool {
+        let report = rival.and_then(|it| self.shared.tell_doubt(said, it));
+        if let Some(report) = &report {
+            self.refuse_all(report);
+        }
+        report.is_none()
     }
 
     /// Ends the session where the recording does, in the midst of an answer.
@@ -167,7 +181,7 @@ impl<'s> Session<'s> {
             let stirred = self.shared.stirred.notified();
             self.take(&bytes).map_err(|why| self.changed(&why))?;
             bytes.clear();
-            if self.state != State::Serving {
+            if matches!(self.state, State::Ending | State::Missing) {
                 return Ok(());
             }
             let waits = match self.out.send(self.shared, self.seat, stream, self.holds).await {
@@ -178,6 +192,10 @@ impl<'s> Session<'s> {
                     return self.end_of_client().map_err(|why| self.changed(&why).into())
                 }
             };
+            if self.state == State::HangingUp && self.out.is_empty() {
+                self.state = State::Ending;
+                return Ok(());
+            }
             if !self.wait(stream, &mut bytes, waits, stirred).await {
                 return self.end_of_client().map_err(|why| self.changed(&why).into());
             }
@@ -248,11 +266,8 @@ impl<'s> Session<'s> {
     fn report_of(&self, recorded: &Side, received: &Side, part: Option<Parting>) -> Report {
         let (expected, shared) = (self.shared.pool().expected(self.seat), self.shared);
         let statement = expected.said.and_then(|it| shared.tape.statement_of(it));
-        let (allowed, place) = (
-            Allowed { rules: &shared.rules, statement },
-            (Some(expected.connection), expected.number),
-        );
-        Report::new(place, &allowed, recorded, received, part)
+        let place = (Some(expected.connection), expected.number);
+        Report::new(place, &shared.allowed(statement), recorded, received, part)
     }
 
     fn end_by(&mut self, report: Report) {
@@ -267,6 +282,11 @@ impl<'s> Session<'s> {
     /// Ends the session by a difference.
     fn fail(&mut self, report: &Report) {
         self.shared.tell_difference(report);
+        self.refuse_all(report);
+    }
+
+    /// Ends the session by an error.
+    fn refuse_all(&mut self, report: &Report) {
         self.out.add_made(report.error());
         self.has_failed = true;
         self.state = State::Ending;

@@ -91,6 +91,11 @@ impl<'s> Outgoing<'s> {
         self.items.push_back(Item::Made(bytes));
     }
 
+    /// Whether nothing is left to send but what other clients cause.
+    pub fn is_empty(&self) -> bool {
+        self.items.is_empty()
+    }
+
     /// Sends what nothing is waited for.
     pub async fn send(
         &mut self,

@@ -14,6 +14,9 @@ const FOLLOWED_MOST: u32 = 32;
 impl Session<'_> {
     /// Takes bytes, message by message, until the session ends.
     pub(super) fn take(&mut self, mut bytes: &[u8]) -> Result<(), Changed> {
+        if self.state == State::HangingUp && !bytes.is_empty() {
+            self.state = State::Ending;
+        }
         let mut cutter = std::mem::replace(&mut self.cutter, Cutter::of_client());
         while self.state == State::Serving {
             match cutter.cut(&mut bytes) {
@@ -39,7 +42,7 @@ impl Session<'_> {
             }
             b'X' => self.take_terminate(message),
             b'd' if self.is_both && is_state_of_standby(&message[HEAD..]) => Ok(()),
-            b'd' => self.take_bytes(message, message.len(), message.len()),
+            b'd' => self.take_bytes(message, 0, message.len()),
             _ => match self.end_run(message)? {
                 true => self.take_form(message),
                 false => Ok(()),
@@ -84,6 +87,10 @@ impl Session<'_> {
                 self.fit(fit);
             }
             Step::Prepares(said) => {
+                let rival = self.shared.pool().rival_of_preparing(said);
+                if !self.passes(said, rival) {
+                    return Ok(());
+                }
                 self.out.add(&self.shared.tape, said, self.heard_at);
                 self.former.settle(form);
                 self.is_ignoring = true;
@@ -138,6 +145,9 @@ impl Session<'_> {
 
     /// Answers what fits.
     pub(super) fn fit(&mut self, fit: Fit) {
+        if !self.passes(fit.said, fit.rival) {
+            return;
+        }
         self.next = self.next.filter(|it| *it == fit.said).map(|it| it + 1);
         let said = &self.shared.tape.script.said[fit.said];
         self.out.add(&self.shared.tape, fit.said, self.heard_at);
@@ -154,7 +164,7 @@ impl Session<'_> {
             self.shared.stirred.notify_waiters();
         }
         if fit.hangs_up {
-            self.state = State::Ending;
+            self.state = State::HangingUp;
         }
         if fit.is_cut {
             self.differ_at_cut();
@@ -286,7 +296,7 @@ impl Session<'_> {
         if self.run.as_ref().map_or(false, |it| it.left == 0) {
             self.finish_run();
         }
-        if self.state == State::Ending || self.lost.is_some() {
+        if self.state != State::Serving || self.lost.is_some() {
             self.state = State::Ending;
             return Ok(());
         }

@@ -1,7 +1,7 @@
 //! What the server of a recorded connection said: where it belongs, and what it waits for.
 
 use super::causes::{Target, Wait};
-use super::connection::{Building, Bytes, End, Notified};
+use super::connection::{Building, Bytes, Notified};
 use super::cutter::{Cut, Cutter};
 use super::{Piece, HEAD};
 use pgmsg::backend::{BackendKeyData, FieldKind, Fields, NotificationResponse};
@@ -48,6 +48,9 @@ impl Building {
     fn take_whole(&mut self, taking: &mut Taking<'_>, message: &[u8], range: Range<usize>) {
         let (time, cancelled) = (taking.bytes.time, taking.cancelled);
         let place = self.place(message[0], &message[HEAD..], time, cancelled);
+        if self.ends.is_empty() && place.is_some() && message[0] != b'K' {
+            self.login.update(message);
+        }
         let is_rest = !self.pending.is_empty();
         if is_rest || !extends(&mut taking.open, place, range.start, range.end) {
             self.close(taking);
@@ -151,7 +154,7 @@ impl Building {
     fn end_exchange(&mut self, target: Target, body: &[u8]) {
         let status = body.first().copied().unwrap_or(b'I');
         match target {
-            Target::Said(said) => self.ends.push(End { said: said as u32, status }),
+            Target::Said(said) => self.add_end(said, status),
             Target::Held => self.held_status = Some(status),
             Target::After(_) => {}
         }

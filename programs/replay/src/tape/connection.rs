@@ -7,8 +7,11 @@ use super::sharing::Sharing;
 use super::{Ending, Piece, HEAD};
 use crate::form::{Former, Forms, UNRECORDED};
 use crate::rules::Rules;
+use crc32fast::Hasher;
 use pgmsg::frontend::Message;
+use recording::Identity;
 use std::collections::{HashMap, VecDeque};
+use std::ops::Range;
 use std::sync::Arc;
 
 /// A message whose form isn't made: its place, its tag, which only the first has none of, and its body.
@@ -48,6 +51,7 @@ pub struct Bytes<'a> {
 
 pub struct Building {
     pub number: u32,
+    pub identity: Identity,
     client: Cutter,
     pub(super) server: Cutter,
     pub(super) causes: Causes,
@@ -73,6 +77,12 @@ pub struct Building {
     pub is_broken: bool,
     pub cancels: Option<u32>,
     pub process: Option<u32>,
+    /// When the client spoke first and last.
+    spoke: Range<u64>,
+    /// When it was closed.
+    pub closed: Option<u64>,
+    /// Of what the server said before the session was open, without its key.
+    pub login: Hasher,
     /// The server's message that isn't whole, and when its parts came.
     pub(super) pending: Vec<(Piece, u64)>,
     pub(super) long_tag: Option<u8>,
@@ -89,6 +99,7 @@ impl Building {
     pub fn new(number: u32, rules: Arc<Rules>) -> Building {
         Building {
             number,
+            identity: Identity::default(),
             client: Cutter::of_connection(),
             server: Cutter::of_server(),
             causes: Causes::default(),
@@ -109,6 +120,9 @@ impl Building {
             is_broken: false,
             cancels: None,
             process: None,
+            spoke: 0..0,
+            closed: None,
+            login: Hasher::new(),
             pending: Vec::new(),
             long_tag: None,
             is_long: false,
@@ -128,6 +142,8 @@ impl Building {
     /// Takes what the client said.
     pub fn take_client(&mut self, bytes: Bytes<'_>) {
         let mut rest = bytes.content;
+        let first = if self.script.records() == 0 { bytes.time } else { self.spoke.start };
+        self.spoke = first..bytes.time;
         self.script
             .spoken
             .push(Spoken { piece: Piece::of(bytes.content, bytes.at), time: bytes.time });
@@ -255,8 +271,14 @@ impl Building {
             self.hear_of(said, piece);
         }
         if let Some(status) = self.held_status.take() {
-            self.ends.push(End { said: said as u32, status });
+            self.add_end(said, status);
         }
+    }
+
+    /// Notes the end of an exchange. One that was held comes after those that ended meanwhile.
+    pub(super) fn add_end(&mut self, said: usize, status: u8) {
+        let last = self.ends.last().map_or(0, |it| it.said);
+        self.ends.push(End { said: last.max(said as u32), status });
     }
 
     /// Makes the forms of the messages of exchanges that are over, and of all others at the end.
@@ -296,6 +318,12 @@ impl Building {
         if !self.held.is_empty() || self.held_status.is_some() {
             self.free(self.script.len() - 1);
         }
+    }
+
+    /// When it was open. A server closes it a while after its client has said so.
+    pub fn open(&self) -> Range<u64> {
+        let last = if self.has_terminated { Some(self.spoke.end) } else { self.closed };
+        self.spoke.start..last.unwrap_or(u64::MAX)
     }
 
     /// How it ends, by the side that closed it.

@@ -25,6 +25,8 @@ const FORMS_AT_FIRST: u64 = 1 << 22;
 
 /// Connections that aren't over, and what is known of those that are.
 struct Loading {
+    /// When the recording began.
+    begun: u64,
     rules: Arc<Rules>,
     forms: Forms,
     open: HashMap<u32, Building>,
@@ -58,7 +60,7 @@ pub fn load(
     };
     let length = file.metadata().map_or(0, |it| it.len());
     let mut reader = Reader::new(BufReader::with_capacity(1 << 18, &file)).map_err(damaged)?;
-    let mut loading = Loading::new(rules, length, keeps_times);
+    let mut loading = Loading::new(rules, reader.begun(), length, keeps_times);
     while let Some(record) = reader.read().map_err(damaged)? {
         if !loading.take(&record) {
             return Err(uncounted());
@@ -83,8 +85,9 @@ pub fn plain(why: &std::io::Error) -> String {
 
 impl Loading {
     /// Of a file of so many bytes.
-    fn new(rules: &Arc<Rules>, length: u64, keeps_times: bool) -> Loading {
+    fn new(rules: &Arc<Rules>, begun: u64, length: u64, keeps_times: bool) -> Loading {
         Loading {
+            begun,
             rules: rules.clone(),
             forms: Forms::with_capacity((length / BYTES_A_FORM).min(FORMS_AT_FIRST) as usize),
             open: HashMap::new(),
@@ -99,10 +102,13 @@ impl Loading {
     fn take(&mut self, record: &recording::Record<'_>) -> bool {
         let number = record.connection;
         let bytes = Bytes { content: record.content, at: record.content_at, time: record.time };
+        if record.kind == Kind::Opened {
+            self.open.insert(number, Building::new(number, self.rules.clone()));
+        }
+        if let Some(building) = self.open.get_mut(&number) {
+            building.identity.add(self.begun, record);
+        }
         match record.kind {
-            Kind::Opened => {
-                self.open.insert(number, Building::new(number, self.rules.clone()));
-            }
             Kind::Bytes(side) => {
                 if let Some(building) = self.open.get_mut(&number) {
                     match side {
@@ -124,12 +130,13 @@ impl Loading {
                     building.asks_for_password = true;
                 }
             }
-            Kind::LeftOut(Side::Client) => {}
+            Kind::Opened | Kind::LeftOut(Side::Client) => {}
             Kind::Encrypted => {
                 self.encrypted += usize::from(self.open.remove(&number).is_some());
             }
             Kind::Closed => {
-                if let Some(building) = self.open.remove(&number) {
+                if let Some(mut building) = self.open.remove(&number) {
+                    building.closed = Some(record.time);
                     self.end(building, Some(record.closed_by() == Some(Side::Client)));
                 }
             }
@@ -209,8 +216,11 @@ impl Tape {
         }
         self.connections.push(Connection {
             number: building.number,
+            identity: building.identity.number(),
             startup: base,
             turns: begin..self.turns.len(),
+            open: building.open(),
+            login: std::mem::take(&mut building.login).finalize(),
             ending,
             is_left_at_password: building.asks_for_password
                 && building.ends.is_empty()

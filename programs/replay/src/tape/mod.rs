@@ -21,6 +21,7 @@ pub use spoken::SpokenReader;
 
 use crate::form::{Former, Forms};
 use crate::rules::Rules;
+use crc32fast::Hasher;
 use pgmsg::frontend::Message;
 use std::collections::HashMap;
 use std::fs::File;
@@ -66,9 +67,15 @@ pub struct Tape {
 pub struct Connection {
     /// Its number in the recording.
     pub number: u32,
+    /// What it is known by in others.
+    pub identity: u64,
     /// Where its Startup is in `said`.
     pub startup: usize,
     pub turns: Range<usize>,
+    /// When its client came and said the last of it, or when it was closed otherwise, in microseconds.
+    pub open: Range<u64>,
+    /// The checksum of what was heard of its Startup, without the key that each connection has of its own.
+    pub login: u32,
     pub ending: Ending,
     /// The server had asked for a password, and heard nothing more.
     pub is_left_at_password: bool,
@@ -226,7 +233,13 @@ impl Tape {
         )
     }
 
-    fn is_startup(&self, said: usize) -> bool {
+    /// The number of the connection of a message.
+    pub fn connection_of(&self, said: usize) -> u32 {
+        let place = self.connections.partition_point(|it| it.startup <= said);
+        self.connections[place.max(1) - 1].number
+    }
+
+    pub fn is_startup(&self, said: usize) -> bool {
         self.connections.iter().any(|it| it.startup == said)
     }
 
@@ -350,6 +363,22 @@ impl Tape {
     /// Reads what a client said from a message on.
     pub fn reader(&self, said: usize) -> SpokenReader {
         SpokenReader::new(self.script.said[said].at)
+    }
+
+    /// The length and the checksum of what was heard of a message. Two that are the same in these are taken for the same.
+    pub fn sum_of(&self, said: usize) -> u64 {
+        let (mut sum, mut length) = (Hasher::new(), 0);
+        for piece in &self.heard[self.heard_of(said)] {
+            sum.combine(&piece.sum());
+            length += piece.len() as u64;
+        }
+        length << 32 | u64::from(sum.finalize())
+    }
+
+    /// Whether two connections were open at the same time, as those of a pool are.
+    pub fn were_open_together(&self, one: usize, other: usize) -> bool {
+        let (one, other) = (&self.connections[one].open, &self.connections[other].open);
+        one.start < other.end && other.start < one.end
     }
 
     /// Whether the same was heard of two messages.

@@ -1,5 +1,6 @@
 //! Bytes of a recording, which are compared with what was checked whenever they are read.
 
+use crc32fast::Hasher;
 use std::fs::File;
 use std::io;
 use std::ops::Range;
@@ -30,6 +31,11 @@ impl Piece {
     /// Where they begin in the file.
     pub fn at(&self) -> u64 {
         self.at
+    }
+
+    /// Their checksum, to which that of others can be added.
+    pub fn sum(&self) -> Hasher {
+        Hasher::new_with_initial_len(self.checksum, self.len.into())
     }
 
     pub fn len(&self) -> usize {

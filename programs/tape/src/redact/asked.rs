@@ -2,10 +2,12 @@
 //! by the time at which that was recorded.
 
 use super::columns::{Columns, Portal, Statement};
-use std::collections::VecDeque;
+use std::collections::{BTreeSet, VecDeque};
 
 /// What a client asked for, to which the server has answers to come.
 pub enum Asked {
+    /// A Parse or a Bind, by its number in the session.
+    Make(u32),
     Describe(Statement),
     DescribePortal(Columns),
     Execute(Portal),
@@ -25,6 +27,8 @@ pub struct Queue {
     is_copying: bool,
     /// The server has reported an error, and takes nothing before a Sync.
     is_skipping: bool,
+    /// What the server didn't make of what it was asked for.
+    refused: BTreeSet<u32>,
 }
 
 /// Whether a server goes on to take data after what a client says: it passes over a Sync, and takes anything else than the
@@ -34,6 +38,22 @@ fn goes_on(asked: &Asked) -> bool {
 }
 
 impl Queue {
+    /// A queue of a session of which is known what the server doesn't make.
+    pub fn knowing(refused: BTreeSet<u32>) -> Queue {
+        Queue { refused, ..Queue::default() }
+    }
+
+    /// What the server doesn't make, as far as that is known.
+    pub fn refused(&self) -> &BTreeSet<u32> {
+        &self.refused
+    }
+
+    fn refuse(&mut self, asked: &Asked) {
+        if let Asked::Make(number) = asked {
+            self.refused.insert(*number);
+        }
+    }
+
     /// What is answered now.
     pub fn front(&self) -> Option<&Asked> {
         self.asked.front()
@@ -43,12 +63,12 @@ impl Queue {
     pub fn push(&mut self, asked: Asked) {
         if self.is_copying {
             self.is_copying = goes_on(&asked);
-            return;
+            return self.refuse(&asked);
         }
         match asked {
             Asked::Sync => self.is_skipping = false,
             Asked::DataEnd if self.asked.is_empty() => return,
-            _ if self.is_skipping => return,
+            _ if self.is_skipping => return self.refuse(&asked),
             _ => {}
         }
         self.asked.push_back(asked);
@@ -65,7 +85,10 @@ impl Queue {
         self.is_copying = true;
         while self.is_copying {
             match self.asked.remove(1) {
-                Some(asked) => self.is_copying = goes_on(&asked),
+                Some(asked) => {
+                    self.is_copying = goes_on(&asked);
+                    self.refuse(&asked);
+                }
                 None => return,
             }
         }
@@ -78,7 +101,8 @@ impl Queue {
             return;
         }
         while !matches!(self.front(), None | Some(Asked::Sync)) {
-            self.asked.pop_front();
+            let asked = self.asked.pop_front();
+            asked.iter().for_each(|it| self.refuse(it));
         }
         self.is_skipping = self.asked.is_empty();
     }

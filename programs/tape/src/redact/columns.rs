@@ -6,7 +6,7 @@ use pgmsg::backend::{self, Column};
 use pgmsg::frontend::{self, Target};
 use pgmsg::Format;
 use std::cell::RefCell;
-use std::collections::HashMap;
+use std::collections::{BTreeMap, BTreeSet, HashMap};
 use std::rc::Rc;
 
 /// The name and the type of a column.
@@ -51,8 +51,12 @@ pub struct Portal {
 #[derive(Default)]
 pub struct Session {
     statements: HashMap<Vec<u8>, Statement>,
+    /// Statements of Parses that the server refuses, by their names: a client may have sent the values of theirs too.
+    refused: HashMap<Vec<u8>, Statement>,
     portals: HashMap<Vec<u8>, Portal>,
     asked: Queue,
+    /// How many Parses and Binds the client has sent.
+    made: u32,
     /// The columns of the rows of a Query.
     columns: Vec<Named>,
     /// The names of statements and portals that have secrets.
@@ -69,8 +73,21 @@ pub fn format_of(formats: &[Format], position: usize) -> Format {
 
 impl Session {
     /// The statement of a name.
-    pub fn statement(&self, name: &[u8]) -> Statement {
+    fn statement(&self, name: &[u8]) -> Statement {
         self.statements.get(name).cloned().unwrap_or_default()
+    }
+
+    /// The statements that a client may mean by a name: the server's, and one that the server refuses.
+    pub fn meant(&self, name: &[u8]) -> Vec<Statement> {
+        let all = [self.statements.get(name), self.refused.get(name)];
+        all.into_iter().flatten().cloned().collect()
+    }
+
+    /// Whether the server makes nothing of the next Parse or Bind, as far as that is known.
+    fn is_refused(&mut self) -> bool {
+        self.made += 1;
+        self.asked.push(Asked::Make(self.made));
+        self.asked.refused().contains(&self.made)
     }
 
     /// The columns of a row that comes now.
@@ -96,13 +113,19 @@ impl Session {
                     types: Rc::new(RefCell::new(parse.types.to_vec())),
                     columns: Columns::default(),
                 };
-                self.statements.insert(parse.statement.to_vec(), statement);
+                let name = parse.statement.to_vec();
+                match self.is_refused() {
+                    true => self.refused.insert(name, statement),
+                    false => self.statements.insert(name, statement),
+                };
                 return;
             }
             M::Bind(bind) => {
                 let columns = self.statement(&bind.statement).columns;
                 let portal = Portal { columns, formats: bind.result_formats.to_vec() };
-                self.portals.insert(bind.portal.to_vec(), portal);
+                if !self.is_refused() {
+                    self.portals.insert(bind.portal.to_vec(), portal);
+                }
                 return;
             }
             M::Describe(Target::Statement(name)) => Asked::Describe(self.statement(name)),
@@ -130,7 +153,8 @@ impl Session {
             (M::RowDescription(columns), _) => {
                 self.describe(columns.iter().map(Named::of).collect())
             }
-            (M::NoData, Some(Asked::Describe(_) | Asked::DescribePortal(_)))
+            (M::ParseComplete | M::BindComplete, Some(Asked::Make(_)))
+            | (M::NoData, Some(Asked::Describe(_) | Asked::DescribePortal(_)))
             | (
                 M::CommandComplete(_) | M::EmptyQueryResponse | M::PortalSuspended,
                 Some(Asked::Execute(_)),
@@ -156,17 +180,36 @@ impl Session {
     }
 }
 
-/// The sessions that are open.
+/// The sessions that are open, and what the server refuses in each that is closed.
 #[derive(Default)]
-pub struct Sessions(HashMap<u32, Session>);
+pub struct Sessions {
+    open: HashMap<u32, Session>,
+    refused: BTreeMap<u32, BTreeSet<u32>>,
+}
 
 impl Sessions {
     pub fn of(&mut self, connection: u32) -> &mut Session {
-        self.0.entry(connection).or_default()
+        let refused = &mut self.refused;
+        self.open.entry(connection).or_insert_with(|| {
+            let asked = Queue::knowing(refused.remove(&connection).unwrap_or_default());
+            Session { asked, ..Session::default() }
+        })
     }
 
     pub fn close(&mut self, connection: u32) {
-        self.0.remove(&connection);
+        if let Some(session) = self.open.remove(&connection) {
+            let refused = session.asked.refused();
+            if !refused.is_empty() {
+                self.refused.insert(connection, refused.clone());
+            }
+        }
+    }
+
+    /// Closes all. Gives how many Parses and Binds the server refuses.
+    pub fn end(&mut self) -> usize {
+        let open: Vec<u32> = self.open.keys().copied().collect();
+        open.into_iter().for_each(|it| self.close(it));
+        self.refused.values().map(BTreeSet::len).sum()
     }
 }
 
@@ -238,6 +281,7 @@ mod tests {
         );
         assert_eq!(found(&session), [("b".to_owned(), 1)]);
         session.server(&B::CommandComplete("SELECT 1".into()));
+        session.server(&B::BindComplete);
         assert_eq!(found(&session), [("a".to_owned(), 0)]);
     }
 
@@ -258,6 +302,8 @@ mod tests {
                 (true, 'd') => session.client(&F::CopyData("1".into())),
                 (true, 'c') => session.client(&F::CopyDone),
                 (true, 'f') => session.client(&F::CopyFail("".into())),
+                (false, '1') => session.server(&B::ParseComplete),
+                (false, '2') => session.server(&B::BindComplete),
                 (false, 'G') => session.server(&B::CopyInResponse(copy())),
                 (false, 'W') => session.server(&B::CopyBothResponse(copy())),
                 (false, 'd') => session.server(&B::CopyData("1".into())),
@@ -312,7 +358,7 @@ mod tests {
             let mut session = Session::default();
             session.client(&parse("a"));
             session.client(&frontend::Message::Describe(Target::Statement("a".into())));
-            say(&mut session, "S");
+            say(&mut session, "S<1");
             session.server(&described("a"));
             say(&mut session, "<Z");
             say(&mut session, said);
@@ -320,7 +366,7 @@ mod tests {
                 statement: "a".into(),
                 ..Bind::default()
             }));
-            say(&mut session, "ES");
+            say(&mut session, "ES<2");
             assert_eq!(found(&session), [("a".to_owned(), 0)], "{said}");
         }
     }

@@ -1,12 +1,13 @@
-//! What stands in the place of a secret: as long, and of the same type; and the places of a message where it does.
+//! What stands in the place of a secret: of a value, something as long and of the same type; of a password, always the same.
 
 use pgmsg::Format;
-use std::ops::Range;
+use std::borrow::Cow;
 
 /// Object ids of types whose binary form is text.
 const TEXTS: [u32; 8] = [18, 19, 25, 114, 142, 1042, 1043, 705];
 const BOOL: u32 = 16;
 const BYTEA: u32 = 17;
+const UUID: u32 = 2950;
 const JSONB: u32 = 3802;
 const NUMERIC: u32 = 1700;
 /// How long a date is without a time of day.
@@ -15,31 +16,60 @@ const DATE_LEN: usize = 10;
 const HYPHENS: [usize; 4] = [8, 13, 18, 23];
 const UUID_LEN: usize = 36;
 
+/// What stands in the place of a password, which tells nothing about it.
+pub const WHOLE: &[u8] = b"xxxxxxxx";
+
 /// How a part of a message is masked.
 #[derive(Clone, Debug, PartialEq, Eq)]
 pub enum Mask {
     /// As a text, by what it looks like.
     Text,
-    /// As letters and digits, whatever it looks like.
-    Letters,
+    /// As a password.
+    Whole,
     /// As so many bytes 0.
     Zeros,
     /// As a value of a type in a format.
     Value { type_id: u32, format: Format },
-    /// As these bytes, which are as many.
+    /// As these bytes.
     Bytes(Vec<u8>),
 }
 
 impl Mask {
-    /// Masks bytes.
+    /// Masks bytes, by a mask that keeps their length.
     pub fn put(&self, bytes: &mut [u8]) {
         match self {
             Mask::Text => text(bytes),
-            Mask::Letters => letters(bytes),
             Mask::Zeros => bytes.fill(0),
             Mask::Value { type_id, format: Format::TEXT } => text_of(*type_id, bytes),
             Mask::Value { type_id, .. } => binary(*type_id, bytes),
-            Mask::Bytes(with) => bytes.copy_from_slice(with),
+            Mask::Whole | Mask::Bytes(_) => {}
+        }
+    }
+
+    /// What stands in the place of bytes by another mask, which may have another length.
+    pub fn other(&self) -> Option<&[u8]> {
+        match self {
+            Mask::Whole => Some(WHOLE),
+            Mask::Bytes(with) => Some(with),
+            _ => None,
+        }
+    }
+
+    /// What bytes have in other places of a recording too, where they are masked so: what they say as a text, or a value
+    /// that is the same in binary form wherever it stands.
+    pub fn secret<'b>(&self, bytes: &'b [u8]) -> Option<Cow<'b, [u8]>> {
+        match (self, bytes) {
+            (Mask::Whole | Mask::Text, _) => Some(bytes.into()),
+            (Mask::Value { type_id: BYTEA, format: Format::TEXT }, [b'\\', b'x', digits @ ..]) => {
+                hex::decode(digits).ok().map(Cow::from)
+            }
+            (Mask::Value { format: Format::TEXT, .. }, _) => Some(bytes.into()),
+            (Mask::Value { type_id: JSONB, .. }, [_, json @ ..]) => Some(json.into()),
+            (Mask::Value { type_id, .. }, _) => {
+                let has_form = TEXTS.contains(type_id) || matches!(*type_id, BYTEA | UUID);
+                Some(bytes.into()).filter(|_| has_form || looks_like_text(bytes))
+            }
+            _ => None,
         }
     }
 }
@@ -192,7 +222,7 @@ fn string(bytes: &mut [u8]) {
 }
 
 /// Of a text each letter becomes an x, and each digit a 0; what parts words stays.
-pub fn letters(bytes: &mut [u8]) {
+fn letters(bytes: &mut [u8]) {
     let mut at = 0;
     while at < bytes.len() {
         let len = character(&bytes[at..]);
@@ -217,42 +247,15 @@ fn letter(byte: u8) -> u8 {
 
 /// How many bytes the character at the front has in UTF-8, 1 where it is none.
 fn character(bytes: &[u8]) -> usize {
+    if bytes[0] < 0x80 {
+        return 1;
+    }
     let most = bytes.len().min(4);
     (2..=most)
         .find(|len| {
             std::str::from_utf8(&bytes[..*len]).map_or(false, |text| text.chars().count() == 1)
         })
-        .filter(|_| bytes[0] >= 0x80)
         .unwrap_or(1)
-}
-
-/// Places in bytes, named by parts that are borrowed of these.
-pub struct Places {
-    start: usize,
-    len: usize,
-    all: Vec<(Range<usize>, Mask)>,
-}
-
-impl Places {
-    pub fn new(bytes: &[u8]) -> Places {
-        Places { start: bytes.as_ptr() as usize, len: bytes.len(), all: Vec::new() }
-    }
-
-    /// Has a part of the bytes masked.
-    pub fn add(&mut self, part: &[u8], mask: Mask) {
-        let at = (part.as_ptr() as usize).wrapping_sub(self.start);
-        if !part.is_empty() && at < self.len && part.len() <= self.len - at {
-            self.all.push((at..at + part.len(), mask));
-        }
-    }
-
-    pub fn is_empty(&self) -> bool {
-        self.all.is_empty()
-    }
-
-    pub fn all(self) -> Vec<(Range<usize>, Mask)> {
-        self.all
-    }
 }
 
 #[cfg(test)]

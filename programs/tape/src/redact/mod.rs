@@ -1,44 +1,64 @@
 //! Secrets taken out of a recording: what rules name, and what is secret without one.
 //!
-//! Each byte that is taken out has another one in its place, so that all lengths stay as they are.
+//! The recording is read more than once: what is masked in one place is masked wherever it stands. A value keeps its length
+//! and its type, and a password neither.
 
 mod asked;
 mod columns;
+mod known;
+mod literal;
 mod mask;
 mod names;
+mod pieces;
+mod places;
 mod rules;
+#[cfg(test)]
+mod sessions;
 mod sql;
 mod values;
 
 use crate::bar::Bar;
-use crate::failure::{Failure, Result};
+use crate::failure::{Failure, Result, Status};
 use crate::import::closed_by;
 use crate::input::Tape;
 use crate::item::{Item, Message, What};
 use crate::joiner::{Joiner, Spot, Unjoined};
 use crate::output::Output;
 use columns::Sessions;
-use mask::{Mask, Places};
+use known::Known;
+use mask::WHOLE;
+use places::Places;
 use recording::{Kind, Side};
 use rules::Rules;
 use std::borrow::Cow;
+use std::collections::HashSet;
 use std::path::Path;
 
+/// The length of a message that has the mask of a password, which ends with a byte 0.
+const LEFT_OUT: u32 = (4 + WHOLE.len() + 1) as u32;
+
 /// Takes secrets out of a recording, by a file of rules where one is named.
-pub fn redact(path: &Path, rules: Option<&Path>, to: &Path) -> Result<()> {
+pub fn redact(path: &Path, rules: Option<&Path>, to: &Path) -> Result<Status> {
     let rules = rules.map_or_else(|| Ok(Rules::default()), Rules::read)?;
-    let mut tape = Tape::open(path, &Bar::new("redact", &[path]))?;
+    if std::fs::metadata(path).map_or(false, |it| !it.is_file()) {
+        let words = format!("{} is read more than once, and is no file", path.display());
+        return Err(Failure::new(Status::Usage, words));
+    }
+    let mut redactor = Redactor { rules, ..Redactor::default() };
     let mut out = Output::create(to)?;
+    redactor.learn(path)?;
+    let mut tape = Tape::open(path, &Bar::new("redact", &[path]))?;
     let unjoined = |why| Failure::unwritten(to, &other(why));
     let mut joiner =
         Joiner::new(&mut out, tape.begun()).map_err(|why| Failure::unwritten(to, &why))?;
-    let mut redactor = Redactor { rules, sessions: Sessions::default(), unread: 0 };
-    tape.items(|item| add(&mut joiner, redactor.item(item)).map_err(unjoined))?;
+    tape.items(|item| match redactor.is_written(&item) {
+        true => Ok(()),
+        false => add(&mut joiner, redactor.item(item)).map_err(unjoined),
+    })?;
     joiner.end().map(drop).map_err(unjoined)?;
     tape.say_cut();
     out.end()?;
-    redactor.report();
-    Ok(())
+    Ok(redactor.report())
 }
 
 fn other(why: Unjoined) -> std::io::Error {
@@ -70,45 +90,88 @@ fn add(joiner: &mut Joiner<&mut Output>, item: Item<'_>) -> std::result::Result<
 }
 
 /// Takes secrets out of items.
+#[derive(Default)]
 struct Redactor {
     rules: Rules,
     sessions: Sessions,
+    known: Known,
+    /// The sides whose last message has another length, and is written as a whole where it begins.
+    whole: HashSet<(u32, Side)>,
     /// How many bytes were no messages whose fields can be looked at.
     unread: u64,
+    /// How many values may be some that rules name, which can't be told.
+    untold: u64,
 }
 
 impl Redactor {
+    /// Learns which secrets a recording has. What the server refuses to prepare is known only at the end, so that a recording
+    /// with such is read again.
+    fn learn(&mut self, path: &Path) -> Result<()> {
+        let (mut refused, mut is_new) = (0, true);
+        while is_new {
+            let mut tape = Tape::open(path, &Bar::new("read", &[path]))?;
+            tape.items(|item| {
+                self.item(item);
+                Ok(())
+            })?;
+            let known = std::mem::replace(&mut refused, self.sessions.end());
+            is_new = refused != known;
+        }
+        self.known.complete();
+        (self.unread, self.untold) = (0, 0);
+        Ok(())
+    }
+
+    /// Whether an item is a part of a message that is written already.
+    fn is_written(&self, item: &Item<'_>) -> bool {
+        match item.what {
+            What::Continued { side, .. } => self.whole.contains(&(item.connection, side)),
+            _ => false,
+        }
+    }
+
     fn item<'a>(&mut self, item: Item<'a>) -> Item<'a> {
         let what = match item.what {
             What::Message { side, message, here } => {
+                let len = message.bytes.len();
                 let message = self.message(item.connection, side, message);
+                let is_other = message.bytes.len() != len;
+                if is_other {
+                    self.whole.insert((item.connection, side));
+                } else if !self.whole.is_empty() {
+                    self.whole.remove(&(item.connection, side));
+                }
+                let here = if is_other { message.bytes.len() } else { here };
                 What::Message { side, message, here }
             }
-            What::Opened(address) => What::Opened(self.searched(address)),
+            What::Opened(address) => What::Opened(self.searched(address, false)),
             What::Bytes { side, bytes } => {
                 self.unread += bytes.len() as u64;
-                What::Bytes { side, bytes: self.searched(bytes) }
+                What::Bytes { side, bytes: self.searched(bytes, true) }
             }
             What::Closed(side) => {
                 self.sessions.close(item.connection);
                 What::Closed(side)
+            }
+            What::LeftOut { side: Side::Client, tag, .. } => {
+                // The length of a message tells that of its password.
+                What::LeftOut { side: Side::Client, tag, length: LEFT_OUT }
             }
             what => what,
         };
         Item { what, ..item }
     }
 
-    /// Bytes that are no message, without what patterns of texts match and without verifiers of passwords.
-    fn searched<'a>(&mut self, bytes: Cow<'a, [u8]>) -> Cow<'a, [u8]> {
-        let mut places = Places::new(&bytes);
-        self.rules.texts(&bytes, &mut places);
-        sql::secrets(&bytes, &mut places);
-        let places = places.all();
-        masked(bytes, &places)
+    /// Bytes that are no message, without the secrets of a text.
+    fn searched<'a>(&mut self, bytes: Cow<'a, [u8]>, is_tight: bool) -> Cow<'a, [u8]> {
+        let mut places = Places::new(&bytes, &mut self.known);
+        places.tighten(is_tight);
+        values::search(&bytes, &mut self.rules, &mut places);
+        places.masked(bytes, None)
     }
 
     fn message<'a>(&mut self, connection: u32, side: Side, message: Message<'a>) -> Message<'a> {
-        let mut places = Places::new(&message.bytes);
+        let mut places = Places::new(&message.bytes, &mut self.known);
         let session = self.sessions.of(connection);
         let (tag, body) = (message.tag, message.body());
         let is_read = match side {
@@ -131,40 +194,39 @@ impl Redactor {
         };
         if !is_read {
             self.unread += body.len() as u64;
-            self.rules.texts(body, &mut places);
-            sql::secrets(body, &mut places);
+            places.tighten(true);
+            values::search(body, &mut self.rules, &mut places);
         }
-        let places = places.all();
-        Message { tag, bytes: masked(message.bytes, &places) }
+        self.untold += places.untold;
+        if places.are_learnt() {
+            return message;
+        }
+        Message { tag, bytes: places.masked(message.bytes, Some(usize::from(tag.is_some()))) }
     }
 
     /// Says which rules did nothing, and what could not be looked at.
-    fn report(&self) {
+    fn report(&self) -> Status {
         for rule in self.rules.idle() {
             crate::say(format_args!("the rule {rule} matched nothing"));
         }
         if self.unread > 0 {
             crate::say(format_args!(
                 "{} bytes are no messages whose fields can be read, or belong to messages above 4 MiB: in them only patterns of \
-                 [[redact.text]] and verifiers of passwords were looked for",
+                 [[redact.text]], passwords and what is known as a secret were looked for",
                 self.unread
             ));
         }
-    }
-}
-
-/// Bytes with other ones in some places.
-fn masked<'a>(bytes: Cow<'a, [u8]>, places: &[(std::ops::Range<usize>, Mask)]) -> Cow<'a, [u8]> {
-    if places.is_empty() {
-        return bytes;
-    }
-    let mut bytes = bytes.into_owned();
-    for (range, mask) in places {
-        if let Some(part) = bytes.get_mut(range.clone()) {
-            mask.put(part);
+        if self.untold > 0 {
+            crate::say(format_args!(
+                "{} values may be secrets: no description names their columns, or no Parse their statement",
+                self.untold
+            ));
+        }
+        match self.unread + self.untold {
+            0 => Status::Ok,
+            _ => Status::Untold,
         }
     }
-    Cow::Owned(bytes)
 }
 
 #[cfg(test)]
@@ -180,7 +242,9 @@ mod tests {
     /// What takes secrets out by the pattern of a text.
     fn redactor(pattern: &str) -> Redactor {
         let rules = Rules::parse(&format!("[[redact.text]]\npattern = '{pattern}'")).unwrap();
-        Redactor { rules, sessions: Sessions::default(), unread: 0 }
+        let mut redactor = Redactor { rules, ..Redactor::default() };
+        redactor.known.complete();
+        redactor
     }
 
     /// The messages of a client that have texts, each of which is this one.
@@ -218,8 +282,8 @@ mod tests {
         vec![
             M::ParameterStatus(ParameterStatus { name: text.into(), value: text.into() }),
             M::NegotiateProtocolVersion(NegotiateProtocolVersion {
-                minor: 0,
                 options: [text.into()].into(),
+                ..Default::default()
             }),
             M::RowDescription([Column::new("id", 23), Column::new(text, 25)].into()),
             M::DataRow([text.into()].into()),
@@ -267,6 +331,16 @@ mod tests {
         for (what, wanted) in items("the card-4711").into_iter().zip(items("the card-1000")) {
             let item = Item { connection: 1, time: 0, begins: true, what };
             assert_eq!(redactor.item(item).what, wanted);
+        }
+    }
+
+    #[test]
+    fn the_length_of_a_password_that_was_left_out_is_not_told() {
+        let mut redactor = redactor("a");
+        let left_out = |length| What::LeftOut { side: Side::Client, tag: b'p', length };
+        for length in [4, 400] {
+            let item = Item { connection: 1, time: 0, begins: true, what: left_out(length) };
+            assert_eq!(redactor.item(item).what, left_out(13));
         }
     }
 

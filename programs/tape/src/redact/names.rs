@@ -2,7 +2,7 @@
 //! that a name has the same substitute throughout its session, and names that a mask alone would make the same stay different,
 //! as far as their ASCII letters and digits reach. Where SQL names a statement or a cursor, that is a text as any other.
 
-use super::mask::Places;
+use super::places::Places;
 use std::collections::HashMap;
 
 /// The names of a session that have secrets, each with its number among those that a mask alone would make the same.
@@ -11,12 +11,8 @@ pub struct Names(HashMap<Vec<u8>, HashMap<Vec<u8>, usize>>);
 
 impl Names {
     /// What stands in the place of a name of which some parts are masked: the mask, counted up by the name's number.
-    pub fn substitute(&mut self, name: &[u8], parts: Places) -> Vec<u8> {
-        let (mut bytes, mut is_masked) = (name.to_vec(), vec![false; name.len()]);
-        for (range, mask) in parts.all() {
-            mask.put(&mut bytes[range.clone()]);
-            is_masked[range].fill(true);
-        }
+    pub fn substitute(&mut self, name: &[u8], parts: Places<'_>) -> Vec<u8> {
+        let (mut bytes, is_masked) = parts.masked_name(name);
         let alike = self.0.entry(bytes.clone()).or_default();
         let next = alike.len();
         let number = *alike.entry(name.to_vec()).or_insert(next);
@@ -44,11 +40,13 @@ fn count_up<'b>(places: impl Iterator<Item = &'b mut u8>, mut number: usize) {
 #[cfg(test)]
 mod tests {
     use super::*;
+    use crate::redact::known::Known;
     use crate::redact::mask::Mask;
 
     /// The substitute of a name of which everything after `_` is masked.
     fn substitute(names: &mut Names, name: &str) -> String {
-        let mut parts = Places::new(name.as_bytes());
+        let mut known = Known::default();
+        let mut parts = Places::new(name.as_bytes(), &mut known);
         parts.add(name.split_once('_').unwrap().1.as_bytes(), Mask::Text);
         String::from_utf8(names.substitute(name.as_bytes(), parts)).unwrap()
     }

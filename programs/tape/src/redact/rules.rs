@@ -1,6 +1,7 @@
 //! What is taken out of a recording: the table `redact` of a file of rules, which has those of a replay too.
 
-use super::mask::{Mask, Places};
+use super::mask::Mask;
+use super::places::Places;
 use crate::failure::{Failure, Result, Status};
 use regex::bytes::Regex;
 use rules::{File, Pattern};
@@ -79,6 +80,11 @@ impl Rules {
         !self.columns.is_empty()
     }
 
+    /// Whether parameters of statements are.
+    pub fn have_parameters(&self) -> bool {
+        !self.parameters.is_empty() || !self.statements.is_empty()
+    }
+
     /// Whether values of a column are masked.
     pub fn column(&mut self, name: &[u8]) -> bool {
         met(self.columns.iter_mut().filter(|it| it.what.as_bytes() == name))
@@ -98,7 +104,7 @@ impl Rules {
     }
 
     /// Has what patterns match masked in a text: the first group of each match, where the pattern has one.
-    pub fn texts(&mut self, text: &[u8], places: &mut Places) {
+    pub fn texts(&mut self, text: &[u8], places: &mut Places<'_>) {
         for rule in &mut self.texts {
             for found in rule.what.captures_iter(text) {
                 let part = found.get(1).or_else(|| found.get(0));

@@ -28,11 +28,10 @@ pub fn view(path: &Path, to: &Path) -> Result<()> {
     let mut tape = Tape::open(path, &Bar::new("view", &[path]))?;
     let mut out = Output::create(to)?;
     let name = path.file_name().unwrap_or_default().to_string_lossy();
-    let page = PAGE
-        .replace("{{title}}", &text(&name))
-        .replace("{{style}}", STYLE)
-        .replace("{{script}}", &SCRIPT.concat());
+    // The name of the file comes last: it may be that of any part.
+    let page = PAGE.replace("{{style}}", STYLE).replace("{{script}}", &SCRIPT.concat());
     let (before, after) = page.split_once("{{data}}").unwrap_or((&page, ""));
+    let before = before.replace("{{title}}", &text(&name));
     out.put(before.as_bytes())?;
     let mut rows = Rows::default();
     tape.items(|item| {
