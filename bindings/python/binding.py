@@ -1,6 +1,6 @@
 """Declares all that pg_message.h declares, by cffi, and says what the extension module is built of.
 
-pkg-config finds the library: PKG_CONFIG_PATH names PREFIX/lib/pkgconfig of `clients/library --install PREFIX`.
+pkg-config finds the library: PKG_CONFIG_PATH names PREFIX/lib/pkgconfig of `packaging/library --install PREFIX`.
 """
 
 import os

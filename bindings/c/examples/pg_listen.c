@@ -13,30 +13,14 @@
 static const char usage[] =
     "usage: pg_listen " OPTION_WORDS " [-n COUNT] CHANNEL..\n"
     "Prints a line for each notification: channel, process and payload, with tabs between them. Backslash,\n"
-    "tab, line feed and carriage return in them are \\\\, \\t, \\n and \\r, and the bytes of other control\n"
-    "characters \\x and two hexadecimal digits. Ends after COUNT lines.\n";
+    "tab, line feed and carriage return in them are \\\\, \\t, \\n and \\r, and the bytes of other characters that\n"
+    "a terminal obeys \\x and two hexadecimal digits. Ends after COUNT lines.\n";
 
 struct listener {
     bool is_listening; /* the server has said so */
     bool is_limited;
     unsigned long left; /* lines, where they are limited */
 };
-
-static void print_escaped(const uint8_t *text, size_t len)
-{
-    static const char special[] = "\\\t\n\r", letters[] = "\\tnr";
-    for (size_t i = 0; i < len; i++) {
-        const char *found = text[i] != 0 ? strchr(special, text[i]) : NULL;
-        if (found != NULL) {
-            putchar('\\');
-            putchar(letters[found - special]);
-        } else if (is_control(text, len, i)) {
-            printf("\\x%02x", text[i]);
-        } else {
-            putchar(text[i]);
-        }
-    }
-}
 
 static bool is_done(const struct listener *listener)
 {

@@ -1,4 +1,4 @@
-/* Logs in, by SCRAM-SHA-256 where the server asks for that, and prints the rows of a table. */
+/* Logs in, by SCRAM-SHA-256 where the server asks for that, and prints the rows of a table, as pg_listen escapes a text. */
 #define _DEFAULT_SOURCE
 
 #include "connection.h"
@@ -16,9 +16,12 @@ static enum status print_row(const struct message *row)
     if (count < 0)
         return complain_of_fault(&fault);
     for (ptrdiff_t i = 0; i < count && i < MOST_CELLS; i++) {
-        bool is_null = cells[i].len < 0;
-        const char *text = is_null ? "NULL" : (const char *)row->body + cells[i].at;
-        printf("%s%.*s", i > 0 ? "\t" : "", is_null ? 4 : (int)cells[i].len, text);
+        if (i > 0)
+            putchar('\t');
+        if (cells[i].len < 0)
+            fputs("NULL", stdout);
+        else
+            print_escaped(row->body + cells[i].at, (size_t)cells[i].len);
     }
     putchar('\n');
     return STATUS_OK;
@@ -33,6 +36,9 @@ static enum status print_rows(struct connection *connection)
         switch (message.tag) {
         case 'D': status = print_row(&message); break;
         case 'E': report(&message); return STATUS_SERVER;
+        case 'N': report(&message); break;
+        case 'A': case 'C': case 'S': case 'T': case 'Z': break;
+        default: status = complain_of_message(&message);
         }
     return status;
 }

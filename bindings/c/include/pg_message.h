@@ -2,7 +2,7 @@
  *
  * The messages of the PostgreSQL wire protocol, version 3, for C and for what calls C.
  *
- * clients/header makes this file of crates/pg_c/src and clients/c/library: change it there.
+ * packaging/header makes this file of crates/pg_c/src and bindings/c/library: change it there.
  *
  * No call keeps a pointer, opens anything, or waits. Each pointer is valid for its length for the time of the
  * call, and aligned; where the length is 0 it may be NULL, also in a struct. What a call writes overlaps nothing
@@ -17,7 +17,7 @@
  *
  * Names and texts are any bytes, in the encoding of who wrote them; a NUL ends one in a message, and so one that
  * holds a NUL is refused where it is to be written, with PGMSG_TEXT_HOLDS_NUL. `pgmsg_check_utf8` says whether
- * one is UTF-8.
+ * one is UTF-8; `pgmsg_read_severity` and `pgmsg_read_challenge` alone ask for that.
  *
  * No call needs memory. The words of a fault alone ask for some, and are left out where there is none. */
 
@@ -49,11 +49,10 @@ enum {
     PGMSG_MESSAGE_TOO_LONG = -5,
     /* A message was read as one of another kind. No call of this library returns it. */
     PGMSG_WRONG_FORMAT = -6,
-    /* A received body is longer than a length field can say, or bytes follow the last part of a message
- * of replication. */
+    /* A received body is longer than a length field can say. */
     PGMSG_BODY_TOO_LONG = -7,
-    /* No message that is known here, from a server or from a client, has this tag; or no message of
- * replication, no row and no value in one has this letter. */
+    /* No message that is known here, from a server or from a client, has this tag, or no message of
+ * replication has this letter. */
     PGMSG_UNKNOWN_MESSAGE_TYPE = -8,
     /* A method of authentication that isn't known here. */
     PGMSG_UNKNOWN_AUTHENTICATION = -9,
@@ -98,6 +97,8 @@ enum {
     PGMSG_NOT_FRAMES = -28,
     /* A message that is wanted whole is longer than the caller takes. */
     PGMSG_FRAME_TOO_LONG = -29,
+    /* No row and no value of logical replication has this letter. */
+    PGMSG_UNKNOWN_LETTER = -30,
 };
 
 /* The kinds of a first message. */
@@ -508,7 +509,7 @@ typedef struct {
 
 /* One direction of a connection that is passed on. Set `limit` to the most bytes of a message that
  * is taken whole, `left` to 0, and `is_first` where a client's first message comes next;
- * `pgmsg_relay_next` moves the last two on. */
+ * `pgmsg_relay_next` moves the last two on, and leaves `limit` as it is. */
 typedef struct {
     size_t limit;
     size_t left;
@@ -673,7 +674,8 @@ size_t pgmsg_read_fields(const uint8_t *body, size_t body_len, pgmsg_field *fiel
     size_t fields_len);
 
 /* How grave an error or a notice is: 0 PANIC, 1 FATAL, 2 ERROR, 3 WARNING, 4 NOTICE, 5 DEBUG, 6
- * INFO, 7 LOG. */
+ * INFO, 7 LOG. Refused with PGMSG_NOTICE_NOT_UTF8 where its message or its code isn't UTF-8: a body
+ * that has its field `V` alone is read in any encoding. */
 int32_t pgmsg_read_severity(const uint8_t *body, size_t body_len, pgmsg_fault *fault);
 
 /* A notification, by the body of its NotificationResponse. 0, or why it is refused. */
@@ -714,7 +716,8 @@ size_t pgmsg_read_mechanisms(const uint8_t *body, size_t body_len, pgmsg_span *m
     size_t mechanisms_len);
 
 /* The challenge of a SASL exchange, by the body of an Authentication of method 11. Salt and nonce
- * are written where their rooms are long enough. 0, or why it is refused. */
+ * are written where their rooms are long enough. 0, or why it is refused: with PGMSG_NOT_UTF8 where
+ * an item isn't UTF-8, which RFC 5802 asks for. */
 int32_t pgmsg_read_challenge(const uint8_t *body, size_t body_len, pgmsg_challenge *challenge,
     uint8_t *salt, size_t salt_len, uint8_t *nonce, size_t nonce_len, pgmsg_fault *fault);
 
@@ -900,7 +903,7 @@ ptrdiff_t pgmsg_put_notification(uint32_t process_id, const uint8_t *channel, si
 
 /* What the data of a CopyData says in replication, of either side. Places are in `content`. 0, or
  * why it is refused: of a letter of no kind with PGMSG_UNKNOWN_MESSAGE_TYPE, and where bytes follow
- * the last part of a message with PGMSG_BODY_TOO_LONG. */
+ * the last part of a message with PGMSG_TRAILING_BYTES. */
 int32_t pgmsg_read_replication(const uint8_t *content, size_t content_len,
     pgmsg_replication *message, pgmsg_fault *fault);
 
@@ -926,18 +929,19 @@ ptrdiff_t pgmsg_read_table_columns(const uint8_t *content, size_t content_len, p
  * `new_row` has, 0 where it has none. As many as there is room for are written, and
  * `pgmsg_read_tuple` gives all. `streamed` is the caller's, false before the first message of a
  * slot, and passed with each in order: a Stream Start sets it, and a Stream Stop clears it. Places
- * are in `content`. A message is refused with PGMSG_UNKNOWN_MESSAGE_TYPE where no kind of message,
- * of row or of value has a letter, and with PGMSG_BODY_TOO_LONG where bytes follow its last
- * part. */
+ * are in `content`. A message is refused with PGMSG_UNKNOWN_MESSAGE_TYPE where no kind has its
+ * letter, with PGMSG_UNKNOWN_LETTER where no row or value has one, and with PGMSG_TRAILING_BYTES
+ * where bytes follow its last part. */
 ptrdiff_t pgmsg_read_logical(const uint8_t *content, size_t content_len, bool *streamed,
     pgmsg_datum *values, size_t values_len, pgmsg_logical *message, pgmsg_fault *fault);
 
 /* A message of logical replication, as the content of an XLogData, which `pgmsg_put_replication`
  * writes as a CopyData of the letter `w`. Refused with PGMSG_UNKNOWN_MESSAGE_TYPE where its letter
- * is of no kind, or that of an old row or of a value in its rows is; then for the first of its
- * parts that breaks a limit, with PGMSG_TOO_MANY where a row has more than 65535 values or a table
- * more columns, or with PGMSG_TEXT_HOLDS_NUL for a NUL in a `schema` or a `name`, also of a column;
- * then with PGMSG_MESSAGE_TOO_LONG where it is longer than 2147483643 bytes. */
+ * is of no kind, and with PGMSG_UNKNOWN_LETTER where that of an old row or of a value in its rows
+ * is; then for the first of its parts that breaks a limit, with PGMSG_TOO_MANY where a row has more
+ * than 65535 values or a table more columns, or with PGMSG_TEXT_HOLDS_NUL for a NUL in a `schema`
+ * or a `name`, also of a column; then with PGMSG_MESSAGE_TOO_LONG where it is longer than
+ * 2147483643 bytes. */
 ptrdiff_t pgmsg_put_logical(const pgmsg_logical_text *message, uint8_t *out, size_t out_len);
 
 /* What is at the front of a stream that is passed on: 1 for a whole message that is wanted whole,

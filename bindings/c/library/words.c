@@ -32,6 +32,7 @@ static const char *const refusals[] = {
     [-PGMSG_TOO_MANY] = "more items than can be counted",
     [-PGMSG_NOT_FRAMES] = "not a run of whole messages",
     [-PGMSG_FRAME_TOO_LONG] = "message is longer than is taken whole",
+    [-PGMSG_UNKNOWN_LETTER] = "unknown letter of a row or a value",
 };
 
 /* Why a call refused, by the number below 0 that it returned, in a few words that last as long as the program; those

@@ -133,11 +133,11 @@ static const struct {
     {BODY(logical, ""), PGMSG_SHORT, 0, "expected 1 bytes at offset 0, got 0"},
     {BODY(logical, "B\0\0\0\0\1\0\0(\0\0\0"), PGMSG_SHORT, 9, "expected 8 bytes at offset 9, got 3"},
     {BODY(logical, "O\0\0\0\0\1\0\0(far"), PGMSG_MISSING_NUL, 9, "expected NUL after offset 9"},
-    {BODY(logical, "E\0"), PGMSG_BODY_TOO_LONG, 0, "message body out of range for protocol: 1"},
-    {BODY(logical, "D\0\0@\5N\0\0"), PGMSG_UNKNOWN_MESSAGE_TYPE, 0, "unknown message type: 78"},
-    {BODY(logical, "I\0\0@\5K\0\0"), PGMSG_UNKNOWN_MESSAGE_TYPE, 0, "unknown message type: 75"},
-    {BODY(logical, "U\0\0@\5X\0\0"), PGMSG_UNKNOWN_MESSAGE_TYPE, 0, "unknown message type: 88"},
-    {BODY(logical, "I\0\0@\5N\0\1x"), PGMSG_UNKNOWN_MESSAGE_TYPE, 0, "unknown message type: 120"},
+    {BODY(logical, "E\0"), PGMSG_TRAILING_BYTES, 1, "expected the end of the message at offset 1"},
+    {BODY(logical, "D\0\0@\5N\0\0"), PGMSG_UNKNOWN_LETTER, 0, "unknown letter: 78"},
+    {BODY(logical, "I\0\0@\5K\0\0"), PGMSG_UNKNOWN_LETTER, 0, "unknown letter: 75"},
+    {BODY(logical, "U\0\0@\5X\0\0"), PGMSG_UNKNOWN_LETTER, 0, "unknown letter: 88"},
+    {BODY(logical, "I\0\0@\5N\0\1x"), PGMSG_UNKNOWN_LETTER, 0, "unknown letter: 120"},
     {BODY(logical, "I\0\0@\5N\0\1t\0\0\0\ta"), PGMSG_SHORT, 13, "expected 9 bytes at offset 13, got 1"},
     {BODY(logical, "T\0\0\0\2\0\0\0@\5\0"), PGMSG_SHORT, 10, "expected 4 bytes at offset 10, got 1"},
     {BODY(logical_streamed, "I\0\0@\5N\0\0"), PGMSG_SHORT, 5, "expected 4 bytes at offset 5, got 3"},
@@ -145,6 +145,7 @@ static const struct {
     {BODY(replication, ""), PGMSG_SHORT, 0, "expected 1 bytes at offset 0, got 0"},
     {BODY(replication, "w" "\0\0\0\0\0\0\0\1" "\0\0"), PGMSG_SHORT, 9, "expected 8 bytes at offset 9, got 2"},
     {BODY(replication, "n" "a\0" "b"), PGMSG_MISSING_NUL, 3, "expected NUL after offset 3"},
+    {BODY(replication, "m\0"), PGMSG_TRAILING_BYTES, 1, "expected the end of the message at offset 1"},
     {BODY(ready, "I"), 'I', 0, NULL},
     {BODY(frontend_frame, "S\0\0\0\4"), 1, 0, NULL},
     {BODY(frontend_frame, "S\0\0"), 0, 0, NULL},
@@ -198,12 +199,12 @@ static void words_of_numbers(struct tally *tally)
         "values can't be counted", "secret key is too short or too long", "unknown code of a first message",
         "neither a statement nor a portal", "value length is below -1", "bytes follow the end of a message",
         "first message is too long", "more items than can be counted", "not a run of whole messages",
-        "message is longer than is taken whole", "unknown error",
+        "message is longer than is taken whole", "unknown letter of a row or a value", "unknown error",
     };
     int32_t count = sizeof words / sizeof words[0];
     for (int32_t i = 0; i < count; i++)
         CHECK(tally, strcmp(pgmsg_strerror(-1 - i), words[i]) == 0);
-    CHECK(tally, count == 1 - PGMSG_FRAME_TOO_LONG);
+    CHECK(tally, count == 1 - PGMSG_UNKNOWN_LETTER);
     CHECK(tally, strcmp(pgmsg_strerror(INT32_MIN), "unknown error") == 0);
     CHECK(tally, strcmp(pgmsg_strerror(0), "no error") == 0);
     CHECK(tally, strcmp(pgmsg_strerror(INT32_MAX), "no error") == 0);

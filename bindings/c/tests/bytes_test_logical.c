@@ -344,7 +344,8 @@ static void test_cut(struct tally *tally, const struct logical *sample)
     }
     uint8_t more[256] = {0};
     memcpy(more, sample->bytes, sample->len);
-    CHECK(tally, pgmsg_read_logical(more, sample->len + 1, &streamed, values, MOST, &read, &fault) == PGMSG_BODY_TOO_LONG);
+    CHECK(tally, pgmsg_read_logical(more, sample->len + 1, &streamed, values, MOST, &read, &fault) == PGMSG_TRAILING_BYTES);
+    CHECK(tally, fault.at == sample->len);
     CHECK(tally, streamed == sample->is_streamed && are_untouched(&read, sizeof read));
 }
 
@@ -421,13 +422,13 @@ static void test_fronts_of_new_rows(struct tally *tally)
     pgmsg_logical read;
     memset(values, UNTOUCHED, sizeof values);
     memset(&read, UNTOUCHED, sizeof read);
-    REFUSES(tally, PGMSG_UNKNOWN_MESSAGE_TYPE, 0, "unknown message type: 120",
+    REFUSES(tally, PGMSG_UNKNOWN_LETTER, 0, "unknown letter: 120",
             pgmsg_read_logical(BYTES("I\0\0@\5N\0\2ux"), &streamed, values, 3, &read, &fault));
     CHECK(tally, values[0].kind == 'u' && are_untouched(values + 1, 2 * sizeof *values) && are_untouched(&read, sizeof read));
     REFUSES(tally, PGMSG_SHORT, 15, "expected 1 bytes at offset 15, got 0",
             pgmsg_read_logical(BYTES("U\0\0@\5N\0\3t\0\0\0\1an"), &streamed, values, 1, &read, &fault));
     CHECK(tally, values[0].kind == 't' && are_untouched(values + 1, 2 * sizeof *values) && are_untouched(&read, sizeof read));
-    REFUSES(tally, PGMSG_BODY_TOO_LONG, 0, "message body out of range for protocol: 10",
+    REFUSES(tally, PGMSG_TRAILING_BYTES, 10, "expected the end of the message at offset 10",
             pgmsg_read_logical(BYTES("I\0\0@\5N\0\2nun"), &streamed, values, 3, &read, &fault));
     CHECK(tally, values[0].kind == 'n' && values[1].kind == 'u' && are_untouched(&read, sizeof read));
 }
@@ -445,7 +446,7 @@ static void test_refused_lists(struct tally *tally)
     REFUSES(tally, PGMSG_SHORT, 1, "expected 3 bytes at offset 1, got 2",
             pgmsg_read_tuple(BYTES("nnn"), (pgmsg_list){1, 3}, values, 2, &fault));
     CHECK(tally, are_untouched(values, sizeof values));
-    REFUSES(tally, PGMSG_UNKNOWN_MESSAGE_TYPE, 0, "unknown message type: 120",
+    REFUSES(tally, PGMSG_UNKNOWN_LETTER, 0, "unknown letter: 120",
             pgmsg_read_tuple(BYTES("ux"), (pgmsg_list){0, 2}, values, 2, &fault));
     CHECK(tally, values[0].kind == 'u' && are_untouched(values + 1, sizeof *values));
     memset(columns, UNTOUCHED, sizeof columns);

@@ -15,7 +15,8 @@ static void test_passed_over(struct tally *tally)
         memset(out, UNTOUCHED, sizeof out);
         ptrdiff_t len = pgmsg_put_logical(&message, out, sizeof out);
         if (letter == 0 || strchr("BMCORYIUDTSEcAbPKrp", letter) == NULL || letter == 'D') {
-            CHECK(tally, len == PGMSG_UNKNOWN_MESSAGE_TYPE && are_untouched(out, sizeof out));
+            ptrdiff_t due = letter == 'D' ? PGMSG_UNKNOWN_LETTER : PGMSG_UNKNOWN_MESSAGE_TYPE;
+            CHECK(tally, len == due && are_untouched(out, sizeof out));
             continue;
         }
         CHECK(tally, len > 0 && len <= 64 && out[0] == letter);
@@ -61,7 +62,7 @@ static void test_refusals(struct tally *tally)
         {.letter = 'K', .name = BYTES("\0")}, {.letter = 'r', .name = BYTES("\0")}, {.letter = 'p', .name = BYTES("\0")},
     };
     for (size_t i = 0; i < sizeof letters / sizeof *letters; i++)
-        test_refused(tally, letters[i], PGMSG_UNKNOWN_MESSAGE_TYPE);
+        test_refused(tally, letters[i], PGMSG_UNKNOWN_LETTER);
     for (size_t i = 0; i < sizeof nuls / sizeof *nuls; i++)
         test_refused(tally, nuls[i], PGMSG_TEXT_HOLDS_NUL);
 }
@@ -82,7 +83,7 @@ static void test_longest(struct tally *tally, const uint8_t *zeros)
     test_refused(tally, row_of, PGMSG_TOO_MANY);
     test_refused(tally, table, PGMSG_TOO_MANY);
     values[65535].kind = 'x';
-    test_refused(tally, row_of, PGMSG_UNKNOWN_MESSAGE_TYPE);
+    test_refused(tally, row_of, PGMSG_UNKNOWN_LETTER);
     pgmsg_logical_text emitted = {.letter = 'M', .content = zeros, .content_len = TOO_LONG - 1 - 15};
     CHECK(tally, pgmsg_put_logical(&emitted, out, sizeof out) == (ptrdiff_t)TOO_LONG - 1 && out[0] == UNTOUCHED);
     emitted.content_len++;

@@ -205,6 +205,8 @@ static void test_commands(struct tally *tally)
     CHECK(tally, command.tag.len == 25 && command.rows == UINT64_MAX);
     CHECK(tally, pgmsg_read_command_complete(BYTES("\377\0B\0"), &command, &fault) == 0);
     CHECK(tally, command.tag.at == 0 && command.tag.len == 1 && command.rows == 0);
+    CHECK(tally, pgmsg_read_command_complete(BYTES("S\0 1"), &command, &fault) == 0);
+    CHECK(tally, command.tag.len == 1 && command.rows == 0);
     CHECK(tally, pgmsg_read_command_complete(BYTES("\0"), &command, &fault) == 0 && command.tag.len == 0);
     CHECK(tally, pgmsg_read_command_complete(BYTES("BEGIN 1"), &command, &fault) == PGMSG_MISSING_NUL);
     CHECK(tally, fault.at == 0 && command.tag.len == 0 && command.rows == 0);

@@ -54,6 +54,8 @@ static void test_challenges(struct tally *tally)
                      == PGMSG_BASE64);
     CHECK(tally, pgmsg_read_challenge(BYTES("\0\0\0\13" "r"), &challenge, salt, 4, nonce, 4, &fault)
                      == PGMSG_SHORT_SASL_ITEM);
+    CHECK(tally, pgmsg_read_challenge(BYTES("\0\0\0\13" "r=\344"), &challenge, salt, 4, nonce, 4, &fault)
+                     == PGMSG_NOT_UTF8);
     /* A body of another method. */
     CHECK(tally, pgmsg_read_challenge(BYTES("\0\0\0\0"), &challenge, salt, 4, nonce, 4, &fault) < 0);
 }

@@ -83,8 +83,8 @@ static void test_read_one(struct tally *tally, const struct replication *sample)
     }
     uint8_t more[64] = {0};
     memcpy(more, data, len);
-    CHECK(tally, pgmsg_read_replication(more, len + 1, &read, &fault) == (is_open ? 0 : PGMSG_BODY_TOO_LONG));
-    CHECK(tally, is_open || are_untouched(&read, sizeof read));
+    CHECK(tally, pgmsg_read_replication(more, len + 1, &read, &fault) == (is_open ? 0 : PGMSG_TRAILING_BYTES));
+    CHECK(tally, is_open || (fault.at == len && are_untouched(&read, sizeof read)));
 }
 
 /* A flag that is neither 0 nor 1 is read as set, and what is no part of a message is passed over as it is written. */

@@ -12,7 +12,7 @@ import os
 import socket
 import sys
 
-from pgmsg import Authentication, ClientStream, CopyData, ErrorResponse, Login, Query, ReadyForQuery, StartupMessage
+from pgmsg import ClientStream, CopyData, ErrorResponse, Login, Query, ReadyForQuery, StartupMessage
 from pgmsg.logical import Commit, Delete, Insert, Key, LogicalStream, Relation, Text, Truncate, Update, Whole
 from pgmsg.replication import PrimaryKeepalive, StandbyStatusUpdate, XLogData, read
 
@@ -96,12 +96,13 @@ with socket.create_connection((host, int(port))) as connection, open(path, "a+b"
     while data := connection.recv(1 << 16):
         stream.feed(data)
         for message in stream:
+            if answer := login.answer(message):
+                connection.sendall(answer.write())
             match message:
-                case Authentication() if answer := login.answer(message):
-                    connection.sendall(answer.write())
                 case ReadyForQuery():
                     connection.sendall(Query(f"START_REPLICATION SLOT {slot} LOGICAL {start} ({options})").write())
                 case CopyData() if follower.take(read(message.data)):
                     connection.sendall(follower.status().write())
                 case ErrorResponse():
-                    sys.exit(message.message)
+                    sys.exit(str(message))
+sys.exit("the server closed the connection")

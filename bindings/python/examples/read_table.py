@@ -8,7 +8,7 @@ import os
 import socket
 import sys
 
-from pgmsg import Authentication, ClientStream, ErrorResponse, Login, Query, ReadyForQuery, StartupMessage, Terminate
+from pgmsg import ClientStream, ErrorResponse, Login, Query, ReadyForQuery, StartupMessage, Terminate
 
 
 def connect(host, port):
@@ -23,18 +23,18 @@ host, port, user, database, table = sys.argv[1:]
 login, stream = Login(user, os.environ.get("PGPASSWORD", "")), ClientStream()
 to_ask = [Query(f"TABLE {table}"), Terminate()]
 with connect(host, port) as connection:
-    connection.sendall(StartupMessage({"user": user, "database": database}).write())
+    connection.sendall(StartupMessage({"user": user, "database": database, "client_encoding": "UTF8"}).write())
     while data := connection.recv(1 << 16):
         stream.feed(data)
         for message in stream.runs():
+            if answer := login.answer(message):
+                connection.sendall(answer.write())
             match message:
                 case list():
                     print(*message, sep="\n")
-                case Authentication() if answer := login.answer(message):
-                    connection.sendall(answer.write())
                 case ReadyForQuery():
                     connection.sendall(to_ask.pop(0).write())
                 case ErrorResponse():
-                    sys.exit(message.message)
+                    sys.exit(str(message))
 if to_ask:
     sys.exit("the server closed the connection")

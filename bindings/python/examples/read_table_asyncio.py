@@ -4,13 +4,13 @@ import asyncio
 import os
 import sys
 
-from pgmsg import Authentication, ClientStream, ErrorResponse, Login, Query, ReadyForQuery, StartupMessage, Terminate
+from pgmsg import ClientStream, ErrorResponse, Login, Query, ReadyForQuery, StartupMessage, Terminate
 
 
 class Reader(asyncio.Protocol):
     def __init__(self, user, database, query):
         self.stream, self.login = ClientStream(), Login(user, os.environ.get("PGPASSWORD", ""))
-        self.to_send = [StartupMessage({"user": user, "database": database}), Query(query), Terminate()]
+        self.to_send = [StartupMessage({"user": user, "database": database, "client_encoding": "UTF8"}), Query(query), Terminate()]
         self.error, self.rows = EOFError("the server closed the connection"), []
         self.result = asyncio.get_running_loop().create_future()
 
@@ -21,15 +21,15 @@ class Reader(asyncio.Protocol):
     def data_received(self, data):
         self.stream.feed(data)
         for message in self.stream.runs():
+            if answer := self.login.answer(message):
+                self.transport.write(answer.write())
             match message:
                 case list():
                     self.rows += message
-                case Authentication() if answer := self.login.answer(message):
-                    self.transport.write(answer.write())
                 case ReadyForQuery():
                     self.transport.write(self.to_send.pop(0).write())
                 case ErrorResponse():
-                    self.error = RuntimeError(message.message)
+                    self.error = RuntimeError(message)
                     return self.transport.close()
 
     def connection_lost(self, error):
@@ -41,7 +41,7 @@ class Reader(asyncio.Protocol):
 async def main(host, port, user, database, table):
     connect = asyncio.get_running_loop().create_connection
     _, reader = await connect(lambda: Reader(user, database, f"TABLE {table}"), host, port)
-    print(*await reader.result, sep="\n")
+    sys.stdout.writelines(f"{row}\n" for row in await reader.result)
 
 
 asyncio.run(main(*sys.argv[1:]))

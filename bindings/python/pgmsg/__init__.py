@@ -36,7 +36,7 @@ from .copying import CopyBothResponse, CopyData, CopyDone, CopyFail, CopyInRespo
 from .fault import Code, Fault
 from .login import Login
 from .message import BackendMessage, Frame, FrontendMessage, Message
-from .notices import ErrorResponse, NoticeResponse, Severity
+from .notices import ErrorResponse, NoticeResponse, Severity, printable
 from .opening import (
     MAX_FIRST_LENGTH, CancelRequest, FirstMessage, GSSENCRequest, SSLRequest, StartupMessage)
 from .passwords import AuthenticationResponse, GSSResponse, PasswordMessage, SASLInitialResponse, SASLResponse
@@ -66,5 +66,5 @@ __all__ = [
     "Part", "PasswordMessage", "Place", "PortalSuspended", "Query", "ReadyForQuery", "Relay", "RowDescription",
     "SASLInitialResponse", "SASLResponse", "SSLRequest", "Scram", "ServerStream", "Severity", "StartupMessage",
     "Stream", "Sync", "Target", "Terminate", "TransactionStatus", "WholeFrame", "check_frames", "copy_head",
-    "executions", "read_backend", "read_frontend", "write",
+    "executions", "printable", "read_backend", "read_frontend", "write",
 ]

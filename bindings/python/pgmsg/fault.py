@@ -39,6 +39,7 @@ class Code(enum.IntEnum):
     TOO_MANY = lib.PGMSG_TOO_MANY
     NOT_FRAMES = lib.PGMSG_NOT_FRAMES
     FRAME_TOO_LONG = lib.PGMSG_FRAME_TOO_LONG
+    UNKNOWN_LETTER = lib.PGMSG_UNKNOWN_LETTER
 
 
 class Fault(Exception):

@@ -19,14 +19,15 @@ A position counts the bytes of the log, and a clock the microseconds since the b
 from __future__ import annotations
 
 import enum
-from dataclasses import dataclass, fields
+from collections.abc import Iterable
+from dataclasses import dataclass
 from typing import Any, ClassVar, Literal, TypeAlias
 
 from ._calls import FEW, allocate, listed, part, put
 from ._calls import read as call
 from ._library import ffi, lib
 from ._sharing import Shared
-from .message import AsText, Buffer, octets
+from .message import AsText, Buffer, fill, number, numbers, octets, set_attribute
 
 __all__ = [
     "UNCHANGED", "Begin", "BeginPrepare", "Binary", "Column", "Commit", "CommitPrepared", "Datum", "Delete", "Insert", "Key",
@@ -50,6 +51,9 @@ class Sent:
     """The value of a column that is sent."""
 
     value: bytes
+
+    def __post_init__(self) -> None:
+        set_attribute(self, "value", octets(self.value))
 
 
 @dataclass(frozen=True, slots=True)
@@ -77,6 +81,9 @@ class Before:
 
     values: Row
 
+    def __post_init__(self) -> None:
+        set_attribute(self, "values", row(self.values))
+
 
 @dataclass(frozen=True, slots=True)
 class Key(Before):
@@ -102,6 +109,9 @@ class Column:
     type_modifier: int
     name_text = AsText("name")
 
+    def __post_init__(self) -> None:
+        keep_parts(self, ("flags", "name", "type_id", "type_modifier"))
+
 
 class LogicalMessage:
     """A message of logical replication: `read` gives one of the class that its first byte says.
@@ -121,11 +131,14 @@ class LogicalMessage:
         if letter is not None:
             cls.LETTER, cls.PARTS = letter, tuple(parts.split())
 
+    def __post_init__(self) -> None:
+        keep_parts(self, self.PARTS)
+
     def write(self) -> bytes:
         """The message, as the content of an XLogData."""
         message, held = ffi.new("pgmsg_logical_text *", {"letter": ord(self.LETTER)}), Held()
-        for name, it in zip(self.PARTS, fields(self)):
-            held.set_part(message, name, getattr(self, it.name))
+        for part_name, name in zip(self.PARTS, names_of(self)):
+            held.set_part(message, part_name, getattr(self, name))
         return put(lib.pgmsg_put_logical, message)
 
 
@@ -225,6 +238,11 @@ class Delete(LogicalMessage, letter="D", parts="relation old_row transaction"):
     relation: int
     old: Old
     transaction: int | None = None
+
+    def __post_init__(self) -> None:
+        if self.old is None:
+            raise TypeError("a Delete has an old row")
+        LogicalMessage.__post_init__(self)
 
 
 @dataclass(frozen=True, slots=True)
@@ -361,7 +379,10 @@ class LogicalStream(Shared):
         kind = KINDS[chr(found.letter)]
         # A row of more values is read again, with room for all.
         new = tuple(datum_of(data, values[at]) for at in range(count)) if count <= FEW else row_of(data, found.new_row)
-        return kind(*[new if name == "new_row" else value_of(data, found, name) for name in kind.PARTS])
+        # What was read needs no test.
+        message = object.__new__(kind)
+        fill(message, *[new if name == "new_row" else value_of(data, found, name) for name in kind.PARTS])
+        return message
 
 
 def read(content: Buffer, streamed: bool = False) -> LogicalMessage:
@@ -389,7 +410,63 @@ def value_of(data: bytes, found: Any, name: str) -> Any:
 OLD: dict[str, type[Old]] = {"K": Key, "O": Whole}
 
 # The letters of old rows and of values that are sent, by their classes.
-LETTERS: dict[type, int] = {Key: ord("K"), Whole: ord("O"), Text: ord("t"), Binary: ord("b")}
+LETTERS_OF_OLD: dict[type, int] = {Key: ord("K"), Whole: ord("O")}
+LETTERS: dict[type, int] = {Text: ord("t"), Binary: ord("b")}
+
+# The bits of each number, with a sign below 0.
+BITS = {
+    "lsn": 64, "end_lsn": 64, "rollback_end_lsn": 64, "clock": -64, "rollback_clock": -64, "transaction": 32, "subtransaction": 32,
+    "relation": 32, "type_id": 32, "type_modifier": -32, "flags": 8, "replica_identity": 8}
+
+
+def names_of(made: Any) -> tuple[str, ...]:
+    """The names of the fields of an object."""
+    names: tuple[str, ...] = made.__match_args__
+    return names
+
+
+def keep_parts(made: Any, parts: tuple[str, ...]) -> None:
+    """Keeps the fields of a new object, which are these parts, as what is read has them."""
+    for part_name, name in zip(parts, names_of(made)):
+        set_attribute(made, name, kept(part_name, getattr(made, name)))
+
+
+def kept(name: str, given: Any) -> Any:
+    """A part as a message keeps it."""
+    match name:
+        case "transaction" | "old_row" if given is None:
+            return None
+        case "schema" | "name" | "content":
+            return octets(given)
+        case "new_row":
+            return row(given)
+        case "old_row" if type(given) not in LETTERS_OF_OLD:
+            raise TypeError(f"an old row is a Key or a Whole, not {type(given).__name__}")
+        case "columns":
+            return columns(given)
+        case "relations":
+            return numbers(BITS["relation"], given)
+        case "is_first":
+            return bool(given)
+    return number(BITS[name], given) if name in BITS else given
+
+
+def row(values: Iterable[Datum]) -> Row:
+    """The values of a row."""
+    made = tuple(values)
+    for value in made:
+        if value is not None and value is not UNCHANGED and type(value) not in LETTERS:
+            raise TypeError(f"a value of a row is Text, Binary, UNCHANGED or None, not {type(value).__name__}")
+    return made
+
+
+def columns(given: Iterable[Column]) -> tuple[Column, ...]:
+    """The columns of a table."""
+    made = tuple(given)
+    for it in made:
+        if not isinstance(it, Column):
+            raise TypeError(f"a column of a table is a Column, not {type(it).__name__}")
+    return made
 
 
 def row_of(data: bytes, given: Any) -> Row:
@@ -434,13 +511,13 @@ class Held:
             case "new_row":
                 self._set_list(message, "values", self._row(given))
             case "old_row" if given is not None:
-                message.old_letter = LETTERS[type(given)]
+                message.old_letter = LETTERS_OF_OLD[type(given)]
                 self._set_list(message, "old_values", self._row(given.values))
             case "old_row":
                 pass
             case "columns":
-                columns = [(it.flags, *self._sized(it.name), it.type_id, it.type_modifier) for it in given]
-                self._set_list(message, name, self._new("pgmsg_table_column_text[]", columns))
+                texts = [(it.flags, *self._sized(it.name), it.type_id, it.type_modifier) for it in given]
+                self._set_list(message, name, self._new("pgmsg_table_column_text[]", texts))
             case "relations":
                 self._set_list(message, name, self._new("uint32_t[]", given))
             case _:
@@ -455,8 +532,7 @@ class Held:
         return self._kept[-1]
 
     def _text(self, given: Any) -> Any:
-        # A str is refused: it would come back as bytes.
-        self._kept.append(ffi.from_buffer("uint8_t[]", octets(memoryview(given))))
+        self._kept.append(ffi.from_buffer("uint8_t[]", given))
         return self._kept[-1]
 
     def _sized(self, given: Any) -> tuple[Any, int]:

@@ -2,6 +2,7 @@
 
 from __future__ import annotations
 
+import operator
 from collections.abc import Iterable
 from typing import Any, ClassVar, NamedTuple, Self, TypeAlias, TypeVar
 
@@ -150,6 +151,7 @@ def numbers(bits: int, given: Iterable[int]) -> tuple[int, ...]:
 def number(bits: int, given: int) -> int:
     """A number that fits into so many bits, with a sign where these are below 0."""
     least, end = (-1 << -bits - 1, 1 << -bits - 1) if bits < 0 else (0, 1 << bits)
-    if not least <= given < end:
+    whole = operator.index(given)
+    if not least <= whole < end:
         raise OverflowError(f"{given} is not a number of {abs(bits)} bits{' with a sign' * (bits < 0)}")
-    return given
+    return whole

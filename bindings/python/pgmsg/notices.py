@@ -3,6 +3,7 @@
 from __future__ import annotations
 
 import enum
+import re
 from collections.abc import Iterable, Mapping
 from dataclasses import dataclass
 from typing import Self, TypeAlias
@@ -13,6 +14,15 @@ from .message import BackendMessage, Text, fill, number, octets
 
 # Texts by their letters.
 Fields: TypeAlias = Mapping[str, Text] | Iterable[tuple[str, Text]]
+
+
+# Control characters but the tab and the line feed, and those that change the order in which the next ones are shown.
+OBEYED = re.compile("[\x00-\x08\x0b-\x1f\x7f-\x9f\u202a-\u202e\u2066-\u2069]")
+
+
+def printable(text: str) -> str:
+    """A text of the server for a terminal, with an escape such as `\\x1b` for each character that the terminal would obey."""
+    return OBEYED.sub(lambda found: ascii(found[0])[1:-1], text)
 
 
 class Severity(enum.IntEnum):
@@ -32,7 +42,7 @@ class Severity(enum.IntEnum):
 class WithFields(BackendMessage):
     """Fields in order, each a letter and a text: a client asks for `S`, `C` and `M` at least.
 
-    The texts need not be UTF-8 where the error is one of a login.
+    The texts need not be UTF-8 where the error is one of a login. `str` gives the message as `printable` has it.
     """
 
     fields: tuple[tuple[str, bytes], ...]
@@ -56,6 +66,9 @@ class WithFields(BackendMessage):
         """The text of a field, empty where it isn't there, with U+FFFD for what isn't UTF-8."""
         return str(dict(self.fields).get(letter, b""), "utf-8", "replace")
 
+    def __str__(self) -> str:
+        return printable(self.message)
+
     @property
     def code(self) -> str:
         """The code of SQLSTATE."""
@@ -68,8 +81,10 @@ class WithFields(BackendMessage):
 
     @property
     def severity(self) -> Severity:
-        """How grave it is. A word that isn't known is a Fault."""
-        words = type(self)([it for it in self.fields if it[0] in "SV"])
+        """How grave it is, by the field `V`, or by `S` where there is no `V`. A word that isn't known is a Fault in `V`, and
+        LOG in `S`. The other fields need not be UTF-8."""
+        letter = "V" if "V" in dict(self.fields) else "S"
+        words = type(self)([it for it in self.fields if it[0] == letter])
         return Severity(read(lib.pgmsg_read_severity, words.write()[5:]))
 
 

@@ -41,8 +41,10 @@ class Scram:
     def response(self, challenge: AuthenticationSASLContinue) -> SASLResponse:
         """What proves that the client knows the password.
 
-        A server that answers another client, or asks for more than MOST_ITERATIONS, is a ValueError.
+        A server that answers another client, asks for more than MOST_ITERATIONS, or challenges twice is a ValueError.
         """
+        if self._verifier:
+            raise ValueError("the exchange has had its challenge")
         iterations, salt, nonce = challenge.challenge()
         begins = challenge.data.startswith(b"r=") and nonce.startswith(self._nonce)
         if not begins or nonce == self._nonce or not salt:

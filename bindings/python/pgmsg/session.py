@@ -33,13 +33,17 @@ class BackendKeyData(BackendMessage, tag="K"):
 
 @dataclass(frozen=True, slots=True, init=False)
 class NegotiateProtocolVersion(BackendMessage, tag="v"):
-    """The newest minor version of the protocol's version 3 that the server speaks, and which options it doesn't know."""
+    """The newest minor version of the protocol's version 3 that the server speaks, and which options it doesn't know.
+
+    The major version stands before the minor one: 3, or 0 where the server sends the minor version alone.
+    """
 
     minor: int
     options: tuple[bytes, ...]
+    major: int
 
-    def __init__(self, minor: int, options: Iterable[Text] = ()) -> None:
-        fill(self, number(16, minor), tuple(map(octets, options)))
+    def __init__(self, minor: int, options: Iterable[Text] = (), major: int = 3) -> None:
+        fill(self, number(16, minor), tuple(map(octets, options)), number(16, major))
 
     @classmethod
     def _read(cls, body: bytes) -> Self:
@@ -47,11 +51,13 @@ class NegotiateProtocolVersion(BackendMessage, tag="v"):
         options = listed(
             "pgmsg_span", lambda room, size: read(lib.pgmsg_read_negotiate_version, body, version, room, size),
             lambda span: part(body, span))
-        return cls(version.minor, options)
+        return cls(version.minor, options, version.major)
 
     def write(self) -> bytes:
         options, count, _held = texts_of(self.options)
-        return put(lib.pgmsg_put_negotiate_version, self.minor, options, count)
+        made = put(lib.pgmsg_put_negotiate_version, self.minor, options, count)
+        # The library writes 3.
+        return made[:5] + self.major.to_bytes(2, "big") + made[7:]
 
 
 @dataclass(frozen=True, slots=True, init=False)

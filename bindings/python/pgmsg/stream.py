@@ -65,8 +65,10 @@ class Stream(Shared, Generic[Received]):
     def _next(self) -> Received | None:
         if self._missing > 0:
             return None
-        self._join()
-        cut = _fast.next_frame(self._data, self._at, self._side, MAX_FIRST_LENGTH)
+        cut = self._cut()
+        if isinstance(cut, int) and self._pieces:
+            self._join()
+            cut = self._cut()
         if isinstance(cut, int):
             self._wait(cut)
             return None
@@ -76,12 +78,16 @@ class Stream(Shared, Generic[Received]):
         self._at = end
         return message
 
+    def _cut(self) -> tuple[int, bytes, int] | int:
+        """The next message, or how many bytes it needs."""
+        return _fast.next_frame(self._data, self._at, self._side, MAX_FIRST_LENGTH)
+
     def _join(self) -> None:
-        """Makes one of what is left and what was fed."""
-        if self._pieces:
-            self._data = b"".join([self._data[self._at :], *self._pieces])
-            self._at = 0
-            self._pieces.clear()
+        """Makes one of what is left and what was fed: only where what is left has no whole message, so that it isn't copied
+        each time."""
+        self._data = b"".join([self._data[self._at :], *self._pieces])
+        self._at = 0
+        self._pieces.clear()
 
     def _wait(self, needed: int) -> None:
         """Remembers how many bytes the next message needs."""
@@ -120,8 +126,11 @@ class ClientStream(Stream[BackendMessage]):
     def _rows(self, kind: int) -> list[tuple[Any, ...]]:
         if self._missing > 0:
             return []
-        self._join()
-        rows, self._at, needed = _fast.rows(self._data, self._at, kind, self._limit + 1)
+        rows, at, needed = _fast.rows(self._data, self._at, kind, self._limit + 1)
+        if needed and self._pieces:
+            self._join()
+            rows, at, needed = _fast.rows(self._data, self._at, kind, self._limit + 1)
+        self._at = at
         # A row that is too long is refused by the next call, after those before it.
         if needed <= self._limit + 1 or not rows:
             self._wait(needed)

@@ -1,6 +1,6 @@
 """Each call with its requests for memory refused in turn.
 
-The library has to be linked with c/tests/refusing.c, as clients/tests/python.sh does it: so no `test_` begins the name
+The library has to be linked with c/tests/refusing.c, as tests/system/python.sh does it: so no `test_` begins the name
 of this file.
 """
 

@@ -45,6 +45,8 @@ OF_SERVER = [
     (FunctionCallResponse(None), b"V\0\0\0\x08\xff\xff\xff\xff"),
     (NegotiateProtocolVersion(2, ["_pq_.a", b""]), b"v\0\0\0\x14\0\3\0\2\0\0\0\2_pq_.a\0\0"),
     (NegotiateProtocolVersion(0), b"v\0\0\0\x0c\0\3" + bytes(6)),
+    # The minor version alone, as the documentation has it.
+    (NegotiateProtocolVersion(2, [], major=0), b"v\0\0\0\x0c\0\0\0\2" + bytes(4)),
     (NoData(), b"n\0\0\0\x04"),
     (NoticeResponse([("\xff", "a"), ("M", "")]), b"N\0\0\0\x0a\xffa\0M\0\0"),
     (NotificationResponse(42, "jobs", "new"), b"A\0\0\0\x11\0\0\0\x2ajobs\0new\0"),

@@ -87,6 +87,7 @@ WITHOUT = {
     "MESSAGE_TOO_LONG": "test_messages.py has it of copy_head",
     "NOT_FRAMES": "test_relay.py has it",
     "FRAME_TOO_LONG": "test_relay.py and test_streams.py have it",
+    "UNKNOWN_LETTER": "test_logical.py has it",
 }
 
 

@@ -72,8 +72,8 @@ ALL = [(*it, False) for it in EACH] + [(*it, True) for it in STREAMED]
 REFUSED = [
     (b"", Code.SHORT, 0), (b"Z", Code.UNKNOWN_MESSAGE_TYPE, 0), (b"B\0\0", Code.SHORT, 1),
     (b"O" + bytes(8) + b"far", Code.MISSING_NUL, 9),
-    (b"E!", Code.BODY_TOO_LONG, 0), (b"I\0\0\0\1X", Code.UNKNOWN_MESSAGE_TYPE, 0),
-    (b"D\0\0\0\1N\0\0", Code.UNKNOWN_MESSAGE_TYPE, 0), (b"I\0\0\0\1N\0\1x", Code.UNKNOWN_MESSAGE_TYPE, 0),
+    (b"E!", Code.TRAILING_BYTES, 1), (b"I\0\0\0\1X", Code.UNKNOWN_LETTER, 0),
+    (b"D\0\0\0\1N\0\0", Code.UNKNOWN_LETTER, 0), (b"I\0\0\0\1N\0\1x", Code.UNKNOWN_LETTER, 0),
     (b"I\0\0\0\1N\0\1t\0\0\0\5four", Code.SHORT, 13),
 ]
 
@@ -97,9 +97,34 @@ class TestLogical(unittest.TestCase):
             self.assertEqual(stream.read(content), message)
             self.assertIs(stream.streamed, type(message) is not StreamStop and (message, content) in STREAMED)
 
-    def test_texts_are_bytes(self):
-        for message in (Message(0, 1, "p", b"c"), Origin(1, "o"), Insert(1, (Text("5"),))):
-            self.assertRaises(TypeError, message.write)
+    def test_what_is_given_is_kept_as_it_is_read(self):
+        for message, due in [
+            (Message(0, 1, "p", bytearray(b"c")), Message(0, 1, b"p", b"c")),
+            (Origin(1, "o"), Origin(1, b"o")),
+            (Relation(1, "s", "n", 100, [Column(0, "c", 1, -1)]), Relation(1, b"s", b"n", 100, (Column(0, b"c", 1, -1),))),
+            (Insert(1, [Text("5"), None]), Insert(1, (Text(b"5"), None))),
+            (Update(1, Key([None]), [Binary(memoryview(b"5"))]), Update(1, Key((None,)), (Binary(b"5"),))),
+            (Truncate(0, [1, 2]), Truncate(0, (1, 2))),
+            (StreamStart(1, 1), StreamStart(1, True)),
+            (StreamAbort(True, False), StreamAbort(1, 0)),
+        ]:
+            self.assertEqual((message, hash(message), repr(message)), (due, hash(due), repr(due)))
+            self.assertEqual(logical.read(message.write()), due)
+
+    def test_what_no_message_can_be_made_of(self):
+        for made in (
+            lambda: StreamAbort(1 << 32, 1), lambda: Truncate(256, ()), lambda: Truncate(0, [-1]), lambda: Begin(1 << 64, 0, 1),
+            lambda: Begin(0, 1 << 63, 1), lambda: Commit(0, -1, 0, 0), lambda: Relation(1, b"", b"", 256, ()),
+            lambda: Column(0, b"", 1, 1 << 31), lambda: Column(256, b"", 1, 0), lambda: TypeName(-1, b"", b""),
+            lambda: Insert(1, (), 1 << 32),
+        ):
+            self.assertRaises(OverflowError, made)
+        for made in (
+            lambda: Origin(0, 5), lambda: Text(5), lambda: Insert(1, (b"1",)), lambda: Insert(1, ["1"]), lambda: Insert(1, None),
+            lambda: Key((5,)), lambda: Delete(1, (Text("5"),)), lambda: Relation(1, b"", b"", 100, [b"c"]), lambda: Insert("1", ()),
+            lambda: Delete(1, None), lambda: Origin(1.0, b""), lambda: Truncate(0, [1.0]),
+        ):
+            self.assertRaises(TypeError, made)
 
     def test_many_items(self):
         number = (1000).to_bytes(2, "big")
@@ -123,7 +148,7 @@ class TestLogical(unittest.TestCase):
                 self.assertRaises(Fault, logical.read, content[:end], streamed)
             with self.assertRaises(Fault) as refused:
                 logical.read(content + b"!", streamed)
-            self.assertIs(refused.exception.code, Code.BODY_TOO_LONG)
+            self.assertEqual((refused.exception.code, refused.exception.at), (Code.TRAILING_BYTES, len(content)))
             for _ in range(200):
                 changed = bytearray(content)
                 changed[numbers.randrange(len(changed))] = numbers.randrange(256)
@@ -146,9 +171,6 @@ class TestLogical(unittest.TestCase):
             with self.subTest(kind=type(message)), self.assertRaises(Fault) as refused:
                 message.write()
             self.assertIs(refused.exception.code, code)
-        self.assertRaises(OverflowError, StreamAbort(1 << 32, 1).write)
-        self.assertRaises(OverflowError, Truncate(256, ()).write)
-        self.assertRaises(KeyError, Insert(1, (b"1",)).write)
         self.assertEqual(len(Insert(1, (UNCHANGED,) * 65535).write()), 8 + 65535)
 
     def test_words(self):

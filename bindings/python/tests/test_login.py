@@ -1,6 +1,8 @@
 """Logins, with the exchange of RFC 7677, and those that go wrong."""
 
+import hashlib
 import unittest
+from unittest import mock
 
 import support  # noqa: F401
 from pgmsg import *
@@ -46,6 +48,19 @@ class TestScram(unittest.TestCase):
             with self.assertRaises((ValueError, Fault)):
                 begun().response(AuthenticationSASLContinue(data))
 
+    def test_a_second_challenge(self):
+        scram = begun()
+        scram.response(CHALLENGE)
+        with mock.patch("hashlib.pbkdf2_hmac", wraps=hashlib.pbkdf2_hmac) as salted:
+            self.assertRaises(ValueError, scram.response, CHALLENGE)
+        salted.assert_not_called()
+
+    def test_iterations_beyond_the_limit_are_none(self):
+        for count in (10_000_001, 4294967295):
+            with mock.patch("hashlib.pbkdf2_hmac", wraps=hashlib.pbkdf2_hmac) as salted:
+                self.assertRaises(ValueError, begun().response, AuthenticationSASLContinue(f"r={NONCE}x,s=AQID,i={count}"))
+            salted.assert_not_called()
+
     def test_parts_of_a_challenge(self):
         for data, due in [("r=abc,s=AQID,i=8192", Challenge(8192, b"\1\2\3", "abc")), ("r=a", Challenge(4096, b"", "a"))]:
             self.assertEqual(AuthenticationSASLContinue(data).challenge(), due)
@@ -63,14 +78,72 @@ class TestScram(unittest.TestCase):
         self.assertIn(b"n=a=2Cb=3D,r=", Scram("", "a,b=").initial().data)
 
 
+# What a server asks for, of the exchange of the RFC.
+OFFER = AuthenticationSASL(["SCRAM-SHA-256"])
+FINAL = AuthenticationSASLFinal("v=6rriTRBi23WpRR/wtup+mMhUZUn/dB5nLTJRsjl95G4=")
+
+# What comes in a login, in order.
+LOGINS = [
+    (AuthenticationOk(),),
+    (AuthenticationCleartextPassword(), AuthenticationOk()),
+    (AuthenticationMD5Password(b"abcd"), AuthenticationOk()),
+    (OFFER, CHALLENGE, FINAL, AuthenticationOk()),
+]
+
+# What comes only after one, rows as `runs` gives them among these.
+LATER = [
+    ReadyForQuery(), [("1",)], DataRow(["1"]), RowDescription([]), CommandComplete("SELECT 1"), CopyData(b""), CopyBothResponse(),
+    ParameterStatus("a", "b"), BackendKeyData(1, bytes(4)), NotificationResponse(1, "a"),
+]
+
+# What may come at any time.
+BESIDE = [NoticeResponse({"M": "a"}), ErrorResponse({"M": "a"}), NegotiateProtocolVersion(0)]
+
+
+def after(messages):
+    """A login that these messages came to."""
+    with mock.patch("pgmsg.login.Scram", lambda password: begun()):
+        login = Login("ann", "pencil")
+        for message in messages:
+            login.answer(message)
+    return login
+
+
 class TestLogin(unittest.TestCase):
     def test_passwords(self):
-        login = Login("ann", "secret")
-        self.assertIsNone(login.answer(AuthenticationOk()))
-        self.assertEqual(login.answer(AuthenticationCleartextPassword()), PasswordMessage("secret"))
-        # A server's SELECT 'md5' || md5(md5('secret' || 'ann') || 'abcd').
-        self.assertEqual(
-            login.answer(AuthenticationMD5Password(b"abcd")), PasswordMessage("md5b74835331d7e1d325026d95f00dd69c5"))
+        for asked, answer in [
+            (AuthenticationOk(), None),
+            (AuthenticationCleartextPassword(), PasswordMessage("secret")),
+            # A server's SELECT 'md5' || md5(md5('secret' || 'ann') || 'abcd').
+            (AuthenticationMD5Password(b"abcd"), PasswordMessage("md5b74835331d7e1d325026d95f00dd69c5")),
+        ]:
+            self.assertEqual(Login("ann", "secret").answer(asked), answer)
+
+    def test_what_comes_before_the_login_is_accepted(self):
+        for messages in LOGINS:
+            for count in range(len(messages)):
+                for message in LATER:
+                    self.assertRaises(ValueError, after(messages[:count]).answer, message)
+            for message in LATER:
+                self.assertIsNone(after(messages).answer(message))
+
+    def test_what_is_asked_out_of_turn(self):
+        known = {asked for messages in LOGINS for asked in messages}
+        for messages in LOGINS:
+            for count in range(1, len(messages) + 1):
+                for asked in known - {*messages[count : count + 1]}:
+                    self.assertRaises(ValueError, after(messages[:count]).answer, asked)
+
+    def test_in_mid_session(self):
+        for messages in LOGINS:
+            for asked in (AuthenticationOk(), AuthenticationCleartextPassword(), OFFER, CHALLENGE, FINAL):
+                self.assertRaises(ValueError, after([*messages, ReadyForQuery(), [("1",)]]).answer, asked)
+
+    def test_what_may_come_at_any_time(self):
+        for messages in LOGINS:
+            for count in range(len(messages) + 1):
+                for message in BESIDE:
+                    self.assertIsNone(after(messages[:count]).answer(message))
 
     def test_a_server_that_does_not_prove_itself(self):
         login = Login("ann", "secret")

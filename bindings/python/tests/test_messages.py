@@ -24,6 +24,8 @@ MISTAKES = [
     (lambda: BackendKeyData(1, 5), TypeError),
     (lambda: NegotiateProtocolVersion(-1), OverflowError),
     (lambda: NegotiateProtocolVersion(1 << 16), OverflowError),
+    (lambda: NegotiateProtocolVersion(0, major=1 << 16), OverflowError),
+    (lambda: NegotiateProtocolVersion(0, major=3.0), TypeError),
     (lambda: ReadyForQuery("X"), ValueError),
     (lambda: NotificationResponse(-1, "a"), OverflowError),
     (lambda: Column("a", 1 << 32), OverflowError),
@@ -47,6 +49,7 @@ MISTAKES = [
     (lambda: Bind(result_formats=[-1]), OverflowError),
     (lambda: Describe("X"), ValueError),
     (lambda: Execute(limit=-1), OverflowError),
+    (lambda: Execute(limit=1.5), TypeError),
     (lambda: FunctionCall(-1), OverflowError),
     (lambda: FunctionCall(1, result_format=65536), OverflowError),
 ]
@@ -135,6 +138,16 @@ class TestParts(unittest.TestCase):
         self.assertEqual(repr(CommandComplete("SELECT 1")), "CommandComplete(command=b'SELECT 1')")
         self.assertEqual(repr(Frame(112, b"secret\0")), "Frame(tag=112, body=<7 bytes>)")
 
+    def test_what_a_terminal_obeys(self):
+        for text, due in [
+            ("a\x1b[2Jb", r"a\x1b[2Jb"), ("a\x9b2Jb", r"a\x9b2Jb"), ("a\u202eb\u2066", r"a\u202eb\u2066"), ("\0\r\x7f", r"\x00\r\x7f"),
+            ("gr\u00fcn \u6f22\t\u00a0\n", "gr\u00fcn \u6f22\t\u00a0\n"), ("", ""),
+        ]:
+            self.assertEqual(printable(text), due)
+            for kind in (ErrorResponse, NoticeResponse):
+                self.assertEqual((str(kind({"M": text})), kind({"M": text}).message), (due, text))
+        self.assertEqual(str(ErrorResponse({"M": b"\x9b"})), "\ufffd")
+
     def test_match(self):
         match Bind(["1"], "s"):
             case Bind((value,), statement):
@@ -153,7 +166,12 @@ class TestParts(unittest.TestCase):
         self.assertIs(error.severity, Severity.FATAL)
         for word, due in Severity.__members__.items():
             self.assertIs(NoticeResponse({"V": word}).severity, due)
-        for fields, code in [({"V": "FOO"}, Code.UNKNOWN_SEVERITY), ({"V": b"\xff"}, Code.NOTICE_NOT_UTF8)]:
+        # As a server whose messages are in Latin-1 sends it.
+        for fields in ({"S": b"PR\xc9CIS", "V": "ERROR", "M": b"\xe9"}, [("V", "ERROR"), ("S", b"\xff")]):
+            self.assertIs(ErrorResponse(fields).severity, Severity.ERROR)
+        for word, due in [("FATAL", Severity.FATAL), ("FEHLER", Severity.LOG)]:
+            self.assertIs(ErrorResponse({"S": word}).severity, due)
+        for fields, code in [({"V": "FOO", "S": "ERROR"}, Code.UNKNOWN_SEVERITY), ({"V": b"\xff"}, Code.NOTICE_NOT_UTF8)]:
             with self.assertRaises(Fault) as refused:
                 ErrorResponse(fields).severity
             self.assertIs(refused.exception.code, code)

@@ -1,5 +1,6 @@
 """The package as it is installed, its docs, and its examples."""
 
+import contextlib
 import doctest
 import importlib.machinery
 import inspect
@@ -83,19 +84,28 @@ class TestDrivers(unittest.TestCase):
 
 
 class TestReadme(unittest.TestCase):
-    def test_its_program(self):
+    STARTUP = pgmsg.StartupMessage({"user": "ann", "database": "shop", "client_encoding": "UTF8"})
+
+    ROWS = [b"T\0\0\0\x06\0\0D\0\0\0\x13\0\3\0\0", b"\0\x015\xff\xff\xff\xff\0\0\0\0C\0\0\0\x0dSELECT 1\0Z\0\0\0\5I", b""]
+
+    def run_program(self, *pieces):
+        """What the program sends and prints where a server says this."""
         program = re.search(r"```python\n(.*?)```", (support.TOP / "README.md").read_text(), re.DOTALL)[1]
         connection = mock.Mock()
-        connection.recv.side_effect = [
-            b"R\0\0\0\x08\0\0\0\3", b"R\0\0\0\x08\0\0\0\0Z\0\0\0\5I", b"T\0\0\0\x06\0\0D\0\0\0\x13\0\3\0\0",
-            b"\0\x015\xff\xff\xff\xff\0\0\0\0C\0\0\0\x0dSELECT 1\0Z\0\0\0\5I", b""]
-        with redirect_stdout(io.StringIO()) as output:
+        connection.recv.side_effect = pieces
+        with redirect_stdout(io.StringIO()) as output, contextlib.suppress(ValueError):
             exec(program, {"connection": connection})
-        self.assertEqual(output.getvalue(), "('5', None, '')\n")
-        sent = b"".join(call.args[0] for call in connection.sendall.call_args_list)
-        self.assertEqual(sent, pgmsg.write(
-            pgmsg.StartupMessage({"user": "ann", "database": "shop", "client_encoding": "UTF8"}),
-            pgmsg.PasswordMessage("secret"), pgmsg.Query("TABLE people"), pgmsg.Terminate()))
+        return b"".join(call.args[0] for call in connection.sendall.call_args_list), output.getvalue()
+
+    def test_its_program(self):
+        asked = b"R\0\0\0\x08\0\0\0\3", b"R\0\0\0\x08\0\0\0\0Z\0\0\0\5I"
+        self.assertEqual(self.run_program(*asked, *self.ROWS), (pgmsg.write(
+            self.STARTUP, pgmsg.PasswordMessage("secret"), pgmsg.Query("TABLE people"), pgmsg.Terminate()), "('5', None, '')\n"))
+
+    def test_its_program_where_a_login_is_forged(self):
+        for pieces in ([b"Z\0\0\0\5I", *self.ROWS], self.ROWS, [b"R\0\0\0\x17\0\0\0\x0aSCRAM-SHA-256\0\0Z\0\0\0\5I", *self.ROWS]):
+            sent, printed = self.run_program(*pieces)
+            self.assertEqual((b"people" in sent, printed), (False, ""))
 
     def test_the_examples_are_short(self):
         for name in ("read_table.py", "read_table_asyncio.py"):

@@ -28,7 +28,7 @@ EACH = [
 
 REFUSED = [
     (b"", Code.SHORT, 0), (b"Z", Code.UNKNOWN_MESSAGE_TYPE, 0), (b"w\0\0\0\0\0\0\0\1\0\0", Code.SHORT, 9),
-    (b"na\0b", Code.MISSING_NUL, 3), (b"m!", Code.BODY_TOO_LONG, 0),
+    (b"na\0b", Code.MISSING_NUL, 3), (b"m!", Code.TRAILING_BYTES, 1),
 ]
 
 

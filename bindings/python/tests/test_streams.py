@@ -76,6 +76,29 @@ class TestStreams(unittest.TestCase):
                 break
         self.assertEqual(found, [CopyData(bytes(1 << 20))])
 
+    def test_what_is_left_is_not_copied_at_each_feed(self):
+        row, pair = DataRow(["1"]).write(), write(DataRow(["1"]), NoData())
+        for taken in (lambda stream: next(iter(stream)), lambda stream: stream.rows() or next(iter(stream))):
+            stream, copied, data = ClientStream(), 0, b""
+            for _ in range(2000):
+                stream.feed(pair + row[:3])
+                stream.feed(row[3:])
+                taken(stream)
+                copied += len(stream._data) if stream._data is not data else 0
+                data = stream._data
+            self.assertLess(copied, 3 * 2000 * len(pair + row))
+
+    def test_rows_go_on_in_what_was_fed_later(self):
+        row = DataRow(["1"]).write()
+        for at in range(len(row) + 1):
+            stream = ClientStream()
+            stream.feed(NoData().write() + row + row[:at])
+            self.assertEqual(next(iter(stream)), NoData())
+            for piece in (row[at:], row, NoData().write() + row):
+                stream.feed(piece)
+            self.assertEqual(stream.rows(), [("1",)] * 3)
+            self.assertEqual([*stream], [NoData(), DataRow(["1"])])
+
 
 class TestFaults(unittest.TestCase):
     def test_one_is_found_again_after_what_came_before_it(self):

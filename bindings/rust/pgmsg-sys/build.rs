@@ -10,7 +10,7 @@ const VARIABLE: &str = "PGMSG_LIB_DIR";
 const VERSION: &str = "pg_message = 0.2.0";
 
 const WAYS: &str = "\
-there is no libpg_message, which clients/library of its repository makes. One of these says where it is:
+there is no libpg_message, which packaging/library of its repository makes. One of these says where it is:
 - the variable PGMSG_LIB_DIR, which names the folder of libpg_message.a or libpg_message.so
 - pkg-config, where PKG_CONFIG_PATH has the folder of pg_message.pc";
 

@@ -5,6 +5,7 @@
 #include <err.h>
 #include <stdarg.h>
 #include <stdio.h>
+#include <string.h>
 
 /* More fields than a server has letters for. */
 enum { FIELDS = 32 };
@@ -36,11 +37,58 @@ enum status complain_of_message(const struct message *message)
     return complain(STATUS_PROTOCOL, "a message of type %c may not come here", message->tag);
 }
 
-bool is_control(const uint8_t *text, size_t len, size_t at)
+/* Whether a character is U+202A to U+202E or U+2066 to U+2069, after which a text is shown in another order. */
+static bool is_direction(const uint8_t *character)
 {
-    bool is_first = text[at] == 0xc2 && at + 1 < len && text[at + 1] >= 0x80 && text[at + 1] <= 0x9f;
-    bool is_second = text[at] >= 0x80 && text[at] <= 0x9f && at > 0 && text[at - 1] == 0xc2;
-    return text[at] < ' ' || text[at] == 0x7f || is_first || is_second;
+    bool is_embedding = character[1] == 0x80 && character[2] >= 0xaa && character[2] <= 0xae;
+    bool is_isolate = character[1] == 0x81 && character[2] >= 0xa6 && character[2] <= 0xa9;
+    return character[0] == 0xe2 && (is_embedding || is_isolate);
+}
+
+/* Whether a terminal may obey a character of UTF-8. */
+static bool is_obeyed_character(const uint8_t *character, size_t count)
+{
+    switch (count) {
+    case 1: return character[0] < ' ' || character[0] == 0x7f;
+    case 2: return character[0] == 0xc2 && character[1] < 0xa0;
+    case 3: return is_direction(character);
+    default: return false;
+    }
+}
+
+/* How many bytes the character at the front of a text has, which isn't empty: 1 where it isn't UTF-8. A terminal may obey
+ * control characters, also as one byte from 0x80 to 0x9f, and those that change the order in which a text is shown. */
+static size_t next_character(const uint8_t *text, size_t len, bool *is_obeyed)
+{
+    for (size_t count = 1; count <= 4 && count <= len; count++)
+        if (pgmsg_check_utf8(text, count) == count) {
+            *is_obeyed = is_obeyed_character(text, count);
+            return count;
+        }
+    *is_obeyed = text[0] < 0xa0;
+    return 1;
+}
+
+static void print_bytes(const uint8_t *text, size_t len)
+{
+    for (size_t i = 0; i < len; i++)
+        printf("\\x%02x", text[i]);
+}
+
+void print_escaped(const uint8_t *text, size_t len)
+{
+    static const char special[] = "\\\t\n\r", letters[] = "\\tnr";
+    for (size_t at = 0, count; at < len; at += count) {
+        bool is_obeyed;
+        const char *found = text[at] != 0 ? strchr(special, text[at]) : NULL;
+        count = next_character(text + at, len - at, &is_obeyed);
+        if (found != NULL)
+            printf("\\%c", letters[found - special]);
+        else if (is_obeyed)
+            print_bytes(text + at, count);
+        else
+            fwrite(text + at, 1, count, stdout);
+    }
 }
 
 /* Prints a text of the server without the bytes that a terminal would obey. Standard error has no buffer of its own. */
@@ -48,10 +96,12 @@ static void print_text(const uint8_t *text, size_t len)
 {
     char shown[1024];
     size_t used = 0;
-    for (size_t i = 0; i < len; i++) {
-        bool is_plain = !is_control(text, len, i) || text[i] == '\n' || text[i] == '\t';
-        shown[used++] = is_plain ? (char)text[i] : '?';
-        if (used == sizeof shown || i + 1 == len) {
+    for (size_t at = 0, count; at < len; at += count) {
+        bool is_obeyed, is_space = text[at] == '\n' || text[at] == '\t';
+        count = next_character(text + at, len - at, &is_obeyed);
+        memcpy(shown + used, is_obeyed && !is_space ? "????" : (const char *)text + at, count);
+        used += count;
+        if (used > sizeof shown - 4 || at + count == len) {
             fwrite(shown, 1, used, stderr);
             used = 0;
         }

@@ -37,9 +37,9 @@ enum status complain_of_fault(const pgmsg_fault *fault);
 /* The same for a message that may not come here. */
 enum status complain_of_message(const struct message *message);
 
-/* Whether a terminal may obey the byte at a place of a text: a control character of ASCII, or a byte of U+0080 to U+009F
- * in UTF-8, which are the others. */
-bool is_control(const uint8_t *text, size_t len, size_t at);
+/* Prints a text of the server on standard output: backslash, tab, line feed and carriage return as \\, \t, \n and \r, and
+ * each byte of another character that a terminal may obey as \x and two hexadecimal digits. */
+void print_escaped(const uint8_t *text, size_t len);
 
 /* Prints an error or a notice of the server on standard error: severity, code and message on the
  * first line, then detail, hint and context where there are any. */

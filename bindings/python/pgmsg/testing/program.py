@@ -2,16 +2,18 @@
 
 from __future__ import annotations
 
+import contextlib
 import os
 import shutil
 import subprocess
 import tempfile
 import time
+from pathlib import Path
 from types import TracebackType
 from typing import Self
 
-# How many seconds a program may take to listen, or to end.
-PATIENCE = 10.0
+# How many seconds a program may take to listen, or to end, which is long where a recording is or where much else runs.
+PATIENCE = 60.0
 
 # How the line begins that names the port.
 LISTENING = "listening on 127.0.0.1 port "
@@ -55,11 +57,6 @@ class Program:
     def __exit__(self, kind: type[BaseException] | None, error: BaseException | None, trace: TracebackType | None) -> None:
         self._close()
 
-    @property
-    def process_id(self) -> int:
-        """The number of the process."""
-        return self._process.pid
-
     def said(self) -> list[str]:
         """The lines that the program has written so far, without the one that names the port."""
         before, _, after = self._lines()
@@ -76,6 +73,25 @@ class Program:
         except subprocess.TimeoutExpired:
             return False
         return True
+
+    def await_quiet(self) -> None:
+        """Waits until no file of the program has grown for a moment, since clients that are gone may have said more."""
+        end, size = time.monotonic() + PATIENCE, -1
+        while time.monotonic() < end and size != (size := self._written()):
+            time.sleep(0.2)
+
+    def _written(self) -> int:
+        """The size of all files that the program holds open, of which some have no name."""
+        size = 0
+        for file in Path(f"/proc/{self._process.pid}/fd").glob("*"):
+            with contextlib.suppress(OSError):
+                size += file.stat().st_size
+        return size
+
+    def kill(self) -> None:
+        """Ends the program at once: pg_replay leaves its recording as it was."""
+        self._process.kill()
+        self._process.wait()
 
     def end(self) -> int:
         """Ends the program where it runs, and gives its status."""

@@ -25,6 +25,14 @@ def pytest_addoption(parser: pytest.Parser) -> None:
         help="fail where the tests of a module don't take each session of its recording once")
 
 
+def pytest_configure(config: pytest.Config) -> None:
+    """Refuses to record modules anew by workers of pytest-xdist that share the tests of one: the last would have the recording."""
+    if config.getoption("pg_record") and config.getoption("dist", "no") not in ("no", "loadfile"):
+        raise pytest.UsageError(
+            "--pg-record makes one recording of all tests of a module: give them to one worker by --dist loadfile, "
+            "or remove the recordings and use --pg-record-missing, which adds to them")
+
+
 @pytest.fixture(scope="module")
 def pg_tape(request: pytest.FixtureRequest) -> Iterator[Tape]:
     """The recording of a module, tapes/MODULE.tape beside it. PGHOST and PGPORT lead to it while the tests run.

@@ -3,18 +3,20 @@
 from __future__ import annotations
 
 import os
-import shutil
-import time
+import tempfile
 from collections.abc import Iterator, Sequence
 from contextlib import AbstractContextManager, contextmanager
 from dataclasses import dataclass, field
 from pathlib import Path
 from unittest import mock
 
-from .program import PATIENCE, Program, TapeError
+from .program import Program, TapeError
 
 # The status of a program that was told to end.
 ENDED = 143
+
+# How a line begins that isn't about a difference.
+NOTE = "pg_replay: note: "
 
 # How long a recording of no session is, in bytes.
 HEAD = 24
@@ -51,7 +53,7 @@ class Tape:
     def differences(self) -> str:
         """What pg_replay has reported so far: nothing where no client differed, or where the recording is being made."""
         lines = [] if self.is_recorded else self._program.said_since()
-        return "\n".join(line for line in lines if not line.endswith(" sessions are replayed"))
+        return "\n".join(line for line in lines if not line.endswith(" sessions are replayed") and not line.startswith(NOTE))
 
 
 def tape(
@@ -62,7 +64,8 @@ def tape(
 
     A client that differs fails the block by `ReplayDiffers`, or by a note to the block's own exception. Clients may take
     the sessions in any order and repeat them, and need not take all; with `whole` each session has to be taken once.
-    `options` are more options of pg_replay. `server` is the host and the port of the server, where those of PGHOST and
+    A client is refused where it may mean another session whose answer differs, unless `--strict=false` is among the
+    `options`, which are more options of pg_replay. `server` is the host and the port of the server, where those of PGHOST and
     PGPORT aren't meant. A new recording takes the place of an old one when the block ends without an exception and the
     server was reached.
     """
@@ -78,13 +81,15 @@ def _address(server: tuple[str, int] | None) -> list[str]:
 
 @contextmanager
 def _record(path: Path, server: tuple[str, int] | None) -> Iterator[Tape]:
-    new = path.with_name(path.name + ".new")
     path.parent.mkdir(parents=True, exist_ok=True)
-    new.unlink(missing_ok=True)
+    # The name is of this run alone: others may record beside it.
+    file, name = tempfile.mkstemp(dir=path.parent, prefix=f"{path.name}.")
+    os.close(file)
+    new = Path(name)
     try:
-        with Program("pg_record", *_address(server), "-o", str(new)) as program:
+        with Program("pg_record", *_address(server), "-o", name) as program:
             yield Tape(path, "127.0.0.1", program.port, True, program)
-            _await_quiet(new)
+            program.await_quiet()
             # It has words only for what it couldn't pass on or record.
             if program.has_ended() or program.said_since():
                 raise program.failed("failed:")
@@ -97,35 +102,23 @@ def _record(path: Path, server: tuple[str, int] | None) -> Iterator[Tape]:
         new.unlink(missing_ok=True)
 
 
-def _await_quiet(path: Path) -> None:
-    """Waits until a recording has grown no more for a moment, since clients that are gone may have said more."""
-    end, size = time.monotonic() + PATIENCE, -1
-    while time.monotonic() < end and path.exists() and size != (size := path.stat().st_size):
-        time.sleep(0.2)
-
-
 @contextmanager
 def _renew(path: Path, server: tuple[str, int] | None, options: Sequence[str]) -> Iterator[Tape]:
-    new = path.with_name(path.name + ".new")
     path.parent.mkdir(parents=True, exist_ok=True)
-    new.unlink(missing_ok=True)
-    if path.exists():
-        shutil.copy(path, new)
     order = ["--record-missing", "--any-order", "--again", "--go-on"]
-    try:
-        with Program("pg_replay", *order, *options, *_address(server), str(new)) as program:
-            it = Tape(path, "127.0.0.1", program.port, False, program)
+    with Program("pg_replay", *order, *options, *_address(server), str(path)) as program:
+        it = Tape(path, "127.0.0.1", program.port, False, program)
+        try:
             yield it
-            _await_quiet(new.with_name(f"{new.name}.{program.process_id}"))
+            program.await_quiet()
             if it.differences():
                 raise ReplayDiffers("\n".join(program.said()))
-            # The recording is written once the program is told to end.
-            if program.has_ended() or program.end() != ENDED:
-                raise program.failed("failed:")
-        if new.exists():
-            new.replace(path)
-    finally:
-        new.unlink(missing_ok=True)
+        except BaseException:
+            # Told to end, the program would put into the recording what a run that fails has said.
+            program.kill()
+            raise
+        if program.has_ended() or program.end() != ENDED:
+            raise program.failed("failed:")
 
 
 @contextmanager
@@ -133,7 +126,7 @@ def _replay(path: Path, options: Sequence[str], whole: bool) -> Iterator[Tape]:
     if not path.exists():
         raise TapeError(f"no recording {path}")
     order = [] if whole else ["--any-order", "--again"]
-    with Program("pg_replay", *order, "--go-on", *options, str(path)) as program:
+    with Program("pg_replay", *order, "--go-on", "--strict", *options, str(path)) as program:
         it = Tape(path, "127.0.0.1", program.port, False, program)
         try:
             yield it

@@ -30,6 +30,7 @@ pub const PGMSG_FIRST_TOO_LONG: _bindgen_ty_1 = -26;
 pub const PGMSG_TOO_MANY: _bindgen_ty_1 = -27;
 pub const PGMSG_NOT_FRAMES: _bindgen_ty_1 = -28;
 pub const PGMSG_FRAME_TOO_LONG: _bindgen_ty_1 = -29;
+pub const PGMSG_UNKNOWN_LETTER: _bindgen_ty_1 = -30;
 pub type _bindgen_ty_1 = crate::ctypes::c_int;
 pub const PGMSG_MAX_FIRST_LENGTH: _bindgen_ty_2 = 10004;
 pub const PGMSG_FIRST_STARTUP: _bindgen_ty_2 = 0;

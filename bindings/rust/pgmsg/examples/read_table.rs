@@ -18,8 +18,10 @@ fn main() -> Result<(), Box<dyn std::error::Error>> {
     let mut scram = Client::<Sha256>::new(password.as_bytes(), &nonce);
 
     let (mut socket, mut out) = (TcpStream::connect(address)?, Vec::new());
-    Startup::new(&[("user", &user[..]), ("database", &database)]).write(&mut out)?;
-    let (mut decoder, mut stream, mut is_open) = (Decoder::of_server(), Vec::new(), false);
+    let settings = [("user", &user[..]), ("database", &database), ("client_encoding", "UTF8")];
+    Startup::new(&settings).write(&mut out)?;
+    let (mut decoder, mut stream) = (Decoder::of_server(), Vec::new());
+    let (mut is_accepted, mut is_open) = (false, false);
     loop {
         socket.write_all(&out)?;
         out.clear();
@@ -32,8 +34,18 @@ fn main() -> Result<(), Box<dyn std::error::Error>> {
         while let Next::Frame(frame) = decoder.next(&stream[done..])? {
             done += frame.bytes.len();
             match Message::read(&frame)? {
-                Message::Authentication(Authentication::Ok) if scram.is_finished() => {}
+                Message::Authentication(Authentication::Ok)
+                    if scram.is_finished() && !is_accepted =>
+                {
+                    is_accepted = true
+                }
                 Message::Authentication(request) => scram.respond(&request, &mut out)?,
+                Message::ErrorResponse(fields) => {
+                    let message = fields.value(FieldKind::Message).unwrap_or_default();
+                    return Err(message.to_str_lossy().into());
+                }
+                Message::NoticeResponse(_) | Message::NegotiateProtocolVersion(_) => {}
+                _ if !is_accepted => return Err("a message before the login is accepted".into()),
                 Message::ReadyForQuery(_) if is_open => return Ok(()),
                 Message::ReadyForQuery(_) => {
                     let query = format!("TABLE {table}");
@@ -42,12 +54,8 @@ fn main() -> Result<(), Box<dyn std::error::Error>> {
                 }
                 Message::DataRow(values) => {
                     let texts = values.iter().map(|value| value.bytes().unwrap_or(b"NULL"));
-                    let texts: Vec<_> = texts.map(|text| ByteStr(text).to_str_lossy()).collect();
+                    let texts: Vec<_> = texts.map(|text| ByteStr(text).to_printable()).collect();
                     println!("{}", texts.join("\t"));
-                }
-                Message::ErrorResponse(fields) => {
-                    let message = fields.value(FieldKind::Message).unwrap_or_default();
-                    return Err(message.to_str_lossy().into());
                 }
                 _ => {}
             }

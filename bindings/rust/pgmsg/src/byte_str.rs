@@ -30,6 +30,29 @@ impl<'a> ByteStr<'a> {
     pub fn to_str_lossy(self) -> Cow<'a, str> {
         String::from_utf8_lossy(self.0)
     }
+
+    /// The same for a terminal, with an escape for each control character and for those that change the order
+    /// in which the next ones are shown, which the terminal would obey.
+    ///
+    /// ```
+    /// use pgmsg::ByteStr;
+    ///
+    /// assert_eq!(ByteStr::from("é\t\u{1b}[2J\u{9b}\u{202e}").to_printable(), r"é\t\u{1b}[2J\u{9b}\u{202e}");
+    /// assert_eq!(ByteStr(b"\x9b").to_printable(), "\u{fffd}");
+    /// ```
+    pub fn to_printable(self) -> String {
+        let mut shown = String::new();
+        for character in self.to_str_lossy().chars() {
+            match character {
+                '\u{202a}'..='\u{202e}' | '\u{2066}'..='\u{2069}' => {
+                    shown.extend(character.escape_default())
+                }
+                _ if character.is_control() => shown.extend(character.escape_default()),
+                _ => shown.push(character),
+            }
+        }
+        shown
+    }
 }
 
 /// Shows it as a literal of bytes, whatever they are.

@@ -22,7 +22,8 @@ table! {
         WrongFormat = (sys::PGMSG_WRONG_FORMAT, "message is of another kind");
         /// The received body is longer than a length field can say.
         BodyTooLong = (sys::PGMSG_BODY_TOO_LONG, "message body is too long for the protocol");
-        /// No message that is known here, from a server or from a client, has this tag.
+        /// No message that is known here, from a server or from a client, has this tag, or none of replication has
+        /// this letter.
         UnknownMessageType = (sys::PGMSG_UNKNOWN_MESSAGE_TYPE, "unknown message type");
         /// The server asks for a method of authentication that is not supported.
         UnknownAuthentication = (sys::PGMSG_UNKNOWN_AUTHENTICATION, "unsupported method of authentication");
@@ -66,6 +67,8 @@ table! {
         NotFrames = (sys::PGMSG_NOT_FRAMES, "not a run of whole messages");
         /// A message that is wanted whole is longer than the caller takes.
         FrameTooLong = (sys::PGMSG_FRAME_TOO_LONG, "message is longer than is taken whole");
+        /// No row and no value of logical replication has this letter.
+        UnknownLetter = (sys::PGMSG_UNKNOWN_LETTER, "unknown letter of a row or a value");
     } else {
         /// The library gave this number, which its header excludes: it is defective.
         Unexpected(i64)

@@ -125,7 +125,7 @@ impl<'a> Message<'a> {
     /// Reads the data of a CopyData by its first byte.
     ///
     /// Refused with [`UnknownMessageType`](Refusal::UnknownMessageType) where no message begins with this byte, and
-    /// with [`BodyTooLong`](Refusal::BodyTooLong) where bytes follow the last part of a message.
+    /// with [`TrailingBytes`](Refusal::TrailingBytes) where bytes follow the last part of a message.
     pub fn read(data: &'a [u8]) -> Result<Message<'a>, Fault> {
         let read: sys::pgmsg_replication = read!(pgmsg_read_replication([data]))?;
         let text = |place| part(data, place).map(ByteStr);

@@ -125,7 +125,7 @@ const ALL: &[Refusal] = &[
     WrongFormat, BodyTooLong, UnknownMessageType, UnknownAuthentication, UnknownStatus,
     UnknownSeverity, Short, MissingNul, NotUtf8, NoticeNotUtf8, ShortSaslItem, Base64, BadLength,
     TextHoldsNul, BadParams, BadKeyLength, UnknownCode, UnknownTarget, BadValueLength,
-    TrailingBytes, FirstTooLong, TooMany, NotFrames, FrameTooLong,
+    TrailingBytes, FirstTooLong, TooMany, NotFrames, FrameTooLong, UnknownLetter,
 ];
 
 #[test]

@@ -312,10 +312,10 @@ fn what_is_refused() {
         (b"Z", Refusal::UnknownMessageType, 0),
         (b"B\0\0", Refusal::Short, 1),
         (b"O\0\0\0\0\0\0\0\0far", Refusal::MissingNul, 9),
-        (b"E!", Refusal::BodyTooLong, 0),
-        (b"I\0\0\0\x01X", Refusal::UnknownMessageType, 0),
-        (b"D\0\0\0\x01N\0\0", Refusal::UnknownMessageType, 0),
-        (b"I\0\0\0\x01N\0\x01x", Refusal::UnknownMessageType, 0),
+        (b"E!", Refusal::TrailingBytes, 1),
+        (b"I\0\0\0\x01X", Refusal::UnknownLetter, 0),
+        (b"D\0\0\0\x01N\0\0", Refusal::UnknownLetter, 0),
+        (b"I\0\0\0\x01N\0\x01x", Refusal::UnknownLetter, 0),
         (b"I\0\0\0\x01N\0\x01t\0\0\0\x05four", Refusal::Short, 13),
     ];
     for (content, refusal, at) in cases {

@@ -78,8 +78,8 @@ fn what_is_refused() {
         (b"Z", Refusal::UnknownMessageType, 0),
         (b"w\0\0\0\0\0\0\0\x01\0\0", Refusal::Short, 9),
         (b"na\0b", Refusal::MissingNul, 3),
-        (b"m!", Refusal::BodyTooLong, 0),
-        (b"p\0\0\0\0\0\0\0\x01!", Refusal::BodyTooLong, 0),
+        (b"m!", Refusal::TrailingBytes, 1),
+        (b"p\0\0\0\0\0\0\0\x01!", Refusal::TrailingBytes, 9),
     ];
     for (data, refusal, at) in cases {
         assert_eq!(fault_of(Message::read(data)), (refusal, at), "{data:?}");

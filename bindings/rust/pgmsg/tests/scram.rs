@@ -2,7 +2,8 @@
 
 use pgmsg::backend::Authentication;
 use pgmsg::frontend::{Password, SaslInitialResponse};
-use pgmsg::scram::{Client, Credentials, Error, Server, Sha256};
+use pgmsg::scram::{Client, Credentials, Digest, Error, Key, Server, Sha256};
+use std::cell::Cell;
 
 /// The messages of section 3 of RFC 7677.
 const FIRST: &[u8] = b"n,,n=user,r=rOprNGfwEbeRWgbNEkqO";
@@ -58,6 +59,70 @@ fn an_exchange_in_messages() {
     assert_eq!(again, Err(Error::OutOfTurn));
     let none = client.respond(&Authentication::Sasl(["PLAIN".into()].into()), &mut out);
     assert_eq!(none, Err(Error::NoMechanism));
+}
+
+#[test]
+fn messages_out_of_turn() {
+    let offer = Authentication::Sasl(["SCRAM-SHA-256".into()].into());
+    let challenge = Authentication::SaslContinue(CHALLENGE.into());
+    let last = Authentication::SaslFinal(LAST.into());
+    let each = [&offer, &challenge, &last];
+    for count in 1..=each.len() {
+        for wrong in [&offer, &challenge, &last, &Authentication::CleartextPassword] {
+            let (mut client, mut out) = (client(b"pencil"), Vec::new());
+            for request in &each[..count] {
+                client.respond(request, &mut out).expect("no fault");
+            }
+            if each.get(count) != Some(&wrong) {
+                let begun = out.len();
+                assert_eq!(client.respond(wrong, &mut out), Err(Error::OutOfTurn), "{wrong:?}");
+                assert_eq!(out.len(), begun);
+            }
+        }
+    }
+}
+
+/// SHA-256 that counts how often HMAC gets a key.
+struct Counting;
+
+thread_local! {
+    static KEYS: Cell<u32> = const { Cell::new(0) };
+}
+
+impl Digest for Counting {
+    type Keyed = <Sha256 as Digest>::Keyed;
+
+    fn hash(bytes: &[u8]) -> Key {
+        Sha256::hash(bytes)
+    }
+
+    fn keyed(key: &[u8]) -> Self::Keyed {
+        KEYS.with(|count| count.set(count.get() + 1));
+        Sha256::keyed(key)
+    }
+
+    fn mac(keyed: &Self::Keyed, message: &[u8]) -> Key {
+        Sha256::mac(keyed, message)
+    }
+}
+
+#[test]
+fn a_password_keys_hmac_once() {
+    let keys = || KEYS.with(|count| count.replace(0));
+    for iterations in [1, 2, 10_000] {
+        assert_eq!(
+            Counting::salted(b"pencil", SALT, iterations),
+            Sha256::salted(b"pencil", SALT, iterations)
+        );
+        assert_eq!(keys(), 1);
+    }
+    // More iterations than the limit aren't begun.
+    for count in [10_000_001, u32::MAX] {
+        let mut client = Client::<Counting>::new(b"pencil", "nonce");
+        let challenge = format!("r=nonce-of-both,s=AAEC,i={count}");
+        assert_eq!(client.answer(challenge.as_bytes()), Err(Error::Iterations(count)));
+        assert_eq!(keys(), 0);
+    }
 }
 
 #[test]

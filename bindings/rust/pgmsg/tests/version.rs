@@ -1,4 +1,4 @@
-//! The version of the library that is linked. `clients/test` links one of another version, too, which no
+//! The version of the library that is linked. `tests/system/run` links one of another version, too, which no
 //! call gets through to.
 
 use pgmsg::frontend::{copy_head, Message};

@@ -54,7 +54,7 @@ impl Session {
         let minor = startup.minor.min(NEWEST);
         let names = startup.settings.iter().map(|setting| setting.name);
         let options = names.filter(|name| name.starts_with(b"_pq_.")).collect();
-        let spoken = NegotiateProtocolVersion { minor, options };
+        let spoken = NegotiateProtocolVersion { major: 3, minor, options };
         if minor < startup.minor || !spoken.options.is_empty() {
             spoken.write(&mut self.out)?;
         }

@@ -136,10 +136,23 @@ impl<'a> Fields<'a> {
         Some(field.value)
     }
 
-    /// The severity, by the field that doesn't depend on a language, else by the other one.
+    /// The severity, by the field that doesn't depend on a language, else by the other one, whose unknown words are
+    /// `Log`. Other fields need not be UTF-8.
+    ///
+    /// ```
+    /// # use pgmsg::backend::{Fields, Severity};
+    /// let fields = Fields::read(b"SPR\xC9CIS\0VERROR\0M\xE9\0\0")?;
+    /// assert_eq!(fields.severity()?, Severity::Error);
+    /// # Ok::<(), pgmsg::Fault>(())
+    /// ```
     pub fn severity(&self) -> Result<Severity, Fault> {
+        let independent = FieldKind::Severity.letter();
+        let letter = match self.iter().any(|field| field.letter == independent) {
+            true => independent,
+            false => FieldKind::LocalizedSeverity.letter(),
+        };
         let mut body = Vec::new();
-        for field in self.iter().filter(|field| b"VS".contains(&field.letter)) {
+        for field in self.iter().filter(|field| field.letter == letter) {
             body.push(field.letter);
             body.extend_from_slice(&field.value);
             body.push(0);
@@ -188,7 +201,9 @@ impl Severity {
         matches!(self, Severity::Panic | Severity::Fatal | Severity::Error)
     }
 
-    /// Reads the severity of an ErrorResponse or a NoticeResponse by its body.
+    /// Reads the severity of an ErrorResponse or a NoticeResponse by its body. Refused with
+    /// [`NoticeNotUtf8`](crate::Refusal::NoticeNotUtf8) where its message, its code or a severity isn't UTF-8: a body
+    /// that has its field `V` alone is read in any encoding, as `Fields::severity` does.
     ///
     /// ```
     /// # use pgmsg::backend::Severity;

@@ -176,17 +176,28 @@ impl TransactionStatus {
 /// use pgmsg::backend::NegotiateProtocolVersion;
 ///
 /// # let mut out = Vec::new();
-/// let newest = NegotiateProtocolVersion { minor: 0, options: ["_pq_.option".into()].into() };
+/// let options = ["_pq_.option".into()].into();
+/// let newest = NegotiateProtocolVersion { options, ..NegotiateProtocolVersion::default() };
 /// newest.write(&mut out)?;
 /// assert_eq!(NegotiateProtocolVersion::read(&out[5..])?, newest);
+/// assert_eq!((newest.major, newest.minor), (3, 0));
 /// # Ok::<(), Box<dyn std::error::Error>>(())
 /// ```
-#[derive(Clone, Debug, Default, PartialEq, Eq)]
+#[derive(Clone, Debug, PartialEq, Eq)]
 pub struct NegotiateProtocolVersion<'a> {
+    /// The major version, which is 3, or 0 where the server sends the minor version alone.
+    pub major: u16,
     /// The newest minor version.
     pub minor: u16,
     /// The names of the options.
     pub options: List<'a, ByteStr<'a>>,
+}
+
+/// Version 3.0, and no option.
+impl Default for NegotiateProtocolVersion<'_> {
+    fn default() -> Self {
+        NegotiateProtocolVersion { major: 3, minor: 0, options: List::default() }
+    }
 }
 
 impl<'a> NegotiateProtocolVersion<'a> {
@@ -197,6 +208,7 @@ impl<'a> NegotiateProtocolVersion<'a> {
             items(|room| ask!(pgmsg_read_negotiate_version([body], &mut read, mut [room])))?;
         let options = places.iter().map(|&place| part(body, place).map(ByteStr));
         Ok(NegotiateProtocolVersion {
+            major: read.major,
             minor: read.minor,
             options: options.collect::<Result<_, _>>()?,
         })
@@ -206,8 +218,12 @@ impl<'a> NegotiateProtocolVersion<'a> {
     ///
     /// Refused with [`TextHoldsNul`](Refusal::TextHoldsNul) where a name holds a NUL.
     pub fn write<B: Buffer>(&self, out: &mut B) -> Result<(), Refusal> {
-        let options = texts_of(&self.options);
-        put!(out, pgmsg_put_negotiate_version(self.minor, [options]))
+        let (options, mut made) = (texts_of(&self.options), Vec::new());
+        put!(&mut made, pgmsg_put_negotiate_version(self.minor, [options]))?;
+        // The library writes 3.
+        let mut body = made.split_off(5);
+        body.splice(..2, self.major.to_be_bytes());
+        put!(out, pgmsg_put_frame(b'v', [body]))
     }
 }
 

@@ -94,9 +94,9 @@ impl<'a> LogicalMessage<'a> {
     /// Reads a message by its first byte. `streamed` says that the message stands between a Stream Start and a Stream
     /// Stop, where seven kinds begin with the number of their transaction; a [`LogicalStream`] keeps track of that.
     ///
-    /// Refused with [`UnknownMessageType`](crate::Refusal::UnknownMessageType) where no kind of message, of row or of
-    /// value has a letter, and with [`BodyTooLong`](crate::Refusal::BodyTooLong) where bytes follow the last part of a
-    /// message.
+    /// Refused with [`UnknownMessageType`](crate::Refusal::UnknownMessageType) where no kind has its letter, with
+    /// [`UnknownLetter`](crate::Refusal::UnknownLetter) where no row or value has one, and with
+    /// [`TrailingBytes`](crate::Refusal::TrailingBytes) where bytes follow the last part of a message.
     pub fn read(content: &'a [u8], streamed: bool) -> Result<LogicalMessage<'a>, Fault> {
         LogicalStream { streamed }.read(content)
     }

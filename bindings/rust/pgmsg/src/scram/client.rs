@@ -19,7 +19,8 @@ use core::marker::PhantomData;
 ///
 /// [`respond`](Client::respond) takes the server's requests and writes what to send. Only once the client
 /// [is finished](Client::is_finished) has the server shown that it knows the password too: an
-/// AuthenticationOk before that is not to be trusted.
+/// AuthenticationOk before that is not to be trusted, and neither are rows or a ReadyForQuery before the
+/// AuthenticationOk.
 ///
 /// ```
 /// # #[cfg(feature = "sha2")] {
@@ -46,6 +47,8 @@ pub struct Client<'a, D> {
 /// What comes next.
 #[derive(Clone, Copy, PartialEq, Eq)]
 enum State {
+    /// The offer of mechanisms, or the challenge to a first message without channel binding.
+    Offer,
     /// The challenge, after a first message that began so.
     Challenge(&'static str),
     /// The server's signature, which is this.
@@ -68,7 +71,7 @@ impl<'a, D: Digest> Client<'a, D> {
             nonce,
             binding: None,
             requires_binding: false,
-            state: State::Challenge(HEADERS[0]),
+            state: State::Offer,
             digest: PhantomData,
         }
     }
@@ -100,7 +103,7 @@ impl<'a, D: Digest> Client<'a, D> {
     }
 
     /// Answers a request of SASL: chooses a mechanism, answers a challenge, or takes the server's signature
-    /// and writes nothing.
+    /// and writes nothing. Each comes once, so that a server can't have a client hash without end.
     pub fn respond<B: Buffer>(
         &mut self,
         request: &Authentication<'_>,
@@ -135,6 +138,9 @@ impl<'a, D: Digest> Client<'a, D> {
         if !is_offered(mechanism) {
             return Err(Error::NoMechanism);
         }
+        if self.state != State::Offer {
+            return Err(Error::OutOfTurn);
+        }
         self.state = State::Challenge(header);
         Ok(mechanism)
     }
@@ -157,6 +163,7 @@ impl<'a, D: Digest> Client<'a, D> {
     /// The answer to the server's challenge, with the proof.
     pub fn answer(&mut self, challenge: &[u8]) -> Result<Vec<u8>, Error> {
         let header = match self.state {
+            State::Offer => HEADERS[0],
             State::Challenge(header) => header,
             _ => return Err(Error::OutOfTurn),
         };

@@ -14,7 +14,8 @@ pub fn of_server() -> Vec<(&'static [u8], backend::Message<'static>)> {
     let key = backend::BackendKeyData { process_id: 1234, secret_key: b"\xff\0\0\x01".into() };
     let copy = |format, columns: &[i16]| CopyResponse { format, columns: columns.iter().copied().map(Format).collect() };
     let fields = [(b'S', "ERROR"), (b'C', "42601"), (b'!', "")].map(|(letter, text)| Field { letter, value: text.into() });
-    let newest = backend::NegotiateProtocolVersion { minor: 2, options: ["_p.a".into(), "".into()].into() };
+    let newest = backend::NegotiateProtocolVersion { major: 3, minor: 2, options: ["_p.a".into(), "".into()].into() };
+    let alone = backend::NegotiateProtocolVersion { major: 0, minor: 2, options: [].into() };
     let note = backend::NotificationResponse { process_id: 42, channel: "jobs".into(), payload: b"\xff".into() };
     let status = backend::ParameterStatus { name: "TimeZone".into(), value: b"\xff".into() };
     let id = Column { table: 16385, attribute: -2, type_size: 4, format: Format::BINARY, ..Column::new("id", 23) };
@@ -68,6 +69,7 @@ pub fn of_server() -> Vec<(&'static [u8], backend::Message<'static>)> {
         (b"V\0\0\0\x08\0\0\0\0", result("".into())),
         (b"V\0\0\0\x08\xff\xff\xff\xff", result(Value::NULL)),
         (b"v\0\0\0\x12\0\x03\0\x02\0\0\0\x02_p.a\0\0", NegotiateProtocolVersion(newest)),
+        (b"v\0\0\0\x0c\0\0\0\x02\0\0\0\0", NegotiateProtocolVersion(alone)),
         (b"v\0\0\0\x0c\0\x03\0\0\0\0\0\0", NegotiateProtocolVersion(Default::default())),
         (b"!\0\0\0\x06\0\xff", Other(backend::Other { tag: b'!', body: b"\0\xff".into() })),
     ]
