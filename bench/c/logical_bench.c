@@ -48,7 +48,7 @@ static int32_t hand_read_value(const struct content *content, size_t *at, pgmsg_
     if (value->kind == 'n' || value->kind == 'u')
         return 0;
     if (value->kind != 't' && value->kind != 'b')
-        return PGMSG_UNKNOWN_MESSAGE_TYPE;
+        return PGMSG_UNKNOWN_LETTER;
     if (content->len - *at < 4)
         return PGMSG_SHORT;
     value->value = (pgmsg_span){*at + 4, u32_at(content->bytes + *at)};
@@ -77,7 +77,7 @@ static ptrdiff_t hand_read(const struct content *content, bool streamed, struct 
     }
     insert->relation = u32_at(content->bytes + at);
     if (content->bytes[at + 4] != 'N')
-        return PGMSG_UNKNOWN_MESSAGE_TYPE;
+        return PGMSG_UNKNOWN_LETTER;
     size_t count = (size_t)content->bytes[at + 5] << 8 | content->bytes[at + 6];
     at += 7;
     for (size_t i = 0; i < count; i++) {
@@ -86,7 +86,7 @@ static ptrdiff_t hand_read(const struct content *content, bool streamed, struct 
         if (refused)
             return refused;
     }
-    return at == content->len ? (ptrdiff_t)count : PGMSG_BODY_TOO_LONG;
+    return at == content->len ? (ptrdiff_t)count : PGMSG_TRAILING_BYTES;
 }
 
 /* Reads the message that pgmsg_read_logical gives, whose other parts are 0. */

@@ -1,4 +1,4 @@
-"""Times what a driver does most beside pure Python and asyncpg, in turns in one process: speed.py [ROUNDS]
+"""Times what a driver does most beside pure Python and asyncpg, in turns in one process: bench/run python [ROUNDS]
 
 PGHOST, PGPORT, PGUSER and PGDATABASE name a server, which says the rows once to asyncpg: its own bytes are what all read.
 The least processor time of each in so many rounds counts, seven where ROUNDS isn't given.

@@ -8,7 +8,7 @@ from pathlib import Path
 
 import ours
 
-BENCH = Path(__file__).resolve().parent.parent
+CORE = Path(__file__).resolve().parent.parent
 
 # Debian's sources of crates, where its packages are installed.
 DEBIAN_CRATES = Path("/usr/share/cargo/registry")
@@ -78,7 +78,7 @@ def postgres_protocol(out):
 def link(out, side, archives, *flags):
     """The timer with a side's functions, once in each order."""
     timer = out / f"{side}.o"
-    output("cc", "-std=c11", "-O2", "-Wall", *flags, "-c", BENCH / "timer/timer.c", "-o", timer)
+    output("cc", "-std=c11", "-O2", "-Wall", *flags, "-c", CORE / "timer/timer.c", "-o", timer)
     programs = []
     for order in ORDERS:
         program = out / f"{side}.{order}"
@@ -94,14 +94,14 @@ def go(out):
         return []
     program = out / "pgproto3"
     settings = {"GO111MODULE": "off", "GOPATH": str(DEBIAN_GO), "GOCACHE": str(out / "go-cache")}
-    output("go", "build", "-o", program, ".", cwd=BENCH / "pgproto3", env=os.environ | settings)
+    output("go", "build", "-o", program, ".", cwd=CORE / "pgproto3", env=os.environ | settings)
     return [[program]]
 
 
 def build(source, out):
     """The programs of each side, in each order: a dict of lists of command lines."""
     for name in ("shared", "original", "peer"):
-        shutil.copytree(BENCH / name, out / name, dirs_exist_ok=True)
+        shutil.copytree(CORE / name, out / name, dirs_exist_ok=True)
     return {
         "ours": link(out, "ours", ours.timed(out), "-DOURS"),
         "original": link(out, "original", original(source, out)),

@@ -43,7 +43,7 @@ def counted(data):
     return pack(">I", len(data)) + data
 
 
-# Scripts: a letter and the fields of each message, as `crates/pg_bench/src/script.rs` reads them.
+# Scripts: a letter and the fields of each message, as `bench/core/pg_bench/src/script.rt.in` reads them.
 
 
 def bind(random):

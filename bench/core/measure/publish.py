@@ -3,7 +3,10 @@
 import re
 import time
 
-from build import BENCH, output
+from build import CORE, output
+
+# Where the page and its tables are.
+BENCH = CORE.parent
 
 # What stands above each table.
 HEADS = {

@@ -1,5 +1,5 @@
 //! Decodes bodies with the original, and prints what every accessor returns, in the form of the
-//! program `bench/pg_answers`, whose README has it:
+//! program `tests/answers/pg_answers`, whose README has it:
 //!
 //!     answers decode [more] < LINES
 //!
