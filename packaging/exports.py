@@ -58,7 +58,7 @@ def module(path, text, places):
     """The exports of a module."""
     exports = list(EXPORT.finditer(text))
     if len(exports) != text.count(MARK):
-        sys.exit(f"clients/exports.py: {path} marks a function in a form that isn't known")
+        sys.exit(f"packaging/exports.py: {path} marks a function in a form that isn't known")
     structs = sorted({struct for export in exports for struct in re.findall(r"\bPgmsg\w+", export["head"])})
     uses = [f"use pg_c::{places[struct]}::{struct};" for struct in structs]
     if any("Global" in export["params"] for export in exports):
