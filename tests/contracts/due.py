@@ -1,17 +1,21 @@
-"""Which wrong bodies the merge gate tries: those of what changed since a commit, and a share of all."""
+"""Which wrong bodies the merge gate tries: those of what changed since it last passed on this machine, and a share of all."""
 
+import os
+import pathlib
 import subprocess
+import tempfile
 
 import changes
 import crates
+import rules
 import wrong_bodies
 
-# The commit from which on changes count, and the toolchain: by another logic all are tried again.
-TRIED = crates.TOP / "tests" / "tried"
+# The commits that the gate passed on this machine, a line for each with the logic of its toolchain, the last one at the end.
+PASSED = pathlib.Path(os.environ.get("XDG_CACHE_HOME") or pathlib.Path.home() / ".cache") / "tarnwhisk" / "passed"
 
-# The functions of each source have their turn at one of so many commits that TRIED names, with the next of their mutants, and
-# wrong bodies by hand at one of so many. What has its turn stands together in the tree: each check has some seconds of its
-# own, so a few of many wrong bodies cost less than many of a few.
+# The functions of each source have their turn at one of so many commits that change a crate, with the next of their mutants, and
+# constants and wrong bodies by hand at one of so many. What has its turn stands together in the tree: each check has some
+# seconds of its own, so a few of many wrong bodies cost less than many of a few.
 TURNS, TURNS_BY_HAND = 12, 24
 
 
@@ -19,15 +23,15 @@ class Due:
     """What is due at this commit, of the wrong bodies of all crates."""
 
     def __init__(self):
-        since, toolchain = TRIED.read_text().splitlines()[1:]
-        # A clone without its history tries all, and so does another logic.
-        self.is_all = not is_ancestor(since) or logic_of(toolchain) != logic_of(printed("rt", "version"))
-        self.has_self_test = self.is_all or changes.differ(since, "tests")
-        if not self.is_all:
-            lines = changes.changed(since)
-            self.changed = {crate: changes.Change(crate, since, lines) for crate in crates.known().values()}
-            self.turn = int(changes.git("rev-list", "--count", since, "--", "tests/tried"))
-            self.sources = sources_at(since)
+        since, logic = last_passed(PASSED)
+        # Another logic proves all anew.
+        self.is_all = since is not None and logic != logic_of(printed("rt", "version"))
+        self.has_self_test = self.is_all or since is None or changes.differ(since, "tests")
+        # Where nothing is known to have passed, the share is tried alone.
+        lines = changes.changed(since) if since else {}
+        self.changed = {crate: changes.Change(crate, since, lines) for crate in crates.known().values()}
+        self.turn = int(changes.git("rev-list", "--count", "HEAD", "--", "crates"))
+        self.sources = sources_at("HEAD")
 
     def of(self, wrong):
         """Those that are due, of the wrong bodies of each crate.
@@ -41,11 +45,11 @@ class Due:
         return {crate: [it for it in its if it in share or self.changed[crate].concerns(it)] for crate, its in wrong.items()}
 
     def share_of(self, wrong):
-        """A share of all wrong bodies, another one for each commit that TRIED names: what else is committed doesn't choose."""
+        """A share of all wrong bodies, another one for each commit that changes a crate: what else is committed doesn't choose."""
         sources = part(self.sources, self.turn, TURNS)
         made, by_hand = {}, []
         for crate, it in ((crate, it) for crate, its in wrong.items() for it in its):
-            if not isinstance(it, wrong_bodies.Mutant):
+            if not isinstance(it, wrong_bodies.Mutant) or it.rule == rules.CONSTANT_RULE:
                 by_hand.append((it, 1))
             elif sources & {f"crates/{crate.name}/{path}" for path in it.changes}:
                 made.setdefault(it.function.name, []).append(it)
@@ -70,11 +74,32 @@ def part(sized, turn, turns):
     return found
 
 
+def last_passed(file):
+    """The last commit of this one's history that a gate passed, and the logic by which; nothing where none is known."""
+    lines = file.read_text().splitlines() if file.exists() else []
+    return next((tuple(line.split()) for line in reversed(lines) if is_ancestor(line.split()[0])), (None, None))
+
+
+def keep_passed(file, logic):
+    """Keeps that a gate passed this commit, where the tree is as the commit has it; the last hundred are kept."""
+    if not changes.git("status", "--porcelain"):
+        lines = [*(file.read_text().splitlines() if file.exists() else []), f"{changes.git('rev-parse', 'HEAD').strip()} {logic}"]
+        file.parent.mkdir(parents=True, exist_ok=True)
+        new = file.with_name(f"{file.name}.{os.getpid()}")
+        new.write_text("".join(f"{line}\n" for line in lines[-100:]))
+        new.replace(file)
+
+
 def amiss():
-    """What is wrong with the parts of an example: each stands in one, and those of one part stand together."""
+    """What is wrong with the parts of an example, each of which stands together, and with what is kept of commits that passed."""
     sized = [("a", 5), ("b", 1), ("c", 9), ("d", 2), ("e", 1)]
     found = [sorted(part(sized, turn, 3)) for turn in range(3, 6)]
-    return [] if found == [["a", "b"], ["c"], ["d", "e"]] else [f"tests/due.py: the parts are {found}"]
+    with tempfile.TemporaryDirectory() as folder:
+        kept = pathlib.Path(folder, "passed")
+        kept.write_text(f"{changes.git('rev-parse', 'HEAD').strip()} this\n{'0' * 40} other\n")
+        passed = last_passed(kept)[1], last_passed(kept.with_name("none"))
+    return [f"tests/contracts/due.py: the parts are {found}"] * (found != [["a", "b"], ["c"], ["d", "e"]]) \
+        + [f"tests/contracts/due.py: what passed is {passed}"] * (passed != ("this", (None, None)))
 
 
 def is_ancestor(commit):

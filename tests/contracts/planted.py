@@ -1,6 +1,6 @@
 """Plants wrong bodies in sources that are laid out for tests: those that no contract refuses, each of which a test must catch.
 
-Each body stands whole beside the right one, and is run where C says so: tests/caught/planted.c, which runs a test with each
+Each body stands whole beside the right one, and is run where C says so: tests/contracts/caught/planted.c, which runs a test with each
 of its own before the test itself.
 """
 
@@ -13,7 +13,7 @@ import crates
 import unproved
 import wrong_bodies
 
-SOURCES = [crates.TOP / "tests/caught" / name for name in ("planted.c", "planted.h")]
+SOURCES = [crates.TOP / "tests/contracts/caught" / name for name in ("planted.c", "planted.h")]
 
 SWITCH = """\
 //! Which wrong body is run.

@@ -4,15 +4,19 @@ import re
 
 DECLARATION = re.compile(r"(?:fn|impl|struct|enum|trait|const|static|closure) (\S+): (.*)")
 
-# A goal of the function itself that stays open: at a line of its source, or at an answer of its proof.
+# A goal of the function itself that stays open at a line of its source, and its name.
 OPEN = re.compile(r"note: (?:\./)?src/\S+:\d+:\d+: (?:it is not proved that|`search` found no proof)")
+GOAL = re.compile(r"\(`([^`\s]+)`\)")
+
+# An answer of its proof that doesn't fit says nothing of the contract.
 ANSWER = re.compile(r"(?:\./)?(proofs/\S+?)/\w+\.antt:\d+:\d+: error")
+
+# Values are known at which a goal is false; no proof was found within the limits of the search.
+FALSE = re.compile(r"at which this goal is false|and the goal fails, at ")
+LIMIT = re.compile(r"gave up at one of its limits")
 
 # An answer that stands there by design.
 STRAY = re.compile(r"error: `stray`: ")
-
-# An answer that names what the text no longer has says nothing of the contract, nor does one that rests on another.
-SHAPE = re.compile(r"has no field|is not in scope|has no `|was not admitted|error: \d+ declarations? that depends? on")
 
 # A proof that doesn't hold, and those of which that one leaves nothing known.
 LAW = re.compile(r"(?:\./)?(proofs/\S+?):\d+:\d+: error: `(\w\S*)`")
@@ -24,7 +28,7 @@ UNTYPED = re.compile(r"(?:\./)?(?:src|specs)/\S+?:\d+:\d+: error: `\w\S*`")
 # A line by which the text itself can't be read, of which no goal was tried.
 UNREAD = re.compile(r"(?:\./)?((?:src|specs)/\S+?):(\d+):\d+: error(?:\[[\w-]+\])?: (.*)")
 
-PROVED, OPEN_GOAL, OF_SHAPE, WAITS, UNKNOWN = "proved", "open goal", "of shape", "waits", "unknown"
+PROVED, OPEN_GOAL, OF_SHAPE, OF_LIMIT, WAITS, UNKNOWN = "proved", "open goal", "of shape", "of a limit", "waits", "unknown"
 
 
 def joined(lines):
@@ -85,12 +89,19 @@ class Report:
             return PROVED, said
         proof = "/".join(["proofs", *name.split("::")[1:]])
         answers = [line for path, line in self.answers if path == proof]
-        goals = self.open[name] + [line for line in answers if not SHAPE.search(line)]
-        if goals:
-            return OPEN_GOAL, goals[0]
+        false = list(filter(FALSE.search, [*self.open[name], *answers]))
+        if false:
+            return OPEN_GOAL, false[0]
         if answers:
             return OF_SHAPE, answers[0]
+        if self.open[name]:
+            return OPEN_GOAL, min(self.open[name], key=lambda line: bool(LIMIT.search(line)))
         return (WAITS if "it calls" in said else UNKNOWN), said
+
+    def goals(self, function):
+        """The goals of a function and its closures that stay open, and whether each is known to be false, with the lines that say so."""
+        lines = [line for name in [function, *self.closures(function)] for line in self.open.get(name, ())]
+        return {(found[1], bool(FALSE.search(line))): line for line in lines if (found := GOAL.search(line))}
 
     def closures(self, function):
         """The closures of a function, which have lines of their own."""
@@ -110,3 +121,19 @@ class Report:
     def unread(self):
         """The lines of source that can't be read: path, number and words."""
         return [(found[1], int(found[2]), found[3]) for line in self.lines if (found := UNREAD.match(line))]
+
+
+# What a check prints of four functions, and what it says of each.
+EXAMPLE = {
+    "note: src/a.rt:1:1: it is not proved that what the function ensures holds when it returns (`returns`)": OPEN_GOAL,
+    "./proofs/f1/Answers.antt:1:1: error: `returns`: `rw`: no occurrence of the path's left endpoint": OF_SHAPE,
+    "./proofs/f2/Answers.antt:1:1: error: `returns`: `omega`: the goal does not follow. All of that holds, and the goal fails, at `n` = 0": OPEN_GOAL,
+    "./proofs/f3/Answers.antt:1:1: error: `returns`: module `Goals` has no `returns`": OF_SHAPE,
+}
+
+
+def amiss():
+    """What is wrong with the verdicts on an example."""
+    lines = [line for number, said in enumerate(EXAMPLE) for line in (said, f"fn a::f{number}: not proved")]
+    found = [Report(lines).verdict(f"a::f{number}")[0] for number in range(len(EXAMPLE))]
+    return [] if found == list(EXAMPLE.values()) else [f"tests/contracts/report.py: the verdicts are {found}"]

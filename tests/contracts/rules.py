@@ -2,11 +2,13 @@
 
 import re
 
+import sources
+
 TOKEN = re.compile(r"""//[^\n]*|b?"(?:\\.|[^"\\])*"|b?'(?:\\.|[^'\\])'|'\w+|\w+|::|->|=>|==|!=|<=|>=|&&|\|\||\.\.=?|[-+*/%&|^]=|<<|>>|\S""")
 STRUCT = re.compile(r"^(?:pub(?:\(\w+\))? )?struct (\w+)[^({;]*(?:\{(.*?)^\}|\(([^;]*)\);)", re.MULTILINE | re.DOTALL)
 ENUM = re.compile(r"^(?:pub(?:\(\w+\))? )?enum (\w+)[^{]*\{(.*?)^\}", re.MULTILINE | re.DOTALL)
 FIELD = re.compile(r"^    (?:pub(?:\(\w+\))? )?(\w+): (.*),$", re.MULTILINE)
-VARIANT = re.compile(r"^    ([A-Z]\w*)(\([^)]*\)| \{.*?^    \})?(?: = .*)?,$", re.MULTILINE | re.DOTALL)
+VARIANT = re.compile(r"^    ([A-Z]\w*)(\([^)]*\)| \{.*?^    \})?(?: = [^\n]*)?,$", re.MULTILINE | re.DOTALL)
 CALLED = re.compile(r"\bfn (\w+)(?:<[^(]*>)?\(((?:[^{};\[]|\[[^\]]*\])*?)\)(?: -> ([^{;]*?))?"
                     r"(?=\s*(?:\{|;|where\b|requires\b|ensures\b|ghost\b|//|$))", re.MULTILINE)
 NUMBERS = {"u8", "u16", "u32", "u64", "usize", "i8", "i16", "i32", "i64", "isize"}
@@ -24,6 +26,12 @@ SIBLINGS = [("to_be_bytes", "to_le_bytes"), ("BigEndian", "byteorder::LittleEndi
             ("starts_with", "ends_with"), ("split_first", "split_last"), ("memchr", "memrchr"), ("is_some", "is_none"),
             ("STANDARD", "STANDARD_NO_PAD")]
 SIBLING = {one: two for pair in SIBLINGS for one, two in (pair, pair[::-1])}
+# The rule of state behind a `&mut`, and what stands for the old text in a new one that has it whole.
+STATE, WHOLE = "state", "\0"
+# A body of the form of such a mutant that changes nothing.
+UNCHANGED = f" let given = {{{WHOLE}}}; given "
+# The rule of the value of a constant.
+CONSTANT_RULE = "value of a constant"
 # Methods that can be left out of a chain.
 KEEPING = {"max", "min", "saturating_add", "saturating_sub", "take", "skip"}
 
@@ -87,10 +95,14 @@ class Body:
             elif word in CLOSE and stack:
                 self.pairs[stack.pop()] = number
         self.opened = {close: begun for begun, close in self.pairs.items()}
-        self.implementing = re.match(r" ", lines[function.first]) and self.implemented(lines, function.first)
+        # The type of `self`, and its name.
+        self.own = self.implemented(lines, function.first) if re.match(r" ", lines[function.first]) else ""
+        self.implementing = re.match(r"\w*", self.own)[0]
         head = [it for it in lines[function.first : function.body + 1] if not re.match(r" *(?:requires|ensures|ghost|//)", it)]
         found = CALLED.search("\n".join(head))
         named = [it.partition(":") for it in split(found[2]) if ":" in it] if found else []
+        self.names_room = any(re.search(r"[cC]apacity|Room", line) for line in lines[function.first : function.body])
+        self.changes_self = bool(found) and found[2].split(",")[0].split()[-2:] == ["&mut", "self"]
         self.parameters = {name.removeprefix("mut ").strip(): plain(of) for name, _, of in named}
         self.result = plain(found[3] or "()").replace("Self", self.implementing or "Self") if found else ""
         # The names of what is bound, with their types and the token after which they are known.
@@ -100,8 +112,11 @@ class Body:
     def implemented(self, lines, number):
         """The type whose method begins on a line."""
         head = next((at for at in range(number, -1, -1) if re.match(r"impl\b", lines[at])), None)
-        found = head is not None and re.search(r"(\w+)(?:<[^{]*>)? (?:\{|where)?$", lines[head].rstrip("{ ") + " ")
-        return found[1] if found else None
+        said = head is not None and sources.head_of(lines, head)
+        if not said:
+            return ""
+        _, of = sources.parameters_of(said.removeprefix("impl").strip())
+        return plain(re.sub(r"\bwhere\b.*", "", of).rpartition(" for ")[2])
 
     def bind(self):
         for number, word in enumerate(self.words):
@@ -161,6 +176,10 @@ class Body:
             is_inside = any(first <= begun < at < close for begun, close in self.pairs.items())
             if self.words[at] in ("+", "-", "*", "/", "%") and at > first and not is_inside:
                 return self.type_of(first, at)
+        if words in (["self"], ["*", "self"]):
+            return self.own if self.own.startswith("&") or words[0] == "*" else ""
+        if words[-2:-1] == ["::"]:
+            return self.known.constants.get(words[-1], "").replace("Self", words[-3])
         if len(words) == 1:
             named = self.known.constants.get(words[0], "") or self.locals.get(words[0], ("", 0))[0]
             return "number" if words[0][0].isdigit() else "&str" if words[0][0] == '"' else named
@@ -168,15 +187,29 @@ class Body:
             called = self.words[self.opened[end - 1] - 1]
             if called in ("len", "capacity", "saturating_add", "saturating_sub") or words[:3] == ["usize", "::", "from"]:
                 return "usize"
-            if called == "as_slice":
+            if called in ("as_slice", "as_bytes"):
                 return "&[u8]"
-            return self.known.calls.get(called, ([], ""))[1]
+            if called == "cast_unsigned":
+                signed = self.own if words[:-4] == ["self"] else self.type_of(first, end - 4)
+                return signed.replace("i", "u", 1)
+            return called if called in self.known.fields else self.known.calls.get(called, ([], ""))[1]
         if words[:2] == ["self", "."] and len(words) == 3:
             return self.fields_of_self().get(words[2], "")
         return "&[u8]" if words[0] == "&" and words[-1] == "]" and ".." in words else ""
 
     def fields_of_self(self):
         return {str(name): of for name, of in self.known.fields.get(self.implementing, {}).items()}
+
+    def state(self):
+        """The places behind a `&mut` that the function is passed, each with its type: the fields of a struct, one by one."""
+        passed = {"self": self.own} if self.changes_self and self.own else {}
+        passed |= {name: of.removeprefix("&mut ") for name, of in self.parameters.items() if of.startswith("&mut ")}
+        for name, of in passed.items():
+            fields = self.known.fields.get(re.match(r"\w*", of)[0])
+            if fields is None:
+                yield name, of
+            else:
+                yield from ((f"{name}.{field}", its.removeprefix("&mut ")) for field, its in fields.items())
 
     def without_memory(self):
         """The error of missing memory that the function can give, or None."""
@@ -281,8 +314,9 @@ def answers(of, known):
 
 
 def shown(text, rule, start, end, new):
-    """A mutant in a line."""
-    old, new = (" ".join(it.split()) or "(nothing)" for it in (text[start:end], new))
+    """A mutant in a line. What stands whole in the new text is two dots there."""
+    old = "" if WHOLE in new else text[start:end]
+    old, new = (" ".join(it.split()) or "(nothing)" for it in (old, new.replace(WHOLE, "..")))
     return f"[{rule}] {old} -> {new}"
 
 
@@ -292,10 +326,36 @@ def mutants_of(text, function, known):
     return [it for (start, end, new), it in found.items() if text[start:end].strip() != new]
 
 
+def of_constant(text, constant, known):
+    """The mutants of a constant: a number one more or less, a letter or a variant in place of another, a shorter text."""
+    lines = text.split("\n")
+    begun = sum(len(line) + 1 for line in lines[: constant.first])
+    after = begun + sum(len(line) + 1 for line in lines[constant.first : constant.last + 1])
+    declared, begun = text.index(":", begun) + 1, text.index("=", begun) + 1
+    tokens = [it for it in TOKEN.finditer(text, begun, text.rindex(";", begun, after)) if not it[0].startswith("//")]
+    words = [it[0] for it in tokens]
+    for at, word in enumerate(words):
+        span, its = tokens[at].span(), known.variants.get(words[at - 2], {}) if at > 1 else {}
+        if re.fullmatch(r"\d[\d_]*", word):
+            yield from ((CONSTANT_RULE, *span, str(int(word) + by)) for by in (1, -1) if int(word) + by >= 0)
+        elif re.fullmatch(r"b'[^\\]'", word):
+            yield CONSTANT_RULE, *span, f"b'{chr(ord(word[2]) + 1)}'"
+        elif re.fullmatch(r'b?"[^"\\]+"', word):
+            yield CONSTANT_RULE, *span, word[:-2] + '"'
+        elif word in its:
+            yield from ((CONSTANT_RULE, *span, other) for other in its if other != word and its[other] == its[word])
+    start, end, of = tokens[0].start(), tokens[-1].end(), text[declared : begun - 1].strip()
+    if of in NUMBERS and not any(word[0].isdigit() or word[0] == "b" for word in words):
+        yield CONSTANT_RULE, start, end, f"{text[start:end]} - 1"
+    # The value of another item, as of a type parameter.
+    units = [name for name, holds in known.variants.get(of, {}).items() if not holds and of not in words]
+    yield from ((CONSTANT_RULE, start, end, f"{of}::{name}") for name in units[:2])
+
+
 def made_of(text, function, known):
     body = Body(text, function, known)
     for rule in (of_numbers, of_signs, of_calls, of_constants, of_variables, of_fields, of_variants, of_answers, of_statements, of_arms,
-                 of_values, of_parameters, of_errors, of_texts):
+                 of_values, of_parameters, of_errors, of_texts, of_state):
         yield from rule(body)
 
 
@@ -516,9 +576,10 @@ def of_values(body):
             yield "bytes", *span, "&[]"
             yield "bytes", *span, f"{bare}.get(1..).unwrap_or(&[])"
             yield "bytes", *span, f"&{bare}[..{bare}.len().saturating_sub(1)]"
-        if of == "bool" and said not in ("true", "false"):
-            yield "condition", *span, f"!({said})"
-            yield from (("condition", *span, constant) for constant in ("true", "false"))
+        if of == "bool":
+            yield from (("condition", *span, constant) for constant in ("true", "false") if constant != said)
+            if said not in ("true", "false"):
+                yield "condition", *span, f"!({said})"
 
 
 def defaults(of, said):
@@ -570,3 +631,30 @@ def of_texts(body):
             yield "text", body.place(at), body.end(at), changed
         if re.fullmatch(r'b?"[^"\\]*[\w ]"', word) and not body.in_pattern(at):
             yield "text", body.place(at), body.end(at), word[:-2] + '"'
+
+
+def of_state(body):
+    """State behind a `&mut` that takes another value after the body, or is as it was before."""
+    opened, closed = body.end(0), body.place(body.pairs[0]) if 0 in body.pairs else body.end(0)
+    for place, of in body.state():
+        target = place if "." in place or of.startswith("[") else f"*{place}"
+        changes = changes_of(place, target, of, body.known)
+        # A contract that names no room lets all of it go.
+        if of.startswith("Vec<") and body.names_room:
+            changes.append(f"if let Ok(again) = {place}.clone() {{ {target} = again; }}")
+        for change in changes:
+            yield STATE, opened, closed, f" let given = {{{WHOLE}}}; {change} given "
+        if re.search(rf"{re.escape(target)} [-+]?= ", body.text[opened:closed]) and (of in NUMBERS or of == "bool"):
+            yield STATE, opened, closed, f" let kept = {target}; let given = {{{WHOLE}}}; {target} = kept; given "
+
+
+def changes_of(place, target, of, known):
+    """Statements that give a place of a type another value."""
+    if of.startswith("Vec<"):
+        return [f"{place}.clear();"]
+    if of.startswith("["):
+        return [f"{place}.fill(0);" if of[1:].split(";")[0].rstrip("]") in NUMBERS else f"{place}.reverse();"]
+    if of == "bool":
+        return [f"{target} = !{target};"]
+    values = ["0", f"{of}::MAX"] if of in NUMBERS else ["None"] if of.startswith("Option<") else answers(of, known)
+    return [f"{target} = {it};" for it in values]

@@ -1,14 +1,17 @@
-"""The functions of a source in the layout of `rt fmt`, and the names by which a check reports them."""
+"""The functions and constants of a source in the layout of `rt fmt`, and the names by which a check reports them."""
 
 import pathlib
 import re
 
-SOURCES = pathlib.Path(__file__).resolve().parent.parent / "crates"
+SOURCES = pathlib.Path(__file__).resolve().parents[2] / "crates"
 
 # The head of an item that has others in it, or of a function. In this layout an item ends at the first line that
 # closes at its own indentation.
 BLOCK = re.compile(r"^( *)(?:pub(?:\([a-z]+\))? )?(impl|trait|mod)\b(.*)$")
 FUNCTION = re.compile(r'^( *)(?:pub(?:\([a-z]+\))? |const |final |unsafe |extern "C" )*fn (\w+)')
+
+# A constant that has its value, which may go over several lines.
+CONSTANT = re.compile(r"^( *)(?:pub(?:\([a-z]+\))? )?const (\w+): .*=(?: |$)")
 
 # A clause of a contract, which may go over several lines.
 CLAUSE = re.compile(r" *(requires|ensures)\b")
@@ -17,7 +20,7 @@ LIFETIME = re.compile(r"'[a-z_]+\b,? ?")
 
 
 class Function:
-    """A function with a body: its name in reports, and its lines from 0, those of its body apart."""
+    """A function with a body, or a constant: its name in reports, and its lines from 0, those of its body apart."""
 
     def __init__(self, name, first, body, last):
         self.name, self.first, self.body, self.last = name, first, body, last
@@ -29,25 +32,44 @@ class Function:
 
 def functions(crate, path, text):
     """The functions of a source, given its path in the crate, in the order of their lines."""
+    return items(crate, path, text)[0]
+
+
+def constants(crate, path, text):
+    """The constants of a source that have a value, of the file and of its impls."""
+    return items(crate, path, text)[1]
+
+
+def items(crate, path, text):
+    """The functions and the constants of a source."""
     lines = text.split("\n")
     at = module(crate, path)
-    found, blocks, number = [], [], 0
+    found, values, blocks, number = [], [], [], 0
     while number < len(lines):
         while blocks and number > blocks[-1][1]:
             blocks.pop()
-        block, function = BLOCK.match(lines[number]), FUNCTION.match(lines[number])
+        block, function, constant = (it.match(lines[number]) for it in (BLOCK, FUNCTION, CONSTANT))
         if block and (head := head_of(lines, number)):
             blocks.append((block_name(block[2], head, text), end_of(lines, number, block[1])))
         elif function:
             body = body_of(lines, number, function[1])
             if body is not None:
                 last = number if lines[body].rstrip().endswith("}") else end_of(lines, body, function[1])
-                inner = [name for name, _ in blocks if name]
-                home = home_of(crate, inner[0], text) if inner else None
-                found.append(Function("::".join([*(home or at), *inner, function[2]]), number, body, last))
+                found.append(Function(name_in(crate, text, at, blocks, function[2]), number, body, last))
                 number = last
+        elif constant:
+            last = next(it for it in range(number, len(lines)) if lines[it].endswith(";"))
+            values.append(Function(name_in(crate, text, at, blocks, constant[2]), number, number, last))
+            number = last
         number += 1
-    return found
+    return found, values
+
+
+def name_in(crate, text, module, blocks, name):
+    """The name in reports of what stands in some blocks of a module."""
+    inner = [block for block, _ in blocks if block]
+    home = home_of(crate, inner[0], text) if inner else None
+    return "::".join([*(home or module), *inner, name])
 
 
 def module(crate, path):

@@ -1,6 +1,8 @@
 """Tries wrong bodies, many in a check, and judges each by the function that it changes."""
 
+import contextlib
 import functools
+import io
 import math
 import os
 import re
@@ -34,6 +36,8 @@ class Known:
     def __init__(self, crate, proofs):
         self.crate, self.proofs = crate, proofs
         self.lock = threading.Lock()
+        # The goals that stay open of right bodies, by function, without their answers or in the form of mutants.
+        self.controls = {}
 
     @functools.cached_property
     def folder(self):
@@ -82,15 +86,24 @@ class Trial:
     def __init__(self, known, wrong):
         self.known, self.crate, self.wrong, self.checks = known, known.crate, wrong, 0
         self.passed, self.failed = 0, 0
+        # The mutants with a verdict, the functions of which one shows something, and those that have none left to try.
+        self.tried, self.shown, self.mute = set(), set(), set()
 
     def show(self, it, verdict, why):
         """Counts a verdict, and prints it; returns what is tried in place of a mutant that shows nothing."""
         # A function that reports name otherwise would never be judged.
         is_known = "has no function" not in why
         shows_nothing = verdict not in (REFUSED, ACCEPTED, NOT_APPLIED) and (it.instead or verdict != UNCHECKED) and is_known
+        self.tried.add(it)
         if isinstance(it, Mutant) and shows_nothing:
-            print(f"shows nothing{'' if it.instead else ', and no other is left'}: {it}: {verdict}: {why}", flush=True)
+            print(f"shows nothing: {it}: {verdict}: {why}", flush=True)
+            self.mute |= set() if it.instead else {it.function.name}
             return [it.instead] if it.instead else []
+        if isinstance(it, Mutant):
+            self.shown.add(it.function.name)
+            is_listed = it.function.name in wrong_bodies.let_through()
+            why = f"{why}; tests/contracts/accepted.txt says that nothing is shown of its function" if is_listed else why
+            verdict = UNDECIDED if is_listed else verdict
         if verdict == it.due:
             self.passed += 1
             print(f"{verdict}: {it}", flush=True)
@@ -98,6 +111,18 @@ class Trial:
             self.failed += 1
             print(f"FAILED {it}: {verdict}: {why}", flush=True)
         return []
+
+    def of_mute(self):
+        """Of each function of which nothing is shown the next of its mutants; one that has none left fails."""
+        again = []
+        for name in sorted(self.mute - self.shown):
+            left = [it for it in wrong_bodies.in_reach(self.crate, name) if it not in self.tried]
+            again += left[:1]
+            if not left and name not in wrong_bodies.let_through():
+                self.failed += 1
+                print(f"FAILED {name}: none of its mutants shows anything, and tests/contracts/accepted.txt doesn't say why", flush=True)
+        self.mute.clear()
+        return again
 
     def run(self):
         """Shows a verdict for each of them, once the crates are proved that its own stands on."""
@@ -116,15 +141,19 @@ class Trial:
             first = int(is_beside and not self.checks)
             with ThreadPoolExecutor(len(batches)) as pool:
                 left = [it for part in (batches[:first], batches[first:]) for again in pool.map(self.together, part) for it in again]
+            left = left or self.of_mute()
 
-    def check(self, batch, strays=True):
-        """The report of a check of the functions that these change, with stray answers or as they are."""
+    def check(self, batch, has_stray=True):
+        """The report of a check of the functions that these change, with stray answers, or with answers as they are."""
+        owners = {owner for it in batch for owner in it.owners - it.laws}
+        texts = wrong_bodies.answers(self.crate, owners, has_stray, batch[0].is_bare)
+        readers = set().union(*(it.readers for it in batch))
+        return self.report({**texts, **wrong_bodies.texts(self.crate, batch)}, owners, readers)
+
+    def report(self, texts, owners, readers=frozenset()):
+        """The report of a check of some functions with some texts."""
         self.checks += 1
-        texts = wrong_bodies.texts(self.crate, batch)
-        if strays:
-            texts = {**wrong_bodies.stray_answers(self.crate, batch), **texts}
-        functions = {owner.partition("::")[2] for it in batch for owner in it.owners - it.laws}
-        functions = functions.union(*(it.readers for it in batch))
+        functions = {owner.partition("::")[2] for owner in owners} | readers
         # A law that no function's proof reads is checked with all that is.
         only = [] if None in functions else [word for function in sorted(functions) for word in ("--only", function)]
         with tempfile.TemporaryDirectory(prefix="wrong-") as kept, PROCESSORS:
@@ -141,11 +170,15 @@ class Trial:
         said = self.check(batch, has_stray)
         if not said.is_judged:
             return self.divided(batch, said)
+        self.control([it for it in batch if verdict_of(it, said)[0] == report.OPEN_GOAL])
         again = []
         for it in batch:
-            verdict, why = verdict_of(it, said)
+            verdict, why = self.verdict(it, said)
+            if self.is_next_bare(it, verdict):
+                again.append(it)
+                continue
             is_final = verdict == report.OPEN_GOAL or isinstance(it, Mutant) and (
-                verdict == report.OF_SHAPE or verdict == report.PROVED and not has_stray)
+                verdict in (report.OF_SHAPE, report.OF_LIMIT) or verdict == report.PROVED and not has_stray)
             if is_final:
                 again += self.show(it, NAMED[verdict], why)
                 continue
@@ -170,21 +203,56 @@ class Trial:
             again.append(it)
         return again
 
+    def is_next_bare(self, it, verdict):
+        """Whether one is to be tried without answers, because those that stand there don't fit."""
+        is_next = verdict == report.OF_SHAPE and not it.is_bare and not it.laws
+        if is_next:
+            it.is_bare, it.has_stray = True, True
+        return is_next
+
+    def control(self, batch):
+        """Finds which goals stay open of right bodies in place of these, where they are without their answers or of another form."""
+        new = [it for it in batch if (it.is_bare or it.control) and control_of(it) not in self.known.controls]
+        if new:
+            owners = {owner for it in new for owner in it.owners}
+            texts = wrong_bodies.answers(self.crate, owners, True, new[0].is_bare)
+            said = self.report({**texts, **wrong_bodies.texts(self.crate, [it.control for it in new if it.control])}, owners)
+            self.known.controls |= {control_of(it): {goal for owner in it.owners for goal in said.goals(owner)} for it in new}
+
+    def verdict(self, it, said):
+        """The verdict of a check on one: a goal is open that isn't so of a right body in its place, and not by a limit of the prover alone."""
+        verdict, why = verdict_of(it, said)
+        if verdict != report.OPEN_GOAL or not (isinstance(it, Mutant) or it.is_bare):
+            return verdict, why
+        known = self.known.controls.get(control_of(it), ())
+        new = [line for owner in it.owners for goal, line in said.goals(owner).items() if goal not in known]
+        if known and not new:
+            return report.OF_SHAPE, "no goal stays open that doesn't of the right body in its place"
+        return (report.OF_LIMIT if all(map(report.LIMIT.search, new or [why])) else verdict), (new or [why])[0]
+
     def alone(self, it):
         """Judges one by a check of its own, and by one with its answers as they are where no goal of it stays open."""
         said = self.check([it], it.has_stray)
         if it.has_stray and said.is_judged and not it.laws and verdict_of(it, said)[0] != report.OPEN_GOAL:
-            said = self.check([it], strays=False)
+            said = self.check([it], has_stray=False)
         if not said.is_judged:
             unread = [f"{path}:{number}: {words}" for path, number, words in said.unread()]
             return self.show(it, UNREADABLE if unread else UNCHECKED, (unread or said.lines[-1:] or ["no line"])[0])
-        verdict, why = verdict_of(it, said)
+        self.control([it] if verdict_of(it, said)[0] == report.OPEN_GOAL else [])
+        verdict, why = self.verdict(it, said)
+        if self.is_next_bare(it, verdict):
+            return [it]
         # A check that was ended, or reached a limit, says nothing of what it judges.
         return self.show(it, UNCHECKED if verdict == report.UNKNOWN else NAMED.get(verdict, UNDECIDED), why)
 
 
 # What a check says of one, in the words of a verdict.
-NAMED = {report.OPEN_GOAL: REFUSED, report.PROVED: ACCEPTED, report.OF_SHAPE: OF_SHAPE}
+NAMED = {report.OPEN_GOAL: REFUSED, report.PROVED: ACCEPTED, report.OF_SHAPE: OF_SHAPE, report.OF_LIMIT: UNDECIDED}
+
+
+def control_of(it):
+    """By what the right body in the place of one is known."""
+    return min(it.owners), it.is_bare, bool(it.control)
 
 
 def is_at(it, path, number):
@@ -228,7 +296,7 @@ def batches_of(wrong, processors):
     batches = []
     # What touches most others comes first. Those of a file are together as far as can be, for a check proves also what
     # their functions call.
-    for it in sorted(wrong, key=lambda it: (is_alone(it), it.has_stray, -others[it], min(it.changes))):
+    for it in sorted(wrong, key=lambda it: (is_alone(it), it.has_stray, it.is_bare, -others[it], min(it.changes))):
         fitting = next((batch for batch in batches if len(batch) < most and can_join(it, batch)), None)
         if fitting:
             fitting.append(it)
@@ -240,12 +308,25 @@ def batches_of(wrong, processors):
 def can_join(it, batch):
     """Whether one can stand beside those of a check."""
     first = batch[0]
-    return not is_alone(it) and not is_alone(first) and it.has_stray == first.has_stray and not any(map(it.touches, batch))
+    is_alike = it.has_stray == first.has_stray and it.is_bare == first.is_bare
+    return is_alike and not is_alone(it) and not is_alone(first) and not any(map(it.touches, batch))
 
 
 def is_alone(it):
     """Whether nothing can stand beside one."""
     return it.is_apart or it.turns >= TURNS
+
+
+def amiss():
+    """What is wrong with the judgement of a function of which no mutant can be read: it fails."""
+    crate = next(iter(crates.known().values()))
+    name = next(name for name, its in wrong_bodies.by_rules(crate).items() if len(its) > wrong_bodies.EACH)
+    trial = Trial(Known(crate, None), [])
+    with contextlib.redirect_stdout(io.StringIO()):
+        for it in wrong_bodies.in_reach(crate, name):
+            trial.show(it, UNREADABLE, "for a test")
+        trial.of_mute()
+    return [] if trial.failed == 1 else [f"tests/contracts/trials.py: a function of which nothing is shown fails {trial.failed} times"]
 
 
 def of(crate, each=wrong_bodies.EACH):

@@ -15,17 +15,17 @@ UNREADABLE, NOT_APPLIED, UNDECIDED, UNCHECKED = "does not read", "does not apply
 
 # The wrong bodies of a crate, the one that `rt ci` tries, and those by which the trials are tested.
 BY_HAND, MUST_FAIL = "wrong.edits", "must-fail"
-SELF_TEST = crates.TOP / "tests" / "self_test"
+SELF_TEST = crates.TOP / "tests/contracts/self_test"
 
 # The mutants that contracts let through, with the reason or the test that sees each.
-LET_THROUGH = crates.TOP / "tests" / "accepted.txt"
+LET_THROUGH = crates.TOP / "tests/contracts/accepted.txt"
 
 # The word by which the mutants of a function are ranked, how many of them are its own, and how many are tried for each of these
 # until one shows something.
 WORD, EACH, TRIES = "tarnwhisk", 3, 4
 
 # A constant that only its own file, or its own item, sees.
-CONSTANT = re.compile(r" *const (\w+)\s*:")
+PRIVATE = re.compile(r" *const (\w+)\s*:")
 
 IMPL = re.compile(r"impl\b.*?(\w+)(?:<[^{]*>)? for ")
 TRAIT = re.compile(r"^(?:pub(?:\(\w+\))? )?trait (\w+).*?^\}", re.MULTILINE | re.DOTALL)
@@ -40,7 +40,8 @@ class WrongBody:
         self.file, self.places = None, set()
         self.changes, self.owners, self.laws, self.refusing, self.readers = {}, set(), set(), set(), set()
         self.lines, self.stands_on, self.avoids = set(), set(), set()
-        self.turns, self.has_stray, self.is_apart = 0, True, False
+        # It is tried without the answers of its functions where these don't fit.
+        self.turns, self.has_stray, self.is_bare, self.is_apart, self.control = 0, True, False, False, None
         # The one that is tried where this shows nothing.
         self.instead = None
 
@@ -146,7 +147,7 @@ class Edit(WrongBody):
             lines = self.crate.lines(path)
             for number in changed:
                 here = self.bodies_at(path, number)
-                constant = CONSTANT.match(lines[number])
+                constant = PRIVATE.match(lines[number])
                 if not here and constant:
                     name = re.compile(rf"\b{constant[1]}\b")
                     here = [it.name for it in functions(self.crate, path) if any(map(name.search, lines[it.body : it.last + 1]))]
@@ -157,18 +158,22 @@ class Edit(WrongBody):
 
 
 class Mutant(WrongBody):
-    """A text in place of another in a function's body, by a rule."""
+    """A text in place of another in a function's body or a constant's value, by a rule, and the functions that must refuse it."""
 
-    def __init__(self, crate, path, function, text, rule, start, end, new):
+    def __init__(self, crate, path, function, owners, text, rule, start, end, new):
         super().__init__(crate)
-        self.function, self.rule, old = function, rule, text[start:end]
-        # The lines after it keep their numbers.
-        new = new.replace("\n", " ") + "\n" * old.count("\n")
+        self.function, self.rule, old, says = function, rule, text[start:end], new
         self.says = f"{function.name.split('::')[-1]} {rules.shown(text, rule, start, end, new)}"
+        # The lines after it keep their numbers.
+        is_whole = rules.WHOLE in new
+        new = new.replace(rules.WHOLE, old) if is_whole else new.replace("\n", " ") + "\n" * old.count("\n")
         first, begun = text.count("\n", 0, start), text.rfind("\n", 0, start) + 1
         changed = text[begun:start] + new + text[end:].partition("\n")[0]
         self.changes = {path: dict(enumerate(changed.split("\n"), first))}
-        self.lines, self.owners = {(path, number) for number in self.changes[path]}, {function.name}
+        self.lines, self.owners = {(path, number) for number in self.changes[path]}, owners
+        # A body of the same form that is right.
+        if rule == rules.STATE and says != rules.UNCHANGED:
+            self.control = Mutant(crate, path, function, owners, text, rule, start, end, rules.UNCHANGED)
 
     def __str__(self):
         return f"{self.function.name.rpartition('::')[0]}::{self.says}"
@@ -217,62 +222,113 @@ def by_rules(crate):
     below = (file for it in [*crate.libraries(), crate] for file in sorted((it.folder / "src").rglob("*.rt")))
     known = rules.Known(file.read_text() for file in below)
     found = {}
-    # What has no definitions promises nothing but that it ends.
-    for file in sorted((crate.folder / "src").rglob("*.rt")) if (crate.folder / "specs").exists() else ():
-        path = str(file.relative_to(crate.folder))
-        text = "\n".join(crate.lines(path))
+    for path in proved(crate):
+        text, lines = "\n".join(crate.lines(path)), crate.lines(path)
         for it in functions(crate, path):
-            lines = crate.lines(path)
             if not lines[it.body].endswith("{}") and promises(lines, it):
-                found[it.name] = in_turn([Mutant(crate, path, it, text, *one) for one in rules.mutants_of(text, it, known)])
+                made = rules.mutants_of(text, it, known)
+                found[it.name] = in_turn([Mutant(crate, path, it, {it.name}, text, *one) for one in made])
+        for it in sources.constants(crate.name, path, text):
+            made = rules.of_constant(text, it, known) if (users := users_of(crate, path, it)) else ()
+            found[it.name] = in_turn([Mutant(crate, path, it, users, text, *one) for one in made])
     return found
 
 
+@functools.lru_cache(maxsize=None)
+def proved(crate):
+    """The sources of a crate with contracts: what has no definitions promises nothing but that it ends."""
+    files = sorted((crate.folder / "src").rglob("*.rt")) if (crate.folder / "specs").exists() else ()
+    return [str(file.relative_to(crate.folder)) for file in files]
+
+
+def users_of(crate, path, constant):
+    """What must refuse another value of a constant: a clause of its own, or the functions that name it, in its file if there are any."""
+    home, _, name = constant.name.rpartition("::")
+    lines = crate.lines(path)
+    if any(re.match(rf" *ghost {name} = ", line) for line in lines[constant.last : constant.last + 3]):
+        return {constant.name}
+    if lines[constant.first].startswith(" "):
+        names = [rf"{home.split('::')[-1]}::{name}"]
+    else:
+        # A constant that has it in its value stands for it.
+        names = [name, *re.findall(rf"const (\w+): [^=;]*= [^;]*\b{name}\b", "\n".join(lines))]
+    named = re.compile(rf"\b(?:{'|'.join(names)})\b")
+    own = re.compile(rf"\bSelf(?: as \w+>)?::{name}\b")
+    for paths in ([path], proved(crate)):
+        users = {it.name for other in paths for it in functions(crate, other) if promises(crate.lines(other), it)
+                 and any(named.search(line) or home == it.name.rpartition("::")[0] and own.search(line)
+                         for line in crate.lines(other)[it.first : it.last + 1])}
+        if users:
+            return users
+    return set()
+
+
 def in_turn(mutants):
-    """Mutants of a function by their rank, a rule at a time; of those that say the same each later one by its number."""
+    """Mutants of a function by their rank, a rule at a time, that of state first; of those that say the same each later one by its number."""
     turns, places, alike = {}, {}, collections.Counter()
     for it in mutants:
         alike[it.says] += 1
         it.says += f" ({alike[it.says]})" if alike[it.says] > 1 else ""
     for it in sorted(mutants, key=Mutant.rank):
-        places[it] = turns[it.rule] = turns.get(it.rule, -1) + 1
+        turns[it.rule] = turns.get(it.rule, -1) + 1
+        places[it] = turns[it.rule], it.rule != rules.STATE
     return sorted(places, key=places.get)
 
 
 def chains(crate, each=EACH):
-    """Of each function of a crate so many mutants, each with those that come in its place where it shows nothing."""
+    """Of each function of a crate so many mutants, and of a constant one, each with those that come in its place where it shows nothing."""
     allowed = let_through()
     found = {}
     for name, mutants in by_rules(crate).items():
-        for it, after in zip(mutants, mutants[each : each * TRIES]):
+        own = 1 if is_constant(name) else each
+        for it, after in zip(mutants, mutants[own : own * TRIES]):
             it.instead = after
         for it in mutants:
             if str(it) in allowed:
                 it.due, it.seen_by = ACCEPTED, allowed[str(it)]
-        found[name] = mutants[:each]
+        found[name] = mutants[:own]
     return found
+
+
+def is_constant(name):
+    """Whether a name is that of a constant."""
+    return name.rpartition("::")[2].isupper()
+
+
+def in_reach(crate, name):
+    """The mutants of a function that are tried until one shows something."""
+    return by_rules(crate)[name][: EACH * TRIES]
 
 
 @functools.lru_cache(maxsize=None)
 def let_through():
-    """The mutants that may be accepted, each with the test that sees it or with None."""
+    """The mutants that may be accepted, and functions of which none shows anything, each with the test that sees it or with None."""
     lines = LET_THROUGH.read_text().splitlines() if LET_THROUGH.exists() else []
     said = [line.partition("  # ") for line in lines if not line.startswith("#")]
     return {mutant: why[8:] if why.startswith("seen by ") else None for mutant, _, why in said}
 
 
 def gone():
-    """The mutants of that list that no rule makes any more."""
+    """What that list has and is no mutant of the rules, nor a function."""
     made = {str(it) for crate in crates.known().values() for its in by_rules(crate).values() for it in its}
-    return [f"{it}: tests/accepted.txt has it, and no rule makes it" for it in let_through() if it not in made]
+    named = {name for crate in crates.known().values() for name in by_rules(crate)}
+    return [f"{it}: tests/contracts/accepted.txt has it, and no rule makes it" for it in let_through() if it not in made | named]
+
+
+def untried():
+    """The functions with a contract, and the constants, of which no rule makes a mutant, but for those of that list."""
+    names = (name for crate in crates.known().values() for name, its in by_rules(crate).items() if not its)
+    return [f"{name}: no rule makes a mutant of it, and tests/contracts/accepted.txt doesn't say why" for name in names if name not in let_through()]
 
 
 def of_rules():
     """The mutants in which the rules differ from those that stand below an example."""
     text, _, below = (SELF_TEST / "rules.txt").read_text().partition("\n\n\n")
-    [example] = sources.functions("example", "src/lib.rt", text)
-    made = [rules.shown(text, *it) for it in rules.mutants_of(text, example, rules.Known([text]))]
-    return [f"tests/self_test/rules.txt: {it}" for it in set(made).symmetric_difference(below.splitlines())]
+    known = rules.Known([text])
+    functions, constants = sources.items("example", "src/lib.rt", text)
+    made = [rules.shown(text, *it) for function in functions for it in rules.mutants_of(text, function, known)]
+    made += [rules.shown(text, *it) for constant in constants for it in rules.of_constant(text, constant, known)]
+    return [f"tests/contracts/self_test/rules.txt: {it}" for it in set(made).symmetric_difference(below.splitlines())]
 
 
 def promises(lines, it):
@@ -299,12 +355,14 @@ def traits():
 STRAY = "stray : no-such-goal"
 
 
-def stray_answers(crate, wrong):
-    """The files of answers of the functions that wrong bodies change, with a stray one, by path."""
+def answers(crate, functions, has_stray, is_bare):
+    """The files of answers of some functions, by path: with a stray one, or without those that stand there."""
     found = {}
-    for function in {owner for it in wrong for owner in it.owners - it.laws}:
+    for function in functions:
         path = "/".join(["proofs", *function.split("::")[1:], "Answers.antt"])
-        found[path] = "\n".join([*(crate.lines(path) if (crate.folder / path).exists() else []), STRAY, ""])
+        is_there = (crate.folder / path).exists()
+        if has_stray or is_bare and is_there:
+            found[path] = "\n".join([*(crate.lines(path) if is_there and not is_bare else []), *[STRAY] * has_stray, ""])
     return found
 
 

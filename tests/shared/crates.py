@@ -13,7 +13,7 @@ import sys
 import tempfile
 from concurrent.futures import FIRST_COMPLETED, ThreadPoolExecutor, wait
 
-TOP = pathlib.Path(__file__).resolve().parent.parent
+TOP = pathlib.Path(__file__).resolve().parents[2]
 
 # The folders that a check reads.
 PARTS = ("src", "specs", "proofs")
@@ -117,8 +117,9 @@ def known():
 
 @functools.lru_cache(maxsize=None)
 def benched():
-    """What the benchmarks lay out, by name, where its sources stand."""
-    return listed(TOP / "bench/programs.txt", TOP / "bench")
+    """What the benchmarks and the comparison of answers lay out, by name, where its sources stand."""
+    folders = [TOP / "bench/core", TOP / "tests/answers"]
+    return {name: crate for folder in folders for name, crate in listed(folder / "programs.txt", folder).items()}
 
 
 def listed(file, folder):
@@ -165,6 +166,16 @@ def older(crates):
         if crate.is_older(crate.built() / "format") or not set(found).isdisjoint(crate.libraries()):
             found.append(crate)
     return found
+
+
+def renew():
+    """Gives the libraries that `rt ci` took from an earlier run of the same files the time of now, the lowest first: rt proves
+    a library again that is older than one that it stands on. Each is a file of its own afterwards."""
+    for crate in sorted(known().values(), key=lambda it: len(it.libraries())):
+        made = crate.built() / "format"
+        if made.exists():
+            shutil.copyfile(made, made.with_suffix(".new"))
+            made.with_suffix(".new").replace(made)
 
 
 @contextlib.contextmanager

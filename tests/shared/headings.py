@@ -158,5 +158,6 @@ def headings(page):
 def summary():
     """How many messages the rows have, and with what they were compared."""
     count = sum(len(rows(text)) for *_, text in PAGES)
-    by = "those of postgresql-doc-15" if INSTALLED.is_dir() else "no installed pages (apt-get install postgresql-doc-15)"
-    return f"headings of messages: {count} with their lines and examples, compared with {by}"
+    if not INSTALLED.is_dir():
+        return f"left out: the headings of {count} messages beside those of the documentation (apt-get install postgresql-doc-15)"
+    return f"headings of messages: {count} with their lines and examples, compared with those of postgresql-doc-15"

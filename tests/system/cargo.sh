@@ -1,4 +1,4 @@
-# Cargo, and the crates of Debian's packages, for `build` and `test`. To be sourced.
+# Cargo, and the crates of Debian's packages, for `packaging/build` and `run`. To be sourced.
 
 # What Debian's packages install, which .cargo/config.toml names.
 registry=/usr/share/cargo/registry
@@ -26,16 +26,16 @@ has_crates() {
     [ -z "$lacking" ]
 }
 
-# The crates of others that the workspace tape takes.
-tape_crates=(anyhow base64 bytes clap crc32fast hex indicatif memchr once_cell openssl rand regex rlimit rustix serde serde_json similar socket2 thiserror tokio tokio-openssl toml)
+# The crates of others that the workspace of programs takes.
+tape_crates=(anyhow base64 bytes clap crc32fast hex indicatif memchr once_cell openssl rand regex rlimit rustix serde serde_json similar socket2 tempfile thiserror tokio tokio-openssl toml)
 
 # Compiles these, which takes no library, where they are there.
 compile_tape_crates() {
     local cargo_folder
     if read -r cargo_folder _ < <(rust_folders 1.65) && has_crates "${tape_crates[@]/%clap/clap-4}"; then
         # What a newer cargo wrote an older one may not read.
-        rm -f tape/Cargo.lock
-        by_cargo tape build "${tape_crates[@]/#/--package=}"
+        rm -f programs/Cargo.lock
+        by_cargo programs build "${tape_crates[@]/#/--package=}"
     fi
 }
 
@@ -96,7 +96,7 @@ kept_crates() {
             "$folder/cargo" --version
         done < <(rust_folders 1.63)
         ls -d "$registry"/*
-        cat tests/cargo.sh rust/*/Cargo.toml rust/tokio-postgres/{,spoken/,postgres-protocol/}Cargo.toml tape/{,*/}Cargo.toml
+        cat tests/system/cargo.sh bindings/rust/*/Cargo.toml bindings/rust/tokio-postgres/{,spoken/,postgres-protocol/}Cargo.toml programs/{,*/}Cargo.toml
     } | sha256sum | cut -c -16)"
 }
 
@@ -120,7 +120,7 @@ keep_crates() {
     mkdir -p "$(dirname "$kept")"
     cp -a out/cargo "$new"
     rm -rf "$new"/{doc,package,release,tmp,debug/examples,debug/incremental}
-    mapfile -t own < <(sed -n 's/^name = "\(.*\)"/\1/p' rust/*/Cargo.toml rust/tokio-postgres/*/Cargo.toml tape/*/Cargo.toml)
+    mapfile -t own < <(sed -n 's/^name = "\(.*\)"/\1/p' bindings/rust/*/Cargo.toml bindings/rust/tokio-postgres/*/Cargo.toml programs/*/Cargo.toml)
     for name in "${own[@]}"; do
         rm -rf "$new"/debug/{.fingerprint,build}/"$name"-* "$new"/debug/deps/{,lib}"${name//-/_}"-*
     done

@@ -1,4 +1,4 @@
-# Loads by pg_copy that should go well, and wrong arguments. Sourced by `test`.
+# Loads by pg_copy that should go well, and wrong arguments. Sourced by `run`.
 
 rows=1000000
 

@@ -1,4 +1,4 @@
-# Loads by pg_copy that are stopped in the middle, or whose file changes. Sourced by `test`.
+# Loads by pg_copy that are stopped in the middle, or whose file changes. Sourced by `run`.
 
 count_rows() {
     sql 'SELECT count(*) FROM by_copy'
@@ -48,7 +48,7 @@ test_bad_value() {
     esac
     same 'no row is stored' "$(count_rows)" 0
     # Without an end, so only an error that is read while rows are sent ends it.
-    try timeout 20 "$programs/pg_copy" by_copy < <(echo bad; yes $'1\ta\tb\t1' 2> /dev/null)
+    try timeout 60 "$programs/pg_copy" by_copy < <(echo bad; yes $'1\ta\tb\t1' 2> /dev/null)
     expect 'a bad value before rows without an end' 4 22P02
 }
 

@@ -1,12 +1,14 @@
 #!/usr/bin/env python3
-"""Compares what a PostgreSQL server takes as the first message of a connection with what pg_tool reads.
+"""Compares what a PostgreSQL server takes as the first message of a connection, and which bytes after the end of a later one,
+with what pg_tool reads.
 
     first_messages.py PORT    PG_TOOL reads what is sent to the server at this port of 127.0.0.1, where postgres
                               needs no password; prints what was compared
 
 A server that takes a Startup answers with an Authentication, after a NegotiateProtocolVersion where it was asked for more
 than it speaks. What it refuses gets an ErrorResponse or no answer. The greatest length is the one that the sources of all
-languages name.
+languages name. A later message with bytes after its end comes after a Parse, a Bind or a COPY that it asks for, and before a
+Sync; a server that refuses the bytes answers with a violation of the protocol.
 """
 
 import contextlib
@@ -28,7 +30,7 @@ VERSION = b"\0\3\0\0"
 # Where each language says the greatest length of a first message; Rust and Python take that of the header.
 GREATEST = {
     "crates/pg_frames/src/frontend/frame.rt": r"MAX_FIRST_LENGTH: usize = ([\d_]+)",
-    "clients/c/include/pg_message.h": r"PGMSG_MAX_FIRST_LENGTH = (\d+)",
+    "bindings/c/include/pg_message.h": r"PGMSG_MAX_FIRST_LENGTH = (\d+)",
 }
 
 
@@ -62,9 +64,30 @@ def startups(greatest):
 # message ends after one byte.
 LAXER = ["another last byte"]
 
+# A message that ends, by its tag: its body, and what is sent before it.
+PARSE = (b"P", b"\0SELECT 1\0\0\0")
+BIND = (b"B", b"\0\0\0\0\0\0\0\0")
+COPY = (b"Q", b"CREATE TEMPORARY TABLE t(); COPY t FROM STDIN\0")
+LATER = {
+    b"B": (BIND[1], [PARSE]),
+    b"C": (b"S\0", [PARSE]),
+    b"D": (b"S\0", [PARSE]),
+    b"E": (b"\0\0\0\0\0", [PARSE, BIND]),
+    b"H": (b"", []),
+    b"P": (PARSE[1], []),
+    b"Q": (b"SELECT 1\0", []),
+    b"S": (b"", []),
+    b"X": (b"", []),
+    b"c": (b"", [COPY]),
+    b"f": (b"why\0", [COPY]),
+}
 
-def message(body):
-    return (len(body) + 4).to_bytes(4, "big") + body
+# Messages whose end PostgreSQL 15 doesn't look for, and the tool does.
+ENDLESS = [b"X", b"c", b"f"]
+
+
+def message(body, tag=b""):
+    return tag + (len(body) + 4).to_bytes(4, "big") + body
 
 
 def answered(port, body):
@@ -78,6 +101,15 @@ def answered(port, body):
                 yield tag, content
                 if tag in (b"R", b"E"):
                     return
+
+
+def violates(port, tag, body, before):
+    """Whether a server says that a message violates the protocol."""
+    with socket.create_connection(("127.0.0.1", port), timeout=10) as connection, connection.makefile("rb") as stream:
+        for its_tag, its_body in [(b"", VERSION + USER + b"\0"), *before, (tag, body), (b"S", b"")]:
+            connection.sendall(message(its_body, its_tag))
+        connection.shutdown(socket.SHUT_WR)
+        return b"C08P01\0" in stream.read()
 
 
 def tool(mode, text):
@@ -104,9 +136,27 @@ def compare(port, greatest):
             print(f"{name}: negotiated")
 
 
+def finds_end(stream):
+    """Whether pg_tool says where a message is to end."""
+    return b"expected the end" in tool("stream", message(VERSION + USER + b"\0") + stream)
+
+
+def compare_ends(port):
+    """Says which bytes after the end of a message the server or the tool takes otherwise than is due."""
+    for tag, (body, before) in LATER.items():
+        longer = body + b"after"
+        refused = [violates(port, tag, it, before) for it in (body, longer)]
+        if refused != [False, tag not in ENDLESS]:
+            yield f"bytes after a message {tag.decode()}: the server refuses it without and with them: {refused}"
+        if finds_end(message(body, tag)) or not finds_end(message(longer, tag)):
+            yield f"bytes after a message {tag.decode()}: the tool doesn't find them"
+        print(f"bytes after a message {tag.decode()}: {'found' if refused[1] else 'ignored'}")
+
+
 def main():
     lengths = {file: int(re.search(form, (TOP / file).read_text())[1]) for file, form in GREATEST.items()}
-    wrong = [*compare(int(asked.words(__doc__, "PORT")[0]), next(iter(lengths.values())))]
+    port = int(asked.words(__doc__, "PORT")[0])
+    wrong = [*compare(port, next(iter(lengths.values()))), *compare_ends(port)]
     if len(set(lengths.values())) != 1:
         wrong.append(f"the greatest lengths differ: {lengths}")
     print(*wrong, sep="\n", file=sys.stderr)

@@ -1,7 +1,7 @@
-# What clients/library installs, and programs that are built with it. Sourced by `test`.
+# What packaging/library installs, and programs that are built with it. Sourced by `run`.
 
 # The version of all parts.
-released=$(sed -n 's/^VERSION = "\(.*\)"/\1/p' header)
+released=$(sed -n 's/^VERSION = "\(.*\)"/\1/p' packaging/header)
 
 # The symbols that a library defines for others, but for those of the header.
 foreign_symbols() {
@@ -19,16 +19,16 @@ make_other() {
 
 test_install() {
     local prefix=$work/installed program=$work/installed_program repository kit
-    repository=$(cd .. && pwd)
-    try ./library --install "$prefix"
+    repository=$PWD
+    try packaging/library --install "$prefix"
     expect 'install' 0
     same 'install: the symbols of the shared library' "$(foreign_symbols -D "$prefix/lib/libpg_message.so")" ''
     same 'install: the symbols of the static library' "$(foreign_symbols -g "$prefix/lib/libpg_message.a")" ''
     same 'install: a page for each call' "$(find "$prefix/share/man/man3" -name 'pgmsg_*.3' | wc -l)" \
         "$(grep -c '^[a-z].*pgmsg_[a-z0-9_]*(' "$prefix/include/pg_message.h")"
-    try cc -std=c11 "-I$prefix/include" -c -o "$work/abi.o" c/tests/abi.c
+    try cc -std=c11 "-I$prefix/include" -c -o "$work/abi.o" bindings/c/tests/abi.c
     expect 'install: the numbers, sizes and offsets of the ABI' 0
-    try cc -std=c11 "-I$prefix/include" -o "$program" c/tests/installed.c "$prefix/lib/libpg_message.a"
+    try cc -std=c11 "-I$prefix/include" -o "$program" bindings/c/tests/installed.c "$prefix/lib/libpg_message.a"
     expect 'install: a program with the static library is built' 0
     try "$program"
     same 'install: a program with the static library' "$status $output" "0 $released"
@@ -40,7 +40,7 @@ test_install() {
     fi
     kit=$(dirname "$(rt doc)")
     make_other
-    try cc -std=c11 -DOTHER "-I$prefix/include" -o "$program" c/tests/installed.c "$work/other/other.o" "$prefix/lib/libpg_message.a"
+    try cc -std=c11 -DOTHER "-I$prefix/include" -o "$program" bindings/c/tests/installed.c "$work/other/other.o" "$prefix/lib/libpg_message.a"
     expect 'install: two libraries in one program are linked' 0
     try "$program"
     expect 'install: two libraries in one program' 0
@@ -53,7 +53,7 @@ test_pkg_config() {
     fi
     # The words of pkg-config are apart by spaces.
     # shellcheck disable=SC2046
-    try cc -std=c11 -o "$program" c/tests/installed.c $(PKG_CONFIG_PATH=$prefix/lib/pkgconfig pkg-config --cflags --libs pg_message)
+    try cc -std=c11 -o "$program" bindings/c/tests/installed.c $(PKG_CONFIG_PATH=$prefix/lib/pkgconfig pkg-config --cflags --libs pg_message)
     expect 'install: a program by pkg-config is built' 0
     try env LD_LIBRARY_PATH="$prefix/lib" "$program"
     same 'install: a program by pkg-config' "$status $output" "0 $released"
@@ -69,7 +69,7 @@ test_cmake() {
 cmake_minimum_required(VERSION 3.13)
 project(installed C)
 find_package(pg_message ${released%.*} REQUIRED)
-add_executable(installed "$PWD/c/tests/installed.c")
+add_executable(installed "$PWD/bindings/c/tests/installed.c")
 target_link_libraries(installed pg_message::SHARED)
 END
     try cmake -S "$work/cmake" -B "$work/cmake/out" "-DCMAKE_PREFIX_PATH=$prefix"

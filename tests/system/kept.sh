@@ -1,4 +1,4 @@
-# Exports and imports of each recording that a test makes or uses. Sourced by `test`.
+# Exports and imports of each recording that a test makes or uses. Sourced by `run`.
 #
 # The tests run the programs of a folder in which the script `keeper` stands for those that make and read recordings. It keeps
 # each recording that they make or are given, so that no test has to do anything for it.
@@ -15,7 +15,7 @@ keep_recordings() {
     ln -s "$PWD/$built"/* $programs
     for program in pg_record pg_replay pg_tape; do
         if [ -x "$built/$program" ]; then
-            install tests/keeper "$programs/$program"
+            install tests/system/keeper "$programs/$program"
         fi
     done
 }
@@ -36,7 +36,7 @@ test_kept() {
     mapfile -d '' files < <(find "$KEPT_RECORDINGS" -type f -print0; find "$work" -name '*.tape' -type f -print0)
     if [ ${#files[@]} -gt 0 ] && has_python; then
         mkdir -p "$work/scratch"
-        try tests/kept.py "$built/pg_tape" "$kept_known" "$work/scratch" "${files[@]}"
+        try tests/system/kept.py "$built/pg_tape" "$kept_known" "$work/scratch" "${files[@]}"
         expect "$1: recordings are exported and imported with the same bytes, and damaged ones refused by name: $output" 0
     elif [[ " tape ${of_recordings[*]} ${of_replays[*]} ${of_other_replays[*]} " == *" $1 "* ]]; then
         bad "$1: recordings are exported and imported" 'none was kept'

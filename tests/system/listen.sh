@@ -1,4 +1,4 @@
-# Notifications. Sourced by `test`.
+# Notifications. Sourced by `run`.
 
 # Starts pg_listen with its output to a file, and waits until it listens. Leaves its process in $listening. What a script runs
 # beside itself ignores Ctrl-C else.

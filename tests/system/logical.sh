@@ -1,5 +1,5 @@
 # Logical replication: a script makes every kind of message of pgoutput happen, and what is read is compared with what the
-# script did; and the examples that follow a publication are killed, and lose and double nothing. Sourced by `test`.
+# script did; and the examples that follow a publication are killed, and lose and double nothing. Sourced by `run`.
 
 # Lets transactions be prepared, and streamed once they are larger than the least that can be set.
 begin_logical() {
@@ -10,7 +10,7 @@ begin_logical() {
 
 # Runs a script of the tests on the package.
 run_test() {
-    try run_python "$work/package" "tests/$1.py" "${@:2}"
+    try run_python "$work/package" "tests/system/$1.py" "${@:2}"
 }
 
 # What pgoutput says over a connection of the package.
@@ -81,7 +81,7 @@ is_followed() {
 follow() {
     local slot=$1 file=$work/$1.lines lines making following kill position
     make_followed "$slot"
-    run_python "$work/package" tests/followed.py run "$PGPORT" &
+    run_python "$work/package" tests/system/followed.py run "$PGPORT" &
     making=$!
     { (ulimit -f 99 -c 0; exec timeout 60 "${@:2}" "$file"); } 2> /dev/null
     same "$slot: cut off within a line" "$(stat -c %s "$file") $(tail -c 1 "$file" | wc -l)" '101376 0'
@@ -118,7 +118,7 @@ test_logical() {
     begin_logical
     test_logical_script
     test_logical_recorded
-    follow of_python env PYTHONPATH="$work/package" "$builder" -B -W error python/examples/follow.py \
+    follow of_python env PYTHONPATH="$work/package" "$builder" -B -W error bindings/python/examples/follow.py \
         127.0.0.1 "$PGPORT" postgres postgres of_python followed
     if build_rust_examples; then
         follow of_rust "$rust_examples/follow" "127.0.0.1:$PGPORT" postgres postgres of_rust followed

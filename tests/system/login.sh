@@ -1,4 +1,4 @@
-# Logins by each method, and what can be wrong before one. Sourced by `test`.
+# Logins by each method, and what can be wrong before one. Sourced by `run`.
 
 # Logs in by TCP, and out again.
 log_in() {

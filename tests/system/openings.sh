@@ -1,4 +1,4 @@
-# Connections that don't come to a session, to pg_record and pg_replay. Sourced by `test`.
+# Connections that don't come to a session, to pg_record and pg_replay. Sourced by `run`.
 
 # Tests what becomes of a client that asks a port for encryption again: its answers, and then the end.
 refuses_again() {
@@ -74,7 +74,7 @@ begin_slow_openings() {
     mv "$work/errors.replay" "$work/errors.slow_replay"
     local port
     for port in "$PGPORT" "$tape_port" "$replay_port"; do
-        tests/slow_clients.py opening "$port" > "$work/slow.$port" &
+        tests/system/slow_clients.py opening "$port" > "$work/slow.$port" &
         slow_clients+=($! "$work/slow.$port")
     done
 }

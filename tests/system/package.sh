@@ -1,9 +1,9 @@
-# The packages of clients/package, installed and used by the commands of README.md: in a new Debian where one can be
-# made, else unpacked. Sourced by `test`.
+# The packages of packaging/package, installed and used by the commands of README.md: in a new Debian where one can be
+# made, else unpacked. Sourced by `run`.
 
 # The commands below a heading of that page.
 commands_of() {
-    sed -n "/^## $1\$/,/^## /s/^    //p" ../README.md
+    sed -n "/^## $1\$/,/^## /s/^    //p" README.md
 }
 
 # Makes a new Debian in a folder. What it installs comes from the mirror.
@@ -32,16 +32,38 @@ use_unpacked() {
         PYTHONPATH=$1/usr/lib/python3/dist-packages try env -C "$1" bash -e commands
 }
 
+# The user of the image serves a recording that its owner alone can read, as pg_record makes it. Root is that owner with
+# podman.
+test_image_user() {
+    local user
+    if [ "$(id -u)" != 0 ]; then
+        echo 'left out: the user of the image, without root'
+        return
+    fi
+    user=$(sed -n 's/^USER //p' packaging/Containerfile)
+    install -m 600 programs/examples/recorded/tapes/test_people.tape "$work/image.tape"
+    chmod 711 "$work"
+    : > "$work/errors.replay"
+    runuser -u "${user:-root}" -- "$built/pg_replay" "$work/image.tape" 0 2> "$work/errors.replay" &
+    replaying=$!
+    await has_begun "$work/errors.replay" "$replaying"
+    kill "$replaying" 2> /dev/null
+    end_replay
+    expect 'package: the user of the image reads a recording' 143 listening
+}
+
 test_package() {
-    if ! find_builder || ! dpkg-checkbuilddeps debian/control > /dev/null 2>&1; then
+    test_image_user
+    if ! find_builder || ! dpkg-checkbuilddeps packaging/debian/control > /dev/null 2>&1; then
         echo 'left out: packages, which need what the Python package needs, dpkg-dev, debhelper, dh-python and help2man'
         return
     fi
-    PROGRAMS=$built try ./package "$work/packages"
+    PROGRAMS=$built try packaging/package "$work/packages"
+    grep '^left out: ' <<< "$errors"
     expect 'package: they are made' 0
     [ "$status" = 0 ] || return
     commands_of Install | tail -n +2 | sed 's/ *#.*//; 1s/install/install --yes/' > "$work/commands"
-    awk '/^```c$/ { shown = 1; next } /^```$/ { if (shown) exit } shown' README.md > "$work/hello.c"
+    awk '/^```c$/ { shown = 1; next } /^```$/ { if (shown) exit } shown' bindings/c/README.md > "$work/hello.c"
     if make_debian "$work/debian"; then
         use_in_debian "$work/debian"
     else

@@ -1,4 +1,4 @@
-# Messages that sessions of today's drivers seldom have, read by the package. Sourced by `test`.
+# Messages that sessions of today's drivers seldom have, read by the package. Sourced by `run`.
 
 # A file as a large object, there and back by libpq's functions, through pg_record.
 test_objects() {

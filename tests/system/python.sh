@@ -1,5 +1,5 @@
 # The Python package: its unit tests, on a wheel that its build backend makes, and its examples with a server. Sourced by
-# `test`.
+# `run`.
 
 # Whether there is a Python from 3.11 on.
 has_python() {
@@ -26,7 +26,7 @@ run_python() {
 
 # Makes a source distribution of the package in a folder, of a copy, since setuptools writes beside its sources.
 make_sdist() {
-    cp -r python "$work/python"
+    cp -r bindings/python "$work/python"
     (cd "$work/python" && PKG_CONFIG_PATH=$work/installed/lib/pkgconfig "$builder" -W ignore -c \
         'import sys; from setuptools import build_meta; build_meta.build_sdist(sys.argv[1])' "$1" > /dev/null 2>&1)
 }
@@ -49,7 +49,7 @@ unpack_wheel() {
 # Makes the shared library where an earlier part didn't.
 install_library() {
     if [ ! -e "$work/installed/lib/libpg_message.so" ]; then
-        try ./library --install "$work/installed"
+        try packaging/library --install "$work/installed"
         expect 'the shared library' 0
     fi
 }
@@ -65,14 +65,14 @@ prepare_package() {
 
 # The unit tests on the package in a folder.
 test_python_units() {
-    try run_python "$2" -m unittest discover -s python/tests "${@:3}"
+    try run_python "$2" -m unittest discover -s bindings/python/tests "${@:3}"
     expect "python, $1: $(grep -o 'Ran [1-9][0-9]* tests' <<< "$errors")" 0 OK
 }
 
 # A copy of what is installed whose library can have its memory refused.
 make_refusing() {
     cp -r "$work/installed" "$work/refusing"
-    try cc -fPIC -c -o "$work/refusing.o" c/tests/refusing.c
+    try cc -fPIC -c -o "$work/refusing.o" bindings/c/tests/refusing.c
     ar r "$work/refusing/lib/libpg_message.a" "$work/refusing.o" 2> /dev/null
 }
 
@@ -118,19 +118,19 @@ test_types() {
         return
     fi
     if mypy --cache-dir "$work/mypy" -c 'import pytest' > /dev/null 2>&1; then
-        try mypy --strict --cache-dir "$work/mypy" python/pgmsg
+        try mypy --strict --cache-dir "$work/mypy" bindings/python/pgmsg
     else
         echo 'left out: the types of the plugin for pytest, without pytest (apt-get install python3-pytest)'
-        try mypy --strict --cache-dir "$work/mypy" --exclude pytest_plugin python/pgmsg
+        try mypy --strict --cache-dir "$work/mypy" --exclude pytest_plugin bindings/python/pgmsg
     fi
     expect 'python: types' 0
-    MYPYPATH=python try mypy --strict --cache-dir "$work/mypy" python/tests/typed.py
+    MYPYPATH=bindings/python try mypy --strict --cache-dir "$work/mypy" bindings/python/tests/typed.py
     expect 'python: types as a user sees them' 0
 }
 
 # Runs an example on the package of the wheel, with a password.
 read_table() {
-    PGPASSWORD=$2 try run_python "$work/package" "python/examples/$1.py" "${@:3}"
+    PGPASSWORD=$2 try run_python "$work/package" "bindings/python/examples/$1.py" "${@:3}"
 }
 
 make_python_tables() {
@@ -138,7 +138,8 @@ make_python_tables() {
     sql "CREATE TABLE python (id int, name text);
          INSERT INTO python VALUES (1, 'ann'), (2, NULL), (3, E'a\\tb\\\\c\\n'), (4, ''), (5, 'ä');
          GRANT SELECT ON python TO by_clear, by_md5, by_scram;
-         CREATE TABLE python_many AS SELECT n, repeat('x', n % 500) FROM generate_series(1, 20000) n"
+         CREATE TABLE python_many AS SELECT n, repeat('x', n % 500) FROM generate_series(1, 20000) n;
+         CREATE TABLE python_empty (id int); GRANT SELECT ON python_empty TO by_clear"
 }
 
 test_python_copy() {
@@ -153,6 +154,8 @@ test_python_copy() {
     same 'python: a table by a Unix socket' "$status $output$errors" "0 $rows"
     read_table read_table '' "${by_socket[@]}" python_many
     same 'python: many rows' "$(grep -c "^('" <<< "$output") ${output: -5}" "20000 , '')"
+    # The examples ask for UTF-8, whatever is set.
+    sql 'ALTER ROLE by_clear SET client_encoding = latin1'
     for example in read_table read_table_asyncio; do
         for user in by_clear by_md5 by_scram; do
             read_table "$example" "pass word '1" 127.0.0.1 "$PGPORT" "$user" "$PGDATABASE" python
@@ -164,7 +167,10 @@ test_python_copy() {
         read_table "$example" "pass word '1" 127.0.0.1 "$PGPORT" by_clear "$PGDATABASE" missing
         same "python, $example: the words of an error" "$status ${errors##*$'\n'}" \
             "1 ${said_of[$example]}relation \"missing\" does not exist"
+        read_table "$example" "pass word '1" 127.0.0.1 "$PGPORT" by_clear "$PGDATABASE" python_empty
+        same "python, $example: a table without a row" "$status $(wc -c < "$work/output")" '0 0'
     done
+    sql 'ALTER ROLE by_clear RESET client_encoding'
     test_python_saslprep
 }
 
@@ -193,7 +199,7 @@ test_python_tapes() {
         return
     fi
     PG_REPLAY=$PWD/$programs/pg_replay PGHOST=127.0.0.1 PGPORT=1 \
-        try run_python "$work/package" -m pytest -q -p no:cacheprovider examples/recorded
+        try run_python "$work/package" -m pytest -q -p no:cacheprovider programs/examples/recorded
     expect "python, the example without a server: $(grep -o '[0-9]* passed' <<< "$output")" 0
 }
 

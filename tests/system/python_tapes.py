@@ -3,6 +3,7 @@
 The variables of libpq have to name a server, and PG_RECORD and PG_REPLAY the programs, as python.sh sets them.
 """
 
+import contextlib
 import importlib.util
 import os
 import pathlib
@@ -105,6 +106,14 @@ class TestTape(InFolder):
         with tape(self.path, options=["--any-literal", "number"]) as it:
             self.assertEqual(ask(it, "SELECT 3"), "2\n")
 
+    def test_an_answer_that_may_be_another_sessions(self):
+        self.record("SELECT 1", "SELECT 2")
+        options = ["--any-literal", "number"]
+        with self.assertRaisesRegex(ReplayDiffers, "a client may mean either: SELECT 1"), tape(self.path, options=options) as it:
+            self.assertEqual(ask(it, "SELECT 2"), "")
+        with tape(self.path, options=[*options, "--strict=false"]) as it:
+            self.assertEqual((ask(it, "SELECT 2"), it.differences()), ("1\n", ""))
+
     def test_a_difference_is_noted_where_the_block_fails(self):
         self.record("SELECT 2")
         with self.assertRaises(KeyError) as failed, tape(self.path) as it:
@@ -163,6 +172,26 @@ class TestTape(InFolder):
         self.assertIn(DIFF, str(failed.exception))
         self.assertEqual((self.path.read_bytes(), len(list(self.path.parent.iterdir()))), (before, 1))
 
+    def test_runs_at_once_add_what_each_records(self):
+        self.record("SELECT 1")
+        with contextlib.ExitStack() as runs:
+            one, other = (runs.enter_context(tape(self.path, missing=True)) for _ in range(2))
+            with self.assertRaises(KeyError), tape(self.path, missing=True) as failing:
+                self.assertEqual([ask(one, "SELECT 2"), ask(other, "SELECT 3")], ["2\n", "3\n"])
+                raise KeyError(ask(failing, "SELECT 4"))
+        with mock.patch.dict(os.environ, NO_SERVER), tape(self.path, whole=True) as it:
+            self.assertEqual([ask(it, f"SELECT {number}") for number in (1, 2, 3)], ["1\n", "2\n", "3\n"])
+        self.assertEqual([file.name for file in self.path.parent.iterdir()], ["numbers.tape"])
+
+    def test_recordings_at_once_are_whole(self):
+        with tape(self.path, record=True) as one:
+            self.assertEqual(ask(one, "SELECT 1"), "1\n")
+            with tape(self.path, record=True) as other:
+                self.assertEqual(ask(other, "SELECT 2"), "2\n")
+            self.assertEqual(ask(one, "SELECT 3"), "3\n")
+        with mock.patch.dict(os.environ, NO_SERVER), tape(self.path, whole=True) as it:
+            self.assertEqual([ask(it, "SELECT 1"), ask(it, "SELECT 3")], ["1\n", "3\n"])
+
     def test_what_is_missing(self):
         with self.assertRaisesRegex(TapeError, f"^no recording {self.path}$"), tape(self.path):
             pass
@@ -215,6 +244,17 @@ class TestPytest(InFolder):
             self.assertEqual(self.run_pytest("--pg-record-missing", "-k", first)[0], 0)
             self.assertEqual(self.run_pytest("--pg-record-missing", *others)[0], 0)
             self.assertEqual(self.run_pytest("--pg-whole", **NO_SERVER)[0], 0)
+
+    @unittest.skipUnless(importlib.util.find_spec("xdist"), "no pytest-xdist (apt-get install python3-pytest-xdist)")
+    def test_workers_of_xdist(self):
+        status, words = self.run_pytest("--pg-record", "-n", "2")
+        self.assertEqual((status, "--dist loadfile" in words), (4, True), words)
+        self.assertEqual(self.run_pytest("--pg-record", "-n", "2", "--dist", "loadfile")[0], 0)
+        self.assertEqual(self.run_pytest("--pg-whole", **NO_SERVER)[0], 0)
+        for _ in range(5):
+            (self.folder / "tapes" / "test_numbers.tape").unlink()
+            self.assertEqual(self.run_pytest("--pg-record-missing", "-n", "2")[0], 0)
+            self.assertEqual(self.run_pytest("--pg-whole", **NO_SERVER), (0, mock.ANY))
 
     def test_a_difference(self):
         self.assertEqual(self.run_pytest("--pg-record")[0], 0)

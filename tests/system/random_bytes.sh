@@ -1,11 +1,11 @@
-# Bytes without a sense to both programs, and floods of requests. Sourced by `test`. RANDOM_INPUTS may say how many
+# Bytes without a sense to both programs, and floods of requests. Sourced by `run`. RANDOM_INPUTS may say how many
 # connections say random and mutated bytes to each, RANDOM_SEED which.
 
 
 random_inputs=${RANDOM_INPUTS:-3000}
 
 test_random_sessions() {
-    try tests/random_bytes.py both "$programs/pg_record" "$work/random.tape" $random_inputs "${RANDOM_SEED:-$RANDOM}"
+    try tests/system/random_bytes.py both "$programs/pg_record" "$work/random.tape" $random_inputs "${RANDOM_SEED:-$RANDOM}"
     expect "record: $random_inputs connections of random and mutated bytes of both sides: $output" 0
 }
 
@@ -20,9 +20,9 @@ test_replay_random() {
     record_words "$as_postgres" "${words[@]}"
     mv "$work/words.tape" "$file"
     start_replay "$file" --again --any-order --go-on
-    tests/random_bytes.py clients "$replay_port" 200 "$seed" > "$work/output"
+    tests/system/random_bytes.py clients "$replay_port" 200 "$seed" > "$work/output"
     before=$(memory_of "$replaying")
-    try tests/random_bytes.py clients "$replay_port" $random_inputs "$((seed + 100))"
+    try tests/system/random_bytes.py clients "$replay_port" $random_inputs "$((seed + 100))"
     after=$(memory_of "$replaying")
     same "replay: after $random_inputs connections of random and mutated bytes, seed $seed, $output, a client is served" \
         "$(at_port "$replay_port" "${client[@]}" "$as_postgres" "${words[@]}" | grep -c -e '^Z' -e '^end$')" 4
@@ -52,7 +52,7 @@ test_idle_clients() {
         return
     fi
     start_limited '-n 4000' "$tape" -h 127.0.0.1 -p "$(start_idle_server)"
-    try timeout 60 python3 -B tests/slow_clients.py idle "$record_port" "$recording"
+    try timeout 60 python3 -B tests/system/slow_clients.py idle "$record_port" "$recording"
     expect "a thousand idle connections: $output kB" 0
     kill "$recording" "$(cat "$work/idle_server")"
     reap "$recording"
@@ -60,7 +60,7 @@ test_idle_clients() {
 
 # Starts a server that lets all in, and prints its port.
 start_idle_server() {
-    python3 -B tests/slow_clients.py server > "$work/idle_port" &
+    python3 -B tests/system/slow_clients.py server > "$work/idle_port" &
     echo $! > "$work/idle_server"
     await test -s "$work/idle_port"
     cat "$work/idle_port"

@@ -1,4 +1,4 @@
-# Recordings of what a server says. Sourced by `test`.
+# Recordings of what a server says. Sourced by `run`.
 
 # Starts pg_record on a free port with its lines to a file. Leaves its process in $recording, its port in
 # $record_port.
@@ -161,14 +161,18 @@ test_pressure() {
 }
 
 test_ends_of_recordings() {
+    local option
     start_recording "$work/lines" -1
     same 'a single connection' "$(query_through 'SELECT 8')" 8
     reap "$recording"
     same 'it ends after that' "$?" 0
-    start_recording "$work/lines" -1 -h 127.0.0.1 -p "$(free_port)"
-    query_through 'SELECT 9' > /dev/null 2>&1
-    reap "$recording"
-    same 'a server that is not there' "$?" 2
+    for option in '' --encryption; do
+        start_recording "$work/lines" -1 $option -h 127.0.0.1 -p "$(free_port)"
+        PGSSLMODE=disable try query_through 'SELECT 9'
+        expect "a client hears that the server is not there $option" 2 'FATAL:  pg_record: no connection to 127.0.0.1 port'
+        reap "$recording"
+        same "a server that is not there $option" "$?" 2
+    done
     start_recording "$work/lines"
     try "$programs/pg_record" "$record_port"
     expect 'a port that is in use' 2 'in use'

@@ -16,7 +16,7 @@ import sys
 
 import asked
 
-sys.path.insert(0, str(pathlib.Path(__file__).resolve().parents[1] / "examples"))
+sys.path.insert(0, str(pathlib.Path(__file__).resolve().parents[2] / "programs/examples"))
 import read_recording  # noqa: E402
 
 HEAD = 24

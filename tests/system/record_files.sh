@@ -1,4 +1,4 @@
-# Recordings of both sides in a file. Sourced by `test`.
+# Recordings of both sides in a file. Sourced by `run`.
 
 # Starts pg_record with a recording to a file.
 start_taping() {
@@ -18,7 +18,7 @@ are_closed() {
 
 # Reads a recording, or the bytes of a side of it, by the second reader.
 read_recording() {
-    python3 -B examples/read_recording.py "$@" 2> "$work/errors.read"
+    python3 -B programs/examples/read_recording.py "$@" 2> "$work/errors.read"
 }
 
 # Tests that the second reader reads a recording, and keeps its lines in $work/records. How many it reads is added up.
@@ -71,6 +71,10 @@ test_taped_sessions() {
     try "$programs/pg_record" -o "$work/other.tape" "$record_port"
     expect 'a port that is in use' 2 'in use'
     same 'leaves no recording' "$(ls "$work/other.tape" 2> /dev/null)" ''
+    ln -s /proc/self/fd/1 "$work/linked"
+    try "$built/pg_record" -o "$work/linked" "$record_port"
+    same 'but leaves a link to standard output' "$status $(readlink "$work/linked") $(wc -c < "$work/output")" \
+        '2 /proc/self/fd/1 0'
     stop_taping "$tape"
     read_back 'sessions' "$tape"
     same 'six sessions are recorded, each to its end' "$(count_records O) $(count_records C)" '6 6'
@@ -142,7 +146,7 @@ test_taped_encryption() {
     start_taping "$tape"
     exec 3<> "/dev/tcp/127.0.0.1/$record_port"
     printf '\26\3\1\2\0' >&3
-    same 'TLS that is not asked for ends the connection' "$(timeout 10 cat <&3; echo $?)" 0
+    same 'TLS that is not asked for ends the connection' "$(timeout 60 cat <&3; echo $?)" 0
     exec 3>&-
     await grep -q 'begins with TLS' "$work/errors.record"
     stop_recording
@@ -207,7 +211,7 @@ test_taped_bytes() {
     same 'a session of one query' "$(query_through 'SELECT 7')" 7
     stop_taping "$tape"
     read_back 'one query' "$tape"
-    try tests/record_bytes.py "$programs/pg_record" "$tape" "$work/changed.tape"
+    try tests/system/record_bytes.py "$programs/pg_record" "$tape" "$work/changed.tape"
     expect "a changed byte is refused by name and place, and a cut file is read to its last whole record: $output" 0
     printf 'x' > "$work/changed.tape"
     try "$programs/pg_record" --print "$work/changed.tape"

@@ -22,7 +22,7 @@ import socket
 
 import asked
 
-sys.path.insert(0, str(pathlib.Path(__file__).resolve().parents[1] / "examples"))
+sys.path.insert(0, str(pathlib.Path(__file__).resolve().parents[2] / "programs/examples"))
 import read_recording  # noqa: E402
 
 SETTINGS = b"user\0postgres\0database\0postgres\0\0"

@@ -18,7 +18,7 @@ import threading
 
 import asked
 
-sys.path.insert(0, str(pathlib.Path(__file__).resolve().parents[1] / "examples"))
+sys.path.insert(0, str(pathlib.Path(__file__).resolve().parents[2] / "programs/examples"))
 import read_recording  # noqa: E402
 
 FIRST = struct.pack(">II", 22, 196608) + b"user\0postgres\0"

@@ -1,4 +1,4 @@
-# TLS of a recorder with clients and with the server, addresses to listen on, and requests to cancel. Sourced by `test`.
+# TLS of a recorder with clients and with the server, addresses to listen on, and requests to cancel. Sourced by `run`.
 
 # Makes a root, and certificates of it: of localhost for the server and for the recorder, and of another host.
 make_authority() {
@@ -74,6 +74,19 @@ test_refused_servers() {
     stop_recording
     start_taping "$work/refused.tape" -h localhost --sslmode disable
     same 'TLS with the server: disable asks for none' "$(query_through "$its_encryption")" f
+    stop_recording
+    try timeout 10 "$programs/pg_record" -h localhost --sslmode require --sslrootcert system 0
+    expect 'TLS with the server: roots of the system for a weak mode' 1 'need the sslmode verify-full'
+    try timeout 10 env PGSSLMODE=whatever "$programs/pg_record" -h localhost 0
+    expect 'TLS with the server: a PGSSLMODE that is none' 1 'no sslmode has the name whatever'
+    PGSSLMODE=verify-full PGSSLROOTCERT=$trusted.crt start_taping "$work/refused.tape" -h localhost
+    same 'TLS with the server: PGSSLMODE and PGSSLROOTCERT' "$(query_through "$its_encryption")" t
+    stop_recording
+    PGSSLMODE=verify-full SSL_CERT_FILE=$trusted.crt start_taping "$work/refused.tape" -h localhost --sslmode disable
+    same 'TLS with the server: --sslmode before PGSSLMODE' "$(query_through "$its_encryption")" f
+    stop_recording
+    SSL_CERT_FILE=$trusted.crt start_taping "$work/refused.tape" -h localhost --sslrootcert system
+    same 'TLS with the server: the roots of the system, which have their mode' "$(query_through "$its_encryption")" t
     stop_recording
     try env HOME="$work" "$programs/pg_record" -h localhost --sslmode verify-full 0
     expect 'TLS with the server: no roots' 7 'no file of trusted roots'
@@ -179,7 +192,7 @@ test_binding() {
 # TLS that a client begins without a request, and bytes before the handshake that it asked for.
 test_handshakes() {
     start_taping "$work/handshakes.tape" -h 127.0.0.1 "${certificate[@]}"
-    try tests/record_handshakes.py "$record_port" "$work/authority/own.crt"
+    try tests/system/record_handshakes.py "$record_port" "$work/authority/own.crt"
     expect "handshakes: $output" 0
     stop_taping "$work/handshakes.tape"
     same 'handshakes: it says what it refuses' "$(grep -c -e 'goes on without the encryption' -e 'names no protocol' \

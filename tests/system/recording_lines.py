@@ -1,14 +1,17 @@
 """Checks exported lines against the schema of a recording, up to 30 of each kind and shape; or changes them one way after
-the other, and checks that pg_tape names the fault with its line; or runs it on a terminal, and checks that it shows a bar:
+the other, and checks that pg_tape names the fault with its line; or runs it on a terminal, and checks that it shows a bar;
+or looks for secrets in files, in clear, in hexadecimal digits and in Base64:
 
     recording_lines.py schema SCHEMA LINES
     recording_lines.py faults PG_TAPE LINES TAPE
     recording_lines.py bar PG_TAPE COMMAND FILE OUTPUT
+    recording_lines.py secrets FILES SECRET..
 
-TAPE and OUTPUT are files that may be written. Prints how many lines and kinds, or how many changes, it checked, or what the
-bar showed last. Ends with 3 where there is no jsonschema.
+TAPE and OUTPUT are files that may be written, and FILES are names with `:` between them. Prints how many lines and kinds, or
+how many changes, it checked, or what the bar showed last, or each secret that it finds, by how it is written. Ends with 3 where there is no jsonschema.
 """
 
+import base64
 import collections
 import fcntl
 import json
@@ -113,5 +116,25 @@ def check_bar(program, command, file, output):
     print(bars[-1])
 
 
+def written(secret):
+    """How a secret may be written. In Base64 its first digits, and the last ones, depend on what is around it."""
+    raw = secret.encode()
+    yield "clear", raw
+    yield "hex", raw.hex().encode()
+    yield "hex", raw.hex().upper().encode()
+    for before in range(3):
+        digits = base64.b64encode(bytes(before) + raw + bytes(-(before + len(raw)) % 3))
+        yield "base64", digits[-(-before * 4 // 3) : (before + len(raw)) * 4 // 3]
+
+
+def find_secrets(files, *secrets):
+    """Looks for secrets in files."""
+    texts = [pathlib.Path(file).read_bytes() for file in files.split(":")]
+    for secret in secrets:
+        ways = sorted({way for way, digits in written(secret) for text in texts if digits in text})
+        if ways:
+            print(secret, *ways)
+
+
 if __name__ == "__main__":
-    {"schema": check_schema, "faults": check_faults, "bar": check_bar}[sys.argv[1]](*sys.argv[2:])
+    {"schema": check_schema, "faults": check_faults, "bar": check_bar, "secrets": find_secrets}[sys.argv[1]](*sys.argv[2:])

@@ -1,4 +1,4 @@
-# Recordings that pg_tape exports, imports, edits, redacts and shows. Sourced by `test`.
+# Recordings that pg_tape exports, imports, edits, redacts and shows. Sourced by `run`.
 
 # A script that says secrets in each way, and has an error, a notice, COPY each way and a notification.
 write_secret_script() {
@@ -36,7 +36,7 @@ name = "no_such_column"
 TOML
 }
 
-secrets='ann\.lee|bob\.fox|1971-03-21|1980-05-06|123456|654321|Secret-In|Another-S|Third-One|4111111|SCRAM-SHA-256\$[0-9]*:[A-Za-z0-9+/]*[A-WYZa-wyz]'
+secrets='ann\.lee|bob\.fox|1971-03-21|1980-05-06|123456|654321|Secret-In|Another-S|Third-One|4111111|SCRAM-SHA-256\$[0-9]*:[^x]'
 
 # Secrets that rules name, and those that are found without one.
 test_tape_redact() {
@@ -55,7 +55,8 @@ test_tape_redact() {
     "$programs/pg_tape" export "$redacted" -o "$work/redacted.jsonl"
     same 'redact: no secret is left' "$(grep -oE "$secrets" "$redacted" "$work/redacted.jsonl" | head -n 3)" ''
     same 'redact: keys are zeros' "$(grep '"BackendKeyData"' "$work/redacted.jsonl" | grep -vc '"secret_key":{"base64":"A*=*"}')" 0
-    same 'redact: lengths stay' "$(wc -c < "$redacted")" "$(wc -c < "$tape")"
+    "$programs/pg_tape" import "$work/redacted.jsonl" -o "$work/again.tape"
+    same 'redact: messages are whole' "$(cmp "$redacted" "$work/again.tape" 2>&1)$(grep -c '"kind":"Bytes"' "$work/redacted.jsonl")" 0
     kinds='s/^.*"kind":"\([A-Za-z]*\)".*/\1/'
     sed "$kinds" "$work/secret.jsonl" > "$work/kinds"
     same 'redact: so do the kinds of messages' "$(sed "$kinds" "$work/redacted.jsonl" | cmp - "$work/kinds" 2>&1)" ''
@@ -70,7 +71,7 @@ same_words_replay() {
     start_replay "$1"
     sed -e "s/^INSERT .*/INSERT INTO people VALUES (1, 'xxx.xxx@xxxxxxx.xxx', '2000-01-01', '+00 00 000000');/" \
         -e 's/^2\t.*/2\txxx.xxx@xxxxxxx.xxx\t2000-01-01\t+00 00 000000/' \
-        -e "s/Secret-In-Clear/Xxxxxx-Xx-Xxxxx/; s/Another-Secret/Xxxxxxx-Xxxxxx/; s/Third-One/Xxxxx-Xxx/" \
+        -e "s/Secret-In-Clear/xxxxxxxx/; s/Another-Secret/xxxxxxxx/; s/Third-One/xxxxxxxx/" \
         -e "s/card 4111111111111111/card 1000000000000000/" "$work/secret.sql" > "$work/redacted.sql"
     at_port "$replay_port" "$bin/psql" -X -f "$work/redacted.sql" > "$work/output" 2>&1
     end_replay
@@ -78,9 +79,65 @@ same_words_replay() {
     same 'redact: and answers so' "$(grep -c 'xxx.xxx@xxxxxxx.xxx | 2000-01-01' "$work/output")" 2
 }
 
+# The passwords of this script, as they are meant. The one in Unicode is nowhere written so.
+roads=('P@ssw0rd!' 'N3sted-Secret' "B@ck'slash" 'Qu0ted-Name' 'M@pping-Secret' 'Un1code-Secret')
+
+# Passwords however they are written, and each road by which one comes again.
+write_roads_script() {
+    cat > "$work/roads.sql" << 'SQL'
+CREATE ROLE roads LOGIN PASSWORD 'P@ss'
+  'w0rd!';
+ALTER ROLE roads PASSWORD /* 'a' /* nested */ 'b' */ 'N3sted-Secret';
+ALTER ROLE roads PASSWORD U&'Un\0031code-Secret';
+SET standard_conforming_strings = off;
+ALTER ROLE roads PASSWORD 'B@ck\'slash';
+SET standard_conforming_strings = on;
+CREATE TEMP TABLE accounts ("password" text);
+UPDATE accounts SET "password" = 'Qu0ted-Name';
+CREATE FOREIGN DATA WRAPPER roads; CREATE SERVER roads FOREIGN DATA WRAPPER roads;
+CREATE USER MAPPING FOR roads SERVER roads OPTIONS (user 'u', "password" 'M@pping-Secret');
+SELECT umoptions FROM pg_user_mappings WHERE usename = 'roads';
+DROP FOREIGN DATA WRAPPER roads CASCADE;
+DROP ROLE roads;
+LISTEN roads; NOTIFY roads, 'login with P@ssw0rd!';
+COPY (SELECT 'P@ssw0rd!', 'B@ck''slash') TO STDOUT;
+COPY (SELECT 'P@ssw0rd!') TO STDOUT (FORMAT binary);
+PREPARE roads AS SELECT $1::text;
+EXECUTE roads('P@ssw0rd!');
+SELECT set_config('roads.secret', 'P@ssw0rd!', false);
+SET application_name = 'P@ssw0rd!';
+SELECT 'P@ssw0rd!'::bytea, encode('a:P@ssw0rd!', 'base64'), encode('P@ssw0rd!', 'hex') AS "P@ssw0rd!";
+SELECT ARRAY['P@ssw0rd!'], ROW('P@ssw0rd!'), to_json('P@ssw0rd!'::text);
+DO $$ BEGIN RAISE NOTICE 'a P@ssw0rd!, and B@ck''slash'; END $$;
+SELECT 'P@ssw0rd!'::int;
+SQL
+}
+
+# A password is found wherever it stands, and what takes its place doesn't tell how long it is.
+test_tape_redact_roads() {
+    local tape=$work/roads.tape redacted=$work/roads.redacted.tape
+    write_roads_script
+    record_command "$tape" "$bin/psql" -X -f "$work/roads.sql"
+    same 'redact: the recording has each password' \
+        "$(python3 -B tests/system/recording_lines.py secrets "$tape" "${roads[@]}" | wc -l)" "$((${#roads[@]} - 1))"
+    try "$programs/pg_tape" redact <(cat "$tape") -o "$redacted"
+    expect 'redact: what can be read only once is refused' 2 'is no file'
+    try "$programs/pg_tape" redact "$tape" -o "$redacted"
+    expect 'redact: passwords, without rules' 0
+    "$programs/pg_tape" export "$redacted" -o "$work/roads.jsonl"
+    same 'redact: no password is left in clear, in hex or in Base64' \
+        "$(python3 -B tests/system/recording_lines.py secrets "$redacted:$work/roads.jsonl" "${roads[@]}")" ''
+    same 'redact: nor its shape' "$(grep -cE "'[^']*X[x\\\\]" "$work/roads.jsonl")" 0
+    sed -n 's/.*"kind":"Query","query":"\(.*\)"}$/\1/; T; s/\\"/"/g; p' "$work/roads.jsonl" > "$work/queries"
+    printf '%b\n' "$(< "$work/queries")" > "$work/roads.redacted.sql"
+    replay_command "$redacted" '' "$bin/psql" -X -f "$work/roads.redacted.sql"
+    expect 'redact: it is replayed to a client that says what is in it' 0 'sessions are replayed'
+    same 'redact: and answers so' "$(grep -c 'login with xxxxxxxx' <<< "$replayed")" 1
+}
+
 # A parameter, and a column of a statement whose rows come without a description.
 test_tape_redact_prepared() {
-    local client=("$(command -v python3)" -S -E -B tests/replay_client.py) tape=$work/words.tape
+    local client=("$(command -v python3)" -S -E -B tests/system/replay_client.py) tape=$work/words.tape
     local words=(startup:user=postgres,database=postgres read)
     words+=('parse:p:SELECT email FROM people WHERE phone = $1' describe:S:p sync read)
     record_words "${words[@]}" 'bind::p:+49 30 654321' execute::0 sync read terminate end
@@ -96,7 +153,7 @@ test_tape_redact_prepared() {
 # Rows after a COPY that has a Sync with its Execute and another one after its data, as libpq and tokio-postgres send them; and
 # statements whose names a pattern would make the same.
 test_tape_redact_followed() {
-    local client=("$(command -v python3)" -S -E -B tests/replay_client.py) tape=$work/words.tape
+    local client=("$(command -v python3)" -S -E -B tests/system/replay_client.py) tape=$work/words.tape
     local words=(startup:user=postgres,database=postgres read 'query:CREATE TEMP TABLE copied (number int)' read)
     words+=('parse:s_copy:COPY copied FROM STDIN' 'parse:s_mail:SELECT email FROM people WHERE phone = $1' describe:S:s_mail)
     words+=(sync read bind::s_copy: execute::0 sync count:2 copydata:1 copydone sync read)
@@ -108,6 +165,23 @@ test_tape_redact_followed() {
         "$status $errors $(grep -cE 's_copy|s_mail|bob\.fox' "$tape")" '0  0'
     fits 'statements whose names are redacted' '' "${words[@]}"
     same 'redact: their row is answered' "$(grep -c 'xxx.xxx@xxxxxxx.xxx' <<< "$replayed")" 1
+}
+
+# A statement whose name another one is refused, and rows that nothing describes.
+test_tape_redact_refused() {
+    local tape=$work/words.tape words=(startup:user=postgres,database=postgres read)
+    words+=('parse:p:SELECT email FROM people WHERE phone = $1' describe:S:p sync read)
+    words+=('parse:p:SELECT 1' sync read 'bind::p:+49 30 654321' execute::0 sync read)
+    local told=("${words[@]}" terminate end)
+    record_words "${told[@]}"
+    try "$programs/pg_tape" redact "$tape" -r "$work/prepared.toml" -o "$tape"
+    same 'redact: a statement whose name another one is refused' "$status $errors $(grep -cE "$secrets" "$tape")" '0  0'
+    words+=('parse:q:SELECT email, 1 FROM people WHERE phone = $1' 'bind::q:+49 30 654321' execute::0 sync read)
+    words+=('query:PREPARE r AS SELECT 2, $1::text' read bind::r:a execute::0 sync read terminate end)
+    record_words "${words[@]}"
+    try "$programs/pg_tape" redact "$tape" -r "$work/prepared.toml" -o "$tape"
+    expect 'redact: values that may be secrets are counted' 13 '5 values may be secrets'
+    same 'redact: one that is known is masked nonetheless' "$(grep -cE "$secrets" "$tape")" 0
 }
 
 # Logins whose passwords are recorded.
@@ -123,7 +197,7 @@ test_tape_redact_logins() {
     expect 'redact: logins' 0
     "$programs/pg_tape" export "$work/logged_in.tape" > "$work/logins.jsonl"
     same 'redact: a password in clear, one by MD5, and what SASL proves' \
-        "$(grep -cE "\"password\":\"[x0 ']*\"" "$work/logins.jsonl") $(grep -cE 'SASL(Continue|Final)","data":"x=[xX0+/=,]*"' \
+        "$(grep -c '"password":"xxxxxxxx"' "$work/logins.jsonl") $(grep -cE 'SASL(Continue|Final)","data":"xxxxxxxx"' \
             "$work/logins.jsonl") $(grep -c 'pass word' "$work/logins.jsonl")" '2 2 0'
 }
 
@@ -164,17 +238,17 @@ test_tape_exports() {
     truncate -s -7 "$work/script.tape"
     try "$programs/pg_tape" export "$work/script.tape" -o "$work/script.jsonl"
     same 'export: a recording that is cut' "$status $(tail -n 1 "$work/script.jsonl" | grep -c '"kind":"Cut"')" '0 1'
-    try "$programs/pg_tape" import tape/tape/kinds.jsonl -o "$work/kinds.tape"
+    try "$programs/pg_tape" import programs/tape/kinds.jsonl -o "$work/kinds.tape"
     expect 'import: messages of all kinds' 0
-    same 'export: the same lines' "$("$programs/pg_tape" export "$work/kinds.tape" | cmp - tape/tape/kinds.jsonl 2>&1)" ''
-    cat "$work"/*.jsonl tape/tape/kinds.jsonl > "$work/lines"
-    try python3 -B tests/recording_lines.py schema tape/tape/recording.schema.json "$work/lines"
+    same 'export: the same lines' "$("$programs/pg_tape" export "$work/kinds.tape" | cmp - programs/tape/kinds.jsonl 2>&1)" ''
+    cat "$work"/*.jsonl programs/tape/kinds.jsonl > "$work/lines"
+    try python3 -B tests/system/recording_lines.py schema programs/tape/recording.schema.json "$work/lines"
     if [ "$status" = 3 ]; then
         echo 'left out: lines by their schema, since python3-jsonschema is not there'
     else
         expect "export: lines are those of the schema: $output" 0
     fi
-    try python3 -B tests/recording_lines.py faults "$programs/pg_tape" "$work/secret.jsonl" "$work/fault.tape"
+    try python3 -B tests/system/recording_lines.py faults "$programs/pg_tape" "$work/secret.jsonl" "$work/fault.tape"
     expect "import: faults are named: $output" 0
     try "$programs/pg_tape" export "$work/secret.jsonl"
     expect 'export: what is no recording' 10 'is no recording'
@@ -231,18 +305,66 @@ test_tape_long() {
         expect "long: $command of a recording of $size kB in $most kB" 0
     done
     for command in export redact view; do
-        try python3 -B tests/recording_lines.py bar "$programs/pg_tape" $command "$tape" "$back"
+        try python3 -B tests/system/recording_lines.py bar "$programs/pg_tape" $command "$tape" "$back"
         expect "long: the bar of $command: $output" 0
     done
-    try python3 -B tests/recording_lines.py bar "$programs/pg_tape" import "$lines" "$back"
+    try python3 -B tests/system/recording_lines.py bar "$programs/pg_tape" import "$lines" "$back"
     expect "long: the bar of import: $output" 0
+}
+
+# Prints the lines of a recording of so many sessions that begin before any ends.
+wide_lines() {
+    echo '{"kind":"Recording","version":1,"begun":0}'
+    seq "$1" | sed 's/.*/{"connection":&,"time":0,"kind":"Opened","address":"[local]"}/'
+    seq "$1" | sed 's/.*/{"connection":&,"time":1,"kind":"Closed","by":"client"}/'
+}
+
+# Runs a command with so many descriptors.
+with_descriptors() (
+    ulimit -n "$1"
+    exec "${@:2}"
+)
+
+# Where output goes: to links and what they lead to, to a pipe that is closed, and to many files.
+test_tape_outputs() {
+    local tape=$work/edits.tape link=$work/link folder=$work/wide
+    "$programs/pg_tape" export "$tape" > "$work/edits.jsonl"
+    ln -s /proc/self/fd/1 "$link"
+    try "$built/pg_tape" export "$tape" -o "$link"
+    same 'output: a link to standard output' "$status $(readlink "$link") $(cmp "$work/output" "$work/edits.jsonl" 2>&1)" \
+        '0 /proc/self/fd/1 '
+    cp "$tape" "$work/linked.tape"
+    ln -sf linked.tape "$link"
+    try "$programs/pg_tape" drop "$link" 2 -o "$link"
+    same 'output: a link to a recording' "$status $(readlink "$link") $(cmp "$work/linked.tape" "$work/two.tape" 2>&1)" \
+        '0 linked.tape '
+    "$built/pg_tape" export "$work/long.tape" 2> "$work/errors" | head -n 1 > "$work/output"
+    same 'output: a pipe that is closed' "${PIPESTATUS[0]} $(cat "$work/errors")" '7 '
+    wide_lines 100 > "$work/wide.jsonl"
+    "$programs/pg_tape" import "$work/wide.jsonl" -o "$work/wide.tape"
+    try with_descriptors 20 "$built/pg_tape" split "$work/wide.tape" -o "$folder"
+    expect 'split: more sessions at the same time than descriptors' 0
+    "$programs/pg_tape" merge "$folder"/*.tape -o "$work/merged.tape"
+    same 'split: they are whole' "$("$programs/pg_tape" export "$work/merged.tape" | sort | cmp - <(sort "$work/wide.jsonl") 2>&1)" ''
+    test_synced_output "$work/linked.tape"
+}
+
+# A file that takes the place of another is on its disk before.
+test_synced_output() {
+    if ! strace -o "$work/calls" true 2> /dev/null; then
+        echo 'left out: that output is on its disk before it has its name (apt-get install strace)'
+        return
+    fi
+    try strace -f -o "$work/calls" -e trace=fsync,rename "$built/pg_tape" drop "$1" 1 -o "$1"
+    same 'output: on its disk before it takes the place of another' \
+        "$status $(grep -o -e 'fsync(' -e 'rename(' "$work/calls" | tr -d '\n')" '0 fsync(rename('
 }
 
 # The page of a recording: in a browser where there is one, else by its data.
 test_tape_view() {
     local name
     many_lines > "$work/many.jsonl"
-    grep -v '"kind":"Cut"' tape/tape/kinds.jsonl > "$work/kinds.jsonl"
+    grep -v '"kind":"Cut"' programs/tape/kinds.jsonl > "$work/kinds.jsonl"
     for name in many kinds; do
         try "$programs/pg_tape" import "$work/$name.jsonl" -o "$work/$name.tape"
         expect "view: messages are imported, of $name" 0
@@ -251,18 +373,25 @@ test_tape_view() {
         try "$programs/pg_tape" view "$work/$name.tape" -o "$work/page.html"
         expect "view: a page is written, of $name" 0
         mkdir -p "out/pictures/$name"
-        try python3 -B tests/recording_page.py "$work/page.html" "$work/$name.jsonl" "out/pictures/$name"
+        try python3 -B tests/system/recording_page.py "$work/page.html" "$work/$name.jsonl" "out/pictures/$name"
         expect "view: $output" 0
+        ! grep -q 'no browser is there' <<< "$output" || echo 'left out: the page of a recording in a browser (apt-get install chromium)'
     done
+    cp "$work/kinds.tape" "$work/{{data}}"
+    "$programs/pg_tape" view "$work/{{data}}" -o "$work/named.html"
+    same 'view: a recording with the name of a part of the page' "$(sed 's/{{data}}/kinds.tape/' "$work/named.html" | cmp - "$work/page.html" 2>&1)" ''
 }
 
 test_recordings() {
     test_tape_redact
+    test_tape_redact_roads
     test_tape_redact_prepared
+    test_tape_redact_refused
     test_tape_redact_followed
     test_tape_redact_logins
     test_tape_edits
     test_tape_exports
     test_tape_long
+    test_tape_outputs
     test_tape_view
 }

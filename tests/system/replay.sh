@@ -1,7 +1,7 @@
-# Recordings of both sides that are replayed without a server. Sourced by `test`.
+# Recordings of both sides that are replayed without a server. Sourced by `run`.
 
 # What speaks to a server or to a replay, and how it begins.
-client=("$(python3 -c 'import sys; print(sys.executable)' 2> /dev/null)" -S -E -B tests/replay_client.py)
+client=("$(python3 -c 'import sys; print(sys.executable)' 2> /dev/null)" -S -E -B tests/system/replay_client.py)
 as_postgres='startup:user=postgres,database=postgres'
 
 # Whether a program has said that it listens, or is gone.
@@ -84,11 +84,11 @@ replay_command() {
     end_replay
 }
 
-# Records a command, replays it with options, and tests that its output is the same.
+# Records a command, replays it with options, and tests that its output is the same, and no answer another's.
 both_ways() {
     local name=$1 options=$2
     record_command "$work/$name.tape" "${@:3}"
-    replay_command "$work/$name.tape" "$options" "${@:3}"
+    replay_command "$work/$name.tape" "$options --strict" "${@:3}"
     expect "replay: $name, all of it" 0 'sessions are replayed'
     same "replay: $name, the same output" "$replayed" "$(cat "$work/$name.tape.output")"
 }
@@ -234,7 +234,7 @@ test_replay_python() {
     local driver
     for driver in psycopg2 asyncpg; do
         if /usr/bin/python3 -c "import $driver" 2> /dev/null; then
-            both_ways "$driver" '' /usr/bin/python3 -B "tests/real/${driver}_says.py"
+            both_ways "$driver" '' /usr/bin/python3 -B "tests/system/real/${driver}_says.py"
         else
             echo "left out: replays of $driver, since there is no python3-$driver"
         fi
@@ -263,7 +263,8 @@ test_replay_notify() {
     at_port "$replay_port" "${client[@]}" $as_postgres read 'query:LISTEN a' read 'count:1' 'query:SELECT 1' read \
         terminate end > "$work/notify.replayed" &
     listening=$!
-    sleep 1
+    await grep -q LISTEN "$work/notify.replayed"
+    sleep 0.2
     same 'replay: a notification waits for its cause' "$(grep -c '^A ' "$work/notify.replayed")" 0
     at_port "$replay_port" "$bin/psql" -X -q -c "NOTIFY a, 'payload'"
     wait "$listening"
@@ -277,6 +278,20 @@ is_listening() {
     [ -n "$(sql "SELECT 1 FROM pg_stat_activity WHERE query = 'LISTEN a' AND state = 'idle'")" ]
 }
 
+# A client that comes while the recording is read, here one that never comes, isn't refused.
+test_replay_reading() {
+    local port
+    port=$(free_port)
+    mkfifo "$work/reading.tape"
+    : > "$work/errors.replay"
+    "$built/pg_replay" "$work/reading.tape" "$port" 2> "$work/errors.replay" &
+    replaying=$!
+    await bash -c ": <> /dev/tcp/127.0.0.1/$port"
+    same 'replay: a client may come before the recording is read' "$? $(cat "$work/errors.replay")" '0 '
+    kill "$replaying"
+    reap "$replaying"
+}
+
 test_replay() {
     local slow_taping slow_replaying slow_clients=()
     begin_slow_openings
@@ -288,6 +303,7 @@ test_replay() {
     test_replay_tokio_postgres
     test_replay_notify
     test_replay_in_folder
+    test_replay_reading
     test_replay_threads
     test_replay_memory
     test_replay_differences
@@ -299,6 +315,7 @@ test_replay() {
     test_no_descriptors
     test_escaped_differences
     test_unread_differences
+    test_unread_long_differences
     test_replay_example
     test_replay_causes
     end_slow_openings

@@ -1,4 +1,4 @@
-# What an answer waits for in a replay: its cause, and not the time at which it was recorded. Sourced by `test`.
+# What an answer waits for in a replay: its cause, and not the time at which it was recorded. Sourced by `run`.
 
 # A request to cancel ends what waits for it, and nothing else does.
 test_replay_cancel() {
@@ -33,23 +33,38 @@ test_replay_timeouts() {
     record_words "${words[@]}"
     fits 'a timeout' '' "${words[@]}"
     same 'replay: a timeout comes after its time' "$(grep -c -x 'so long' <<< "$replayed")" 1
-    words=("$as_postgres" read "query:SET idle_session_timeout = '1s'" read end)
+    words=("$as_postgres" read "query:SET idle_session_timeout = '1s'" read timed:0.9)
     record_words "${words[@]}"
-    local begun=$SECONDS
     replay_command "$work/words.tape" '' "${client[@]}" "${words[@]}"
     expect 'replay: a session that was idle too long' 0 '1 of 1 sessions are replayed'
-    same 'replay: its error' "$(grep -c 'C57P05' <<< "$replayed") $((SECONDS - begun <= 10))" '1 1'
+    same 'replay: its error comes after its time' "$(grep -c 'C57P05' <<< "$replayed") $(tail -n 1 <<< "$replayed")" '1 so long'
+    replay_command "$work/words.tape" '' "${client[@]}" "${words[@]:0:4}" 'query:SELECT 1' timed:0.9
+    expect 'replay: one that says more before its time' 0 '1 of 1 sessions are replayed'
+    same 'replay: its error comes at once' "$(grep -c 'C57P05' <<< "$replayed") $(tail -n 1 <<< "$replayed")" '1 less'
+}
+
+# A client that gave up while the server was busy, and a recorder that ended before the server was done.
+test_replay_given_up() {
+    local words=("$as_postgres" read 'query:SELECT pg_sleep(600)' sleep:0.2)
+    start_tape "$work/words.tape"
+    at_port "$tape_port" "${client[@]}" "${words[@]}" > /dev/null
+    sleep 0.5
+    kill "$taping"
+    reap "$taping"
+    same 'record: a client that gave up while the server was busy has ended its connection' \
+        "$(read_recording "$work/words.tape" | awk '$4 == "C"' | wc -l)" 1
+    fits 'a client that gave up while the server was busy' '' "${words[@]}"
 }
 
 # A client that left at the request for its password: the next one is asked too.
 test_replay_left_at_password() {
     local words=("$bin/psql" -X -w -d postgres -U by_scram -c 'SELECT 1')
     record_command "$work/left.tape" "${words[@]}"
-    replay_command "$work/left.tape" '' timeout 10 "${words[@]}"
+    replay_command "$work/left.tape" '' timeout 60 "${words[@]}"
     expect 'replay: a client that left at the request for its password' 0 '1 of 1 sessions are replayed'
     same 'replay: the next one leaves too' "${replayed##*: }" "$(sed 's/.*: //' "$work/left.tape.output")"
     start_replay "$work/left.tape"
-    replayed=$(at_port "$replay_port" env PGPASSWORD=one timeout 10 "${words[@]}" 2>&1)
+    replayed=$(at_port "$replay_port" env PGPASSWORD=one timeout 60 "${words[@]}" 2>&1)
     same 'replay: one that answers is left' "$?" 2
     end_replay
 }
@@ -97,7 +112,7 @@ test_replay_tls() {
     expect 'replay: a certificate without its key' 1 'usage: pg_replay'
     record_words "$as_postgres" read terminate end
     start_replay "$work/words.tape" --again --go-on $options
-    try tests/record_handshakes.py "$replay_port" "$work/tls.crt"
+    try tests/system/record_handshakes.py "$replay_port" "$work/tls.crt"
     expect "replay: handshakes: $output" 0
     stop_replay
     test_replay_listens "$file"
@@ -130,6 +145,7 @@ test_replay_flushes() {
 test_replay_causes() {
     test_replay_cancel
     test_replay_timeouts
+    test_replay_given_up
     test_replay_left_at_password
     test_replay_scram
     test_replay_tls

@@ -1,4 +1,4 @@
-# Recordings that others change while they are served. Sourced by `test`.
+# Recordings that others change while they are served. Sourced by `run`.
 
 # The offset of the last record of a kind in a recording.
 last_record() {

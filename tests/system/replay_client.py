@@ -90,11 +90,13 @@ class Client:
         self.send()
         while (tag := self.read()) not in (last, b""):
             pass
+        sys.stdout.flush()
 
     def count(self, number):
         self.send()
         for _ in range(int(number)):
             self.read()
+        sys.stdout.flush()
 
     def timed(self, seconds):
         begun = time.monotonic()

@@ -1,4 +1,4 @@
-# Clients that do otherwise than the recorded one, and what may differ. Sourced by `test`.
+# Clients that do otherwise than the recorded one, and what may differ. Sourced by `run`.
 
 # Records what replay_client.py says.
 record_words() {
@@ -103,23 +103,22 @@ named() {
 test_replay_names() {
     named s1 s2 p1 s1 s1
     record_words "${session[@]}"
-    fits 'the same names' '--any-name' "${session[@]}"
+    fits 'the same names' '' "${session[@]}"
     named a b c a a
     fits 'other names' '' "${session[@]}"
-    fits 'other names, by the option that allowed them once' '--any-name' "${session[@]}"
     named s2 s1 s2 s2 s2
-    fits 'names that are exchanged' '--any-name' "${session[@]}"
+    fits 'names that are exchanged' '' "${session[@]}"
     named a b c a d
-    fits 'a new name after a Close' '--any-name' "${session[@]}"
+    fits 'a new name after a Close' '' "${session[@]}"
     named a b c b a
-    differs 'the name of the other statement' '--any-name' 'they part in the name of the statement' "${session[@]}"
+    differs 'the name of the other statement' '' 'they part in the name of the statement' "${session[@]}"
     named a a c a a
-    differs 'one name for two' '--any-name' 'they part in the name of the statement' "${session[@]}"
+    differs 'one name for two' '' 'they part in the name of the statement' "${session[@]}"
     named a b c s1 a
-    differs 'a name that only the recorded client gave' '--any-name' 'they part in the name of the statement' \
+    differs 'a name that only the recorded client gave' '' 'they part in the name of the statement' \
         "${session[@]}"
     named '' b c '' a
-    differs 'no name for one' '--any-name' 'they part in the name of the statement' "${session[@]}"
+    differs 'no name for one' '' 'they part in the name of the statement' "${session[@]}"
 }
 
 # The words of a session with three parameters.
@@ -141,6 +140,17 @@ test_replay_values() {
         'they part in the value of parameter 3, at byte 28 of the recorded one and 40 of the received one' "${session[@]}"
     with_values one,two
     differs 'fewer parameters' '--any-parameter 3' 'the number of values' "${session[@]}"
+    with_values "$(echo {1..100} | tr ' ' ,)"
+    differs 'many parameters' '' '  and 60 more' "${session[@]}"
+}
+
+# A row of a COPY that isn't the recorded one: both are shown.
+test_replay_data() {
+    local words=("$as_postgres" read 'query:CREATE TEMPORARY TABLE copied (a text)' read 'query:COPY copied FROM STDIN' count:1)
+    record_words "${words[@]}" copydata:one copydata:two copydone read terminate end
+    differs 'a row of a COPY' '' 'data: [-two-]{+zwei+}' "${words[@]}" copydata:one copydata:zwei copydone end
+    same 'replay: a row of a COPY, as a message' "$(grep -E '^(recorded|received): ' <<< "$errors")" \
+        "$(printf "recorded: F\t8\tCopyData\t 'two\\\\x0a'\nreceived: F\t9\tCopyData\t 'zwei\\\\x0a'")"
 }
 
 # Clients in another order than they were recorded in.
@@ -231,10 +241,10 @@ test_replay_gone_on() {
 
 # One query of fifteen tests that share a session has changed: one test fails.
 test_replay_changed_django() {
-    local suite=(/usr/bin/python3 -B tests/real/django_suite.py) options=(--any-literal time --any-literal uuid --any-order --again --go-on)
+    local suite=(/usr/bin/python3 -B tests/system/real/django_suite.py) options=(--any-literal time --any-literal uuid --any-order --again --go-on)
     has_module django || return
     record_command "$work/changed-django.tape" "${suite[@]}"
-    sed 's/get(name="Ann").coins, 10)/get(name="Ann", coins=10).coins, 10)/' tests/real/django_suite.py > "$work/changed_suite.py"
+    sed 's/get(name="Ann").coins, 10)/get(name="Ann", coins=10).coins, 10)/' tests/system/real/django_suite.py > "$work/changed_suite.py"
     start_replay "$work/changed-django.tape" "${options[@]}"
     at_port "$replay_port" /usr/bin/python3 -B "$work/changed_suite.py" > "$work/output" 2>&1
     same 'replay: of fifteen tests of Django the changed one fails' "$(tail -n 1 "$work/output")" '15 tests, 1 errors, 0 failures'
@@ -250,6 +260,7 @@ test_replay_differences() {
     test_replay_settings
     test_replay_names
     test_replay_values
+    test_replay_data
     test_replay_order
     test_replay_times
     test_replay_gone_on

@@ -1,4 +1,4 @@
-# Unix sockets on which pg_record and pg_replay listen, where libpq looks for a server. Sourced by `test`.
+# Unix sockets on which pg_record and pg_replay listen, where libpq looks for a server. Sourced by `run`.
 
 # Starts a program that listens in a folder. Leaves its process in $in_folder.
 begin_in_folder() {

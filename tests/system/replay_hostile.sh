@@ -1,4 +1,4 @@
-# Recordings that are damaged or cut, and clients that are slow, silent or too loud. Sourced by `test`.
+# Recordings that are damaged or cut, and clients that are slow, silent or too loud. Sourced by `run`.
 
 # Changes a byte of a file, by its offset.
 change_byte() {
@@ -16,7 +16,7 @@ test_replay_damage() {
     for ((offset = 0; offset < size; offset += step)); do
         cp "$file" "$copy"
         change_byte "$copy" "$offset"
-        try timeout 10 "$programs/pg_replay" "$copy" 0
+        try timeout 60 "$programs/pg_replay" "$copy" 0
         tried=$((tried + 1))
         if [ "$status" != 10 ] || [[ $errors != *"$copy"*offset* && $errors != *"$copy is no recording"* ]] \
             || [[ $errors == *listening* ]]; then
@@ -37,6 +37,10 @@ test_replay_damage() {
     expect 'replay: a port above the last' 1 usage
     try "$programs/pg_replay" --any-parameter 0 "$file" 0
     expect 'replay: a position below the first' 1 usage
+    try "$programs/pg_replay" "$file"
+    expect 'replay: no address to listen on' 1 'pg_replay: where to listen is missing: LISTEN_PORT, or --listen ADDRESS'
+    try "$programs/pg_replay" -p 5432 "$file" 0
+    expect 'replay: a server that has no use' 1 'pg_replay: a server has a use with --record-missing or --record-all alone'
     test_replay_cut "$file" "$copy" "$size"
 }
 
@@ -99,6 +103,17 @@ test_replay_hostile() {
     done
     test_replay_long
     test_replay_pressure
+    test_replay_silent
+}
+
+# Thousands of clients that say nothing: one that speaks is served within seconds.
+test_replay_silent() {
+    record_words "$as_postgres" read terminate end
+    start_replay "$work/words.tape"
+    try tests/system/slow_clients.py silent "$replay_port"
+    expect "replay: beside 3,000 silent clients one is served after $output seconds" 0
+    end_replay
+    expect 'replay: beside 3,000 silent clients, the session' 0 '1 of 1 sessions are replayed'
 }
 
 # Messages above the limit for a whole one are compared piece by piece.

@@ -1,4 +1,4 @@
-# Replays that pass on to the server what isn't recorded, and record it. Sourced by `test`.
+# Replays that pass on to the server what isn't recorded, and record it. Sourced by `run`.
 
 # Starts a replay of a file by which what is missing, or all, is recorded.
 start_missing() {
@@ -87,7 +87,35 @@ test_missing_nowhere() {
     kill -9 "$replaying"
     end_replay 2> /dev/null
     same 'missing: a kill leaves the recording as it was' "$(cksum < "$tape")" "$(cksum < "$work/missing.old")"
+    same 'missing: and nothing beside it' "$(ls "$tape".* 2> /dev/null)" ''
+}
+
+# Two replays of one recording at the same time, and sessions that are dropped meanwhile.
+test_missing_together() {
+    try python3 -B tests/system/renewals.py "$built" "$work/together.tape" 20
+    expect "missing: no session is lost where programs change a recording at the same time: $output" 0
+}
+
+# What another process of the same number has left, as in a container that was killed.
+test_missing_left() {
+    local tape=$work/left.tape
+    : > "$work/errors.replay"
+    bash -c 'echo left > "$2.$$"; exec "$1" --record-missing -h 127.0.0.1 -p "$PGPORT" "$2" 0' - \
+        "$programs/pg_replay" "$tape" 2> "$work/errors.replay" &
+    replaying=$!
+    await has_begun "$work/errors.replay" "$replaying"
+    stop_replay
+    expect 'missing: beside a file with the number of the process' 143 listening
     rm -f "$tape".*
+}
+
+test_missing_hangup() {
+    local tape=$work/hangup.tape answer
+    start_missing missing "$tape"
+    answer=$(answers 'SELECT 41')
+    kill -HUP "$replaying"
+    end_replay
+    same 'missing: SIGHUP ends it as SIGTERM does' "$status $answer $(connections_of "$tape" 2> /dev/null)" '143 41  1'
 }
 
 test_missing_all() {
@@ -211,12 +239,12 @@ test_missing_database() {
 
 # A query of one test has changed, and all tests share a session. The server has kept their database.
 test_missing_django() {
-    local tape=$work/missing-django.tape suite=(/usr/bin/python3 -B tests/real/django_suite.py --keepdb)
-    local changed=("${suite[@]/tests\/real/$work}") options=(--any-literal time --any-literal uuid)
+    local tape=$work/missing-django.tape suite=(/usr/bin/python3 -B tests/system/real/django_suite.py --keepdb)
+    local changed=("${suite[@]/tests\/system\/real/$work}") options=(--any-literal time --any-literal uuid)
     has_module django || return
     try "${suite[@]}"
     record_command "$tape" "${suite[@]}"
-    sed 's/get(name="Ann").coins, 10)/get(name="Ann", coins=10).coins, 10)/' tests/real/django_suite.py > "$work/django_suite.py"
+    sed 's/get(name="Ann").coins, 10)/get(name="Ann", coins=10).coins, 10)/' tests/system/real/django_suite.py > "$work/django_suite.py"
     start_missing missing "$tape" '' --any-order --again "${options[@]}"
     try at_port "$replay_port" "${changed[@]}"
     same 'missing: a test of Django that has changed' "$status $output" '0 15 tests, 0 errors, 0 failures'
@@ -245,6 +273,9 @@ test_missing_options() {
 test_replay_missing() {
     local passed_before=$passed
     test_missing_sessions
+    test_missing_together
+    test_missing_left
+    test_missing_hangup
     test_missing_state
     test_missing_pgbench
     test_missing_passwords

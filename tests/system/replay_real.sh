@@ -1,4 +1,4 @@
-# Real clients, frameworks, pools and what stands between: recorded with a server, and replayed without. Sourced by `test`.
+# Real clients, frameworks, pools and what stands between: recorded with a server, and replayed without. Sourced by `run`.
 
 # Whether a module of Debian's Python is there; else says what is left out.
 has_module() {
@@ -9,24 +9,24 @@ has_module() {
 
 test_real_python() {
     local python=/usr/bin/python3 number
-    has_module django && both_ways django '--any-literal time --any-literal uuid' $python -B tests/real/django_suite.py \
+    has_module django && both_ways django '--any-literal time --any-literal uuid' $python -B tests/system/real/django_suite.py \
         && recorded_well django '15 tests, 0 errors, 0 failures'
-    has_module psycopg && both_ways psycopg-pipeline '' $python -B tests/real/psycopg3_pipeline.py \
+    has_module psycopg && both_ways psycopg-pipeline '' $python -B tests/system/real/psycopg3_pipeline.py \
         && recorded_well psycopg-pipeline '22012'
-    has_module pg8000 && both_ways pg8000 '' $python -B tests/real/pg8000_says.py \
+    has_module pg8000 && both_ways pg8000 '' $python -B tests/system/real/pg8000_says.py \
         && recorded_well pg8000 Error
     if has_module sqlalchemy; then
-        record_command "$work/sqlalchemy.tape" $python -B tests/real/sqlalchemy_pool.py
+        record_command "$work/sqlalchemy.tape" $python -B tests/system/real/sqlalchemy_pool.py
         recorded_well sqlalchemy "(39, 'word 39')"
         for number in 1 2; do
-            again_in_another_order sqlalchemy "$number" $python -B tests/real/sqlalchemy_pool.py
+            again_in_another_order sqlalchemy "$number" $python -B tests/system/real/sqlalchemy_pool.py
         done
     fi
     if has_module asyncpg; then
-        record_command "$work/asyncpg-pool.tape" $python -B tests/real/asyncpg_pool.py
+        record_command "$work/asyncpg-pool.tape" $python -B tests/system/real/asyncpg_pool.py
         recorded_well asyncpg-pool '(29, 30, 29, 435)'
         for number in 1 2; do
-            again_in_another_order asyncpg-pool "$number" $python -B tests/real/asyncpg_pool.py
+            again_in_another_order asyncpg-pool "$number" $python -B tests/system/real/asyncpg_pool.py
         done
     fi
 }
@@ -40,7 +40,7 @@ recorded_well() {
 
 # Replays what is recorded of a pool, whose transactions come in another order each time.
 again_in_another_order() {
-    replay_command "$work/$1.tape" '' "${@:3}"
+    replay_command "$work/$1.tape" --strict "${@:3}"
     expect "replay: $1, another order, $2" 0 'sessions are replayed'
     same "replay: $1, another order, $2, the same output" "$replayed" "$(cat "$work/$1.tape.output")"
 }
@@ -51,16 +51,16 @@ test_real_node() {
         echo 'left out: replays of node-pg, without node or its module pg (apt-get install node-pg)'
         return
     fi
-    record_command "$work/node-pg.tape" node tests/real/node_pool.js
+    record_command "$work/node-pg.tape" node tests/system/real/node_pool.js
     recorded_well node-pg '[29,30,0]'
     for number in 1 2; do
-        again_in_another_order node-pg "$number" node tests/real/node_pool.js
+        again_in_another_order node-pg "$number" node tests/system/real/node_pool.js
     done
 }
 
-# Builds a program of tests/real in Go of Debian's packages.
+# Builds a program of tests/system/real in Go of Debian's packages.
 build_go() {
-    (cd "tests/real/go_$1" && GO111MODULE=off GOPATH=/usr/share/gocode GOFLAGS= \
+    (cd "tests/system/real/go_$1" && GO111MODULE=off GOPATH=/usr/share/gocode GOFLAGS= \
         go build -o "$work/go_$1" .) > "$work/output" 2>&1
 }
 
@@ -82,7 +82,7 @@ test_real_go() {
 test_real_java() {
     local classes=/usr/share/java/postgresql.jar:$work/java
     if ! command -v java javac > /dev/null || [ ! -e /usr/share/java/postgresql.jar ] \
-        || ! javac -cp "$classes" -d "$work/java" tests/real/java/Says.java > "$work/output" 2>&1; then
+        || ! javac -cp "$classes" -d "$work/java" tests/system/real/java/Says.java > "$work/output" 2>&1; then
         echo 'left out: replays of PgJDBC, without javac or the driver (apt-get install default-jdk-headless libpostgresql-jdbc-java)'
         return
     fi
@@ -155,7 +155,7 @@ run_example() {
 
 # The example's tests, on the recording that is kept of them.
 test_replay_example() {
-    local folder=examples/recorded taken
+    local folder=programs/examples/recorded taken
     if ! /usr/bin/python3 -c 'import psycopg2' 2> /dev/null; then
         echo 'left out: the tests of the example on its recording, since there is no python3-psycopg2'
         return

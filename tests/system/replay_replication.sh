@@ -1,4 +1,4 @@
-# Replication: what pg_recvlogical and pg_basebackup say is replayed without the server. Sourced by `test`.
+# Replication: what pg_recvlogical and pg_basebackup say is replayed without the server. Sourced by `run`.
 
 # Lets the server be replicated, which it isn't in the other tests.
 begin_replication() {

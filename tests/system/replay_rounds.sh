@@ -1,4 +1,4 @@
-# Recordings that are served again and again, each round as the first, and by several threads. Sourced by `test`.
+# Recordings that are served again and again, each round as the first, and by several threads. Sourced by `run`.
 
 # Tests that some words get the same answers each time, after the first of which some other words may come.
 same_rounds() {
@@ -38,6 +38,7 @@ test_replay_rounds() {
         PGHOST=127.0.0.1 PGPORT=$replay_port timeout 60 xargs -d '\n' "${client[@]}" | grep -c "^D .*1'")
     stop_replay
     same 'replay: twenty clients of one connection, each as soon as the one before is gone' "$replayed" 20
+    same 'replay: a session that is replayed again and again counts once' "$(tail -n 1 <<< "$errors")" 'pg_replay: 1 of 1 sessions are replayed'
 }
 
 # Recordings that several threads serve.

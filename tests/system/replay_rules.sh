@@ -1,4 +1,4 @@
-# What may differ: names in SQL, settings in another order, pools, literals, and the rules of a file. Sourced by `test`.
+# What may differ: names in SQL, settings in another order, pools, literals, and the rules of a file. Sourced by `run`.
 
 # Names that a client invents anew each time, by a word for each.
 invented() {
@@ -64,6 +64,38 @@ test_replay_shown_rules() {
     replay_command "$work/words.tape" '' "${client[@]}" startup:user=postgres,database=postgres,$'\u009b2J'=two end
     expect 'replay: a setting with a control character' 11 '"\u009B2J"'
     same 'replay: which no terminal gets' "$(grep -c $'\u009b' <<< "$errors")" 0
+    replay_command "$work/words.tape" '' "${client[@]}" startup:user=postgres,database=postgres,$'\u202e2J'=two end
+    expect 'replay: a setting that turns its text' 11 '\xe2\x80\xae2J: {+two+}'
+    expect 'replay: a setting that turns its text, its rule' 11 '"\u202E2J"'
+    same 'replay: which no terminal turns' "$(grep -c $'\u202e' <<< "$errors")" 0
+    allowed_by_its_rule 'a time in a query' "query: SELECT '2026-12-01 06:[-27:02-]{+28:13+}'" \
+        "query:SELECT '2026-12-01 06:27:02'" "query:SELECT '2026-12-01 06:28:13'"
+    same 'replay: its rule has no part of the time' "$(grep -c -e 2026 -e 06 "$work/rules.toml")" 0
+}
+
+# Tests what is said in the place of a rule by which two recorded requests would be one.
+is_not_advised() {
+    replay_command "$work/unadvised.tape" '' "${client[@]}" "${@:3}" end
+    expect "replay: $1, a rule that isn't advised" 11 "no rule is advised: by it $2 would be the same, whose answers differ"
+    same "replay: $1, no rule is shown" "$(grep -c 'to let this differ' <<< "$errors")" 0
+}
+
+# No rule is advised that takes another client's answer for this one's.
+test_replay_unadvised_rules() {
+    local file=$work/unadvised.tape doubled=(read 'parse::SELECT $1::int * 2')
+    start_tape "$file"
+    for number in 1 2; do
+        at_port "$tape_port" "${client[@]}" "$as_postgres,application_name=a$number" "${doubled[@]}" "bind:::$number" execute::0 sync read \
+            "query:SELECT 'x$number'" read 'parse::SELECT $1::int > 0' "bind:::$number" execute::0 sync read terminate end > /dev/null
+    done
+    stop_tape
+    is_not_advised 'a value' 'message 4 of connection 1 and message 4 of connection 2' "$as_postgres,application_name=a1" "${doubled[@]}" bind:::3 execute::0 sync
+    is_not_advised 'a text' 'message 6 of connection 1 and message 6 of connection 2' "$as_postgres,application_name=a1" "${doubled[@]}" bind:::1 \
+        execute::0 sync read "query:SELECT 'x3'"
+    is_not_advised 'a setting' 'message 1 of connection 1 and message 1 of connection 2' "$as_postgres,application_name=a3"
+    replay_command "$file" '' "${client[@]}" "$as_postgres,application_name=a1" "${doubled[@]}" bind:::1 execute::0 sync read \
+        "query:SELECT 'x1'" read 'parse::SELECT $1::int > 0' bind:::3 execute::0 sync end
+    expect 'replay: a value whose answers are the same, its rule' 11 'positions = [1]'
 }
 
 test_replay_rule_file() {
@@ -191,8 +223,10 @@ test_replay_rules() {
     test_replay_set_of_settings
     test_replay_literals
     test_replay_shown_rules
+    test_replay_unadvised_rules
     test_replay_rule_file
     test_replay_pools
     test_replay_prepared_pools
     test_replay_names_in_pools
+    test_replay_doubts
 }

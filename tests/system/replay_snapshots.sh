@@ -1,4 +1,4 @@
-# Connections that read one snapshot, each of which may be asked what another one was. Sourced by `test`.
+# Connections that read one snapshot, each of which may be asked what another one was. Sourced by `run`.
 
 # Exports a snapshot until its session is ended. Leaves the name in $snapshot, and the process of its client in $exporting.
 export_snapshot() {

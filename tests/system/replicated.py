@@ -10,7 +10,7 @@ import collections
 import pathlib
 import sys
 
-sys.path.append(str(pathlib.Path(__file__).resolve().parent.parent / "examples"))
+sys.path.append(str(pathlib.Path(__file__).resolve().parents[2] / "programs/examples"))
 
 import read_recording
 from pgmsg import ClientStream, CopyData, ServerStream, replication

@@ -1,5 +1,5 @@
 # Replication through pg_record: a backup, pg_receivewal and a standby go unharmed, and all that they and the server say in
-# CopyData is read by the library, and written again as the same bytes. Sourced by `test`.
+# CopyData is read by the library, and written again as the same bytes. Sourced by `run`.
 
 # Runs a program of PostgreSQL as the server's owner, in the folder of the server, on the port of the recording.
 through_tape() {
@@ -74,6 +74,6 @@ test_replication() {
     await has_no_session
     kill "$taping"
     reap "$taping"
-    try run_python "$work/package" tests/replicated.py "$work/replication.tape"
+    try run_python "$work/package" tests/system/replicated.py "$work/replication.tape"
     expect "replication: ${output:-no messages}" 0
 }

@@ -1,4 +1,4 @@
-# The crates for Rust: their tests, documentation and packages, and a program that takes them. Sourced by `test`.
+# The crates for Rust: their tests, documentation and packages, and a program that takes them. Sourced by `run`.
 
 oldest_rust=1.63
 
@@ -23,8 +23,8 @@ build_rust_examples() {
     local cargo_folder version features source empty
     if [ -z "$rust_examples" ] && find_rust; then
         # What a newer cargo wrote an older one may not read.
-        rm -f rust/Cargo.lock
-        try by_strict_cargo rust test --no-run --workspace "${features[@]}" "${source[@]}"
+        rm -f bindings/rust/Cargo.lock
+        try by_strict_cargo bindings/rust test --no-run --workspace "${features[@]}" "${source[@]}"
         expect 'the Rust crates, with their examples and tests' 0
         rust_examples=out/cargo/debug/examples
     fi
@@ -38,9 +38,9 @@ test_rust() {
         return
     fi
     [ ${#features[@]} -gt 0 ] || echo "left out: the features of the Rust crate, which need$lacking"
-    try by_strict_cargo rust test --workspace "${features[@]}" "${source[@]}"
+    try by_strict_cargo bindings/rust test --workspace "${features[@]}" "${source[@]}"
     expect "the Rust crates, $version, without a warning" 0
-    expect_format rust
+    expect_format bindings/rust
     test_rust_words
     test_rust_package
     test_rust_program
@@ -54,31 +54,31 @@ test_rust() {
 # Runs tests of the crates without features, and without other crates. What one registry locks another may not have.
 by_cargo_alone() {
     local answer
-    rm -f rust/Cargo.lock
-    by_cargo rust test "${empty[@]}" --target-dir "$PWD/out/cargo-alone" "$@"
+    rm -f bindings/rust/Cargo.lock
+    by_cargo bindings/rust test "${empty[@]}" --target-dir "$PWD/out/cargo-alone" "$@"
     answer=$?
-    rm -f rust/Cargo.lock
+    rm -f bindings/rust/Cargo.lock
     return $answer
 }
 
 # The documentation, and no library where there is none.
 test_rust_words() {
-    try rust/declare --check
+    try bindings/rust/declare --check
     [ "$status" = 3 ] && echo "$errors" || expect 'the declarations of pgmsg-sys are those of the header' 0
-    try by_cargo rust check --package pgmsg --no-default-features "${source[@]}"
+    try by_cargo bindings/rust check --package pgmsg --no-default-features "${source[@]}"
     expect 'the Rust crate without std' 0
-    try by_cargo rust doc --no-deps "${features[@]}" "${source[@]}"
+    try by_cargo bindings/rust doc --no-deps "${features[@]}" "${source[@]}"
     expect 'the Rust crates: documentation without a warning' 0
     mkdir -p "$work/none"
-    LIBRARY=$work/none/libpg_message.a try by_cargo rust check "${source[@]}"
+    LIBRARY=$work/none/libpg_message.a try by_cargo bindings/rust check "${source[@]}"
     expect 'the Rust crates: no library in the folder that is named' 101 'no libpg_message is in'
 }
 
 # What would be published, built from the packed files.
 test_rust_package() {
-    try by_cargo rust package --allow-dirty --package pgmsg-sys "${source[@]}"
+    try by_cargo bindings/rust package --allow-dirty --package pgmsg-sys "${source[@]}"
     expect 'pgmsg-sys: packed, and built from that' 0
-    try by_cargo rust package --allow-dirty --package pgmsg "${source[@]}" --config "patch.crates-io.pgmsg-sys.path='$PWD/rust/pgmsg-sys'"
+    try by_cargo bindings/rust package --allow-dirty --package pgmsg "${source[@]}" --config "patch.crates-io.pgmsg-sys.path='$PWD/bindings/rust/pgmsg-sys'"
     expect 'pgmsg: packed, and built from that' 0
 }
 
@@ -86,7 +86,7 @@ test_rust_package() {
 make_other_version() {
     mkdir -p "$1"
     objcopy --redefine-sym pgmsg_version=pgmsg_own_version "$LIBRARY" "$1/libpg_message.a" \
-        && cc -Ic/include -x c -c -o "$1/version.o" - <<< '#include "pg_message.h"
+        && cc -Ibindings/c/include -x c -c -o "$1/version.o" - <<< '#include "pg_message.h"
 const char *pgmsg_version(void) { return "99.0"; }' \
         && ar rs "$1/libpg_message.a" "$1/version.o"
 }
@@ -118,7 +118,7 @@ fn main() -> Result<(), pgmsg::Refusal> {
 }
 END
     install_library
-    try "$cargo_folder/cargo" add --offline --quiet --manifest-path "$program/Cargo.toml" --path "$PWD/rust/pgmsg"
+    try "$cargo_folder/cargo" add --offline --quiet --manifest-path "$program/Cargo.toml" --path "$PWD/bindings/rust/pgmsg"
     expect "$name: is added" 0
     try env -u PGMSG_LIB_DIR PATH="$cargo_folder:$PATH" RUSTC="$cargo_folder/rustc" CARGO_TARGET_DIR="$program/target" \
         PKG_CONFIG_PATH="$work/installed/lib/pkgconfig" \
@@ -130,11 +130,11 @@ END
 test_tape() {
     local cargo_folder count inputs
     read -r cargo_folder _ < <(rust_folders 1.65)
-    expect_format tape
+    expect_format programs
     same 'the crates of pg_record: each file that is compiled by itself forbids unsafe code' \
-        "$(grep -L '^#!\[forbid(unsafe_code)\]$' tape/*/src/{lib,main}.rs tape/*/{examples,tests}/*.rs 2> /dev/null)" ''
+        "$(grep -L '^#!\[forbid(unsafe_code)\]$' programs/*/src/{lib,main}.rs programs/*/{examples,tests}/*.rs 2> /dev/null)" ''
     PG_RECORD=$(realpath "$programs/pg_record") PG_REPLAY=$(realpath "$programs/pg_replay") \
-        try by_strict_cargo tape test --workspace -- --show-output
+        try by_strict_cargo programs test --workspace -- --show-output
     count=$(grep -o '[0-9]* passed' <<< "$output" | awk '{ count += $1 } END { print count }')
     expect "the crates of pg_record, without a warning: $count tests" 0
     inputs=$(sed -n 's/^\([0-9]*\) .* by the seed .*/\1/p' <<< "$output" | awk '{ count += $1 } END { print count + 0 }')
@@ -147,10 +147,11 @@ test_rust_scram() {
     build_rust_examples && [ -x "$rust_examples/read_table" ] || return
     local read_table=("$rust_examples/read_table" "127.0.0.1:$PGPORT")
     sql "SET password_encryption = 'scram-sha-256'; CREATE ROLE by_scram_of_rust LOGIN PASSWORD 'pass word ''1'
-         ; CREATE TABLE of_rust AS SELECT * FROM (VALUES (1, 'a'), (2, NULL)) AS rows
+         ; ALTER ROLE by_scram_of_rust SET client_encoding = latin1
+         ; CREATE TABLE of_rust AS SELECT * FROM (VALUES (1, U&'\\00E4'), (2, NULL)) AS rows
          ; GRANT SELECT ON of_rust TO by_scram_of_rust"
     try "${read_table[@]}" by_scram_of_rust "pass word '1" postgres of_rust
-    same 'a login by SCRAM by Rust' "$status $output" $'0 1\ta\n2\tNULL'
+    same 'a login by SCRAM by Rust' "$status $output" $'0 1\tä\n2\tNULL'
     try "${read_table[@]}" by_scram_of_rust wrong postgres of_rust
     expect 'a login by SCRAM by Rust with a wrong password' 1 'password authentication failed'
     try "${read_table[@]}" postgres any postgres of_rust

@@ -21,7 +21,7 @@ import threading
 
 import asked
 
-sys.path.insert(0, str(pathlib.Path(__file__).resolve().parents[2] / "tests"))
+sys.path.insert(0, str(pathlib.Path(__file__).resolve().parents[2] / "tests/tables"))
 import rows_of_server as rows  # noqa: E402
 
 PIECE = 65536

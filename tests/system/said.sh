@@ -1,9 +1,9 @@
-# What clients say to a server: read by pg_tool, by the lines of pg_record, and passed on. Sourced by `test`.
+# What clients say to a server: read by pg_tool, by the lines of pg_record, and passed on. Sourced by `run`.
 
 # Leaves the process that keeps what is said in $keeping, its port in $said_port, what precedes a client in $aloud.
 start_keeping() {
     mkdir "$work/connections"
-    tests/said.py keep "$work/connections" "$PGPORT" > "$work/port_of_keeper" &
+    tests/system/said.py keep "$work/connections" "$PGPORT" > "$work/port_of_keeper" &
     keeping=$!
     await test -s "$work/port_of_keeper"
     said_port=$(cat "$work/port_of_keeper")
@@ -50,7 +50,7 @@ say_by_python() {
     local driver
     for driver in asyncpg psycopg2; do
         if /usr/bin/python3 -c "import $driver" 2> /dev/null; then
-            try "${aloud[@]}" /usr/bin/python3 -B "tests/real/${driver}_says.py"
+            try "${aloud[@]}" /usr/bin/python3 -B "tests/system/real/${driver}_says.py"
             expect "$driver speaks" 0
         else
             echo "left out: what $driver says, since there is no python3-$driver"
@@ -103,14 +103,14 @@ test_said() {
         return
     fi
     keep_said
-    try tests/said.py read "$work/connections" "$programs/said_lines"
+    try tests/system/said.py read "$work/connections" "$programs/said_lines"
     expect "what clients say is read, in C as well: $errors" 0
     same 'each kind of message is said' "$(comm -23 <(echo "$said_kinds") <(tr ' ' '\n' <<< "$output" | sort))" ''
 }
 
 # Streams of the tables of the server's side.
 test_said_lines() {
-    try timeout 300 tests/said_lines.py "$programs/said_lines"
+    try timeout 300 tests/system/said_lines.py "$programs/said_lines"
     expect "the lines of clients' streams: $output" 0
 }
 
@@ -126,7 +126,7 @@ test_passed_on() {
         return
     fi
     prepare_package
-    try tests/passed_on.py "$work/connections" env PYTHONPATH="$work/package" "$builder" -B -W error python/examples/pass_on.py
+    try tests/system/passed_on.py "$work/connections" env PYTHONPATH="$work/package" "$builder" -B -W error bindings/python/examples/pass_on.py
     expect "recordings passed on: $output" 0
 }
 
@@ -137,9 +137,10 @@ test_first_messages() {
         echo 'left out: first messages by pg_tool, which PG_TOOL has to name'
         return
     fi
-    try tests/first_messages.py "$PGPORT"
+    try tests/system/first_messages.py "$PGPORT"
     taken=$(grep -c ': taken$' <<< "$output")
     expect "first messages that a server takes: $taken of $(grep -c ': \(taken\|refused\)$' <<< "$output")" 0
+    expect "messages whose end a server doesn't look for: $(grep -c ': ignored$' <<< "$output") of $(grep -c ': \(ignored\|found\)$' <<< "$output")" 0
     same 'a server negotiates, and how' "$(grep ': negotiated$' <<< "$output")" \
         "$(printf '%s\n' 'a minor version: negotiated' 'an option of the protocol: negotiated')"
 }

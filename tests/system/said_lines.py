@@ -15,7 +15,7 @@ import tempfile
 
 import asked
 
-sys.path.insert(0, str(pathlib.Path(__file__).resolve().parents[2] / "tests"))
+sys.path.insert(0, str(pathlib.Path(__file__).resolve().parents[2] / "tests/tables"))
 import rows_of_server as rows  # noqa: E402
 
 OPENING, OPENED = "startup 3.0 -", b"\0\0\0\x09\0\3\0\0\0"

@@ -1,12 +1,14 @@
 #!/usr/bin/env python3
 """Clients that a program must bear, since they say little, much, or nothing:
 
-    slow_clients.py rough PORT       a hundred say nothing, or half of a first message; one says its Startup a byte a second for
-                                     three seconds; one announces a Query of a gigabyte, and sends 64 megabytes of it. Prints
-                                     `begun` once all are there, and `answered` when the slow one has got its answer
+    slow_clients.py rough PORT       a hundred say nothing, or half of a first message; one says its Startup a byte a second, and its
+                                     rest once standard input ends; one announces a Query of a gigabyte, and sends 64 megabytes
+                                     of it. Prints `begun` once all are there, and `answered` when the slow one has got its answer
     slow_clients.py opening PORT     says a Startup, a byte each half second, and prints whether the connection ends within 55
                                      to 75 seconds
     slow_clients.py idle PORT PID    opens a thousand connections, and prints the most memory in kB that the process PID held
+    slow_clients.py silent PORT      begins 3,000 connections that say nothing, and prints after how many seconds one that says its
+                                     Startup and Terminate is answered; fails where that takes 40
     slow_clients.py server           lets clients in on a free port, which it prints, and says nothing more
 """
 
@@ -29,6 +31,8 @@ LET_IN = b"R\0\0\0\x08\0\0\0\0" + READY
 MEGABYTE = 1 << 20
 GIGABYTE = 1_000_000_000
 IDLE, MOST_KB = 1000, 40_000
+SILENT, MOST_SECONDS = 3000, 40
+TERMINATE = b"X\0\0\0\x04"
 
 
 def connected(port):
@@ -59,6 +63,7 @@ def rough(port):
         time.sleep(1)
         for _ in range(21):
             much.sendall(bytes(MEGABYTE))
+    sys.stdin.read()
     slow.sendall(STARTUP[3:] + QUERY)
     receive(slow, b"SELECT 1\0" + READY)
     print("answered", flush=True)
@@ -80,9 +85,24 @@ def opening(port):
     print("a minute" if 55 < lasted < 75 else f"{lasted:.0f} seconds")
 
 
-def allow_many():
+def allow_many(count=2 * IDLE):
     """Lets this process have a descriptor for each of the connections."""
-    resource.setrlimit(resource.RLIMIT_NOFILE, (2 * IDLE + 100, resource.getrlimit(resource.RLIMIT_NOFILE)[1]))
+    resource.setrlimit(resource.RLIMIT_NOFILE, (count + 100, resource.getrlimit(resource.RLIMIT_NOFILE)[1]))
+
+
+def silent(port):
+    allow_many(SILENT)
+    clients = [socket.socket() for _ in range(SILENT)]
+    for client in clients:
+        client.setblocking(False)
+        client.connect_ex(("127.0.0.1", port))
+    begun = time.monotonic()
+    with socket.create_connection(("127.0.0.1", port), timeout=120) as client:
+        client.sendall(STARTUP + TERMINATE)
+        receive(client, READY)
+    lasted = time.monotonic() - begun
+    print(f"{lasted:.1f}")
+    sys.exit(lasted > MOST_SECONDS)
 
 
 def serve():
@@ -114,11 +134,13 @@ def idle(port, process):
 
 
 def main():
-    match asked.words(__doc__, rough="PORT", opening="PORT", idle="PORT PID", server=""):
+    match asked.words(__doc__, rough="PORT", opening="PORT", silent="PORT", idle="PORT PID", server=""):
         case "rough", port:
             rough(int(port))
         case "opening", port:
             opening(int(port))
+        case "silent", port:
+            silent(int(port))
         case "idle", port, process:
             idle(int(port), process)
         case ["server"]:

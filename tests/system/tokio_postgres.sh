@@ -1,5 +1,5 @@
 # The crate with the interface of postgres-protocol, and the tests of tokio-postgres on it and on the original.
-# Sourced by `test`. What it builds takes the crates of Debian.
+# Sourced by `run`. What it builds takes the crates of Debian.
 
 drop_in_crates=(postgres-protocol bytes fallible-iterator)
 driver_crates=(tokio-postgres geo-types futures-executor bit-vec chrono env_logger eui48 serde_json time uuid)
@@ -22,7 +22,7 @@ build_on_original() {
     elif ! has_crates "${drop_in_crates[@]}" "${driver_crates[@]}"; then
         driver_lacks=$lacking
     else
-        rust/tokio-postgres/prepare out/original
+        bindings/rust/tokio-postgres/prepare out/original
         try by_cargo out/original build --workspace --all-features --bins --tests
         expect 'programs on tokio-postgres' 0
         # The driver's tests may build another one of its name.
@@ -33,17 +33,17 @@ build_on_original() {
 }
 
 test_drop_in() {
-    local cargo_folder patches=(--config "patch.crates-io.pgmsg.path='$PWD/rust/pgmsg'" --config "patch.crates-io.pgmsg-sys.path='$PWD/rust/pgmsg-sys'")
+    local cargo_folder patches=(--config "patch.crates-io.pgmsg.path='$PWD/bindings/rust/pgmsg'" --config "patch.crates-io.pgmsg-sys.path='$PWD/bindings/rust/pgmsg-sys'")
     if ! has_crates "${drop_in_crates[@]}" || ! read -r cargo_folder _ < <(rust_folders 1.63); then
         echo "left out: the crate postgres-protocol-pgmsg, which needs the packages cargo rustc$lacking"
         return
     fi
-    try by_strict_cargo rust/postgres-protocol-pgmsg test -- --nocapture
+    try by_strict_cargo bindings/rust/postgres-protocol-pgmsg test -- --nocapture
     expect 'postgres-protocol-pgmsg, without a warning' 0
     grep -E 'alike' <<< "$output"
-    try by_cargo rust/postgres-protocol-pgmsg doc --no-deps
+    try by_cargo bindings/rust/postgres-protocol-pgmsg doc --no-deps
     expect 'postgres-protocol-pgmsg: documentation without a warning' 0
-    try by_cargo rust/postgres-protocol-pgmsg package --allow-dirty "${patches[@]}"
+    try by_cargo bindings/rust/postgres-protocol-pgmsg package --allow-dirty "${patches[@]}"
     expect 'postgres-protocol-pgmsg: packed, and built from that' 0
 }
 
@@ -67,8 +67,8 @@ test_tokio_postgres() {
         return
     fi
     start_driver_server
-    rust/tokio-postgres/prepare
-    run_driver pgmsg rust/tokio-postgres
+    bindings/rust/tokio-postgres/prepare
+    run_driver pgmsg bindings/rust/tokio-postgres
     ours=$count
     run_driver postgres-protocol out/original
     same 'tokio-postgres passes as many tests on pgmsg as on postgres-protocol' "$ours" "$count"

@@ -1,4 +1,4 @@
-# Lines of the trace, beside those that libpq writes of the same sessions. Sourced by `test`.
+# Lines of the trace, beside those that libpq writes of the same sessions. Sourced by `run`.
 #
 # libpq traces a message of the server when it reads it, so messages of both sides come in another order than on the
 # wire: the lines of each side are compared in order.
@@ -50,7 +50,7 @@ build_sessions() {
         return 1
     fi
     flags=(-std=c11 -Wall -Wextra -Wpedantic -I"$(pg_config --includedir)" -L"$(pg_config --libdir)")
-    try "${CC:-cc}" "${flags[@]}" c/tests/trace_sessions*.c -lpq -o "$work/trace_sessions"
+    try "${CC:-cc}" "${flags[@]}" bindings/c/tests/trace_sessions*.c -lpq -o "$work/trace_sessions"
     expect 'a program over libpq' 0
     [ "$status" = 0 ] || return
     libpq=$("$work/trace_sessions")
@@ -64,7 +64,7 @@ build_sessions() {
 # Runs a session with libpq's trace to a file, through a program that keeps what both sides say to a port.
 run_session() {
     local session=$1 port=$2
-    tests/said.py pass "$port" "$work/said_by_client" "$work/said_by_server" > "$work/port_of_forward" &
+    tests/system/said.py pass "$port" "$work/said_by_client" "$work/said_by_server" > "$work/port_of_forward" &
     local forwarding=$!
     await test -s "$work/port_of_forward"
     PGHOST=127.0.0.1 PGPORT=$(cat "$work/port_of_forward") timeout 60 \
@@ -126,7 +126,7 @@ test_odd_trace() {
     local traced=0 escaped_lines=0 serving
     build_sessions || return
     : > "$work/all_left_out"
-    tests/trace_server.py > "$work/port_of_server" &
+    tests/system/trace_server.py > "$work/port_of_server" &
     serving=$!
     await test -s "$work/port_of_server"
     PGUSER=postgres PGSSLMODE=disable PGGSSENCMODE=disable compare_traces odd "$(cat "$work/port_of_server")"

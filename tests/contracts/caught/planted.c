@@ -1,4 +1,4 @@
-// Runs a test with each wrong body that it must catch, or that any test may, before the test itself: tests/planted.py.
+// Runs a test with each wrong body that it must catch, or that any test may, before the test itself: tests/contracts/planted.py.
 #include <fcntl.h>
 #include <signal.h>
 #include <stdbool.h>
