@@ -1,7 +1,19 @@
 """The answers of the two programs that are compared, and the classes of difference between them.
 
 The original's program is called with the words `decode more`, and then also reports why it refused a
-body and where it panicked; ours is called without words. Both read the lines of `bodies.py`.
+body and where it panicked; ours is called without words. Both read the lines of `bodies.py`, which
+are those of `pg_tool decode`: `TAGHEX BODYHEX`, with `-` for no bytes. Both print a line for each:
+
+    NAME ok KEY=VALUE ...    decoded, every accessor called
+    NAME err                 refused
+    NAME untyped             a known tag without a type
+    UNKNOWN err              an unknown tag
+    NAME panic               of the original alone
+
+Numbers are decimal, bytes hexadecimal or `-`, options `none` or a value, lists `[X,X]`. Of an
+ErrorResponse `position` is `none`, `original:NUM` or `internal:NUM:HEX`. Of a NoticeResponse `raw`
+has `LETTER:HEX` (a letter in two digits) for what `get_raw` answers, and `text` each LETTER for
+which `get` does. A field of a RowDescription is `name:relation:attribute:type:size:modifier:format`.
 
 A class is determined by the body and both answers; a difference that fits none is a fault of one side.
 """

@@ -26,7 +26,7 @@ LAYER = re.compile(r"src/(error\.rs|io/\w+\.rs|message/\w+\.rs)")
 def output(*words, **rest):
     """What a program prints. Ends with its complaint where it fails."""
     if not shutil.which(words[0]):
-        raise SystemExit(f"no {words[0]}: bench/README.md names the packages")
+        raise SystemExit(f"no {words[0]}: docs/BENCHMARKS.md names the packages")
     run = subprocess.run(words, capture_output=True, text=True, **rest)
     if run.returncode:
         raise SystemExit(f"{' '.join(map(str, words))}:\n{run.stdout}{run.stderr}")

@@ -1,4 +1,4 @@
-"""Writes what was measured as a file of text, and the main part of it into bench/README.md."""
+"""Writes what was measured as a file of text, and the main part of it into docs/BENCHMARKS.md."""
 
 import re
 import time
@@ -40,11 +40,11 @@ def write(folder, parts, head):
     (folder / "tables.txt").write_text("\n".join([f"{head}\n", *tables]))
 
 
-def into_readme(main, when):
+def into_page(main, when):
     """The main table goes between its markers."""
-    readme = BENCH / "README.md"
+    page = BENCH.parent / "docs/BENCHMARKS.md"
     place = re.compile("(<!-- main -->\n).*?(<!-- /main -->)", re.S)
-    text, count = place.subn(lambda found: f"{found[1]}{main}\n\n{when}\n{found[2]}", readme.read_text())
+    text, count = place.subn(lambda found: f"{found[1]}{main}\n\n{when}\n{found[2]}", page.read_text())
     if count != 1:
-        raise SystemExit(f"{readme} has no place for the main table")
-    readme.write_text(text)
+        raise SystemExit(f"{page} has no place for the main table")
+    page.write_text(text)
