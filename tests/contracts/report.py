@@ -11,9 +11,8 @@ GOAL = re.compile(r"\(`([^`\s]+)`\)")
 # An answer of its proof that doesn't fit says nothing of the contract.
 ANSWER = re.compile(r"(?:\./)?(proofs/\S+?)/\w+\.antt:\d+:\d+: error")
 
-# Values are known at which a goal is false; no proof was found within the limits of the search.
+# Values are known at which a goal is false.
 FALSE = re.compile(r"at which this goal is false|and the goal fails, at ")
-LIMIT = re.compile(r"gave up at one of its limits")
 
 # An answer that stands there by design.
 STRAY = re.compile(r"error: `stray`: ")
@@ -28,7 +27,7 @@ UNTYPED = re.compile(r"(?:\./)?(?:src|specs)/\S+?:\d+:\d+: error: `\w\S*`")
 # A line by which the text itself can't be read, of which no goal was tried.
 UNREAD = re.compile(r"(?:\./)?((?:src|specs)/\S+?):(\d+):\d+: error(?:\[[\w-]+\])?: (.*)")
 
-PROVED, OPEN_GOAL, OF_SHAPE, OF_LIMIT, WAITS, UNKNOWN = "proved", "open goal", "of shape", "of a limit", "waits", "unknown"
+PROVED, OPEN_GOAL, OF_SHAPE, WAITS, UNKNOWN = "proved", "open goal", "of shape", "waits", "unknown"
 
 
 def joined(lines):
@@ -95,7 +94,7 @@ class Report:
         if answers:
             return OF_SHAPE, answers[0]
         if self.open[name]:
-            return OPEN_GOAL, min(self.open[name], key=lambda line: bool(LIMIT.search(line)))
+            return OPEN_GOAL, self.open[name][0]
         return (WAITS if "it calls" in said else UNKNOWN), said
 
     def goals(self, function):

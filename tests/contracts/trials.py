@@ -178,7 +178,7 @@ class Trial:
                 again.append(it)
                 continue
             is_final = verdict == report.OPEN_GOAL or isinstance(it, Mutant) and (
-                verdict in (report.OF_SHAPE, report.OF_LIMIT) or verdict == report.PROVED and not has_stray)
+                verdict == report.OF_SHAPE or verdict == report.PROVED and not has_stray)
             if is_final:
                 again += self.show(it, NAMED[verdict], why)
                 continue
@@ -220,7 +220,7 @@ class Trial:
             self.known.controls |= {control_of(it): {goal for owner in it.owners for goal in said.goals(owner)} for it in new}
 
     def verdict(self, it, said):
-        """The verdict of a check on one: a goal is open that isn't so of a right body in its place, and not by a limit of the prover alone."""
+        """The verdict of a check on one: a goal stays open that doesn't of the right body in its place."""
         verdict, why = verdict_of(it, said)
         if verdict != report.OPEN_GOAL or not (isinstance(it, Mutant) or it.is_bare):
             return verdict, why
@@ -228,7 +228,7 @@ class Trial:
         new = [line for owner in it.owners for goal, line in said.goals(owner).items() if goal not in known]
         if known and not new:
             return report.OF_SHAPE, "no goal stays open that doesn't of the right body in its place"
-        return (report.OF_LIMIT if all(map(report.LIMIT.search, new or [why])) else verdict), (new or [why])[0]
+        return verdict, (new or [why])[0]
 
     def alone(self, it):
         """Judges one by a check of its own, and by one with its answers as they are where no goal of it stays open."""
@@ -242,12 +242,12 @@ class Trial:
         verdict, why = self.verdict(it, said)
         if self.is_next_bare(it, verdict):
             return [it]
-        # A check that was ended, or reached a limit, says nothing of what it judges.
+        # A check that was ended says nothing of what it judges.
         return self.show(it, UNCHECKED if verdict == report.UNKNOWN else NAMED.get(verdict, UNDECIDED), why)
 
 
 # What a check says of one, in the words of a verdict.
-NAMED = {report.OPEN_GOAL: REFUSED, report.PROVED: ACCEPTED, report.OF_SHAPE: OF_SHAPE, report.OF_LIMIT: UNDECIDED}
+NAMED = {report.OPEN_GOAL: REFUSED, report.PROVED: ACCEPTED, report.OF_SHAPE: OF_SHAPE}
 
 
 def control_of(it):
