@@ -1,5 +1,5 @@
 // Has each request for memory of a test refused in turn: at each, a child goes on without that memory to the end of
-// the test or of its round, before the test itself goes on with it. Each may end as docs/TESTS.md says. Some tests are run
+// the test or of its round, before the test itself goes on with it. Each may end as docs/ASSURANCE.md says. Some tests are run
 // once: those that refuse requests at every size themselves, and that of a stored run, which makes too many.
 #include "grants.h"
 #include "planted.h"

@@ -1,4 +1,4 @@
-// Which requests for memory are granted: a test has some refused by requests of sizes of its own, as docs/TESTS.md says.
+// Which requests for memory are granted: a test has some refused by requests of sizes of its own, as docs/ASSURANCE.md says.
 #include <errno.h>
 #include <stddef.h>
 #include <stdint.h>
