@@ -48,19 +48,19 @@
 //! of turn, or isn't open. Nothing after a fault is read.
 #![forbid(unsafe_code)]
 
-mod copy;
 mod identity;
-mod partial;
-mod read;
-mod turns;
-mod write;
+mod open_connections;
+mod partial_file;
+mod reader;
+mod recorder;
+mod writer;
 
-pub use copy::Copy;
 pub use identity::Identity;
-pub use partial::{nameless, Partial, Unnamed};
-pub use read::{Damage, Reader, Record};
-pub use turns::Turns;
-pub use write::{Lost, Tape};
+pub use open_connections::Turns;
+pub use partial_file::{nameless, Partial, Unnamed};
+pub use reader::{Damage, Reader, Record};
+pub use recorder::{Lost, Tape};
+pub use writer::Copy;
 
 /// The bytes before the first record.
 pub const HEAD: usize = 24;
