@@ -1,7 +1,7 @@
 //! Recordings of connections whose both sides say anything.
 
 use crate::{Mutants, OF_CLIENT, OF_SERVER, STARTUP};
-use recording::{put_record, Kind, Side};
+use recording::{put_record, RecordKind, Side};
 
 impl Mutants {
     /// A recording of up to three connections, which may be changed itself.
@@ -21,9 +21,9 @@ impl Mutants {
         let mut add = |kind, time, content: &[u8]| {
             put_record(tape, kind, connection, time, content, crc32fast::hash(content))
         };
-        add(Kind::Opened, 0, b"");
+        add(RecordKind::Opened, 0, b"");
         let first = if self.below(10) > 0 { STARTUP.to_vec() } else { self.first_bytes() };
-        add(Kind::Bytes(Side::Client), 1, &first);
+        add(RecordKind::Bytes(Side::Client), 1, &first);
         for time in 2..3 + self.below(27) as u64 {
             let count = 1 + self.below(5);
             let (side, said) = match self.flips() {
@@ -31,10 +31,10 @@ impl Mutants {
                 false => (Side::Server, self.messages(&OF_SERVER, count)),
             };
             let said = if self.below(10) > 0 { said } else { self.mutated(said) };
-            add(Kind::Bytes(side), time, &said);
+            add(RecordKind::Bytes(side), time, &said);
         }
         if self.below(5) > 0 {
-            add(Kind::Closed, 40, if self.flips() { b"F" } else { b"B" });
+            add(RecordKind::Closed, 40, if self.flips() { b"F" } else { b"B" });
         }
     }
 }

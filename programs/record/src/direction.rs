@@ -5,7 +5,7 @@ use bytes::{Buf, BytesMut};
 use net::Stream;
 use pgmsg::backend::Authentication;
 use pgmsg::Fault;
-use recording::{Kind, Side, MESSAGE_HEAD};
+use recording::{RecordKind, Side, MESSAGE_HEAD};
 use std::future::Future;
 use std::io;
 use std::pin::Pin;
@@ -78,7 +78,7 @@ impl Direction {
     }
 
     /// The records of what is new.
-    pub fn records(&self) -> impl Iterator<Item = (Kind, &[u8])> {
+    pub fn records(&self) -> impl Iterator<Item = (RecordKind, &[u8])> {
         self.found.pieces.iter().map(|piece| (piece.kind, &self.held[piece.range.clone()]))
     }
 

@@ -1,7 +1,7 @@
 //! Where messages are in the bytes of a direction, of which only heads are looked at, and what of them is recorded.
 
 use pgmsg::{Decoder, Next};
-use recording::{Kind, Side, MESSAGE_HEAD};
+use recording::{RecordKind, Side, MESSAGE_HEAD};
 use std::ops::Range;
 
 /// The bytes that say what an Authentication asks for: its head and its method.
@@ -15,7 +15,7 @@ const MECHANISMS_MOST: usize = 4096;
 /// A record of bytes that were scanned, by their places.
 #[derive(Clone, Debug, PartialEq, Eq)]
 pub struct Piece {
-    pub kind: Kind,
+    pub kind: RecordKind,
     pub range: Range<usize>,
 }
 
@@ -94,7 +94,7 @@ impl Framer {
                     Front::Hidden(length) => {
                         self.push(found, shown..at);
                         let range = at..at + MESSAGE_HEAD;
-                        found.pieces.push(Piece { kind: Kind::LeftOut(self.side), range });
+                        found.pieces.push(Piece { kind: RecordKind::LeftOut(self.side), range });
                         (self.left, self.is_hidden) = (length, true);
                     }
                 }
@@ -119,7 +119,7 @@ impl Framer {
 
     fn push(&self, found: &mut Found, range: Range<usize>) {
         if !range.is_empty() {
-            found.pieces.push(Piece { kind: Kind::Bytes(self.side), range });
+            found.pieces.push(Piece { kind: RecordKind::Bytes(self.side), range });
         }
     }
 

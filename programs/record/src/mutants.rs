@@ -6,7 +6,7 @@ use crate::framer::{Found, Framer};
 use crate::printer::Printer;
 use ::mutants::{Mutants, OF_CLIENT, OF_SERVER};
 use lines::trace::Style;
-use recording::{Kind, Side};
+use recording::{RecordKind, Side};
 
 /// How many inputs are taken where it isn't said.
 const INPUTS: u64 = 800_000;
@@ -54,12 +54,12 @@ fn anything_that_passes_is_recorded_and_printed() {
             [Form::Server, Form::Lines, Form::Trace(Style::AsLibpq), Form::Trace(Style::Whole)]
                 [mutants.below(4)];
         let mut printer = Printer::new(form, None, mutants.flips());
-        printer.take(1, Kind::Opened, b"[local]");
+        printer.take(1, RecordKind::Opened, b"[local]");
         for (side, bytes, count) in sides(&mut mutants) {
             pass(&mut mutants, side, &bytes, &mut printer);
             mutants.took(count);
         }
-        printer.take(1, Kind::Closed, b"F");
+        printer.take(1, RecordKind::Closed, b"F");
         let lines = std::mem::take(printer.lines());
         assert!(
             !lines.iter().any(|it| *it < b' ' && !matches!(it, b'\n' | b'\t')),

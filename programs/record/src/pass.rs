@@ -8,7 +8,7 @@ use crate::tape::{Over, Tape};
 use net::{Sayer, Stream, Upstream};
 use pgmsg::backend::{Field, FieldKind, Message};
 use pgmsg::Decoder;
-use recording::{Kind, Side};
+use recording::{RecordKind, Side};
 use std::future::poll_fn;
 use std::io;
 use std::time::Duration;
@@ -54,7 +54,7 @@ impl Link {
             return Ok(self);
         }
         let (startup, rest) = self.from_client.split_at(length);
-        tape.take(number, &[(Kind::Bytes(Side::Client), startup)]).await?;
+        tape.take(number, &[(RecordKind::Bytes(Side::Client), startup)]).await?;
         let (mut client, from_client) = (self.client, rest.to_vec());
         let words = match timeout(OPENING, upstream.start(self.server, startup)).await {
             Ok(Ok((server, from_server))) => {
@@ -73,7 +73,7 @@ impl Link {
 pub async fn pass(tape: &Tape, number: u32, leaves_out: bool, link: Link) -> Result<(), Over> {
     let drops_binding = drops_binding(&link);
     if link.begin == Begin::Encrypted {
-        tape.take(number, &[(Kind::Encrypted, &[])]).await?;
+        tape.take(number, &[(RecordKind::Encrypted, &[])]).await?;
     }
     let direction = |side, before: &[u8]| {
         let framer = decoder(side, link.begin);

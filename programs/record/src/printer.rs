@@ -4,7 +4,7 @@ use crate::arguments::Form;
 use crate::framer::decoder_of;
 use lines::trace;
 use pgmsg::{Decoder, Frame, Next};
-use recording::{Kind, Side};
+use recording::{RecordKind, Side};
 use std::collections::BTreeMap;
 use std::fmt::Display;
 use std::io::Write;
@@ -58,26 +58,26 @@ impl Printer {
     }
 
     /// Adds the lines of messages that are whole with a record.
-    pub fn take(&mut self, number: u32, kind: Kind, content: &[u8]) {
+    pub fn take(&mut self, number: u32, kind: RecordKind, content: &[u8]) {
         if self.only.map_or(false, |only| only != number) {
             return;
         }
         let at = |side| if side == Side::Client { 0 } else { 1 };
         let lines = Lines { form: self.form, prefix: self.shows_numbers.then_some(number) };
         match (kind, self.all.get_mut(&number)) {
-            (Kind::Opened, _) => {
+            (RecordKind::Opened, _) => {
                 let both = [Direction::new(Side::Client), Direction::new(Side::Server)];
                 self.all.insert(number, both);
             }
-            (Kind::Bytes(side), Some(both)) => {
+            (RecordKind::Bytes(side), Some(both)) => {
                 lines.take(&mut both[at(side)], content, &mut self.out)
             }
-            (Kind::LeftOut(side), Some(_)) => lines.left_out(side, content, &mut self.out),
-            (Kind::Encrypted, Some(_)) => {
+            (RecordKind::LeftOut(side), Some(_)) => lines.left_out(side, content, &mut self.out),
+            (RecordKind::Encrypted, Some(_)) => {
                 let words = format!("connection {number} is encrypted from here on");
                 self.out.said.push(words);
             }
-            (Kind::Closed, Some(both)) => {
+            (RecordKind::Closed, Some(both)) => {
                 both.iter().for_each(|direction| lines.end(direction, &mut self.out));
                 self.out.held -= both.iter().map(|direction| direction.bytes.len()).sum::<usize>();
                 self.all.remove(&number);
@@ -267,7 +267,7 @@ mod tests {
 
     fn printer(form: Form, connections: u32) -> Printer {
         let mut printer = Printer::new(form, None, false);
-        (1..=connections).for_each(|number| printer.take(number, Kind::Opened, b"a"));
+        (1..=connections).for_each(|number| printer.take(number, RecordKind::Opened, b"a"));
         printer
     }
 
@@ -276,7 +276,7 @@ mod tests {
         let stream = b"v\0\0\0\x0c\0\x03\0\0\0\0\0\0W\0\0\0\x07\0\0\0V\0\0\0\x08\xff\xff\xff\xffZ\0\0\0\x05I";
         for form in [Form::Server, Form::Lines] {
             let mut printer = printer(form, 1);
-            printer.take(1, Kind::Bytes(Side::Server), stream);
+            printer.take(1, RecordKind::Bytes(Side::Server), stream);
             assert_eq!(
                 String::from_utf8_lossy(printer.lines()),
                 "NegotiateProtocolVersion 12 0003000000000000\nCopyBothResponse 7 000000\n\
@@ -299,14 +299,14 @@ mod tests {
             let mut begun = vec![b'D'];
             begun.extend_from_slice(&u32::to_be_bytes(length));
             begun.extend_from_slice(&piece);
-            printer.take(number, Kind::Bytes(Side::Server), &begun);
+            printer.take(number, RecordKind::Bytes(Side::Server), &begun);
             assert!(held(&printer).0 <= HELD_MOST);
         }
         assert!(printer.said().contains(&"a message of 50331649 bytes isn't shown".to_owned()));
-        printer.take(1, Kind::Bytes(Side::Server), &piece);
-        printer.take(1, Kind::Bytes(Side::Server), &piece[5..]);
+        printer.take(1, RecordKind::Bytes(Side::Server), &piece);
+        printer.take(1, RecordKind::Bytes(Side::Server), &piece[5..]);
         assert!(held(&printer).1 <= HELD_MOST);
-        (1..=connections).for_each(|number| printer.take(number, Kind::Closed, b"F"));
+        (1..=connections).for_each(|number| printer.take(number, RecordKind::Closed, b"F"));
         assert_eq!(printer.out.held, 0);
     }
 }

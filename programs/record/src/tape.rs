@@ -3,7 +3,7 @@
 use crate::output::Output;
 use crate::printer::Printer;
 use net::{let_others, Failure, Sayer, Status};
-use recording::{Kind, Lost, Side};
+use recording::{RecordError, RecordKind, Side};
 use std::collections::HashMap;
 use std::path::{Path, PathBuf};
 use std::sync::atomic::{AtomicBool, Ordering};
@@ -33,7 +33,7 @@ pub struct Tape {
 
 /// A recording, and its file.
 pub struct Recorded {
-    tape: recording::Tape,
+    tape: recording::Recorder,
     path: PathBuf,
     /// What passes does so also where it can't be recorded any more.
     goes_on: bool,
@@ -54,7 +54,7 @@ fn lock<T>(mutex: &Mutex<T>) -> MutexGuard<'_, T> {
 
 impl Recorded {
     /// A recording whose file words name by a path. What passes may go on where it can't be recorded any more.
-    pub fn new(tape: recording::Tape, path: &Path, goes_on: bool) -> Recorded {
+    pub fn new(tape: recording::Recorder, path: &Path, goes_on: bool) -> Recorded {
         Recorded {
             tape,
             path: path.to_owned(),
@@ -66,7 +66,7 @@ impl Recorded {
 
     /// The same with a new file.
     pub fn create(path: &Path, goes_on: bool) -> Result<Recorded, Failure> {
-        let tape = recording::Tape::create(path)
+        let tape = recording::Recorder::create(path)
             .map_err(|why| Failure::new(Status::Unrecorded, format!("{} {why}", path.display())))?;
         Ok(Recorded::new(tape, path, goes_on))
     }
@@ -92,7 +92,7 @@ impl Tape {
 
     /// Takes the opening of a connection, and gives its number.
     pub async fn open(&self, peer: &str) -> Result<u32, Over> {
-        let records = [(Kind::Opened, peer.as_bytes())];
+        let records = [(RecordKind::Opened, peer.as_bytes())];
         let (number, end) = {
             // The records are in the order of the numbers.
             let mut opened = lock(&self.opened);
@@ -103,7 +103,7 @@ impl Tape {
     }
 
     /// Takes records of a connection. They may pass once this is over.
-    pub async fn take(&self, connection: u32, records: &[(Kind, &[u8])]) -> Result<(), Over> {
+    pub async fn take(&self, connection: u32, records: &[(RecordKind, &[u8])]) -> Result<(), Over> {
         let file = match (&self.lines, self.file()) {
             (None, None) => return Ok(()),
             (None, Some(file)) => file,
@@ -131,8 +131,8 @@ impl Tape {
     /// Takes the end of a connection, of which a side closed it first.
     pub async fn close_connection(&self, connection: u32, first: Side) -> Result<(), Over> {
         lock(&self.ending).remove(&connection);
-        let content = [Kind::Bytes(first).letter()];
-        self.take(connection, &[(Kind::Closed, &content)]).await
+        let content = [RecordKind::Bytes(first).letter()];
+        self.take(connection, &[(RecordKind::Closed, &content)]).await
     }
 
     /// The file, while something can be recorded.
@@ -141,7 +141,7 @@ impl Tape {
     }
 
     /// Records and prints, and gives where the lines end.
-    fn put(&self, connection: u32, records: &[(Kind, &[u8])]) -> Result<u64, Over> {
+    fn put(&self, connection: u32, records: &[(RecordKind, &[u8])]) -> Result<u64, Over> {
         let lines = match &self.lines {
             None => return self.record(connection, records).map(|()| 0),
             Some(lines) => lines,
@@ -155,7 +155,7 @@ impl Tape {
         Ok(lines.output.add(printer.lines()))
     }
 
-    fn record(&self, connection: u32, records: &[(Kind, &[u8])]) -> Result<(), Over> {
+    fn record(&self, connection: u32, records: &[(RecordKind, &[u8])]) -> Result<(), Over> {
         match self.file() {
             Some(file) => {
                 let end = file.tape.add(connection, records);
@@ -166,13 +166,13 @@ impl Tape {
     }
 
     /// Whether what is recorded may pass. That a recording is lost is told once.
-    fn judge(&self, file: &Recorded, written: Result<(), Lost>) -> Result<(), Over> {
+    fn judge(&self, file: &Recorded, written: Result<(), RecordError>) -> Result<(), Over> {
         let why = match written {
             Ok(()) => return Ok(()),
-            Err(Lost::Before) if file.is_ending.load(Ordering::Relaxed) => return Err(Over),
+            Err(RecordError::Closed) if file.is_ending.load(Ordering::Relaxed) => return Err(Over),
             Err(why) => why,
         };
-        if let Lost::Now(_) = why {
+        if let RecordError::Io(_) = why {
             let words = format!("{} {why}", file.path.display());
             if file.goes_on {
                 self.says.say(words);
@@ -198,8 +198,8 @@ impl Tape {
         // No session records the end of its connection meanwhile.
         let mut ending = lock(&self.ending);
         for (connection, first) in ending.drain() {
-            let content = [Kind::Bytes(first).letter()];
-            let _ = self.put(connection, &[(Kind::Closed, &content)]);
+            let content = [RecordKind::Bytes(first).letter()];
+            let _ = self.put(connection, &[(RecordKind::Closed, &content)]);
         }
         if let Some(file) = &self.file {
             file.is_ending.store(true, Ordering::Relaxed);

@@ -56,11 +56,11 @@ mod recorder;
 mod writer;
 
 pub use identity::Identity;
-pub use open_connections::Turns;
-pub use partial_file::{nameless, Partial, Unnamed};
+pub use open_connections::OpenConnections;
+pub use partial_file::{unnamed_file, PartialFile, PersistError};
 pub use reader::{Damage, Reader, Record};
-pub use recorder::{Lost, Tape};
-pub use writer::Copy;
+pub use recorder::{RecordError, Recorder};
+pub use writer::Writer;
 
 /// The bytes before the first record.
 pub const HEAD: usize = 24;
@@ -85,7 +85,7 @@ pub enum Side {
 
 /// What a record tells.
 #[derive(Clone, Copy, Debug, PartialEq, Eq)]
-pub enum Kind {
+pub enum RecordKind {
     Opened,
     Bytes(Side),
     LeftOut(Side),
@@ -93,28 +93,28 @@ pub enum Kind {
     Closed,
 }
 
-impl Kind {
+impl RecordKind {
     pub const fn letter(self) -> u8 {
         match self {
-            Kind::Opened => b'O',
-            Kind::Bytes(Side::Client) => b'F',
-            Kind::Bytes(Side::Server) => b'B',
-            Kind::LeftOut(Side::Client) => b'f',
-            Kind::LeftOut(Side::Server) => b'b',
-            Kind::Encrypted => b'E',
-            Kind::Closed => b'C',
+            RecordKind::Opened => b'O',
+            RecordKind::Bytes(Side::Client) => b'F',
+            RecordKind::Bytes(Side::Server) => b'B',
+            RecordKind::LeftOut(Side::Client) => b'f',
+            RecordKind::LeftOut(Side::Server) => b'b',
+            RecordKind::Encrypted => b'E',
+            RecordKind::Closed => b'C',
         }
     }
 
-    pub fn from_letter(letter: u8) -> Option<Kind> {
+    pub fn from_letter(letter: u8) -> Option<RecordKind> {
         Some(match letter {
-            b'O' => Kind::Opened,
-            b'F' => Kind::Bytes(Side::Client),
-            b'B' => Kind::Bytes(Side::Server),
-            b'f' => Kind::LeftOut(Side::Client),
-            b'b' => Kind::LeftOut(Side::Server),
-            b'E' => Kind::Encrypted,
-            b'C' => Kind::Closed,
+            b'O' => RecordKind::Opened,
+            b'F' => RecordKind::Bytes(Side::Client),
+            b'B' => RecordKind::Bytes(Side::Server),
+            b'f' => RecordKind::LeftOut(Side::Client),
+            b'b' => RecordKind::LeftOut(Side::Server),
+            b'E' => RecordKind::Encrypted,
+            b'C' => RecordKind::Closed,
             _ => return None,
         })
     }
@@ -122,10 +122,10 @@ impl Kind {
     /// Whether a content of this length is one of the kind.
     fn fits(self, len: usize) -> bool {
         match self {
-            Kind::Opened | Kind::Bytes(_) => true,
-            Kind::LeftOut(_) => len == MESSAGE_HEAD,
-            Kind::Encrypted => len == 0,
-            Kind::Closed => len == 1,
+            RecordKind::Opened | RecordKind::Bytes(_) => true,
+            RecordKind::LeftOut(_) => len == MESSAGE_HEAD,
+            RecordKind::Encrypted => len == 0,
+            RecordKind::Closed => len == 1,
         }
     }
 }
@@ -160,7 +160,7 @@ pub fn crc32(bytes: &[u8]) -> u32 {
 /// Adds a record to bytes, whose content has that checksum.
 pub fn put_record(
     out: &mut Vec<u8>,
-    kind: Kind,
+    kind: RecordKind,
     connection: u32,
     time: u64,
     content: &[u8],
@@ -172,7 +172,7 @@ pub fn put_record(
 }
 
 /// The head of a record.
-fn record_head(kind: Kind, connection: u32, time: u64, len: usize) -> [u8; RECORD_HEAD] {
+fn record_head(kind: RecordKind, connection: u32, time: u64, len: usize) -> [u8; RECORD_HEAD] {
     let mut head = [0; RECORD_HEAD];
     head[..4].copy_from_slice(&(len as u32).to_be_bytes());
     head[4] = kind.letter();

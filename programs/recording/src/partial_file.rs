@@ -12,16 +12,16 @@ use tempfile::{tempfile_in, Builder, TempPath};
 const LINKS: usize = 40;
 
 /// A file without the name that it will have. Nobody else may read the file, which is removed unless it gets that name.
-pub struct Partial {
+pub struct PartialFile {
     part: TempPath,
     path: PathBuf,
     /// The version of the file of that name when this one was begun.
-    before: Option<Version>,
+    before: Option<FileVersion>,
 }
 
 /// Why a file doesn't get its name.
 #[derive(Debug, thiserror::Error)]
-pub enum Unnamed {
+pub enum PersistError {
     #[error("was changed by another program meanwhile")]
     Changed,
     #[error("can't be written: {0}")]
@@ -29,9 +29,9 @@ pub enum Unnamed {
 }
 
 /// What differs between any two versions of a file, since each is either written anew or a file of its own.
-type Version = (u64, u64, u64, i64, i64);
+type FileVersion = (u64, u64, u64, i64, i64);
 
-fn version(path: &Path) -> io::Result<Option<Version>> {
+fn version(path: &Path) -> io::Result<Option<FileVersion>> {
     match fs::metadata(path) {
         Ok(it) => Ok(Some((it.dev(), it.ino(), it.len(), it.mtime(), it.mtime_nsec()))),
         Err(why) if why.kind() == io::ErrorKind::NotFound => Ok(None),
@@ -57,19 +57,19 @@ fn followed(path: &Path) -> PathBuf {
 }
 
 /// A file in the folder of a path that has no name, and is gone with the process.
-pub fn nameless(path: &Path) -> io::Result<File> {
+pub fn unnamed_file(path: &Path) -> io::Result<File> {
     tempfile_in(folder(path))
 }
 
-impl Partial {
+impl PartialFile {
     /// Begins an empty file, which `append` opens, beside the one that a path leads to, also by links.
-    pub fn beside(path: &Path) -> io::Result<Partial> {
+    pub fn beside(path: &Path) -> io::Result<PartialFile> {
         let path = fs::canonicalize(path).unwrap_or_else(|_| followed(path));
         let before = version(&path)?;
         let mut name = OsString::from(path.file_name().unwrap_or_default());
         name.push(".");
         let part = Builder::new().prefix(&name).tempfile_in(folder(&path))?.into_temp_path();
-        Ok(Partial { part, path, before })
+        Ok(PartialFile { part, path, before })
     }
 
     /// The name of the file until then.
@@ -79,7 +79,7 @@ impl Partial {
 
     /// Gives the file its name, unless the file that had the name isn't the one any more that had it at the beginning. The
     /// programs that do so take turns.
-    pub fn name(self) -> Result<(), Unnamed> {
+    pub fn persist(self) -> Result<(), PersistError> {
         if self.before.is_some() {
             // After a crash of the system there is either file, and not an empty one.
             File::open(&self.part)?.sync_all()?;
@@ -87,7 +87,7 @@ impl Partial {
         let folder = File::open(folder(&self.path))?;
         flock(&folder, FlockOperation::LockExclusive).map_err(io::Error::from)?;
         if version(&self.path)? != self.before {
-            return Err(Unnamed::Changed);
+            return Err(PersistError::Changed);
         }
         self.part.persist(&self.path).map_err(|why| why.error.into())
     }
@@ -106,9 +106,9 @@ mod tests {
         symlink("other", &link).unwrap();
         symlink(&path, folder.path().join("other")).unwrap();
         for words in ["one", "other"] {
-            let part = Partial::beside(&link).unwrap();
+            let part = PartialFile::beside(&link).unwrap();
             fs::write(part.path(), words).unwrap();
-            part.name().unwrap();
+            part.persist().unwrap();
             assert_eq!(fs::read_link(&link).unwrap(), Path::new("other"));
             assert!(fs::symlink_metadata(&path).unwrap().is_file());
             assert_eq!(fs::read_to_string(&path).unwrap(), words);
@@ -120,13 +120,14 @@ mod tests {
         let folder = tempdir().unwrap();
         let path = folder.path().join("some");
         for before in [false, true] {
-            let (one, other) = (Partial::beside(&path).unwrap(), Partial::beside(&path).unwrap());
+            let (one, other) =
+                (PartialFile::beside(&path).unwrap(), PartialFile::beside(&path).unwrap());
             assert_ne!(one.path(), other.path());
             fs::write(one.path(), "one").unwrap();
             fs::write(other.path(), "other").unwrap();
             assert_eq!(path.exists(), before);
-            one.name().unwrap();
-            assert!(matches!(other.name(), Err(Unnamed::Changed)));
+            one.persist().unwrap();
+            assert!(matches!(other.persist(), Err(PersistError::Changed)));
             assert_eq!(fs::read_to_string(&path).unwrap(), "one");
             assert_eq!(fs::read_dir(folder.path()).unwrap().count(), 1);
         }

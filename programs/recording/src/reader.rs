@@ -1,13 +1,15 @@
 //! A recording that is read.
 
-use crate::{crc32, Kind, Side, Turns, HEAD, MAGIC, MOST, RECORD_HEAD, RECORD_TAIL, VERSION};
+use crate::{
+    crc32, OpenConnections, RecordKind, Side, HEAD, MAGIC, MOST, RECORD_HEAD, RECORD_TAIL, VERSION,
+};
 use std::io::{self, Read};
 use std::path::Path;
 
 /// A record, whose content is valid until the next one is read.
 #[derive(Clone, Copy, Debug)]
 pub struct Record<'a> {
-    pub kind: Kind,
+    pub kind: RecordKind,
     pub connection: u32,
     /// In microseconds since the recording began.
     pub time: u64,
@@ -22,7 +24,7 @@ pub struct Record<'a> {
 #[derive(Debug, thiserror::Error)]
 pub enum Damage {
     #[error("is no recording: {0}")]
-    NoTape(&'static str),
+    NotRecording(&'static str),
     #[error("offset 0: the checksum of the file's head is wrong")]
     Head,
     #[error("its format has version {0}, and 1 is known here")]
@@ -37,7 +39,7 @@ impl Damage {
     /// The words for the file of a name.
     pub fn about(&self, path: &Path) -> String {
         let colon = match self {
-            Damage::NoTape(_) | Damage::File(_) => "",
+            Damage::NotRecording(_) | Damage::File(_) => "",
             _ => ":",
         };
         format!("{}{colon} {self}", path.display())
@@ -50,7 +52,7 @@ pub struct Reader<R> {
     at: u64,
     begun: u64,
     is_cut: bool,
-    turns: Turns,
+    connections: OpenConnections,
     content: Vec<u8>,
 }
 
@@ -65,15 +67,15 @@ fn eight(bytes: &[u8]) -> u64 {
 }
 
 /// The head of a record whose checksum is right.
-struct Head {
-    kind: Kind,
+struct RecordHead {
+    kind: RecordKind,
     connection: u32,
     time: u64,
     len: usize,
 }
 
-impl Head {
-    fn read(head: &[u8; RECORD_HEAD]) -> Result<Head, &'static str> {
+impl RecordHead {
+    fn read(head: &[u8; RECORD_HEAD]) -> Result<RecordHead, &'static str> {
         if four(&head[17..]) != crc32(&head[..17]) {
             return Err("the checksum of its head is wrong");
         }
@@ -81,11 +83,11 @@ impl Head {
         if len > MOST {
             return Err("its content is longer than one may be");
         }
-        let kind = Kind::from_letter(head[4]).ok_or("its kind is unknown")?;
+        let kind = RecordKind::from_letter(head[4]).ok_or("its kind is unknown")?;
         if !kind.fits(len) {
             return Err("its content isn't as long as its kind has it");
         }
-        Ok(Head { kind, connection: four(&head[5..9]), time: eight(&head[9..17]), len })
+        Ok(RecordHead { kind, connection: four(&head[5..9]), time: eight(&head[9..17]), len })
     }
 }
 
@@ -94,10 +96,10 @@ impl<R: Read> Reader<R> {
     pub fn new(mut file: R) -> Result<Reader<R>, Damage> {
         let mut head = [0; HEAD];
         if fill(&mut file, &mut head)? < HEAD {
-            return Err(Damage::NoTape("it has no 24 bytes"));
+            return Err(Damage::NotRecording("it has no 24 bytes"));
         }
         if &head[..8] != MAGIC {
-            return Err(Damage::NoTape("it doesn't begin with PGMSGREC"));
+            return Err(Damage::NotRecording("it doesn't begin with PGMSGREC"));
         }
         if four(&head[20..]) != crc32(&head[..20]) {
             return Err(Damage::Head);
@@ -111,7 +113,7 @@ impl<R: Read> Reader<R> {
             at: HEAD as u64,
             begun: eight(&head[12..20]),
             is_cut: false,
-            turns: Turns::default(),
+            connections: OpenConnections::default(),
             content: Vec::new(),
         })
     }
@@ -141,7 +143,7 @@ impl<R: Read> Reader<R> {
             RECORD_HEAD => {}
             _ => return self.cut(),
         }
-        let head = Head::read(&bytes).map_err(fault)?;
+        let head = RecordHead::read(&bytes).map_err(fault)?;
         self.content.resize(head.len + RECORD_TAIL, 0);
         if fill(&mut self.file, &mut self.content)? < self.content.len() {
             return self.cut();
@@ -164,12 +166,12 @@ impl<R: Read> Reader<R> {
     }
 
     /// Whether a content is as its head has it, and its connection in turn.
-    fn check(&mut self, head: &Head) -> Result<(), &'static str> {
+    fn check(&mut self, head: &RecordHead) -> Result<(), &'static str> {
         let (content, checksum) = self.content.split_at(head.len);
         if four(checksum) != crc32(content) {
             return Err("the checksum of its content is wrong");
         }
-        self.turns.take(head.kind, head.connection, content)
+        self.connections.take(head.kind, head.connection, content)
     }
 }
 
@@ -177,8 +179,8 @@ impl Record<'_> {
     /// The side that closed the connection first, where that is what it tells.
     pub fn closed_by(&self) -> Option<Side> {
         match (self.kind, self.content) {
-            (Kind::Closed, b"F") => Some(Side::Client),
-            (Kind::Closed, _) => Some(Side::Server),
+            (RecordKind::Closed, b"F") => Some(Side::Client),
+            (RecordKind::Closed, _) => Some(Side::Server),
             _ => None,
         }
     }
@@ -205,12 +207,12 @@ mod tests {
 
     /// A recording, and where its records begin and end.
     fn recording() -> (Vec<u8>, Vec<usize>) {
-        let records: [(Kind, &[u8]); 5] = [
-            (Kind::Opened, b"[local]"),
-            (Kind::Bytes(Side::Client), b"\0\0\0\x08\x04\xd2\x16\x2f"),
-            (Kind::LeftOut(Side::Client), b"p\0\0\0\x0b"),
-            (Kind::Bytes(Side::Server), b"Z\0\0\0\x05I"),
-            (Kind::Closed, b"F"),
+        let records: [(RecordKind, &[u8]); 5] = [
+            (RecordKind::Opened, b"[local]"),
+            (RecordKind::Bytes(Side::Client), b"\0\0\0\x08\x04\xd2\x16\x2f"),
+            (RecordKind::LeftOut(Side::Client), b"p\0\0\0\x0b"),
+            (RecordKind::Bytes(Side::Server), b"Z\0\0\0\x05I"),
+            (RecordKind::Closed, b"F"),
         ];
         let mut bytes = file_head(1).to_vec();
         let mut places = vec![bytes.len()];
@@ -237,7 +239,7 @@ mod tests {
             let place = places.iter().rfind(|place| **place <= bit / 8);
             match (read_all(&changed), place) {
                 (Err(Damage::Record { at, .. }), Some(place)) => assert_eq!(at, *place as u64),
-                (Err(Damage::Head | Damage::NoTape(_)), None) => {}
+                (Err(Damage::Head | Damage::NotRecording(_)), None) => {}
                 (read, _) => panic!("a change of bit {bit} is read as {read:?}"),
             }
         }

@@ -1,6 +1,8 @@
-//! A recording that is written.
+//! A recording that is made while sessions go on.
 
-use crate::{crc32, file_head, put_record, record_head, Kind, HEAD, RECORD_HEAD, RECORD_TAIL};
+use crate::{
+    crc32, file_head, put_record, record_head, RecordKind, HEAD, RECORD_HEAD, RECORD_TAIL,
+};
 use std::fs::{self, File, Metadata, OpenOptions, Permissions};
 use std::io::{self, IoSlice, Write};
 use std::mem;
@@ -11,20 +13,21 @@ use std::time::{Instant, SystemTime, UNIX_EPOCH};
 
 /// A recording to which many sessions add records. A thread that writes takes the records of all, so that those who wait for
 /// it find theirs written. What is written is in the file, also where the process is killed right after.
-pub struct Tape {
+pub struct Recorder {
     begun: Instant,
-    queue: Mutex<Queue>,
-    out: Mutex<Out>,
+    queue: Mutex<Unwritten>,
+    out: Mutex<AppendFile>,
 }
 
 /// What isn't written yet.
-struct Queue {
+struct Unwritten {
     bytes: Vec<u8>,
     /// How many bytes have been added, those of the file among them.
     added: u64,
 }
 
-struct Out {
+/// The file, and how much of it is written.
+struct AppendFile {
     file: File,
     spare: Vec<u8>,
     written: u64,
@@ -34,22 +37,23 @@ struct Out {
 
 /// Nothing can be recorded any more. The file ends with the last whole write.
 #[derive(Debug, thiserror::Error)]
-pub enum Lost {
-    /// From this record on.
+pub enum RecordError {
+    /// This write has failed.
     #[error("can't be written: {0}")]
-    Now(#[from] io::Error),
+    Io(#[from] io::Error),
+    /// One before has failed, or the recording is closed.
     #[error("can't be written any more")]
-    Before,
+    Closed,
 }
 
 fn lock<T>(mutex: &Mutex<T>) -> MutexGuard<'_, T> {
     mutex.lock().unwrap_or_else(PoisonError::into_inner)
 }
 
-impl Tape {
+impl Recorder {
     /// Makes a file of a recording without records, which nobody else may read. A regular file that isn't empty is
     /// refused by the words that follow its name.
-    pub fn create(path: &Path) -> Result<Tape, String> {
+    pub fn create(path: &Path) -> Result<Recorder, String> {
         let mut options = OpenOptions::new();
         options.append(true).create(true).mode(0o600);
         let file = options.open(path).map_err(|why| format!("can't be opened: {why}"))?;
@@ -61,23 +65,23 @@ impl Tape {
             file.set_permissions(Permissions::from_mode(0o600))
                 .map_err(|why| format!("can't be kept from others: {why}"))?;
         }
-        Tape::begin(file).map_err(|why| format!("can't be written: {why}"))
+        Recorder::begin(file).map_err(|why| format!("can't be written: {why}"))
     }
 
     /// Begins a recording in an empty file.
-    pub fn begin(mut file: File) -> io::Result<Tape> {
+    pub fn begin(mut file: File) -> io::Result<Recorder> {
         let now = SystemTime::now().duration_since(UNIX_EPOCH).unwrap_or_default();
         let head = file_head(now.as_micros() as u64);
         file.write_all(&head)?;
         let begun = HEAD as u64;
-        let queue = Queue { bytes: Vec::new(), added: begun };
-        let out = Out { file, spare: Vec::new(), written: begun, is_closed: false };
-        Ok(Tape { begun: Instant::now(), queue: Mutex::new(queue), out: Mutex::new(out) })
+        let queue = Unwritten { bytes: Vec::new(), added: begun };
+        let out = AppendFile { file, spare: Vec::new(), written: begun, is_closed: false };
+        Ok(Recorder { begun: Instant::now(), queue: Mutex::new(queue), out: Mutex::new(out) })
     }
 
     /// Adds records of a connection, one after the other, and gives the place where they end, up to which they are to be
     /// written.
-    pub fn add(&self, connection: u32, records: &[(Kind, &[u8])]) -> u64 {
+    pub fn add(&self, connection: u32, records: &[(RecordKind, &[u8])]) -> u64 {
         // The checksum of one is made before others are kept waiting; more at a time are rare.
         let checksum = match records {
             &[(_, content)] => crc32(content),
@@ -94,7 +98,7 @@ impl Tape {
     }
 
     /// Writes all that was added, unless another thread has written it up to a place.
-    pub fn write(&self, end: u64) -> Result<(), Lost> {
+    pub fn write(&self, end: u64) -> Result<(), RecordError> {
         let mut out = lock(&self.out);
         if out.written >= end && !out.is_closed {
             return Ok(());
@@ -106,7 +110,12 @@ impl Tape {
     }
 
     /// Writes a record after all that was added, without copying its content.
-    pub fn write_long(&self, connection: u32, kind: Kind, content: &[u8]) -> Result<(), Lost> {
+    pub fn write_long(
+        &self,
+        connection: u32,
+        kind: RecordKind,
+        content: &[u8],
+    ) -> Result<(), RecordError> {
         let checksum = crc32(content).to_be_bytes();
         let mut out = lock(&self.out);
         let (bytes, time) = self.take(&mut out, RECORD_HEAD + content.len() + RECORD_TAIL);
@@ -117,7 +126,7 @@ impl Tape {
     }
 
     /// Takes what was added away, and counts bytes of a record that follows it at once, at a time.
-    fn take(&self, out: &mut Out, following: usize) -> (Vec<u8>, u64) {
+    fn take(&self, out: &mut AppendFile, following: usize) -> (Vec<u8>, u64) {
         let spare = mem::take(&mut out.spare);
         let mut queue = lock(&self.queue);
         queue.added += following as u64;
@@ -149,17 +158,17 @@ impl Tape {
     }
 }
 
-impl Out {
+impl AppendFile {
     /// Writes parts one after the other, or cuts the file where it ended before.
-    fn write(&mut self, parts: [&[u8]; 4]) -> Result<(), Lost> {
+    fn write(&mut self, parts: [&[u8]; 4]) -> Result<(), RecordError> {
         if self.is_closed {
-            return Err(Lost::Before);
+            return Err(RecordError::Closed);
         }
         if let Err(why) = write_all(&mut self.file, parts) {
             self.is_closed = true;
             // A file that can't be cut ends within a record, which a reader sees.
             let _ = self.file.set_len(self.written);
-            return Err(Lost::Now(why));
+            return Err(RecordError::Io(why));
         }
         self.written += parts.iter().map(|part| part.len() as u64).sum::<u64>();
         Ok(())
@@ -198,7 +207,7 @@ mod tests {
     fn an_empty_file_that_others_can_read_is_kept_from_them() {
         let path = tempfile::NamedTempFile::new().unwrap().into_temp_path();
         fs::set_permissions(&path, Permissions::from_mode(0o644)).unwrap();
-        Tape::create(&path).unwrap();
+        Recorder::create(&path).unwrap();
         assert_eq!(fs::metadata(&path).unwrap().mode() & 0o777, 0o600);
     }
 
@@ -207,32 +216,32 @@ mod tests {
         let folder = tempfile::tempdir().unwrap();
         let (path, link) = (folder.path().join("tape"), folder.path().join("link"));
         std::os::unix::fs::symlink(&path, &link).unwrap();
-        Tape::create(&link).unwrap().forget(&link);
+        Recorder::create(&link).unwrap().forget(&link);
         assert_eq!(
             (fs::read_link(&link).unwrap(), fs::metadata(&path).unwrap().len()),
             (path.clone(), 0)
         );
-        Tape::create(&link).unwrap().forget(&path);
+        Recorder::create(&link).unwrap().forget(&path);
         assert!(!path.exists());
     }
 
     #[test]
     fn what_is_added_is_read() {
         let path = std::env::temp_dir().join(format!("recording.{}", std::process::id()));
-        let tape = Tape::create(&path).unwrap();
-        let records: [(Kind, &[u8]); 3] = [
-            (Kind::Opened, b"[local]"),
-            (Kind::Bytes(Side::Client), b"\0\0\0\x08\x04\xd2\x16\x2f"),
-            (Kind::Closed, b"F"),
+        let recorder = Recorder::create(&path).unwrap();
+        let records: [(RecordKind, &[u8]); 3] = [
+            (RecordKind::Opened, b"[local]"),
+            (RecordKind::Bytes(Side::Client), b"\0\0\0\x08\x04\xd2\x16\x2f"),
+            (RecordKind::Closed, b"F"),
         ];
-        let first = tape.add(1, &records[..1]);
-        let second = tape.add(1, &records[1..2]);
-        tape.write(first).unwrap();
-        tape.write(second).unwrap();
-        tape.write_long(1, records[2].0, records[2].1).unwrap();
-        tape.close();
-        assert!(matches!(tape.write(tape.add(1, &records[..1])), Err(Lost::Before)));
-        assert!(Tape::create(&path).err().unwrap().contains("has something in it"));
+        let first = recorder.add(1, &records[..1]);
+        let second = recorder.add(1, &records[1..2]);
+        recorder.write(first).unwrap();
+        recorder.write(second).unwrap();
+        recorder.write_long(1, records[2].0, records[2].1).unwrap();
+        recorder.close();
+        assert!(matches!(recorder.write(recorder.add(1, &records[..1])), Err(RecordError::Closed)));
+        assert!(Recorder::create(&path).err().unwrap().contains("has something in it"));
         let mut reader = Reader::new(File::open(&path).unwrap()).unwrap();
         fs::remove_file(&path).unwrap();
         for (kind, content) in records {

@@ -1,23 +1,23 @@
-//! A recording that is made of the records of others.
+//! A recording that is made of records which are there.
 
-use crate::{crc32, file_head, put_record, Kind};
+use crate::{crc32, file_head, put_record, RecordKind};
 use std::io::{self, Write};
 
 /// A recording that is written from records whose times are known.
-pub struct Copy<W: Write> {
+pub struct Writer<W: Write> {
     out: W,
     bytes: Vec<u8>,
 }
 
-impl<W: Write> Copy<W> {
-    pub fn new(mut out: W, begun: u64) -> io::Result<Copy<W>> {
+impl<W: Write> Writer<W> {
+    pub fn new(mut out: W, begun: u64) -> io::Result<Writer<W>> {
         out.write_all(&file_head(begun))?;
-        Ok(Copy { out, bytes: Vec::new() })
+        Ok(Writer { out, bytes: Vec::new() })
     }
 
     pub fn add(
         &mut self,
-        kind: Kind,
+        kind: RecordKind,
         connection: u32,
         time: u64,
         content: &[u8],

@@ -4,7 +4,9 @@ use crate::options::{self, Options};
 use anyhow::anyhow;
 use net::{Failure, Sayer, Status, Stream, Upstream};
 use pg_record::{Link, NoLink, Recorded, Tape};
-use recording::{nameless, Copy, Damage, Identity, Kind, Partial, Reader, Unnamed};
+use recording::{
+    unnamed_file, Damage, Identity, PartialFile, PersistError, Reader, RecordKind, Writer,
+};
 use std::collections::{HashMap, HashSet};
 use std::fs::{File, OpenOptions};
 use std::future::Future;
@@ -67,9 +69,10 @@ impl Renewal {
         let path = options.file.clone();
         let failed = |why| unwritten(&path, &why);
         let upstream = options.server.find().await?;
-        let file = nameless(&path).map_err(failed)?;
+        let file = unnamed_file(&path).map_err(failed)?;
         let run = PathBuf::from(format!("/proc/self/fd/{}", file.as_raw_fd()));
-        let recorded = recording::Tape::begin(file.try_clone().map_err(failed)?).map_err(failed)?;
+        let recorded =
+            recording::Recorder::begin(file.try_clone().map_err(failed)?).map_err(failed)?;
         let recorded = Recorded::new(recorded, &path, false);
         let tape = Tape::new(Some(recorded), None, tell.clone(), Box::new(fails));
         let keeps_old = options.recorded() == options::Recorded::Missing;
@@ -127,13 +130,13 @@ impl Renewal {
         let new = self.new.lock().unwrap_or_else(PoisonError::into_inner);
         let failed = |why: io::Error| unwritten(&self.path, &why);
         while !new.is_empty() {
-            let partial = Partial::beside(&self.path).map_err(failed)?;
+            let partial = PartialFile::beside(&self.path).map_err(failed)?;
             let gone = self.write(&partial, replaced, &new)?;
-            match partial.name() {
+            match partial.persist() {
                 Ok(()) => return Ok((new.len(), gone)),
                 // What the recording is now is read again.
-                Err(Unnamed::Changed) => {}
-                Err(Unnamed::File(why)) => return Err(failed(why)),
+                Err(PersistError::Changed) => {}
+                Err(PersistError::File(why)) => return Err(failed(why)),
             }
         }
         Ok((0, 0))
@@ -142,7 +145,7 @@ impl Renewal {
     /// Writes the recording as it will be. Answers how many of its sessions are gone.
     fn write(
         &self,
-        partial: &Partial,
+        partial: &PartialFile,
         replaced: &HashSet<u64>,
         new: &HashSet<u32>,
     ) -> Result<usize, Failure> {
@@ -153,15 +156,15 @@ impl Renewal {
         let old = self.old().map_err(damaged)?;
         let begun = old.as_ref().map_or(run.begun(), Reader::begun);
         let later = run.begun().saturating_sub(begun);
-        let copy = Copy::new(BufWriter::with_capacity(ROOM, file), begun).map_err(failed)?;
-        let mut joined = Joined { copy, numbers: HashMap::new(), opened: 0, time: 0 };
+        let writer = Writer::new(BufWriter::with_capacity(ROOM, file), begun).map_err(failed)?;
+        let mut joined = Joined { writer, numbers: HashMap::new(), opened: 0, time: 0 };
         let mut gone = HashSet::new();
         if let Some(old) = old {
             gone = self.find(replaced).map_err(damaged)?;
             joined.add(old, &self.path, 0, |it| !gone.contains(&it))?;
         }
         joined.add(run, &self.path, later, |it| new.contains(&it))?;
-        joined.copy.end().map_err(failed)?;
+        joined.writer.end().map_err(failed)?;
         Ok(gone.len())
     }
 
@@ -188,7 +191,7 @@ impl Renewal {
 
 /// A recording that is made of connections of others, one recording after the other.
 struct Joined<W: Write> {
-    copy: Copy<W>,
+    writer: Writer<W>,
     /// The numbers of the connections of the recording at hand.
     numbers: HashMap<u32, u32>,
     opened: u32,
@@ -209,13 +212,13 @@ impl<W: Write> Joined<W> {
             if !is_wanted(record.connection) {
                 continue;
             }
-            if record.kind == Kind::Opened {
+            if record.kind == RecordKind::Opened {
                 self.opened += 1;
                 self.numbers.insert(record.connection, self.opened);
             }
             let number = self.numbers.get(&record.connection).copied().unwrap_or_default();
             self.time = self.time.max(record.time + later);
-            let added = self.copy.add(record.kind, number, self.time, record.content);
+            let added = self.writer.add(record.kind, number, self.time, record.content);
             added.map_err(|why| unwritten(path, &why))?;
         }
         Ok(())

@@ -7,7 +7,7 @@ use crate::direction::{Direction, Way, LONGEST};
 use crate::item::{Item, Message, What};
 use crate::queue::{Queue, Slot};
 use pgmsg::Next;
-use recording::{Kind, Record, Side, MESSAGE_HEAD};
+use recording::{Record, RecordKind, Side, MESSAGE_HEAD};
 use std::borrow::Cow;
 use std::collections::BTreeMap;
 
@@ -32,22 +32,22 @@ impl Cutter {
         let Record { connection, time, kind, content, .. } = *record;
         let item = |what| Item { connection, time, begins: true, what };
         match kind {
-            Kind::Bytes(side) => self.bytes(record, side, sink)?,
-            Kind::Opened => {
+            RecordKind::Bytes(side) => self.bytes(record, side, sink)?,
+            RecordKind::Opened => {
                 for side in [Side::Client, Side::Server] {
                     self.directions.insert((connection, side), Direction::new(side));
                 }
                 self.queue.give(item(What::Opened(content.into())), sink)?;
             }
-            Kind::Encrypted => self.queue.give(item(What::Encrypted), sink)?,
-            Kind::LeftOut(side) => {
+            RecordKind::Encrypted => self.queue.give(item(What::Encrypted), sink)?,
+            RecordKind::LeftOut(side) => {
                 self.break_off(connection, side);
                 if let [tag, a, b, c, d] = *content {
                     let length = u32::from_be_bytes([a, b, c, d]);
                     self.queue.give(item(What::LeftOut { side, tag, length }), sink)?;
                 }
             }
-            Kind::Closed => {
+            RecordKind::Closed => {
                 for side in [Side::Client, Side::Server] {
                     self.give_up(connection, side);
                     self.directions.remove(&(connection, side));

@@ -7,7 +7,7 @@ use crate::merge::merge;
 use crate::remove::remove;
 use crate::samples::{self, TempFile};
 use crate::split::split;
-use recording::{Copy, Kind, Reader, Side};
+use recording::{Reader, RecordKind, Side, Writer};
 use std::path::PathBuf;
 
 /// A recording's connections with what both sides say, in the order of their numbers.
@@ -17,9 +17,9 @@ fn sessions(tape: &[u8]) -> Vec<(Vec<u8>, Vec<u8>)> {
     while let Some(record) = reader.read().unwrap() {
         let at = record.connection as usize - 1;
         match record.kind {
-            Kind::Opened => sessions.push((Vec::new(), Vec::new())),
-            Kind::Bytes(Side::Client) => sessions[at].0.extend_from_slice(record.content),
-            Kind::Bytes(Side::Server) => sessions[at].1.extend_from_slice(record.content),
+            RecordKind::Opened => sessions.push((Vec::new(), Vec::new())),
+            RecordKind::Bytes(Side::Client) => sessions[at].0.extend_from_slice(record.content),
+            RecordKind::Bytes(Side::Server) => sessions[at].1.extend_from_slice(record.content),
             _ => {}
         }
     }
@@ -29,22 +29,22 @@ fn sessions(tape: &[u8]) -> Vec<(Vec<u8>, Vec<u8>)> {
 /// A recording that begins at a time, of sessions that ask for something at times, and are answered at once.
 fn asking(begun: u64, sessions: &[&[(u64, &str, &str)]]) -> Vec<u8> {
     let mut file = Vec::new();
-    let mut out = Copy::new(&mut file, begun).unwrap();
+    let mut out = Writer::new(&mut file, begun).unwrap();
     for (at, questions) in sessions.iter().enumerate() {
         let number = at as u32 + 1;
         let first = questions.first().map_or(0, |it| it.0);
-        out.add(Kind::Opened, number, first, b"").unwrap();
-        out.add(Kind::Bytes(Side::Client), number, first, b"\0\0\0\x09\0\x03\0\0\0").unwrap();
-        out.add(Kind::Bytes(Side::Server), number, first, b"Z\0\0\0\x05I").unwrap();
+        out.add(RecordKind::Opened, number, first, b"").unwrap();
+        out.add(RecordKind::Bytes(Side::Client), number, first, b"\0\0\0\x09\0\x03\0\0\0").unwrap();
+        out.add(RecordKind::Bytes(Side::Server), number, first, b"Z\0\0\0\x05I").unwrap();
         for (time, query, command) in *questions {
             let (mut asked, mut answered) = (Vec::new(), Vec::new());
             pgmsg::frontend::Message::Query(query.into()).write(&mut asked).unwrap();
             pgmsg::backend::Message::CommandComplete(command.into()).write(&mut answered).unwrap();
             answered.extend_from_slice(b"Z\0\0\0\x05I");
-            out.add(Kind::Bytes(Side::Client), number, *time, &asked).unwrap();
-            out.add(Kind::Bytes(Side::Server), number, *time, &answered).unwrap();
+            out.add(RecordKind::Bytes(Side::Client), number, *time, &asked).unwrap();
+            out.add(RecordKind::Bytes(Side::Server), number, *time, &answered).unwrap();
         }
-        out.add(Kind::Closed, number, questions.last().map_or(0, |it| it.0), b"F").unwrap();
+        out.add(RecordKind::Closed, number, questions.last().map_or(0, |it| it.0), b"F").unwrap();
     }
     out.end().unwrap();
     file

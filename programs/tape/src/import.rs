@@ -10,7 +10,7 @@ use crate::output::Output;
 use crate::parse::{self, Line};
 use lines::escape;
 use memchr::memchr;
-use recording::{Kind, Side};
+use recording::{RecordKind, Side};
 use std::io::{self, BufRead, BufReader, Read};
 use std::mem;
 use std::path::Path;
@@ -155,13 +155,17 @@ impl Import<'_> {
         let spot = spot_of(*place);
         let Spot { connection, time, side, .. } = spot;
         match said {
-            Said::Opened(it) => joiner.record(Kind::Opened, connection, time, &it.address.0)?,
-            Said::Encrypted(_) => joiner.record(Kind::Encrypted, connection, time, b"")?,
-            Said::Closed(it) => joiner.record(Kind::Closed, connection, time, closed_by(it.by))?,
+            Said::Opened(it) => {
+                joiner.record(RecordKind::Opened, connection, time, &it.address.0)?
+            }
+            Said::Encrypted(_) => joiner.record(RecordKind::Encrypted, connection, time, b"")?,
+            Said::Closed(it) => {
+                joiner.record(RecordKind::Closed, connection, time, closed_by(it.by))?
+            }
             Said::LeftOut(it) => {
                 let mut content = vec![it.tag.0];
                 content.extend_from_slice(&it.length.to_be_bytes());
-                joiner.record(Kind::LeftOut(side), connection, time, &content)?;
+                joiner.record(RecordKind::LeftOut(side), connection, time, &content)?;
             }
             Said::Continued(_) => joiner.go_on(spot, place.here)?,
             Said::Bytes(it) => joiner.message(spot, &it.data.0, place.here)?,

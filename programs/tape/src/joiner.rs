@@ -1,6 +1,6 @@
 //! The records of a recording from its messages.
 
-use recording::{Copy, Kind, Side, Turns, MOST};
+use recording::{OpenConnections, RecordKind, Side, Writer, MOST};
 use std::collections::HashMap;
 use std::io::{self, Write};
 
@@ -35,8 +35,8 @@ pub struct Spot {
 
 /// Joins the bytes of messages to records, and writes these.
 pub struct Joiner<W: Write> {
-    out: Copy<W>,
-    turns: Turns,
+    out: Writer<W>,
+    connections: OpenConnections,
     /// Where the record at hand is, and its content.
     current: Option<Spot>,
     content: Vec<u8>,
@@ -47,8 +47,8 @@ pub struct Joiner<W: Write> {
 impl<W: Write> Joiner<W> {
     pub fn new(out: W, begun: u64) -> io::Result<Joiner<W>> {
         Ok(Joiner {
-            out: Copy::new(out, begun)?,
-            turns: Turns::default(),
+            out: Writer::new(out, begun)?,
+            connections: OpenConnections::default(),
             current: None,
             content: Vec::new(),
             rests: HashMap::new(),
@@ -58,13 +58,13 @@ impl<W: Write> Joiner<W> {
     /// Adds a record that has no bytes of messages.
     pub fn record(
         &mut self,
-        kind: Kind,
+        kind: RecordKind,
         connection: u32,
         time: u64,
         content: &[u8],
     ) -> Result<(), Unjoined> {
         self.flush()?;
-        if kind == Kind::Closed {
+        if kind == RecordKind::Closed {
             self.is_whole(connection, Side::Client)?;
             self.is_whole(connection, Side::Server)?;
         }
@@ -151,7 +151,7 @@ impl<W: Write> Joiner<W> {
     fn flush(&mut self) -> Result<(), Unjoined> {
         if let Some(spot) = self.current.take() {
             let content = std::mem::take(&mut self.content);
-            self.put(Kind::Bytes(spot.side), spot.connection, spot.time, &content)?;
+            self.put(RecordKind::Bytes(spot.side), spot.connection, spot.time, &content)?;
             self.content = content;
             self.content.clear();
         }
@@ -160,7 +160,7 @@ impl<W: Write> Joiner<W> {
 
     fn put(
         &mut self,
-        kind: Kind,
+        kind: RecordKind,
         connection: u32,
         time: u64,
         content: &[u8],
@@ -168,7 +168,7 @@ impl<W: Write> Joiner<W> {
         if content.len() > MOST {
             return Err(Unjoined::TooLong(content.len()));
         }
-        self.turns.take(kind, connection, content).map_err(Unjoined::Turn)?;
+        self.connections.take(kind, connection, content).map_err(Unjoined::Turn)?;
         Ok(self.out.add(kind, connection, time, content)?)
     }
 }

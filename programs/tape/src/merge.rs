@@ -4,7 +4,7 @@ use crate::bar::Bar;
 use crate::failure::{Failure, Result};
 use crate::input::Tape;
 use crate::output::Output;
-use recording::{Copy, Kind};
+use recording::{RecordKind, Writer};
 use std::collections::HashMap;
 use std::path::{Path, PathBuf};
 
@@ -28,7 +28,7 @@ impl Numbers {
 /// A recording, with its next record.
 struct Source {
     tape: Tape,
-    next: Option<(Kind, u32, u64)>,
+    next: Option<(RecordKind, u32, u64)>,
     content: Vec<u8>,
 }
 
@@ -63,7 +63,7 @@ pub fn merge(paths: &[PathBuf], to: &Path) -> Result<()> {
     let mut sources = sources?;
     let begun = sources.iter().map(|it| it.tape.begun()).min().unwrap_or_default();
     let unwritten = |why| Failure::unwritten(to, &why);
-    let mut copy = Copy::new(&mut out, begun).map_err(unwritten)?;
+    let mut writer = Writer::new(&mut out, begun).map_err(unwritten)?;
     let mut numbers = Numbers::default();
     let time_of =
         |(_, source): &(usize, &mut Source)| source.next.map_or(u64::MAX, |(_, _, time)| time);
@@ -72,11 +72,11 @@ pub fn merge(paths: &[PathBuf], to: &Path) -> Result<()> {
     {
         if let Some((kind, connection, time)) = source.next {
             let number = numbers.of(at, connection);
-            copy.add(kind, number, time - begun, &source.content).map_err(unwritten)?;
+            writer.add(kind, number, time - begun, &source.content).map_err(unwritten)?;
         }
         source.step()?;
     }
-    copy.end().map_err(unwritten)?;
+    writer.end().map_err(unwritten)?;
     sources.iter().for_each(|it| it.tape.say_cut());
     out.end()
 }

@@ -1,7 +1,7 @@
 //! Where output goes: standard output, or a file that has it only when all of it is there.
 
 use crate::failure::{Failure, Result, Status};
-use recording::Partial;
+use recording::PartialFile;
 use std::fs::{self, File, Metadata, OpenOptions};
 use std::io::{self, BufWriter, Write};
 use std::os::unix::fs::MetadataExt;
@@ -14,7 +14,7 @@ const ROOM: usize = 1 << 17;
 /// A recording or an export of one may hold secrets: nobody else may read the file.
 pub struct Output {
     writer: BufWriter<Box<dyn Write>>,
-    partial: Option<Partial>,
+    partial: Option<PartialFile>,
     path: PathBuf,
 }
 
@@ -54,7 +54,7 @@ impl Output {
                 (Box::new(OpenOptions::new().write(true).open(path).map_err(failed)?), None)
             }
             _ => {
-                let partial = Partial::beside(path).map_err(failed)?;
+                let partial = PartialFile::beside(path).map_err(failed)?;
                 (Box::new(Appended(partial.path().to_owned())), Some(partial))
             }
         };
@@ -83,7 +83,7 @@ impl Output {
     /// Writes what is left, and gives the file its name.
     pub fn end(mut self) -> Result<()> {
         self.writer.flush().map_err(|why| Failure::unwritten(&self.path, &why))?;
-        let named = self.partial.take().map_or(Ok(()), Partial::name);
+        let named = self.partial.take().map_or(Ok(()), PartialFile::persist);
         named.map_err(|why| Failure::new(Status::Local, format!("{} {why}", self.path.display())))
     }
 }

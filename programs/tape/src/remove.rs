@@ -6,7 +6,7 @@ use crate::failure::{Failure, Result, Status};
 use crate::input::Tape;
 use crate::merge::Numbers;
 use crate::output::Output;
-use recording::Copy;
+use recording::Writer;
 use std::path::Path;
 
 /// Copies a recording without the connections that are named, or with those alone.
@@ -14,15 +14,15 @@ pub fn remove(path: &Path, named: &[Choice], keeps: bool, to: &Path) -> Result<(
     let mut out = Output::create(to)?;
     let mut tape = Tape::open(path, &Bar::new("drop", &[path]))?;
     let unwritten = |why| Failure::unwritten(to, &why);
-    let mut copy = Copy::new(&mut out, tape.begun()).map_err(unwritten)?;
+    let mut writer = Writer::new(&mut out, tape.begun()).map_err(unwritten)?;
     let (mut choices, mut numbers) = (Choices::new(named), Numbers::default());
     while let Some(record) = tape.read()? {
         if choices.has(record.connection) == keeps {
             let number = numbers.of(0, record.connection);
-            copy.add(record.kind, number, record.time, record.content).map_err(unwritten)?;
+            writer.add(record.kind, number, record.time, record.content).map_err(unwritten)?;
         }
     }
-    copy.end().map_err(unwritten)?;
+    writer.end().map_err(unwritten)?;
     tape.say_cut();
     match &choices.missing()[..] {
         [] => out.end(),

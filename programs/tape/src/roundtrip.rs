@@ -3,7 +3,7 @@
 use crate::export::export;
 use crate::import::import;
 use crate::samples::{self, TempFile};
-use recording::{Copy, Kind, Side};
+use recording::{RecordKind, Side, Writer};
 
 /// Exports a recording, imports that, and gives both.
 fn there_and_back(name: &str, tape: &[u8]) -> (String, Vec<u8>) {
@@ -35,12 +35,12 @@ fn a_recording_that_is_cut_anywhere_gives_the_same_bytes() {
 /// A recording of one connection, whose client sends these records and whose others say nothing.
 fn of_client(records: &[&[u8]]) -> Vec<u8> {
     let mut file = Vec::new();
-    let mut out = Copy::new(&mut file, 0).unwrap();
-    out.add(Kind::Opened, 1, 0, b"").unwrap();
-    out.add(Kind::Opened, 2, 0, b"").unwrap();
+    let mut out = Writer::new(&mut file, 0).unwrap();
+    out.add(RecordKind::Opened, 1, 0, b"").unwrap();
+    out.add(RecordKind::Opened, 2, 0, b"").unwrap();
     for (time, record) in records.iter().enumerate() {
-        out.add(Kind::Bytes(Side::Client), 1, time as u64, record).unwrap();
-        out.add(Kind::Bytes(Side::Server), 2, time as u64, b"Z\0\0\0\x05I").unwrap();
+        out.add(RecordKind::Bytes(Side::Client), 1, time as u64, record).unwrap();
+        out.add(RecordKind::Bytes(Side::Server), 2, time as u64, b"Z\0\0\0\x05I").unwrap();
     }
     out.end().unwrap();
     file
@@ -49,21 +49,21 @@ fn of_client(records: &[&[u8]]) -> Vec<u8> {
 /// A recording of all kinds of lines.
 fn of_all_kinds() -> Vec<u8> {
     let mut file = Vec::new();
-    let mut out = Copy::new(&mut file, 1_700_000_000_000_000).unwrap();
-    out.add(Kind::Opened, 1, 0, b"[local]").unwrap();
+    let mut out = Writer::new(&mut file, 1_700_000_000_000_000).unwrap();
+    out.add(RecordKind::Opened, 1, 0, b"[local]").unwrap();
     for side in [Side::Client, Side::Server] {
-        out.add(Kind::Bytes(side), 1, 5, &samples::stream(side)).unwrap();
+        out.add(RecordKind::Bytes(side), 1, 5, &samples::stream(side)).unwrap();
     }
-    out.add(Kind::LeftOut(Side::Client), 1, 6, b"p\0\0\0\x28").unwrap();
-    out.add(Kind::Closed, 1, 6, b"F").unwrap();
-    out.add(Kind::Opened, 2, 6, b"").unwrap();
+    out.add(RecordKind::LeftOut(Side::Client), 1, 6, b"p\0\0\0\x28").unwrap();
+    out.add(RecordKind::Closed, 1, 6, b"F").unwrap();
+    out.add(RecordKind::Opened, 2, 6, b"").unwrap();
     let mut first = b"\0\0\0\x08\x04\xd2\x16\x2f\0\0\0\x08\x04\xd2\x16\x30".to_vec();
     first.extend(samples::cancel());
     let (front, back) = first.split_at(20);
-    out.add(Kind::Bytes(Side::Client), 2, 7, front).unwrap();
-    out.add(Kind::Bytes(Side::Client), 2, 7, back).unwrap();
-    out.add(Kind::Bytes(Side::Server), 2, 8, b"\0\0 no protocol").unwrap();
-    out.add(Kind::Encrypted, 2, 9, b"").unwrap();
+    out.add(RecordKind::Bytes(Side::Client), 2, 7, front).unwrap();
+    out.add(RecordKind::Bytes(Side::Client), 2, 7, back).unwrap();
+    out.add(RecordKind::Bytes(Side::Server), 2, 8, b"\0\0 no protocol").unwrap();
+    out.add(RecordKind::Encrypted, 2, 9, b"").unwrap();
     out.end().unwrap();
     file.extend_from_slice(b"\0\0\0\x05");
     file
@@ -112,15 +112,15 @@ fn a_message_that_waits_while_much_else_passes_is_given_as_bytes() {
     for (front, parts) in [(&b"Q\0\0"[..], 3), (b"Q\0\0\0\x0dSEL", 2)] {
         let whole: &[u8] = b"Q\0\0\0\x0dSELECT 1\0X\0\0\0\x04";
         let mut file = Vec::new();
-        let mut out = Copy::new(&mut file, 0).unwrap();
-        out.add(Kind::Opened, 1, 0, b"").unwrap();
-        out.add(Kind::Opened, 2, 0, b"").unwrap();
-        out.add(Kind::Bytes(Side::Client), 1, 0, &[first, front].concat()).unwrap();
+        let mut out = Writer::new(&mut file, 0).unwrap();
+        out.add(RecordKind::Opened, 1, 0, b"").unwrap();
+        out.add(RecordKind::Opened, 2, 0, b"").unwrap();
+        out.add(RecordKind::Bytes(Side::Client), 1, 0, &[first, front].concat()).unwrap();
         let row = [&b"d\0\x0f\0\0"[..], &[b'x'; 0xf_0000 - 4]].concat();
         for _ in 0..12 {
-            out.add(Kind::Bytes(Side::Server), 2, 0, &row).unwrap();
+            out.add(RecordKind::Bytes(Side::Server), 2, 0, &row).unwrap();
         }
-        out.add(Kind::Bytes(Side::Client), 1, 1, &whole[front.len()..]).unwrap();
+        out.add(RecordKind::Bytes(Side::Client), 1, 1, &whole[front.len()..]).unwrap();
         out.end().unwrap();
         let (lines, back) = there_and_back("waits", &file);
         assert!(back == file);

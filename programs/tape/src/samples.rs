@@ -9,7 +9,7 @@ use pgmsg::frontend::{
 use pgmsg::{ByteStr, Format, Secret, Value};
 use rand::rngs::SmallRng;
 use rand::{Rng, SeedableRng};
-use recording::{Copy, Kind, Side};
+use recording::{RecordKind, Side, Writer};
 use std::path::{Path, PathBuf};
 
 /// A file of a test, which is taken away with it.
@@ -165,20 +165,20 @@ struct Session {
 pub fn recording(seed: u64, changes: bool) -> Vec<u8> {
     let mut random = SmallRng::seed_from_u64(seed);
     let mut file = Vec::new();
-    let mut out = Copy::new(&mut file, 1_700_000_000_000_000).unwrap();
+    let mut out = Writer::new(&mut file, 1_700_000_000_000_000).unwrap();
     let (mut open, mut opened, mut time) = (Vec::new(), 0, 0);
     while opened < 5 || !open.is_empty() {
         time += random.gen_range(0..3);
         if opened < 5 && (open.is_empty() || random.gen_ratio(1, 8)) {
             opened += 1;
             open.push(session(&mut random, opened, changes));
-            out.add(Kind::Opened, opened, time, b"[local]").unwrap();
+            out.add(RecordKind::Opened, opened, time, b"[local]").unwrap();
             continue;
         }
         let at = random.gen_range(0..open.len());
         if !step(&mut random, &mut open[at], time, &mut out) {
             let closed = open.swap_remove(at);
-            out.add(Kind::Closed, closed.number, time, b"F").unwrap();
+            out.add(RecordKind::Closed, closed.number, time, b"F").unwrap();
         }
     }
     out.end().unwrap();
@@ -205,7 +205,7 @@ fn step(
     random: &mut SmallRng,
     session: &mut Session,
     time: u64,
-    out: &mut Copy<&mut Vec<u8>>,
+    out: &mut Writer<&mut Vec<u8>>,
 ) -> bool {
     let (side, rest) = &mut session.rests[random.gen_range(0..2)];
     if rest.is_empty() {
@@ -215,9 +215,9 @@ fn step(
     let most = if random.gen_ratio(1, 3) { 400 } else { 12 };
     let count = random.gen_range(0..most).min(rest.len());
     if random.gen_ratio(1, 40) {
-        out.add(Kind::LeftOut(*side), session.number, time, b"p\0\0\0\x28").unwrap();
+        out.add(RecordKind::LeftOut(*side), session.number, time, b"p\0\0\0\x28").unwrap();
     }
-    out.add(Kind::Bytes(*side), session.number, time, &rest[..count]).unwrap();
+    out.add(RecordKind::Bytes(*side), session.number, time, &rest[..count]).unwrap();
     rest.drain(..count);
     true
 }

@@ -4,7 +4,7 @@ use crate::bar::Bar;
 use crate::failure::{Failure, Result, Status};
 use crate::input::Tape;
 use crate::output::Output;
-use recording::{Copy, Kind, Record};
+use recording::{Record, RecordKind, Writer};
 use std::collections::HashMap;
 use std::fs;
 use std::path::{Path, PathBuf};
@@ -18,7 +18,7 @@ const ONLY: u32 = 1;
 /// The recording of a session.
 struct Part {
     path: PathBuf,
-    copy: Copy<Output>,
+    writer: Writer<Output>,
 }
 
 impl Part {
@@ -31,18 +31,18 @@ impl Part {
             ));
         }
         let out = Output::with_room(&path, ROOM)?;
-        let copy = Copy::new(out, begun).map_err(|why| Failure::unwritten(&path, &why))?;
-        Ok(Part { path, copy })
+        let writer = Writer::new(out, begun).map_err(|why| Failure::unwritten(&path, &why))?;
+        Ok(Part { path, writer })
     }
 
     fn add(&mut self, record: &Record<'_>) -> Result<()> {
-        let added = self.copy.add(record.kind, ONLY, record.time, record.content);
+        let added = self.writer.add(record.kind, ONLY, record.time, record.content);
         added.map_err(|why| Failure::unwritten(&self.path, &why))
     }
 
     fn end(self) -> Result<()> {
         let path = &self.path;
-        self.copy.end().map_err(|why| Failure::unwritten(path, &why))?.end()
+        self.writer.end().map_err(|why| Failure::unwritten(path, &why))?.end()
     }
 }
 
@@ -54,13 +54,13 @@ pub fn split(path: &Path, folder: &Path) -> Result<()> {
     let mut parts = HashMap::new();
     while let Some(record) = tape.read()? {
         let connection = record.connection;
-        if record.kind == Kind::Opened {
+        if record.kind == RecordKind::Opened {
             parts.insert(connection, Part::create(folder, connection, begun)?);
         }
         if let Some(part) = parts.get_mut(&connection) {
             part.add(&record)?;
         }
-        if record.kind == Kind::Closed {
+        if record.kind == RecordKind::Closed {
             parts.remove(&connection).map_or(Ok(()), Part::end)?;
         }
     }

@@ -6,7 +6,7 @@ use crate::rules::Rules;
 use crate::tape::load;
 use pgmsg::backend::{Authentication, BackendKeyData, Message, TransactionStatus};
 use pgmsg::frontend;
-use recording::{Copy, Kind, Side};
+use recording::{RecordKind, Side, Writer};
 use std::sync::atomic::{AtomicU32, Ordering};
 
 /// The numbers of a connection and of a message in it.
@@ -30,7 +30,11 @@ fn answer(messages: &[Message<'_>]) -> Vec<u8> {
 }
 
 /// The records of a session with a number from a time on: its kinds, contents and times.
-fn records(number: u32, begun: u64, exchanges: Exchanges<'_>) -> Vec<(u64, u32, Kind, Vec<u8>)> {
+fn records(
+    number: u32,
+    begun: u64,
+    exchanges: Exchanges<'_>,
+) -> Vec<(u64, u32, RecordKind, Vec<u8>)> {
     let key = BackendKeyData { process_id: number, secret_key: b"1234".as_slice().into() };
     let ready = |is_open| match is_open {
         true => Message::ReadyForQuery(TransactionStatus::InTransaction),
@@ -38,18 +42,18 @@ fn records(number: u32, begun: u64, exchanges: Exchanges<'_>) -> Vec<(u64, u32, 
     };
     let login =
         [Message::Authentication(Authentication::Ok), Message::BackendKeyData(key), ready(false)];
-    let (mut all, mut is_open) = (vec![(begun, Kind::Opened, Vec::new())], false);
-    all.push((begun, Kind::Bytes(Side::Client), STARTUP.to_vec()));
-    all.push((begun, Kind::Bytes(Side::Server), answer(&login)));
+    let (mut all, mut is_open) = (vec![(begun, RecordKind::Opened, Vec::new())], false);
+    all.push((begun, RecordKind::Bytes(Side::Client), STARTUP.to_vec()));
+    all.push((begun, RecordKind::Bytes(Side::Server), answer(&login)));
     for ((text, heard), time) in exchanges.iter().zip(begun + 1..) {
         is_open = *text == "BEGIN" || (is_open && *text != "COMMIT");
-        all.push((time, Kind::Bytes(Side::Client), query(text)));
+        all.push((time, RecordKind::Bytes(Side::Client), query(text)));
         let heard = [Message::CommandComplete((*heard).into()), ready(is_open)];
-        all.push((time, Kind::Bytes(Side::Server), answer(&heard)));
+        all.push((time, RecordKind::Bytes(Side::Server), answer(&heard)));
     }
     let end = begun + 1 + exchanges.len() as u64;
-    all.push((end, Kind::Bytes(Side::Client), b"X\0\0\0\x04".to_vec()));
-    all.push((end, Kind::Closed, b"F".to_vec()));
+    all.push((end, RecordKind::Bytes(Side::Client), b"X\0\0\0\x04".to_vec()));
+    all.push((end, RecordKind::Closed, b"F".to_vec()));
     all.into_iter().map(|(time, kind, content)| (time, number, kind, content)).collect()
 }
 
@@ -63,11 +67,11 @@ fn pool(sessions: &[(u64, Exchanges<'_>)], again: bool) -> Pool {
         numbered.flat_map(|((begun, it), number)| records(number, *begun, it)).collect();
     all.sort_by_key(|(time, ..)| *time);
     let file = std::fs::File::create(&path).expect("a file");
-    let mut copy = Copy::new(file, 0).expect("a recording");
+    let mut writer = Writer::new(file, 0).expect("a recording");
     for (time, number, kind, content) in all {
-        copy.add(kind, number, time, &content).expect("a record");
+        writer.add(kind, number, time, &content).expect("a record");
     }
-    copy.end().expect("a recording");
+    writer.end().expect("a recording");
     let tape = load(&path, &Arc::new(Rules::default()), false, &|_| ()).expect("a recording");
     std::fs::remove_file(&path).expect("a file");
     Pool::new(Arc::new(tape), again, again, false)

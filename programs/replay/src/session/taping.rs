@@ -7,7 +7,7 @@ use net::Stream;
 use pg_record::Over;
 use pgmsg::backend::{FieldKind, Message};
 use pgmsg::{Decoder, Frame, Next};
-use recording::{Kind, Side, MOST};
+use recording::{RecordKind, Side, MOST};
 use std::time::Duration;
 use tokio::io::{split, AsyncReadExt, AsyncWriteExt};
 use tokio::time::timeout;
@@ -87,7 +87,7 @@ impl<'s> Taping<'s> {
 
     async fn record(&self, side: Side, bytes: &[u8]) -> Result<(), Over> {
         for part in bytes.chunks(MOST) {
-            self.renewal.tape.take(self.number, &[(Kind::Bytes(side), part)]).await?;
+            self.renewal.tape.take(self.number, &[(RecordKind::Bytes(side), part)]).await?;
         }
         Ok(())
     }
@@ -122,7 +122,7 @@ impl<'s> Taping<'s> {
     async fn say_again(&self, to: &mut (impl AsyncWriteExt + Unpin)) -> Result<()> {
         let (mut recorded, mut said) = (self.renewal.recorded()?, self.startup.len());
         while let Some(record) = recorded.read()? {
-            if record.connection != self.number || record.kind != Kind::Bytes(Side::Client) {
+            if record.connection != self.number || record.kind != RecordKind::Bytes(Side::Client) {
                 continue;
             }
             let skipped = said.min(record.content.len());

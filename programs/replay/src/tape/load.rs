@@ -7,7 +7,7 @@ use super::{Connection, Tape, Turn, Wait};
 use crate::form::Forms;
 use crate::rules::Rules;
 use net::{Failure, Status};
-use recording::{Damage, Kind, Reader, Side};
+use recording::{Damage, Reader, RecordKind, Side};
 use std::collections::HashMap;
 use std::fs::File;
 use std::io::BufReader;
@@ -102,14 +102,14 @@ impl Loading {
     fn take(&mut self, record: &recording::Record<'_>) -> bool {
         let number = record.connection;
         let bytes = Bytes { content: record.content, at: record.content_at, time: record.time };
-        if record.kind == Kind::Opened {
+        if record.kind == RecordKind::Opened {
             self.open.insert(number, Building::new(number, self.rules.clone()));
         }
         if let Some(building) = self.open.get_mut(&number) {
             building.identity.add(self.begun, record);
         }
         match record.kind {
-            Kind::Bytes(side) => {
+            RecordKind::Bytes(side) => {
                 if let Some(building) = self.open.get_mut(&number) {
                     match side {
                         Side::Client => building.take_client(bytes),
@@ -125,16 +125,16 @@ impl Loading {
                     return building.count() <= COUNT_MOST;
                 }
             }
-            Kind::LeftOut(Side::Server) => {
+            RecordKind::LeftOut(Side::Server) => {
                 if let Some(building) = self.open.get_mut(&number) {
                     building.asks_for_password = true;
                 }
             }
-            Kind::Opened | Kind::LeftOut(Side::Client) => {}
-            Kind::Encrypted => {
+            RecordKind::Opened | RecordKind::LeftOut(Side::Client) => {}
+            RecordKind::Encrypted => {
                 self.encrypted += usize::from(self.open.remove(&number).is_some());
             }
-            Kind::Closed => {
+            RecordKind::Closed => {
                 if let Some(mut building) = self.open.remove(&number) {
                     building.closed = Some(record.time);
                     self.end(building, Some(record.closed_by() == Some(Side::Client)));

@@ -28,7 +28,7 @@ use columns::Sessions;
 use known::Known;
 use mask::WHOLE;
 use places::Places;
-use recording::{Kind, Side};
+use recording::{RecordKind, Side};
 use rules::Rules;
 use std::borrow::Cow;
 use std::collections::HashSet;
@@ -73,12 +73,12 @@ fn add(joiner: &mut Joiner<&mut Output>, item: Item<'_>) -> std::result::Result<
     let Item { connection, time, begins, what } = item;
     let spot = |side| Spot { connection, time, side, begins };
     match what {
-        What::Opened(address) => joiner.record(Kind::Opened, connection, time, &address),
-        What::Closed(side) => joiner.record(Kind::Closed, connection, time, closed_by(side)),
-        What::Encrypted => joiner.record(Kind::Encrypted, connection, time, b""),
+        What::Opened(address) => joiner.record(RecordKind::Opened, connection, time, &address),
+        What::Closed(side) => joiner.record(RecordKind::Closed, connection, time, closed_by(side)),
+        What::Encrypted => joiner.record(RecordKind::Encrypted, connection, time, b""),
         What::LeftOut { side, tag, length } => {
             let [a, b, c, d] = length.to_be_bytes();
-            joiner.record(Kind::LeftOut(side), connection, time, &[tag, a, b, c, d])
+            joiner.record(RecordKind::LeftOut(side), connection, time, &[tag, a, b, c, d])
         }
         What::Message { side, message, here } => {
             let here = Some(here).filter(|here| *here < message.bytes.len());

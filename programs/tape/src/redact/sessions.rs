@@ -7,7 +7,7 @@ use crate::samples::TempFile;
 use pgmsg::backend::{self, Column, CopyResponse, Field, FieldKind, TransactionStatus};
 use pgmsg::frontend::{self, Bind, Execute, Parse, Startup, Target};
 use pgmsg::{ByteStr, Value};
-use recording::{Copy, Kind, Side};
+use recording::{RecordKind, Side, Writer};
 use Said::{Client as C, Server as S};
 
 const RULES: &str = r#"
@@ -46,12 +46,12 @@ impl Said {
 /// A recording of a session, whose records have so many bytes at most.
 fn recording(said: &[Said], most: usize) -> Vec<u8> {
     let mut file = Vec::new();
-    let mut out = Copy::new(&mut file, 0).unwrap();
-    out.add(Kind::Opened, 1, 0, b"").unwrap();
+    let mut out = Writer::new(&mut file, 0).unwrap();
+    out.add(RecordKind::Opened, 1, 0, b"").unwrap();
     let startup = C(frontend::Message::Startup(Startup::new(&[("user", "ann")])));
     for (time, said) in std::iter::once(&startup).chain(said).enumerate() {
         for part in said.bytes().chunks(most) {
-            out.add(Kind::Bytes(said.side()), 1, time as u64, part).unwrap();
+            out.add(RecordKind::Bytes(said.side()), 1, time as u64, part).unwrap();
         }
     }
     out.end().unwrap();
