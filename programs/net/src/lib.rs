@@ -3,25 +3,25 @@
 #![forbid(unsafe_code)]
 
 mod address;
-mod connect;
-mod listen;
-mod open;
+mod exit;
+mod listener;
+mod opening;
 mod options;
 mod roots;
-mod say;
-mod status;
+mod stderr;
 mod stream;
 mod tls;
+mod upstream;
 mod workers;
 
 pub use address::Address;
-pub use connect::Upstream;
-pub use listen::Listener;
-pub use open::{front, open, FirstMessage, Front, OpenError, Opened};
+pub use exit::{ignore_file_size, Endings, Failure, Status};
+pub use listener::Listener;
+pub use opening::{front, open, FirstMessage, Front, OpenError, Opened};
 pub use options::{Bound, Listening, ServerOptions};
 pub use roots::SslMode;
-pub use say::Sayer;
-pub use status::{ignore_file_size, Endings, Failure, Status};
+pub use stderr::Sayer;
 pub use stream::{Accepted, Stream};
 pub use tls::ServerTls;
+pub use upstream::Upstream;
 pub use workers::{let_others, most_sessions, Workers};

@@ -153,7 +153,7 @@ mod tests {
         shell
             .args(["-c", &format!("{before}; exec \"$0\" \"$@\"")])
             .arg(env::current_exe().unwrap());
-        shell.args(["--exact", "status::tests::a_program", "--nocapture"]).env(IS_PROGRAM, "");
+        shell.args(["--exact", "exit::tests::a_program", "--nocapture"]).env(IS_PROGRAM, "");
         let mut child = shell.stdout(Stdio::piped()).spawn().unwrap();
         let lines = BufReader::new(child.stdout.take().unwrap()).lines();
         (child, lines)
