@@ -15,7 +15,7 @@ const SAME: Duration = Duration::from_millis(250);
 /// The exit statuses. A second Ctrl-C ends a program at once, with 130 too.
 #[derive(Clone, Copy, Debug, PartialEq, Eq)]
 #[repr(u8)]
-pub enum Status {
+pub enum ExitStatus {
     Ok = 0,
     /// The arguments fit no form.
     Usage = 1,
@@ -45,29 +45,29 @@ pub enum Status {
 #[derive(Debug, thiserror::Error)]
 #[error("{words}")]
 pub struct Failure {
-    pub status: Status,
+    pub status: ExitStatus,
     words: String,
 }
 
 impl Failure {
-    pub fn new(status: Status, words: impl Into<String>) -> Failure {
+    pub fn new(status: ExitStatus, words: impl Into<String>) -> Failure {
         Failure { status, words: words.into() }
     }
 }
 
 /// Ctrl-C, SIGTERM and SIGHUP, by which a program is told to end.
-pub struct Endings {
+pub struct ShutdownSignals {
     interrupt: Signal,
     terminate: Signal,
     /// None where the program is to go on when its terminal is gone.
     hangup: Option<Signal>,
 }
 
-impl Endings {
+impl ShutdownSignals {
     /// Takes them from now on. A runtime of tokio must be there.
-    pub fn take() -> io::Result<Endings> {
+    pub fn take() -> io::Result<ShutdownSignals> {
         let hangup = SignalKind::hangup();
-        Ok(Endings {
+        Ok(ShutdownSignals {
             interrupt: signal(SignalKind::interrupt())?,
             terminate: signal(SignalKind::terminate())?,
             hangup: (!is_ignored(hangup)).then(|| signal(hangup)).transpose()?,
@@ -75,7 +75,7 @@ impl Endings {
     }
 
     /// Waits for one that came since, and gives the status that it ends the program in. Another Ctrl-C ends the process then.
-    pub async fn wait(mut self) -> Status {
+    pub async fn wait(mut self) -> ExitStatus {
         let hung_up = async {
             match &mut self.hangup {
                 Some(hangup) => hangup.recv().await,
@@ -83,9 +83,9 @@ impl Endings {
             }
         };
         let status = tokio::select! {
-            _ = self.interrupt.recv() => Status::Interrupted,
-            _ = self.terminate.recv() => Status::Terminated,
-            _ = hung_up => Status::Terminated,
+            _ = self.interrupt.recv() => ExitStatus::Interrupted,
+            _ = self.terminate.recv() => ExitStatus::Terminated,
+            _ = hung_up => ExitStatus::Terminated,
         };
         // Where there is no thread for that, the program ends by itself alone.
         let _ = thread::Builder::new().name("interrupt".to_owned()).spawn(|| {
@@ -109,7 +109,7 @@ async fn end_by_interrupt() -> io::Result<()> {
     let mut interrupt = signal(SignalKind::interrupt())?;
     let _ = timeout(SAME, async { while interrupt.recv().await.is_some() {} }).await;
     interrupt.recv().await;
-    process::exit(Status::Interrupted as i32)
+    process::exit(ExitStatus::Interrupted as i32)
 }
 
 /// Has a file that is too long be a failed write, and no reason to be killed.
@@ -138,11 +138,11 @@ mod tests {
         }
         let runtime = Builder::new_current_thread().enable_all().build().unwrap();
         runtime.block_on(async {
-            let endings = Endings::take().unwrap();
+            let signals = ShutdownSignals::take().unwrap();
             println!("waiting");
             // A signal that comes before it is waited for counts too.
             thread::sleep(PAUSE);
-            println!("ended {}", endings.wait().await as u8);
+            println!("ended {}", signals.wait().await as u8);
             thread::sleep(ENDING);
         });
     }

@@ -15,13 +15,13 @@ mod upstream;
 mod workers;
 
 pub use address::Address;
-pub use exit::{ignore_file_size, Endings, Failure, Status};
+pub use exit::{ignore_file_size, ExitStatus, Failure, ShutdownSignals};
 pub use listener::Listener;
-pub use opening::{front, open, FirstMessage, Front, OpenError, Opened};
-pub use options::{Bound, Listening, ServerOptions};
+pub use opening::{open, read_start, ConnectionStart, FirstMessage, OpenError, OpenedClient};
+pub use options::{ListenOptions, Listeners, ServerOptions};
 pub use roots::SslMode;
-pub use stderr::Sayer;
-pub use stream::{Accepted, Stream};
+pub use stderr::StderrWriter;
+pub use stream::{AcceptedStream, Stream};
 pub use tls::ServerTls;
 pub use upstream::Upstream;
 pub use workers::{let_others, most_sessions, Workers};

@@ -1,10 +1,10 @@
 //! What clients connect to.
 
 use crate::stream::tune;
-use crate::{Accepted, Address, Failure, Status};
+use crate::{AcceptedStream, Address, ExitStatus, Failure};
 use std::io;
 use std::os::unix::fs::FileTypeExt;
-use std::os::unix::net::UnixStream as Trying;
+use std::os::unix::net::UnixStream as StdUnixStream;
 use std::path::{Path, PathBuf};
 use tokio::net::{TcpListener, UnixListener};
 
@@ -18,7 +18,7 @@ pub enum Listener {
 fn is_abandoned(path: &Path) -> bool {
     let is_socket = std::fs::symlink_metadata(path).map_or(false, |it| it.file_type().is_socket());
     is_socket
-        && matches!(Trying::connect(path), Err(why) if why.kind() == io::ErrorKind::ConnectionRefused)
+        && matches!(StdUnixStream::connect(path), Err(why) if why.kind() == io::ErrorKind::ConnectionRefused)
 }
 
 impl Listener {
@@ -37,7 +37,7 @@ impl Listener {
             }
         };
         bound.map_err(|why| {
-            Failure::new(Status::Unreachable, format!("{name} can't be used: {why}"))
+            Failure::new(ExitStatus::Unreachable, format!("{name} can't be used: {why}"))
         })
     }
 
@@ -53,16 +53,16 @@ impl Listener {
     }
 
     /// The next client, with its address as PostgreSQL's log has it.
-    pub async fn accept(&self) -> io::Result<(Accepted, String)> {
+    pub async fn accept(&self) -> io::Result<(AcceptedStream, String)> {
         match self {
             Listener::Tcp(it) => {
                 let (stream, peer) = it.accept().await?;
                 tune(&stream);
-                Ok((Accepted::Tcp(stream.into_std()?), peer.to_string()))
+                Ok((AcceptedStream::Tcp(stream.into_std()?), peer.to_string()))
             }
             Listener::Unix(it, _) => {
                 let (stream, _) = it.accept().await?;
-                Ok((Accepted::Unix(stream.into_std()?), "[local]".to_owned()))
+                Ok((AcceptedStream::Unix(stream.into_std()?), "[local]".to_owned()))
             }
         }
     }

@@ -13,7 +13,7 @@ const ROOM: usize = 512;
 
 /// What is at the front of a client's bytes.
 #[derive(Debug)]
-pub enum Front {
+pub enum ConnectionStart {
     /// The client hung up before its message was whole.
     End,
     /// TLS begins.
@@ -35,7 +35,7 @@ pub enum FirstMessage {
 }
 
 /// A client whose first message is there that doesn't ask for encryption.
-pub struct Opened {
+pub struct OpenedClient {
     pub stream: Stream,
     /// What it has sent.
     pub bytes: Vec<u8>,
@@ -60,50 +60,53 @@ pub enum OpenError {
 }
 
 /// Reads until the message at the front is whole.
-pub async fn front(stream: &mut Stream, bytes: &mut Vec<u8>) -> io::Result<Front> {
+pub async fn read_start(stream: &mut Stream, bytes: &mut Vec<u8>) -> io::Result<ConnectionStart> {
     loop {
         if bytes.first() == Some(&HANDSHAKE) {
-            return Ok(Front::Tls);
+            return Ok(ConnectionStart::Tls);
         }
         match Decoder::of_client().next(bytes) {
-            Err(fault) => return Ok(Front::Message(FirstMessage::Broken(fault), 0)),
+            Err(fault) => return Ok(ConnectionStart::Message(FirstMessage::Broken(fault), 0)),
             Ok(Next::Frame(frame)) => return Ok(kind_of(&frame)),
             Ok(Next::Incomplete { .. }) => bytes.reserve(ROOM),
         }
         if stream.read_buf(bytes).await? == 0 {
-            return Ok(Front::End);
+            return Ok(ConnectionStart::End);
         }
     }
 }
 
-fn kind_of(frame: &Frame<'_>) -> Front {
+fn kind_of(frame: &Frame<'_>) -> ConnectionStart {
     let length = frame.bytes.len();
     match Message::read(frame) {
-        Ok(Message::SslRequest) => Front::SslRequest(length),
-        Ok(Message::GssEncRequest) => Front::GssEncRequest(length),
-        Ok(Message::CancelRequest(_)) => Front::Message(FirstMessage::Cancel, length),
-        Ok(_) => Front::Message(FirstMessage::Startup, length),
-        Err(fault) => Front::Message(FirstMessage::Broken(fault), 0),
+        Ok(Message::SslRequest) => ConnectionStart::SslRequest(length),
+        Ok(Message::GssEncRequest) => ConnectionStart::GssEncRequest(length),
+        Ok(Message::CancelRequest(_)) => ConnectionStart::Message(FirstMessage::Cancel, length),
+        Ok(_) => ConnectionStart::Message(FirstMessage::Startup, length),
+        Err(fault) => ConnectionStart::Message(FirstMessage::Broken(fault), 0),
     }
 }
 
 /// Answers requests for encryption, each kind once, until another first message is whole: by TLS where there is a
 /// certificate and no Unix socket, else by a no. `None` is a client that hangs up before.
-pub async fn open(stream: Stream, tls: Option<&ServerTls>) -> Result<Option<Opened>, OpenError> {
-    let mut client = Client::new(stream, tls);
+pub async fn open(
+    stream: Stream,
+    tls: Option<&ServerTls>,
+) -> Result<Option<OpenedClient>, OpenError> {
+    let mut client = OpeningClient::new(stream, tls);
     loop {
         if let Some(tls) = client.begins_tls().await? {
             client.stream = tls.accept(client.stream, true).await?;
             client.tls = None;
             client.has_asked_tls = true;
         }
-        match front(&mut client.stream, &mut client.bytes).await? {
-            Front::End => return Ok(None),
-            Front::Tls => return Err(OpenError::Tls),
-            Front::SslRequest(length) => client = client.answer_tls(length).await?,
-            Front::GssEncRequest(length) => client.answer_gss(length).await?,
-            Front::Message(first, length) => {
-                return Ok(Some(Opened {
+        match read_start(&mut client.stream, &mut client.bytes).await? {
+            ConnectionStart::End => return Ok(None),
+            ConnectionStart::Tls => return Err(OpenError::Tls),
+            ConnectionStart::SslRequest(length) => client = client.answer_tls(length).await?,
+            ConnectionStart::GssEncRequest(length) => client.answer_gss(length).await?,
+            ConnectionStart::Message(first, length) => {
+                return Ok(Some(OpenedClient {
                     stream: client.stream,
                     bytes: client.bytes,
                     first,
@@ -115,7 +118,7 @@ pub async fn open(stream: Stream, tls: Option<&ServerTls>) -> Result<Option<Open
 }
 
 /// A client before its first message.
-struct Client<'t> {
+struct OpeningClient<'t> {
     stream: Stream,
     bytes: Vec<u8>,
     /// How TLS is answered where it can be.
@@ -124,9 +127,9 @@ struct Client<'t> {
     has_asked_gss: bool,
 }
 
-impl<'t> Client<'t> {
-    fn new(stream: Stream, tls: Option<&'t ServerTls>) -> Client<'t> {
-        Client {
+impl<'t> OpeningClient<'t> {
+    fn new(stream: Stream, tls: Option<&'t ServerTls>) -> OpeningClient<'t> {
+        OpeningClient {
             tls: tls.filter(|_| matches!(stream, Stream::Tcp(_))),
             stream,
             bytes: Vec::new(),
@@ -160,7 +163,7 @@ impl<'t> Client<'t> {
         Ok(self.say_no(length).await?)
     }
 
-    async fn answer_tls(mut self, length: usize) -> Result<Client<'t>, OpenError> {
+    async fn answer_tls(mut self, length: usize) -> Result<OpeningClient<'t>, OpenError> {
         if std::mem::replace(&mut self.has_asked_tls, true) {
             return Err(OpenError::Again);
         }

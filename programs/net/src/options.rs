@@ -1,7 +1,7 @@
 //! Options that programs share.
 
 use crate::roots::SYSTEM;
-use crate::{Address, Failure, Listener, ServerTls, SslMode, Status, Upstream, Workers};
+use crate::{Address, ExitStatus, Failure, Listener, ServerTls, SslMode, Upstream, Workers};
 use clap::{Args, ValueEnum};
 use std::env;
 use std::path::{Path, PathBuf};
@@ -13,7 +13,7 @@ const FOLDERS: [&str; 2] = ["/var/run/postgresql", "/tmp"];
 
 /// Where clients connect, and with which threads they are served.
 #[derive(Args, Debug)]
-pub struct Listening {
+pub struct ListenOptions {
     /// Accept connections on the Unix socket .s.PGSQL.LISTEN_PORT of this folder, and on no port
     #[arg(long, value_name = "FOLDER")]
     pub folder: Option<PathBuf>,
@@ -34,18 +34,23 @@ pub struct Listening {
 }
 
 /// What listens.
-pub struct Bound {
+pub struct Listeners {
     pub listeners: Vec<Listener>,
     pub tls: Option<ServerTls>,
 }
 
-impl Listening {
+impl ListenOptions {
     /// The addresses that are asked for, with that of the port that is named without an option.
     fn addresses(&self, port: Option<u16>) -> Result<Vec<Address>, Failure> {
         let named = match (&self.folder, port) {
             (Some(folder), Some(port)) if port > 0 => Some(Address::in_folder(folder, port)),
             (None, port) => port.map(Address::local),
-            _ => return Err(Failure::new(Status::Usage, "a folder's socket has a port from 1 on")),
+            _ => {
+                return Err(Failure::new(
+                    ExitStatus::Usage,
+                    "a folder's socket has a port from 1 on",
+                ))
+            }
         };
         Ok(named.into_iter().chain(self.listen.iter().cloned()).collect())
     }
@@ -55,8 +60,8 @@ impl Listening {
         &self,
         port: Option<u16>,
         mut says: impl FnMut(String),
-    ) -> Result<Bound, Failure> {
-        let local = |why| Failure::new(Status::Local, format!("TLS with clients: {why:#}"));
+    ) -> Result<Listeners, Failure> {
+        let local = |why| Failure::new(ExitStatus::Local, format!("TLS with clients: {why:#}"));
         let tls = match (&self.cert, &self.key) {
             (Some(cert), Some(key)) => Some(ServerTls::new(cert, key).map_err(local)?),
             _ => None,
@@ -68,7 +73,7 @@ impl Listening {
             says(format!("listening on {address}"));
             listeners.push(listener);
         }
-        Ok(Bound { listeners, tls })
+        Ok(Listeners { listeners, tls })
     }
 
     /// The threads that serve clients.
@@ -119,10 +124,9 @@ impl ServerOptions {
     pub fn address(&self) -> Result<Address, Failure> {
         let port = self.port.clone().or_else(|| variable("PGPORT"));
         let port = port.as_deref().unwrap_or("5432");
-        let number =
-            port.parse().ok().filter(|&number| number > 0).ok_or_else(|| {
-                Failure::new(Status::Usage, format!("no port has the number {port}"))
-            })?;
+        let number = port.parse().ok().filter(|&number| number > 0).ok_or_else(|| {
+            Failure::new(ExitStatus::Usage, format!("no port has the number {port}"))
+        })?;
         let host = self.host.clone().or_else(|| variable("PGHOST"));
         Ok(Address::of_server(&host.unwrap_or_else(|| usual_host(number)), number))
     }
@@ -130,7 +134,7 @@ impl ServerOptions {
     /// The mode that is named, or the usual one with these roots. As in libpq the roots of the system, which would trust
     /// any host that has a certificate, have no weaker mode than `verify-full`.
     fn mode(&self, roots: Option<&Path>) -> Result<SslMode, Failure> {
-        let usage = |words: String| Failure::new(Status::Usage, words);
+        let usage = |words: String| Failure::new(ExitStatus::Usage, words);
         let of_name = |name: String| {
             let mode = SslMode::from_str(&name, false);
             mode.map_err(|_| usage(format!("no sslmode has the name {name}")))

@@ -1,6 +1,6 @@
 //! Which servers are trusted.
 
-use crate::{Failure, Status};
+use crate::{ExitStatus, Failure};
 use clap::ValueEnum;
 use openssl::ssl::{SslConnector, SslMethod, SslMode as Mode, SslVerifyMode, SslVersion};
 use openssl::x509::store::X509StoreBuilder;
@@ -44,7 +44,7 @@ impl SslMode {
 }
 
 fn fail(why: impl std::fmt::Display) -> Failure {
-    Failure::new(Status::Local, format!("TLS with the server: {why}"))
+    Failure::new(ExitStatus::Local, format!("TLS with the server: {why}"))
 }
 
 /// What connects by TLS: it trusts the roots of a file, of the system, or of libpq's usual file. As in libpq a mode that

@@ -8,61 +8,62 @@ use std::sync::Arc;
 use std::thread;
 use std::time::Duration;
 
-/// How many words may wait to be said, and of how many bytes; those that come while so many do are dropped.
+/// How many lines may wait to be written, and of how many bytes; those that come while so many do are dropped.
 const WAITING: usize = 1000;
 const WAITING_BYTES: usize = 1 << 20;
-/// How long the last words may take where nobody reads them.
+/// How long the last lines may take where nobody reads them.
 const PATIENCE: Duration = Duration::from_secs(1);
 
-enum Word {
-    Say(String),
-    End(Sender<()>),
+enum StderrLine {
+    Text(String),
+    /// All before it is written: this is told then.
+    Flush(Sender<()>),
 }
 
-/// Says words in their order.
+/// Writes lines to standard error in their order, each after the program's name.
 #[derive(Clone)]
-pub struct Sayer {
+pub struct StderrWriter {
     program: &'static str,
-    words: SyncSender<Word>,
-    /// How many bytes wait to be said.
+    lines: SyncSender<StderrLine>,
+    /// How many bytes wait to be written.
     waiting: Arc<AtomicUsize>,
 }
 
-impl Sayer {
-    pub fn new(program: &'static str) -> Sayer {
-        let (words, heard) = sync_channel(WAITING);
+impl StderrWriter {
+    pub fn new(program: &'static str) -> StderrWriter {
+        let (lines, received) = sync_channel(WAITING);
         let waiting = Arc::new(AtomicUsize::new(0));
         let left = waiting.clone();
         thread::spawn(move || {
-            for word in heard {
-                match word {
-                    Word::Say(words) => {
+            for line in received {
+                match line {
+                    StderrLine::Text(text) => {
                         // Nobody can be told where standard error can't be written.
-                        let _ = io::stderr().write_all(words.as_bytes());
-                        left.fetch_sub(words.len(), Ordering::Relaxed);
+                        let _ = io::stderr().write_all(text.as_bytes());
+                        left.fetch_sub(text.len(), Ordering::Relaxed);
                     }
-                    Word::End(done) => drop(done.send(())),
+                    StderrLine::Flush(done) => drop(done.send(())),
                 }
             }
         });
-        Sayer { program, words, waiting }
+        StderrWriter { program, lines, waiting }
     }
 
-    /// Words with the program's name before them.
-    pub fn named(&self, words: impl Display) -> String {
-        format!("{}: {words}", self.program)
+    /// A text with the program's name before it.
+    pub fn named(&self, text: impl Display) -> String {
+        format!("{}: {text}", self.program)
     }
 
     /// Says a line with the program's name before it.
-    pub fn say(&self, words: impl Display) {
-        self.say_plain(self.named(words));
+    pub fn say(&self, text: impl Display) {
+        self.say_plain(self.named(text));
     }
 
     /// Says a line as it is.
-    pub fn say_plain(&self, words: impl Display) {
-        let words = format!("{words}\n");
-        let count = words.len();
-        if self.take(count) && self.words.try_send(Word::Say(words)).is_err() {
+    pub fn say_plain(&self, text: impl Display) {
+        let text = format!("{text}\n");
+        let count = text.len();
+        if self.take(count) && self.lines.try_send(StderrLine::Text(text)).is_err() {
             self.waiting.fetch_sub(count, Ordering::Relaxed);
         }
     }
@@ -76,10 +77,10 @@ impl Sayer {
         self.waiting.fetch_update(Ordering::Relaxed, Ordering::Relaxed, add).is_ok()
     }
 
-    /// Waits until all is said, or for a while where nobody reads it.
+    /// Waits until all is written, or for a while where nobody reads it.
     pub fn end(&self) {
         let (done, is_done) = channel();
-        if self.words.try_send(Word::End(done)).is_ok() {
+        if self.lines.try_send(StderrLine::Flush(done)).is_ok() {
             let _ = is_done.recv_timeout(PATIENCE);
         }
     }
@@ -90,25 +91,25 @@ mod tests {
     use super::*;
 
     #[test]
-    fn words_that_nobody_hears_take_little_room() {
-        let (words, heard) = sync_channel(WAITING);
-        let sayer = Sayer { program: "it", words, waiting: Arc::default() };
-        // Words that are longer than all may be are said where none wait.
+    fn lines_that_nobody_reads_take_little_room() {
+        let (lines, received) = sync_channel(WAITING);
+        let writer = StderrWriter { program: "it", lines, waiting: Arc::default() };
+        // A line that is longer than all may be is taken where none waits.
         for _ in 0..3 {
-            sayer.say_plain("x".repeat(2 * WAITING_BYTES));
+            writer.say_plain("x".repeat(2 * WAITING_BYTES));
         }
-        assert_eq!(heard.try_iter().count(), 1);
-        sayer.waiting.store(0, Ordering::Relaxed);
+        assert_eq!(received.try_iter().count(), 1);
+        writer.waiting.store(0, Ordering::Relaxed);
         for _ in 0..WAITING {
-            sayer.say_plain("x".repeat(WAITING_BYTES / 10));
+            writer.say_plain("x".repeat(WAITING_BYTES / 10));
         }
-        assert_eq!(heard.try_iter().count(), 9);
-        sayer.waiting.store(0, Ordering::Relaxed);
+        assert_eq!(received.try_iter().count(), 9);
+        writer.waiting.store(0, Ordering::Relaxed);
         for _ in 0..2 * WAITING {
-            sayer.say_plain("x");
+            writer.say_plain("x");
         }
         assert_eq!(
-            (heard.try_iter().count(), sayer.waiting.load(Ordering::Relaxed)),
+            (received.try_iter().count(), writer.waiting.load(Ordering::Relaxed)),
             (WAITING, 2 * WAITING)
         );
     }

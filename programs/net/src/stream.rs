@@ -16,17 +16,17 @@ pub(crate) fn tune(stream: &TcpStream) {
 
 /// A connection that was accepted, and that no runtime watches yet.
 #[derive(Debug)]
-pub enum Accepted {
+pub enum AcceptedStream {
     Tcp(std::net::TcpStream),
     Unix(std::os::unix::net::UnixStream),
 }
 
-impl Accepted {
+impl AcceptedStream {
     /// Has the runtime of this thread watch it.
     pub fn watch(self) -> io::Result<Stream> {
         Ok(match self {
-            Accepted::Tcp(stream) => Stream::Tcp(TcpStream::from_std(stream)?),
-            Accepted::Unix(stream) => Stream::Unix(UnixStream::from_std(stream)?),
+            AcceptedStream::Tcp(stream) => Stream::Tcp(TcpStream::from_std(stream)?),
+            AcceptedStream::Unix(stream) => Stream::Unix(UnixStream::from_std(stream)?),
         })
     }
 }

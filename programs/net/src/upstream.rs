@@ -2,7 +2,7 @@
 
 use crate::roots::connector;
 use crate::stream::tune;
-use crate::{Address, Failure, SslMode, Status, Stream};
+use crate::{Address, ExitStatus, Failure, SslMode, Stream};
 use anyhow::{bail, Context, Result};
 use openssl::ssl::SslConnector;
 use pgmsg::frontend::Message;
@@ -23,14 +23,14 @@ const PAUSE: Duration = Duration::from_millis(50);
 /// A server, and how it is reached.
 pub struct Upstream {
     address: Address,
-    place: Place,
+    endpoint: Endpoint,
     mode: SslMode,
     /// What encrypts, where the mode ever does.
     connector: Option<SslConnector>,
 }
 
 /// The addresses of a host, or a path.
-enum Place {
+enum Endpoint {
     Tcp(String, Vec<SocketAddr>),
     Unix(PathBuf),
 }
@@ -42,21 +42,21 @@ impl Upstream {
         mode: SslMode,
         roots: Option<&Path>,
     ) -> Result<Upstream, Failure> {
-        let place = match &address {
-            Address::Unix(path) => Place::Unix(path.clone()),
+        let endpoint = match &address {
+            Address::Unix(path) => Endpoint::Unix(path.clone()),
             Address::Tcp { host, port } => {
                 let found = lookup_host((host.as_str(), *port)).await.map_err(|why| {
                     Failure::new(
-                        Status::Unreachable,
+                        ExitStatus::Unreachable,
                         format!("no address of {host} is found: {why}"),
                     )
                 })?;
-                Place::Tcp(host.clone(), found.collect())
+                Endpoint::Tcp(host.clone(), found.collect())
             }
         };
         let encrypts = mode != SslMode::Disable;
         let connector = encrypts.then(|| connector(mode, roots)).transpose()?;
-        Ok(Upstream { address, place, mode, connector })
+        Ok(Upstream { address, endpoint, mode, connector })
     }
 
     /// Why there is no session, where the server takes too long.
@@ -114,17 +114,17 @@ impl Upstream {
 
     /// A connection that isn't encrypted.
     async fn dial(&self) -> Result<Stream> {
-        let dialled = match &self.place {
-            Place::Unix(path) => connect_unix(path).await,
-            Place::Tcp(_, all) => connect_tcp(all).await,
+        let dialled = match &self.endpoint {
+            Endpoint::Unix(path) => connect_unix(path).await,
+            Endpoint::Tcp(_, all) => connect_tcp(all).await,
         };
         dialled.with_context(|| format!("no connection to {}", self.address))
     }
 
     /// The same connection, encrypted; one over a Unix socket stays as it is.
     async fn encrypt(&self, dialled: Stream) -> Result<Stream> {
-        let encrypted = match (dialled, &self.place, &self.connector) {
-            (Stream::Tcp(stream), Place::Tcp(host, _), Some(connector)) => {
+        let encrypted = match (dialled, &self.endpoint, &self.connector) {
+            (Stream::Tcp(stream), Endpoint::Tcp(host, _), Some(connector)) => {
                 self.ask(host, stream, connector).await
             }
             (other, ..) => return Ok(other),

@@ -32,7 +32,7 @@ pub struct Workers {
 struct Worker {
     runtime: Handle,
     /// Each session has a clone.
-    place: Arc<()>,
+    sessions: Arc<()>,
     /// The thread ends once this is dropped.
     end: oneshot::Sender<()>,
     thread: JoinHandle<()>,
@@ -45,12 +45,12 @@ impl Worker {
         let (end, is_ended) = oneshot::channel();
         let serve = move || drop(runtime.block_on(is_ended));
         let thread = thread::Builder::new().name("sessions".to_owned()).spawn(serve)?;
-        Ok(Worker { runtime: handle, place: Arc::new(()), end, thread })
+        Ok(Worker { runtime: handle, sessions: Arc::new(()), end, thread })
     }
 
     /// How many sessions it has.
     fn load(&self) -> usize {
-        Arc::strong_count(&self.place) - 1
+        Arc::strong_count(&self.sessions) - 1
     }
 }
 
@@ -69,10 +69,10 @@ impl Workers {
     /// Runs a session on the thread that has the fewest.
     pub fn spawn(&self, session: impl Future<Output = ()> + Send + 'static) {
         if let Some(worker) = self.all.iter().min_by_key(|it| it.load()) {
-            let place = worker.place.clone();
+            let counted = worker.sessions.clone();
             worker.runtime.spawn(async move {
                 session.await;
-                drop(place);
+                drop(counted);
             });
         }
     }

@@ -2,7 +2,7 @@
 
 use clap::Parser;
 use lines::trace::Style;
-use net::{Listening, ServerOptions, Status};
+use net::{ExitStatus, ListenOptions, ServerOptions};
 use std::path::PathBuf;
 use std::process;
 
@@ -31,7 +31,7 @@ pub struct Arguments {
     #[command(flatten)]
     pub server: ServerOptions,
     #[command(flatten)]
-    pub listening: Listening,
+    pub listening: ListenOptions,
     /// End after the first session
     #[arg(short = '1')]
     pub is_single: bool,
@@ -95,11 +95,11 @@ impl Arguments {
         Arguments::try_parse().unwrap_or_else(|error| {
             if !error.use_stderr() {
                 let _ = error.print();
-                process::exit(Status::Ok as i32);
+                process::exit(ExitStatus::Ok as i32);
             }
             eprint!("{error}");
             eprintln!("usage: {USAGE}");
-            process::exit(Status::Usage as i32);
+            process::exit(ExitStatus::Usage as i32);
         })
     }
 

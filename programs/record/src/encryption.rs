@@ -2,7 +2,7 @@
 
 use crate::pass::{Begin, Link};
 use crate::session::{NoLink, Session};
-use net::{front, FirstMessage, Front, OpenError, Stream};
+use net::{read_start, ConnectionStart, FirstMessage, OpenError, Stream};
 use tokio::io::{AsyncReadExt, AsyncWriteExt};
 
 /// What the server makes of a request.
@@ -19,16 +19,17 @@ enum Answer {
 pub async fn link(session: &mut Session<'_>, mut client: Stream) -> Result<Link, NoLink> {
     let (mut from_client, mut connected) = (Vec::new(), None);
     loop {
-        let front = front(&mut client, &mut from_client).await.map_err(OpenError::from)?;
-        if let Front::End = front {
+        let read_start =
+            read_start(&mut client, &mut from_client).await.map_err(OpenError::from)?;
+        if let ConnectionStart::End = read_start {
             return Err(NoLink::Gone);
         }
         let mut server = match connected.take() {
             Some(server) => server,
-            None => session.connect(&mut client, waits_for_answer(&front)).await?,
+            None => session.connect(&mut client, waits_for_answer(&read_start)).await?,
         };
-        let (begin, from_server) = match front {
-            Front::SslRequest(length) | Front::GssEncRequest(length) => {
+        let (begin, from_server) = match read_start {
+            ConnectionStart::SslRequest(length) | ConnectionStart::GssEncRequest(length) => {
                 let request: Vec<u8> = from_client.drain(..length).collect();
                 match ask(&mut client, &mut server, &request).await? {
                     Answer::Yes => (Begin::Encrypted, Vec::new()),
@@ -39,7 +40,7 @@ pub async fn link(session: &mut Session<'_>, mut client: Stream) -> Result<Link,
                     }
                 }
             }
-            Front::Message(first, _) => {
+            ConnectionStart::Message(first, _) => {
                 session.count(&first);
                 (Begin::First, Vec::new())
             }
@@ -50,11 +51,11 @@ pub async fn link(session: &mut Session<'_>, mut client: Stream) -> Result<Link,
 }
 
 /// Whether a client that begins so waits for the server to say something.
-fn waits_for_answer(front: &Front) -> bool {
-    match front {
-        Front::SslRequest(_) | Front::GssEncRequest(_) => true,
-        Front::Message(first, _) => matches!(first, FirstMessage::Startup),
-        Front::Tls | Front::End => false,
+fn waits_for_answer(read_start: &ConnectionStart) -> bool {
+    match read_start {
+        ConnectionStart::SslRequest(_) | ConnectionStart::GssEncRequest(_) => true,
+        ConnectionStart::Message(first, _) => matches!(first, FirstMessage::Startup),
+        ConnectionStart::Tls | ConnectionStart::End => false,
     }
 }
 

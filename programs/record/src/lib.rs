@@ -24,28 +24,28 @@ pub use session::NoLink;
 pub use tape::{Over, Recorded, Tape};
 
 use arguments::Arguments;
-use net::{Failure, Sayer, Status};
+use net::{ExitStatus, Failure, StderrWriter};
 use std::process;
 
-fn run(arguments: &Arguments, says: &Sayer) -> Result<Status, Failure> {
+fn run(arguments: &Arguments, stderr: &StderrWriter) -> Result<ExitStatus, Failure> {
     match &arguments.print {
-        Some(path) => print::print(path, arguments, says),
-        None => serve::serve(arguments, says),
+        Some(path) => print::print(path, arguments, stderr),
+        None => serve::serve(arguments, stderr),
     }
 }
 
 /// Runs the program, and ends the process by its status.
 pub fn main() -> ! {
     let arguments = Arguments::read();
-    let says = Sayer::new("pg_record");
-    let status = run(&arguments, &says).unwrap_or_else(|failure| {
-        says.say(&failure);
-        if failure.status == Status::Usage {
-            says.say_plain(format!("usage: {}", arguments::USAGE));
+    let stderr = StderrWriter::new("pg_record");
+    let status = run(&arguments, &stderr).unwrap_or_else(|failure| {
+        stderr.say(&failure);
+        if failure.status == ExitStatus::Usage {
+            stderr.say_plain(format!("usage: {}", arguments::USAGE));
         }
         failure.status
     });
-    says.end();
+    stderr.end();
     // Threads that wait for a pipe which nobody reads end here.
     process::exit(status as i32);
 }

@@ -1,7 +1,7 @@
 //! Lines of what passes, on standard output: by a thread of its own, so that a signal ends the program also where nobody
 //! reads them.
 
-use net::{Failure, Status};
+use net::{ExitStatus, Failure};
 use std::io::{self, Write};
 use std::mem;
 use std::sync::{Arc, Condvar, Mutex, MutexGuard, PoisonError};
@@ -61,7 +61,7 @@ impl Output {
                 let mut stdout = io::stdout();
                 if let Err(why) = stdout.write_all(&lines).and_then(|()| stdout.flush()) {
                     let words = format!("standard output can't be written: {why}");
-                    return fails(Failure::new(Status::Local, words));
+                    return fails(Failure::new(ExitStatus::Local, words));
                 }
                 count += lines.len() as u64;
                 let _ = sender.send(count);

@@ -5,7 +5,7 @@ use crate::direction::{first_end, Direction};
 use crate::framer::{decoder_of, Framer};
 use crate::session::{NoLink, OPENING};
 use crate::tape::{Over, Tape};
-use net::{Sayer, Stream, Upstream};
+use net::{StderrWriter, Stream, Upstream};
 use pgmsg::backend::{Field, FieldKind, Message};
 use pgmsg::Decoder;
 use recording::{RecordKind, Side};
@@ -63,7 +63,7 @@ impl Link {
             Ok(Err(why)) => format!("{why:#}"),
             Err(_) => upstream.is_late(),
         };
-        refuse(&mut client, &tape.says, &words).await;
+        refuse(&mut client, &tape.stderr, &words).await;
         Err(NoLink::Unreachable(words))
     }
 }
@@ -113,8 +113,8 @@ pub async fn pass(tape: &Tape, number: u32, leaves_out: bool, link: Link) -> Res
 }
 
 /// Ends the connection of a client that gets no session by an error, as a server does.
-pub async fn refuse(client: &mut Stream, says: &Sayer, words: &str) {
-    let words = says.named(words);
+pub async fn refuse(client: &mut Stream, stderr: &StderrWriter, words: &str) {
+    let words = stderr.named(words);
     let fields = [
         Field::new(FieldKind::LocalizedSeverity, "FATAL"),
         Field::new(FieldKind::Severity, "FATAL"),

@@ -2,7 +2,7 @@
 
 use crate::arguments::{Arguments, Form};
 use crate::printer::Printer;
-use net::{Failure, Sayer, Status};
+use net::{ExitStatus, Failure, StderrWriter};
 use recording::{Damage, Reader};
 use std::fs::File;
 use std::io::{self, BufReader, Write};
@@ -12,20 +12,24 @@ use std::path::Path;
 const ROOM: usize = 1 << 16;
 
 /// Prints the lines of a recording, up to its end or its first fault.
-pub fn print(path: &Path, arguments: &Arguments, says: &Sayer) -> Result<Status, Failure> {
+pub fn print(
+    path: &Path,
+    arguments: &Arguments,
+    stderr: &StderrWriter,
+) -> Result<ExitStatus, Failure> {
     let form = arguments.form().unwrap_or(Form::Lines);
     let mut printer = Printer::new(form, arguments.only, arguments.numbers);
-    let read = read(path, &mut printer, says);
+    let read = read(path, &mut printer, stderr);
     printer.end();
     write(&mut printer)?;
-    read.map(|()| Status::Ok)
+    read.map(|()| ExitStatus::Ok)
 }
 
-fn read(path: &Path, printer: &mut Printer, says: &Sayer) -> Result<(), Failure> {
+fn read(path: &Path, printer: &mut Printer, stderr: &StderrWriter) -> Result<(), Failure> {
     let damaged = |damage: Damage| {
         let status = match damage {
-            Damage::File(_) => Status::Local,
-            _ => Status::Damaged,
+            Damage::File(_) => ExitStatus::Local,
+            _ => ExitStatus::Damaged,
         };
         Failure::new(status, damage.about(path))
     };
@@ -33,14 +37,14 @@ fn read(path: &Path, printer: &mut Printer, says: &Sayer) -> Result<(), Failure>
     let mut reader = Reader::new(BufReader::new(file)).map_err(damaged)?;
     while let Some(record) = reader.read().map_err(damaged)? {
         printer.take(record.connection, record.kind, record.content);
-        printer.said().iter().for_each(|words| says.say(words));
+        printer.said().iter().for_each(|words| stderr.say(words));
         if printer.lines().len() > ROOM {
             write(printer)?;
         }
     }
     if reader.is_cut() {
         let (path, at) = (path.display(), reader.at());
-        says.say(format_args!(
+        stderr.say(format_args!(
             "{path} ends within a record: it is read up to its last whole one, to offset {at}"
         ));
     }
@@ -52,6 +56,6 @@ fn write(printer: &mut Printer) -> Result<(), Failure> {
     let written = stdout.write_all(lines).and_then(|()| stdout.flush());
     lines.clear();
     written.map_err(|why| {
-        Failure::new(Status::Local, format!("standard output can't be written: {why}"))
+        Failure::new(ExitStatus::Local, format!("standard output can't be written: {why}"))
     })
 }

@@ -2,7 +2,7 @@
 
 use crate::session::{Session, OPENING};
 use crate::tape::Tape;
-use net::{Listener, Sayer, ServerTls, Status, Upstream, Workers};
+use net::{ExitStatus, Listener, ServerTls, StderrWriter, Upstream, Workers};
 use std::io;
 use std::sync::atomic::{AtomicU64, Ordering};
 use std::sync::Arc;
@@ -21,9 +21,9 @@ pub struct Proxy {
     pub tls: Option<ServerTls>,
     pub passes_encryption: bool,
     pub leaves_out: bool,
-    pub says: Sayer,
+    pub stderr: StderrWriter,
     /// All ends with the first session, whose status is told here.
-    pub single: Option<mpsc::UnboundedSender<Status>>,
+    pub single: Option<mpsc::UnboundedSender<ExitStatus>>,
     pub places: Arc<Semaphore>,
     /// Calls sessions when clients wait for a place.
     pub is_crowded: Notify,
@@ -51,7 +51,7 @@ impl Proxy {
     }
 
     /// Notes how the session of a number ended.
-    pub fn session_ended(&self, number: u32, status: Status) {
+    pub fn session_ended(&self, number: u32, status: ExitStatus) {
         if let Some(single) = self.single.as_ref().filter(|_| number == 1) {
             let _ = single.send(status);
         }

@@ -6,7 +6,8 @@ use crate::printer::Printer;
 use crate::proxy::Proxy;
 use crate::tape::{Recorded, Tape};
 use net::{
-    ignore_file_size, most_sessions, Bound, Endings, Failure, Sayer, ServerTls, Status, Upstream,
+    ignore_file_size, most_sessions, ExitStatus, Failure, Listeners, ServerTls, ShutdownSignals,
+    StderrWriter, Upstream,
 };
 use std::io;
 use std::sync::atomic::{AtomicU64, Ordering};
@@ -23,27 +24,27 @@ const PATIENCE: Duration = Duration::from_secs(1);
 const DESCRIPTORS: u64 = 2;
 
 fn local(why: io::Error) -> Failure {
-    Failure::new(Status::Local, format!("no threads: {why}"))
+    Failure::new(ExitStatus::Local, format!("no threads: {why}"))
 }
 
 /// Serves, and gives the status in which that ends.
-pub fn serve(arguments: &Arguments, says: &Sayer) -> Result<Status, Failure> {
+pub fn serve(arguments: &Arguments, stderr: &StderrWriter) -> Result<ExitStatus, Failure> {
     // Signals, the end and those who connect have a thread of their own, so that a write which blocks all others doesn't hold
     // them up.
     let own = Builder::new_current_thread().enable_all().build().map_err(local)?;
     let _file_size = own.block_on(async { ignore_file_size() }).map_err(local)?;
-    let endings = own.block_on(async { Endings::take() }).map_err(local)?;
-    let signal = own.spawn(endings.wait());
+    let signals = own.block_on(async { ShutdownSignals::take() }).map_err(local)?;
+    let signal = own.spawn(signals.wait());
     let workers = Arc::new(arguments.listening.workers().map_err(local)?);
     let (fails, failures) = mpsc::unbounded_channel();
-    let tape = tape_of(arguments, says, fails)?;
-    let served = match own.block_on(begin(arguments, says)) {
+    let tape = tape_of(arguments, stderr, fails)?;
+    let served = match own.block_on(begin(arguments, stderr)) {
         Ok((upstream, bound)) => {
             let (single, first) = mpsc::unbounded_channel();
             let single = arguments.is_single.then_some(single);
-            let Bound { listeners, tls } = bound;
+            let Listeners { listeners, tls } = bound;
             let threads = workers.count();
-            let proxy = proxy_of(arguments, says, tape, upstream, tls, threads, single);
+            let proxy = proxy_of(arguments, stderr, tape, upstream, tls, threads, single);
             let accepting = |listener| own.spawn(proxy.clone().accept(listener, workers.clone()));
             let accepting = listeners.into_iter().map(accepting).collect();
             let ends = Ends { failures, signal, first };
@@ -62,7 +63,7 @@ pub fn serve(arguments: &Arguments, says: &Sayer) -> Result<Status, Failure> {
 /// Where what passes goes. Nothing asked for is lines of the server's messages.
 fn tape_of(
     arguments: &Arguments,
-    says: &Sayer,
+    stderr: &StderrWriter,
     fails: mpsc::UnboundedSender<Failure>,
 ) -> Result<Tape, Failure> {
     let create = |path| Recorded::create(path, arguments.keep_passing);
@@ -75,28 +76,31 @@ fn tape_of(
         (printer, output)
     });
     let fails = Box::new(move |failure| drop(fails.send(failure)));
-    Ok(Tape::new(file, lines, says.clone(), fails))
+    Ok(Tape::new(file, lines, stderr.clone(), fails))
 }
 
 /// Finds the server, and listens.
-async fn begin(arguments: &Arguments, says: &Sayer) -> Result<(Upstream, Bound), Failure> {
+async fn begin(
+    arguments: &Arguments,
+    stderr: &StderrWriter,
+) -> Result<(Upstream, Listeners), Failure> {
     let upstream = match arguments.encryption {
         true => arguments.server.find_unread().await?,
         false => arguments.server.find().await?,
     };
-    let says = |words| says.say_plain(words);
-    let bound = arguments.listening.bind(arguments.listen_port, says).await?;
+    let tell = |line| stderr.say_plain(line);
+    let bound = arguments.listening.bind(arguments.listen_port, tell).await?;
     Ok((upstream, bound))
 }
 
 fn proxy_of(
     arguments: &Arguments,
-    says: &Sayer,
+    stderr: &StderrWriter,
     tape: Tape,
     upstream: Upstream,
     tls: Option<ServerTls>,
     threads: usize,
-    single: Option<mpsc::UnboundedSender<Status>>,
+    single: Option<mpsc::UnboundedSender<ExitStatus>>,
 ) -> Arc<Proxy> {
     let prints_server = arguments.form().is_none() && arguments.output.is_none();
     Arc::new(Proxy {
@@ -105,7 +109,7 @@ fn proxy_of(
         tls,
         passes_encryption: arguments.encryption,
         leaves_out: !arguments.passwords && !prints_server,
-        says: says.clone(),
+        stderr: stderr.clone(),
         single,
         places: Arc::new(Semaphore::new(most_sessions(DESCRIPTORS, threads))),
         is_crowded: Notify::new(),
@@ -116,9 +120,9 @@ fn proxy_of(
 /// What ends the program.
 struct Ends {
     failures: mpsc::UnboundedReceiver<Failure>,
-    signal: JoinHandle<Status>,
+    signal: JoinHandle<ExitStatus>,
     /// The status of the first session, where all ends with it.
-    first: mpsc::UnboundedReceiver<Status>,
+    first: mpsc::UnboundedReceiver<ExitStatus>,
 }
 
 /// Waits for an end, and gives its status. All that has passed is in the file, so little is left to be done.
@@ -126,11 +130,11 @@ async fn end(
     proxy: &Arc<Proxy>,
     accepting: Vec<JoinHandle<()>>,
     mut ends: Ends,
-) -> Result<Status, Failure> {
+) -> Result<ExitStatus, Failure> {
     let (ended, is_told) = tokio::select! {
         biased;
         Some(failure) = ends.failures.recv() => (Err(failure), false),
-        status = &mut ends.signal => (Ok(status.unwrap_or(Status::Local)), true),
+        status = &mut ends.signal => (Ok(status.unwrap_or(ExitStatus::Local)), true),
         Some(status) = ends.first.recv() => (Ok(status), false),
     };
     for each in accepting {
@@ -138,7 +142,7 @@ async fn end(
         // A listener is closed with its task, unless all threads wait for a file.
         let _ = timeout(PATIENCE, each).await;
     }
-    let (closed, is_unreachable) = (proxy.clone(), matches!(ended, Ok(Status::Unreachable)));
+    let (closed, is_unreachable) = (proxy.clone(), matches!(ended, Ok(ExitStatus::Unreachable)));
     let closing = spawn_blocking(move || closed.tape.close(is_unreachable));
     if timeout(PATIENCE, closing).await.is_err() {
         // Who writes to a pipe that nobody reads may keep others from their lines, too.
@@ -155,7 +159,7 @@ async fn end(
 fn say_cancels(proxy: &Proxy) {
     match proxy.cancels.load(Ordering::Relaxed) {
         0 => {}
-        1 => proxy.says.say("1 request to cancel was passed on"),
-        count => proxy.says.say(format_args!("{count} requests to cancel were passed on")),
+        1 => proxy.stderr.say("1 request to cancel was passed on"),
+        count => proxy.stderr.say(format_args!("{count} requests to cancel were passed on")),
     }
 }

@@ -4,7 +4,7 @@ use crate::encryption;
 use crate::pass::{pass, refuse, Begin, Link};
 use crate::proxy::Proxy;
 use crate::tape::Over;
-use net::{FirstMessage, OpenError, Opened, Status, Stream};
+use net::{ExitStatus, FirstMessage, OpenError, OpenedClient, Stream};
 use recording::Side;
 use std::time::Duration;
 use tokio::time::{timeout_at, Instant};
@@ -17,7 +17,7 @@ pub enum NoLink {
     /// The client hung up.
     Gone,
     /// The client is refused, for these words about it.
-    Refused(String, Status),
+    Refused(String, ExitStatus),
     /// There is no connection to the server.
     Unreachable(String),
     /// All ends.
@@ -34,14 +34,14 @@ impl From<OpenError> for NoLink {
     fn from(why: OpenError) -> NoLink {
         match why {
             OpenError::Broken(_) => NoLink::Gone,
-            why => NoLink::Refused(why.to_string(), Status::Protocol),
+            why => NoLink::Refused(why.to_string(), ExitStatus::Protocol),
         }
     }
 }
 
 impl NoLink {
     pub fn late() -> NoLink {
-        NoLink::Refused("took too long to open its session".to_owned(), Status::Broken)
+        NoLink::Refused("took too long to open its session".to_owned(), ExitStatus::Broken)
     }
 }
 
@@ -64,19 +64,19 @@ impl<'p> Session<'p> {
         let (status, first_end) = match self.link(client).await {
             Ok(link) => {
                 match pass(&self.proxy.tape, self.number, self.proxy.leaves_out, link).await {
-                    Ok(()) => (Status::Ok, None),
+                    Ok(()) => (ExitStatus::Ok, None),
                     Err(Over) => return,
                 }
             }
             Err(NoLink::Over) => return,
-            Err(NoLink::Gone) => (Status::Ok, Some(Side::Client)),
+            Err(NoLink::Gone) => (ExitStatus::Ok, Some(Side::Client)),
             Err(NoLink::Refused(words, status)) => {
-                self.proxy.says.say(format_args!("a client at {} {words}", self.peer));
+                self.proxy.stderr.say(format_args!("a client at {} {words}", self.peer));
                 (status, Some(Side::Client))
             }
             Err(NoLink::Unreachable(words)) => {
-                self.proxy.says.say(words);
-                (Status::Unreachable, Some(Side::Server))
+                self.proxy.stderr.say(words);
+                (ExitStatus::Unreachable, Some(Side::Server))
             }
         };
         if let Some(side) = first_end.filter(|_| self.number > 0) {
@@ -100,7 +100,7 @@ impl<'p> Session<'p> {
             opened = net::open(client, proxy.tls.as_ref()) => opened?.ok_or(NoLink::Gone)?,
             () = proxy.run_out(begun) => return Err(NoLink::late()),
         };
-        let Opened { stream: mut client, bytes: from_client, first, length } = opened;
+        let OpenedClient { stream: mut client, bytes: from_client, first, length } = opened;
         let server = self.connect(&mut client, matches!(first, FirstMessage::Startup)).await?;
         self.count(&first);
         let from_server = Vec::new();
@@ -131,7 +131,7 @@ impl<'p> Session<'p> {
             Err(_) => upstream.is_late(),
         };
         if waits {
-            refuse(client, &self.proxy.says, &words).await;
+            refuse(client, &self.proxy.stderr, &words).await;
         }
         Err(NoLink::Unreachable(words))
     }

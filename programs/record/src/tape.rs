@@ -2,7 +2,7 @@
 
 use crate::output::Output;
 use crate::printer::Printer;
-use net::{let_others, Failure, Sayer, Status};
+use net::{let_others, ExitStatus, Failure, StderrWriter};
 use recording::{RecordError, RecordKind, Side};
 use std::collections::HashMap;
 use std::path::{Path, PathBuf};
@@ -27,7 +27,7 @@ pub struct Tape {
     opened: Mutex<u32>,
     /// Those of which one side has ended, and the other is to.
     ending: Mutex<HashMap<u32, Side>>,
-    pub(crate) says: Sayer,
+    pub(crate) stderr: StderrWriter,
     fails: Fails,
 }
 
@@ -66,8 +66,9 @@ impl Recorded {
 
     /// The same with a new file.
     pub fn create(path: &Path, goes_on: bool) -> Result<Recorded, Failure> {
-        let tape = recording::Recorder::create(path)
-            .map_err(|why| Failure::new(Status::Unrecorded, format!("{} {why}", path.display())))?;
+        let tape = recording::Recorder::create(path).map_err(|why| {
+            Failure::new(ExitStatus::Unrecorded, format!("{} {why}", path.display()))
+        })?;
         Ok(Recorded::new(tape, path, goes_on))
     }
 }
@@ -77,7 +78,7 @@ impl Tape {
     pub fn new(
         file: Option<Recorded>,
         lines: Option<(Printer, Output)>,
-        says: Sayer,
+        stderr: StderrWriter,
         fails: Fails,
     ) -> Tape {
         Tape {
@@ -85,7 +86,7 @@ impl Tape {
             lines: lines.map(|(printer, output)| Printed { printer: Mutex::new(printer), output }),
             opened: Mutex::new(0),
             ending: Mutex::default(),
-            says,
+            stderr,
             fails,
         }
     }
@@ -151,7 +152,7 @@ impl Tape {
         for &(kind, content) in records {
             printer.take(connection, kind, content);
         }
-        printer.said().iter().for_each(|words| self.says.say(words));
+        printer.said().iter().for_each(|words| self.stderr.say(words));
         Ok(lines.output.add(printer.lines()))
     }
 
@@ -175,10 +176,10 @@ impl Tape {
         if let RecordError::Io(_) = why {
             let words = format!("{} {why}", file.path.display());
             if file.goes_on {
-                self.says.say(words);
-                self.says.say("nothing is recorded from here on");
+                self.stderr.say(words);
+                self.stderr.say("nothing is recorded from here on");
             } else {
-                (self.fails)(Failure::new(Status::Unrecorded, words));
+                (self.fails)(Failure::new(ExitStatus::Unrecorded, words));
             }
         }
         file.is_lost.store(file.goes_on, Ordering::Relaxed);
@@ -212,16 +213,16 @@ impl Tape {
 
     /// Ends the lines, and gives the status where the recording is lost. Where a signal told the program to end, lines that
     /// nobody reads are given up.
-    pub async fn end(&self, is_told: bool) -> Option<Status> {
+    pub async fn end(&self, is_told: bool) -> Option<ExitStatus> {
         if let Some(lines) = &self.lines {
             self.end_printer(lines);
             if let Err(words) = lines.output.end(is_told).await {
-                self.says.say(words);
+                self.stderr.say(words);
             }
         }
         let is_lost = |file: &Recorded| file.is_lost.load(Ordering::Relaxed);
         let is_lost = self.file.as_ref().map_or(false, is_lost);
-        Some(Status::Unrecorded).filter(|_| is_lost)
+        Some(ExitStatus::Unrecorded).filter(|_| is_lost)
     }
 
     fn end_printer(&self, lines: &Printed) {

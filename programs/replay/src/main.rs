@@ -14,7 +14,7 @@ mod tape;
 #[cfg(test)]
 mod mutants;
 
-use net::{Bound, Endings, Failure, Listener, Sayer, Status, Workers};
+use net::{ExitStatus, Failure, Listener, Listeners, ShutdownSignals, StderrWriter, Workers};
 use options::Options;
 use renewal::Renewal;
 use serve::{Settings, Shared};
@@ -35,7 +35,7 @@ type Ends = mpsc::Receiver<Result<(), Failure>>;
 /// The password in a file: its first line.
 fn login(path: &Path) -> Result<Login, Failure> {
     let unread = |why: &dyn std::fmt::Display| {
-        Failure::new(Status::Local, format!("{} can't be read: {why}", path.display()))
+        Failure::new(ExitStatus::Local, format!("{} can't be read: {why}", path.display()))
     };
     let bytes = std::fs::read(path).map_err(|why| unread(&tape::plain(&why)))?;
     let password = bytes.split(|it| matches!(it, b'\n' | b'\r')).next().unwrap_or_default();
@@ -48,11 +48,11 @@ struct Begun {
     shared: Shared,
     listeners: Vec<Listener>,
     ends: Ends,
-    endings: Endings,
+    signals: ShutdownSignals,
 }
 
 /// Listens, and reads the recording: clients that come meanwhile wait. A recording that is to be made is begun.
-async fn begin(options: &Options, tell: &Sayer) -> Result<Begun, Failure> {
+async fn begin(options: &Options, stderr: &StderrWriter) -> Result<Begun, Failure> {
     let rules = Arc::new(options.rules()?);
     options.check_paths()?;
     let mut addresses = Vec::new();
@@ -60,12 +60,12 @@ async fn begin(options: &Options, tell: &Sayer) -> Result<Begun, Failure> {
     let (end, ends) = mpsc::channel(1);
     let fails = end.clone();
     let fails = move |failure| drop(fails.try_send(Err(failure)));
-    let renewal = Renewal::begin(options, tell, fails).await?;
+    let renewal = Renewal::begin(options, stderr, fails).await?;
     let path = renewal.as_ref().map_or(&*options.file, Renewal::replayed);
-    let tape = tape::load(path, &rules, options.speed, &|words| tell.say(words))?;
+    let tape = tape::load(path, &rules, options.speed, &|words| stderr.say(words))?;
     if tape.connections.is_empty() && renewal.is_none() {
         let words = format!("{} has no session that can be replayed", options.file.display());
-        return Err(Failure::new(Status::Damaged, words));
+        return Err(Failure::new(ExitStatus::Damaged, words));
     }
     let settings = Settings {
         keeps_times: options.speed,
@@ -79,29 +79,30 @@ async fn begin(options: &Options, tell: &Sayer) -> Result<Begun, Failure> {
         end,
     };
     // Signals are taken before it is said that the program listens, so that one which comes then finds it ready.
-    let endings = Endings::take().map_err(|why| Failure::new(Status::Local, why.to_string()))?;
-    addresses.into_iter().for_each(|it| tell.say_plain(it));
-    let Bound { listeners, tls } = bound;
+    let signals =
+        ShutdownSignals::take().map_err(|why| Failure::new(ExitStatus::Local, why.to_string()))?;
+    addresses.into_iter().for_each(|it| stderr.say_plain(it));
+    let Listeners { listeners, tls } = bound;
     Ok(Begun {
-        shared: Shared::new(tape, rules, tell.clone(), tls, settings),
+        shared: Shared::new(tape, rules, stderr.clone(), tls, settings),
         listeners,
         ends,
-        endings,
+        signals,
     })
 }
 
 /// Serves until it is over, or a signal comes. Answers the status, and what all sessions have.
 async fn run(
     options: &Options,
-    tell: &Sayer,
+    stderr: &StderrWriter,
     workers: &Arc<Workers>,
-) -> Result<(Status, Arc<Shared>), Failure> {
-    let Begun { shared, listeners, ends, endings } = begin(options, tell).await?;
+) -> Result<(ExitStatus, Arc<Shared>), Failure> {
+    let Begun { shared, listeners, ends, signals } = begin(options, stderr).await?;
     let shared = Arc::new(shared);
     let status = tokio::select! {
         end = serve::serve(shared.clone(), listeners, workers, ends) => serve::ended(&shared, end),
-        status = endings.wait() => match serve::ended(&shared, Ok(())) {
-            found @ (Status::Different | Status::Ambiguous) if options.strict => found,
+        status = signals.wait() => match serve::ended(&shared, Ok(())) {
+            found @ (ExitStatus::Different | ExitStatus::Ambiguous) if options.strict => found,
             _ => status,
         },
     };
@@ -109,36 +110,36 @@ async fn run(
 }
 
 /// Puts what was recorded into the recording, once no session goes on.
-fn renew(shared: &Shared, options: &Options, tell: &Sayer) -> Result<(), Failure> {
+fn renew(shared: &Shared, options: &Options, stderr: &StderrWriter) -> Result<(), Failure> {
     if let Some(renewal) = &shared.renewal {
         let renewed = shared.pool().renewed();
         let (new, gone) = renewal.end(&renewed)?;
         let path = options.file.display();
-        tell.say(format!("{new} sessions are new in {path}, and {gone} gone"));
+        stderr.say(format!("{new} sessions are new in {path}, and {gone} gone"));
     }
     Ok(())
 }
 
 /// The same with the threads that serve clients; another one accepts them.
-fn serve_all(options: &Options, tell: &Sayer) -> Result<Status, Failure> {
-    let local = |why| Failure::new(Status::Local, format!("no thread can be begun: {why}"));
+fn serve_all(options: &Options, stderr: &StderrWriter) -> Result<ExitStatus, Failure> {
+    let local = |why| Failure::new(ExitStatus::Local, format!("no thread can be begun: {why}"));
     let workers = Arc::new(options.listening.workers().map_err(local)?);
     let runtime = Builder::new_current_thread().enable_all().build().map_err(local)?;
-    let served = runtime.block_on(run(options, tell, &workers));
+    let served = runtime.block_on(run(options, stderr, &workers));
     // The sockets are taken away with what listens on them.
     runtime.shutdown_timeout(SHUTTING_DOWN);
     if let Ok(workers) = Arc::try_unwrap(workers) {
         workers.end();
     }
     let (status, shared) = served?;
-    renew(&shared, options, tell)?;
+    renew(&shared, options, stderr)?;
     Ok(status)
 }
 
 fn main() -> ExitCode {
     let options = match Options::take() {
         Ok(options) => options,
-        Err((Status::Ok, words)) => {
+        Err((ExitStatus::Ok, words)) => {
             print!("{words}");
             return ExitCode::SUCCESS;
         }
@@ -147,14 +148,14 @@ fn main() -> ExitCode {
             return ExitCode::from(status as u8);
         }
     };
-    let tell = Sayer::new("pg_replay");
-    let status = serve_all(&options, &tell).unwrap_or_else(|failure| {
-        tell.say(&failure);
-        if failure.status == Status::Usage {
-            tell.say_plain(options::USAGE);
+    let stderr = StderrWriter::new("pg_replay");
+    let status = serve_all(&options, &stderr).unwrap_or_else(|failure| {
+        stderr.say(&failure);
+        if failure.status == ExitStatus::Usage {
+            stderr.say_plain(options::USAGE);
         }
         failure.status
     });
-    tell.end();
+    stderr.end();
     ExitCode::from(status as u8)
 }

@@ -3,7 +3,7 @@
 use crate::form::LiteralKind;
 use crate::rules::Rules;
 use clap::Parser;
-use net::{Address, Failure, Listening, ServerOptions, Status};
+use net::{Address, ExitStatus, Failure, ListenOptions, ServerOptions};
 use std::path::PathBuf;
 use std::time::Duration;
 
@@ -31,7 +31,7 @@ pub struct Options {
     /// A port of 127.0.0.1 to serve on, a free one for 0; with --folder, that of its socket's name
     pub listen_port: Option<u16>,
     #[command(flatten)]
-    pub listening: Listening,
+    pub listening: ListenOptions,
     /// Asks each client by SCRAM-SHA-256 for the password that is the first line of FILE
     #[arg(long, value_name = "FILE")]
     pub scram: Option<PathBuf>,
@@ -103,14 +103,14 @@ fn with_usage(why: &str) -> String {
 
 impl Options {
     /// Takes the arguments. What is to be printed of them otherwise comes with a status.
-    pub fn take() -> Result<Options, (Status, String)> {
+    pub fn take() -> Result<Options, (ExitStatus, String)> {
         let options = Options::try_parse().map_err(|why| match why.use_stderr() {
-            true => (Status::Usage, with_usage(&why.to_string())),
-            false => (Status::Ok, why.to_string()),
+            true => (ExitStatus::Usage, with_usage(&why.to_string())),
+            false => (ExitStatus::Ok, why.to_string()),
         })?;
         match options.lack() {
             None => Ok(options),
-            Some(why) => Err((Status::Usage, with_usage(why))),
+            Some(why) => Err((ExitStatus::Usage, with_usage(why))),
         }
     }
 
@@ -148,7 +148,7 @@ impl Options {
         let long =
             all.find(|it| matches!(it, Address::Unix(path) if path.as_os_str().len() > PATH_MOST));
         long.map_or(Ok(()), |it| {
-            Err(Failure::new(Status::Unreachable, format!("{it} is too long")))
+            Err(Failure::new(ExitStatus::Unreachable, format!("{it} is too long")))
         })
     }
 
@@ -157,7 +157,7 @@ impl Options {
         let mut rules = match &self.rules {
             None => Rules::default(),
             Some(path) => Rules::read(path).map_err(|why| {
-                Failure::new(Status::Usage, format!("{}: {why:#}", path.display()))
+                Failure::new(ExitStatus::Usage, format!("{}: {why:#}", path.display()))
             })?,
         };
         rules.allow(&self.any_setting, &self.any_parameter, &self.any_literal);

@@ -2,7 +2,7 @@
 
 use crate::options::{self, Options};
 use anyhow::anyhow;
-use net::{Failure, Sayer, Status, Stream, Upstream};
+use net::{ExitStatus, Failure, StderrWriter, Stream, Upstream};
 use pg_record::{Link, NoLink, Recorded, Tape};
 use recording::{
     unnamed_file, Damage, Identity, PartialFile, PersistError, Reader, RecordKind, Writer,
@@ -39,11 +39,11 @@ pub struct Renewal {
 }
 
 fn unwritten(path: &Path, why: &io::Error) -> Failure {
-    Failure::new(Status::Unrecorded, format!("{} can't be written: {why}", path.display()))
+    Failure::new(ExitStatus::Unrecorded, format!("{} can't be written: {why}", path.display()))
 }
 
 fn unread(path: &Path, why: Damage) -> Failure {
-    Failure::new(Status::Damaged, why.about(path))
+    Failure::new(ExitStatus::Damaged, why.about(path))
 }
 
 /// Opens a recording.
@@ -60,7 +60,7 @@ impl Renewal {
     /// Begins to record what the options ask for, if anything. Why it can't be any more is told by `fails`.
     pub async fn begin(
         options: &Options,
-        tell: &Sayer,
+        stderr: &StderrWriter,
         fails: impl Fn(Failure) + Send + Sync + 'static,
     ) -> Result<Option<Renewal>, Failure> {
         if options.recorded() == options::Recorded::Nothing {
@@ -74,7 +74,7 @@ impl Renewal {
         let recorded =
             recording::Recorder::begin(file.try_clone().map_err(failed)?).map_err(failed)?;
         let recorded = Recorded::new(recorded, &path, false);
-        let tape = Tape::new(Some(recorded), None, tell.clone(), Box::new(fails));
+        let tape = Tape::new(Some(recorded), None, stderr.clone(), Box::new(fails));
         let keeps_old = options.recorded() == options::Recorded::Missing;
         Ok(Some(Renewal {
             tape,

@@ -7,7 +7,7 @@ use crate::rules::Rules;
 use crate::session::{greet, Login};
 use crate::tape::{plain, Tape};
 use anyhow::Result;
-use net::{most_sessions, Failure, Listener, Sayer, ServerTls, Status, Workers};
+use net::{most_sessions, ExitStatus, Failure, Listener, ServerTls, StderrWriter, Workers};
 use std::collections::VecDeque;
 use std::sync::atomic::{AtomicBool, Ordering};
 use std::sync::{Arc, Mutex, MutexGuard, PoisonError};
@@ -33,7 +33,7 @@ pub struct Shared {
     pub stirred: Notify,
     pub keeps_times: bool,
     pub patience: Option<Duration>,
-    pub tell: Sayer,
+    pub stderr: StderrWriter,
     pub again: bool,
     pub any_order: bool,
     pub goes_on: bool,
@@ -71,7 +71,7 @@ impl Shared {
     pub fn new(
         tape: Tape,
         rules: Arc<Rules>,
-        tell: Sayer,
+        stderr: StderrWriter,
         tls: Option<ServerTls>,
         settings: Settings,
     ) -> Shared {
@@ -85,7 +85,7 @@ impl Shared {
             stirred: Notify::new(),
             keeps_times: settings.keeps_times,
             patience: settings.patience,
-            tell,
+            stderr,
             again: settings.again,
             any_order: settings.any_order,
             goes_on: settings.goes_on,
@@ -115,7 +115,7 @@ impl Shared {
 
     pub fn tell_difference(&self, report: &Report) {
         self.is_different.store(true, Ordering::Relaxed);
-        self.tell.say_plain(report.words());
+        self.stderr.say_plain(report.words());
     }
 
     /// Tells that a client may mean another message than it is answered, which was answered otherwise: once for a request
@@ -125,11 +125,11 @@ impl Shared {
         match &report {
             Some(report) => {
                 self.is_ambiguous.store(true, Ordering::Relaxed);
-                self.tell.say_plain(report.words());
+                self.stderr.say_plain(report.words());
             }
             None => {
                 self.pool().pass_over_rivals(said);
-                self.tell.say(format!("note: {}", doubt(&self.tape, said, rival)));
+                self.stderr.say(format!("note: {}", doubt(&self.tape, said, rival)));
             }
         }
         report
@@ -196,7 +196,7 @@ pub async fn serve(
         tokio::spawn(async move {
             if let Err(why) = accept(&shared, &listener, &places, &workers).await {
                 let failure = Failure::new(
-                    Status::Local,
+                    ExitStatus::Local,
                     format!("no connection can be accepted: {}", plain(&why)),
                 );
                 let _ = shared.end.send(Err(failure)).await;
@@ -207,7 +207,7 @@ pub async fn serve(
 }
 
 /// What is left to say of the sessions, and how the program ends.
-pub fn ended(shared: &Shared, ended: Result<(), Failure>) -> Status {
+pub fn ended(shared: &Shared, ended: Result<(), Failure>) -> ExitStatus {
     let unsaid = {
         let pool = shared.pool();
         let unsaid = pool.first_unsaid().filter(|_| pool.is_done());
@@ -223,20 +223,20 @@ pub fn ended(shared: &Shared, ended: Result<(), Failure>) -> Status {
         let received = Side::Words("no client said it".to_owned());
         let place = (Some(connection), shared.tape.script.number(said));
         let allowed = shared.allowed(None);
-        shared.tell.say_plain(Report::new(place, &allowed, &recorded, &received, None).words());
+        shared.stderr.say_plain(Report::new(place, &allowed, &recorded, &received, None).words());
     }
     let status = match ended {
         Err(failure) => {
-            shared.tell.say(&failure);
+            shared.stderr.say(&failure);
             failure.status
         }
         // A client that is refused may then differ.
-        Ok(()) if is_ambiguous => Status::Ambiguous,
-        Ok(()) if is_different => Status::Different,
-        Ok(()) => Status::Ok,
+        Ok(()) if is_ambiguous => ExitStatus::Ambiguous,
+        Ok(()) if is_different => ExitStatus::Different,
+        Ok(()) => ExitStatus::Ok,
     };
     let (replayed, all) = (shared.pool().replayed(), shared.tape.connections.len());
-    shared.tell.say(format!("{replayed} of {all} sessions are replayed"));
+    shared.stderr.say(format!("{replayed} of {all} sessions are replayed"));
     status
 }
 

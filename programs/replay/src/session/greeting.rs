@@ -45,8 +45,8 @@ pub async fn greet(
         _ = has_to_go => return,
     };
     match guest {
-        Err(_) => shared.tell.say("a client took too long to open its session"),
-        Ok(Err(why)) => shared.tell.say(format!("a connection is refused: {why:#}")),
+        Err(_) => shared.stderr.say("a client took too long to open its session"),
+        Ok(Err(why)) => shared.stderr.say(format!("a connection is refused: {why:#}")),
         Ok(Ok(None)) => {}
         Ok(Ok(Some(guest))) => seat(shared, guest).await,
     }

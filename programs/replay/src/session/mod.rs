@@ -18,7 +18,7 @@ use crate::serve::Shared;
 use crate::tape::{Changed, Cutter, Ending, Place, SpokenReader};
 use anyhow::Result;
 use lost::Lost;
-use net::{Failure, Status, Stream};
+use net::{ExitStatus, Failure, Stream};
 use outgoing::{Outgoing, Sent};
 use pgmsg::backend::Message;
 use std::time::{Duration, Instant};
@@ -293,7 +293,7 @@ impl<'s> Session<'s> {
     }
 
     fn changed(&self, why: &Changed) -> Failure {
-        Failure::new(Status::Damaged, format!("{} {why}", self.shared.tape.path.display()))
+        Failure::new(ExitStatus::Damaged, format!("{} {why}", self.shared.tape.path.display()))
     }
 }
 

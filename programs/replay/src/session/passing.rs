@@ -37,7 +37,7 @@ impl Session<'_> {
                 None
             }
             Err(why) => {
-                shared.tell.say(format!("what isn't recorded can't be passed on: {why:#}"));
+                shared.stderr.say(format!("what isn't recorded can't be passed on: {why:#}"));
                 self.fail(&report);
                 Some(client)
             }
@@ -64,7 +64,7 @@ pub async fn pass_all(
     let server = match renewal.connect().await {
         Ok(server) => server,
         Err(why) => {
-            shared.tell.say(format!("what isn't recorded can't be passed on: {why:#}"));
+            shared.stderr.say(format!("what isn't recorded can't be passed on: {why:#}"));
             return Err(client);
         }
     };
@@ -76,8 +76,8 @@ pub async fn pass_all(
                 renewal.keep(number);
                 drop(pass(&renewal.tape, number, true, link).await);
             }
-            Err(NoLink::Unreachable(why)) => shared.tell.say(why),
-            Err(NoLink::Refused(why, _)) => shared.tell.say(format!("a client at {peer} {why}")),
+            Err(NoLink::Unreachable(why)) => shared.stderr.say(why),
+            Err(NoLink::Refused(why, _)) => shared.stderr.say(format!("a client at {peer} {why}")),
             Err(NoLink::Gone | NoLink::Over) => {}
         }
     }

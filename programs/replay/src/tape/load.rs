@@ -6,7 +6,7 @@ use super::sharing;
 use super::{Connection, Tape, Turn, Wait};
 use crate::form::Forms;
 use crate::rules::Rules;
-use net::{Failure, Status};
+use net::{ExitStatus, Failure};
 use recording::{Damage, Reader, RecordKind, Side};
 use std::collections::HashMap;
 use std::fs::File;
@@ -47,16 +47,16 @@ pub fn load(
     tell: &dyn Fn(String),
 ) -> Result<Tape, Failure> {
     let unread = |why: &dyn std::fmt::Display| {
-        Failure::new(Status::Local, format!("{} can't be read: {why}", path.display()))
+        Failure::new(ExitStatus::Local, format!("{} can't be read: {why}", path.display()))
     };
     let file = File::open(path).map_err(|why| unread(&plain(&why)))?;
     let damaged = |damage: Damage| match damage {
         Damage::File(why) => unread(&plain(&why)),
-        damage => Failure::new(Status::Damaged, damage.about(path)),
+        damage => Failure::new(ExitStatus::Damaged, damage.about(path)),
     };
     let uncounted = || {
         let words = format!("{} has more messages than can be counted", path.display());
-        Failure::new(Status::Local, words)
+        Failure::new(ExitStatus::Local, words)
     };
     let length = file.metadata().map_or(0, |it| it.len());
     let mut reader = Reader::new(BufReader::with_capacity(1 << 18, &file)).map_err(damaged)?;
