@@ -1,6 +1,6 @@
 //! The parts of a client's messages.
 
-use super::parts::{Kind, Parts, Shown};
+use super::body::{Kind, Parts, Shown};
 use pgmsg::frontend::Message;
 
 /// The length of a key in protocol 3.0, where it is a number. Later keys are any bytes.

@@ -2,12 +2,12 @@
 //! PQTRACE_SUPPRESS_TIMESTAMPS, but for control characters of texts. libpq prints them as they are, and a terminal
 //! obeys them; here they are escaped as in values.
 
+mod body;
 mod client;
-mod parts;
 mod server;
 
 use crate::put;
-use parts::{Kind, Parts, Shown};
+use body::{Kind, Parts, Shown};
 use pgmsg::frontend::Message;
 use pgmsg::{backend, Fault, Refusal};
 

@@ -1,6 +1,6 @@
 //! The parts of a server's messages.
 
-use super::parts::{Kind, Parts};
+use super::body::{Kind, Parts};
 use super::Style;
 
 pub(super) fn kind(tag: u8) -> Option<Kind> {
