@@ -12,12 +12,12 @@ use std::fs::File;
 use std::io::{self, Read, Write};
 
 /// The bytes that came after the last message.
-struct Stream {
+struct ClientStream {
     bytes: Vec<u8>,
     decoder: Decoder,
 }
 
-impl Stream {
+impl ClientStream {
     /// Prints the message at the front, where it is whole, and takes it away.
     fn print_one(&mut self, out: &mut Vec<u8>) -> Result<bool, Fault> {
         let frame = match self.decoder.next(&self.bytes)? {
@@ -39,7 +39,7 @@ impl Stream {
 /// Prints the lines of a stream.
 fn print_all(mut input: impl Read) -> io::Result<()> {
     let (mut stdout, mut out, mut room) = (io::stdout(), Vec::new(), [0; 65536]);
-    let mut stream = Stream { bytes: Vec::new(), decoder: Decoder::of_client() };
+    let mut stream = ClientStream { bytes: Vec::new(), decoder: Decoder::of_client() };
     loop {
         let count = input.read(&mut room)?;
         stream.bytes.extend_from_slice(&room[..count]);

@@ -5,9 +5,10 @@
 //! By libpq's own lines, or with -w by those that show what libpq doesn't.
 #![forbid(unsafe_code)]
 
-use lines::trace::{encryption_answer, first_message, message, Side, Style};
+use lines::trace::{encryption_answer, first_message, message, Style};
 use pgmsg::frontend::Message;
 use pgmsg::{Decoder, Fault, Next};
+use recording::Side;
 use std::io::Write;
 use std::{env, fs, io, process};
 

@@ -1,7 +1,8 @@
 //! Lines of the trace: of each kind of message, whole and broken.
 #![forbid(unsafe_code)]
 
-use lines::trace::{first_message, message, Side, Style};
+use lines::trace::{first_message, message, Style};
+use recording::Side;
 use Side::{Client, Server};
 
 /// A message, and its line as libpq prints it; at last the line that shows more, where it is another.

@@ -209,7 +209,7 @@ impl Lines {
         let body = frame.body();
         match (self.form, side, frame.tag) {
             (Form::Trace(style), _, Some(tag)) => {
-                trace::message(out, style, side_of(side), tag, body);
+                trace::message(out, style, side, tag, body);
             }
             (Form::Trace(style), _, None) => {
                 trace::first_message(out, style, body);
@@ -227,9 +227,7 @@ impl Lines {
         };
         self.number(&mut out.bytes);
         match (self.form, side) {
-            (Form::Trace(style), _) => {
-                trace::left_out(&mut out.bytes, style, side_of(side), tag, length)
-            }
+            (Form::Trace(style), _) => trace::left_out(&mut out.bytes, style, side, tag, length),
             (_, Side::Server) => lines::left_out_line(&mut out.bytes, tag, length),
             (_, Side::Client) => put(&mut out.bytes, "password left-out\n"),
         }
@@ -245,13 +243,6 @@ impl Lines {
             self.number(&mut out.bytes);
             put(&mut out.bytes, format_args!("rest {rest}\n"));
         }
-    }
-}
-
-fn side_of(side: Side) -> trace::Side {
-    match side {
-        Side::Client => trace::Side::Client,
-        Side::Server => trace::Side::Server,
     }
 }
 

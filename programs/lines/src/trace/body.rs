@@ -7,7 +7,7 @@ use crate::put;
 
 /// How much libpq 15 shows of a kind of message.
 #[derive(Clone, Copy, PartialEq, Eq)]
-pub(super) enum Shown {
+pub(super) enum LibpqDetail {
     Named,
     /// The length alone.
     Dropped,
@@ -17,32 +17,35 @@ pub(super) enum Shown {
 
 /// A kind of message, by its name.
 #[derive(Clone, Copy)]
-pub(super) struct Kind {
+pub(super) struct MessageKind {
     pub name: &'static str,
     /// Prints its parts: `None` where there are none, or where they are secret.
-    pub parts: Option<fn(&mut Parts<'_, '_>)>,
-    pub shown: Shown,
+    pub parts: Option<fn(&mut BodyPrinter<'_, '_>)>,
+    pub shown: LibpqDetail,
 }
 
-impl Kind {
+impl MessageKind {
     /// A kind that libpq shows.
-    pub fn new(name: &'static str, parts: fn(&mut Parts<'_, '_>)) -> Option<Kind> {
-        Some(Kind { name, parts: Some(parts), shown: Shown::Named })
+    pub fn new(name: &'static str, parts: fn(&mut BodyPrinter<'_, '_>)) -> Option<MessageKind> {
+        Some(MessageKind { name, parts: Some(parts), shown: LibpqDetail::Named })
     }
 
     /// A kind without parts.
-    pub fn empty(name: &'static str) -> Option<Kind> {
-        Some(Kind { name, parts: None, shown: Shown::Named })
+    pub fn empty(name: &'static str) -> Option<MessageKind> {
+        Some(MessageKind { name, parts: None, shown: LibpqDetail::Named })
     }
 
     /// The data of a COPY.
-    pub fn copy_data() -> Option<Kind> {
-        Some(Kind { shown: Shown::Dropped, ..Kind::new("CopyData", |parts| parts.rest())? })
+    pub fn copy_data() -> Option<MessageKind> {
+        Some(MessageKind {
+            shown: LibpqDetail::Dropped,
+            ..MessageKind::new("CopyData", |printer| printer.rest())?
+        })
     }
 }
 
 /// A body, and how much of it is printed.
-pub(super) struct Parts<'o, 'b> {
+pub(super) struct BodyPrinter<'o, 'b> {
     pub out: &'o mut Vec<u8>,
     pub style: Style,
     pub body: &'b [u8],
@@ -51,9 +54,9 @@ pub(super) struct Parts<'o, 'b> {
     pub is_short: bool,
 }
 
-impl<'o, 'b> Parts<'o, 'b> {
-    pub fn new(out: &'o mut Vec<u8>, style: Style, body: &'b [u8]) -> Parts<'o, 'b> {
-        Parts { out, style, body, at: 0, is_short: false }
+impl<'o, 'b> BodyPrinter<'o, 'b> {
+    pub fn new(out: &'o mut Vec<u8>, style: Style, body: &'b [u8]) -> BodyPrinter<'o, 'b> {
+        BodyPrinter { out, style, body, at: 0, is_short: false }
     }
 
     /// What isn't printed yet.
@@ -156,7 +159,7 @@ impl<'o, 'b> Parts<'o, 'b> {
     }
 
     /// A count, and so many items.
-    pub fn list(&mut self, item: fn(&mut Parts<'_, '_>)) {
+    pub fn list(&mut self, item: fn(&mut BodyPrinter<'_, '_>)) {
         for _ in 0..self.int16() {
             if self.is_short {
                 break;
@@ -167,21 +170,21 @@ impl<'o, 'b> Parts<'o, 'b> {
 
     /// A count, and so many format codes.
     pub fn codes(&mut self) {
-        self.list(|parts| {
-            parts.int16();
+        self.list(|printer| {
+            printer.int16();
         });
     }
 
     /// A count, and so many object ids.
     pub fn types(&mut self) {
-        self.list(|parts| {
-            parts.int32();
+        self.list(|printer| {
+            printer.int32();
         });
     }
 
     /// A count, and so many values.
     pub fn values(&mut self) {
-        self.list(|parts| parts.value());
+        self.list(|printer| printer.value());
     }
 }
 

@@ -7,35 +7,13 @@ mod client;
 mod server;
 
 use crate::put;
-use body::{Kind, Parts, Shown};
+use body::{BodyPrinter, LibpqDetail, MessageKind};
 use pgmsg::frontend::Message;
 use pgmsg::{backend, Fault, Refusal};
+use recording::Side;
 
 /// The length of a length field, which counts itself.
 const LENGTH_FIELD: usize = 4;
-
-/// Who sends a message.
-#[derive(Clone, Copy, Debug, PartialEq, Eq)]
-pub enum Side {
-    Client,
-    Server,
-}
-
-impl Side {
-    const fn letter(self) -> char {
-        match self {
-            Side::Client => 'F',
-            Side::Server => 'B',
-        }
-    }
-
-    fn kind(self, tag: u8) -> Option<Kind> {
-        match self {
-            Side::Client => client::kind(tag),
-            Side::Server => server::kind(tag),
-        }
-    }
-}
 
 /// How those messages are printed of which libpq shows little: first messages, the data of a COPY, passwords.
 #[derive(Clone, Copy, Debug, PartialEq, Eq)]
@@ -47,8 +25,8 @@ pub enum Style {
 }
 
 impl Style {
-    fn shows(self, kind: &Kind) -> bool {
-        self == Style::Whole || kind.shown == Shown::Named
+    fn shows(self, kind: &MessageKind) -> bool {
+        self == Style::Whole || kind.shown == LibpqDetail::Named
     }
 }
 
@@ -61,17 +39,19 @@ impl Style {
 /// whether the body is whole.
 pub fn message(out: &mut Vec<u8>, style: Style, side: Side, tag: u8, body: &[u8]) -> bool {
     begin_line(out, side, body.len() + LENGTH_FIELD);
-    let kind = side.kind(tag);
+    let kind = kind_of(side, tag);
     let parts = kind.and_then(|kind| kind.parts.filter(|_| style.shows(&kind)));
     put_name(out, style, kind, tag, parts.is_some());
-    let mut all = Parts::new(out, style, body);
+    let mut printer = BodyPrinter::new(out, style, body);
     match (parts, kind) {
-        (Some(parts), _) => parts(&mut all),
-        (None, Some(kind)) if style.shows(&kind) && kind.shown == Shown::Unknown => all.hide_rest(),
+        (Some(parts), _) => parts(&mut printer),
+        (None, Some(kind)) if style.shows(&kind) && kind.shown == LibpqDetail::Unknown => {
+            printer.hide_rest()
+        }
         _ => {}
     }
     match is_whole(side, tag, body) {
-        Ok(()) => end_line(&mut all),
+        Ok(()) => end_line(&mut printer),
         Err(fault) => end_refused(out, &fault),
     }
 }
@@ -82,16 +62,16 @@ pub fn first_message(out: &mut Vec<u8>, style: Style, body: &[u8]) -> bool {
     let length = body.len() + LENGTH_FIELD;
     begin_line(out, Side::Client, length);
     let first = Message::read_body(None, body);
-    let mut all = Parts::new(out, style, body);
+    let mut printer = BodyPrinter::new(out, style, body);
     match &first {
-        Ok(first) if style == Style::Whole => client::put_first(&mut all, first),
+        Ok(first) if style == Style::Whole => client::put_first(&mut printer, first),
         _ => {
-            put(all.out, format_args!("Unknown message: length is {length}"));
-            all.hide_rest();
+            put(printer.out, format_args!("Unknown message: length is {length}"));
+            printer.hide_rest();
         }
     }
     match first {
-        Ok(_) => end_line(&mut all),
+        Ok(_) => end_line(&mut printer),
         Err(fault) => end_refused(out, &fault),
     }
 }
@@ -100,7 +80,7 @@ pub fn first_message(out: &mut Vec<u8>, style: Style, body: &[u8]) -> bool {
 /// password is that of `message`; other lines end with the name.
 pub fn left_out(out: &mut Vec<u8>, style: Style, side: Side, tag: u8, length: u32) {
     begin_line(out, side, length as usize);
-    put_name(out, style, side.kind(tag), tag, false);
+    put_name(out, style, kind_of(side, tag), tag, false);
     out.push(b'\n');
     if style == Style::AsLibpq && side == Side::Client && tag == b'p' {
         put_mismatch(out, LENGTH_FIELD, length as usize);
@@ -117,8 +97,16 @@ pub fn encryption_answer(out: &mut Vec<u8>, style: Style, request: &Message<'_>,
         _ => "GSSENCResponse",
     };
     put(out, format_args!("B\t1\t{name}\t"));
-    Parts::new(out, style, &[answer]).byte();
+    BodyPrinter::new(out, style, &[answer]).byte();
     out.push(b'\n');
+}
+
+/// The kind of a side's messages of a tag.
+fn kind_of(side: Side, tag: u8) -> Option<MessageKind> {
+    match side {
+        Side::Client => client::kind(tag),
+        Side::Server => server::kind(tag),
+    }
 }
 
 /// The name of a server's message.
@@ -127,17 +115,21 @@ pub fn server_name(tag: u8) -> Option<&'static str> {
 }
 
 fn begin_line(out: &mut Vec<u8>, side: Side, length: usize) {
-    put(out, format_args!("{}\t{length}\t", side.letter()));
+    let letter = match side {
+        Side::Client => 'F',
+        Side::Server => 'B',
+    };
+    put(out, format_args!("{letter}\t{length}\t"));
 }
 
 /// Adds the name of a message with a tag, and a tab where parts follow.
-fn put_name(out: &mut Vec<u8>, style: Style, kind: Option<Kind>, tag: u8, has_parts: bool) {
+fn put_name(out: &mut Vec<u8>, style: Style, kind: Option<MessageKind>, tag: u8, has_parts: bool) {
     match kind {
         Some(kind) if style.shows(&kind) => {
             let tab = if has_parts { "\t" } else { "" };
             put(out, format_args!("{}{tab}", kind.name));
         }
-        Some(kind) if kind.shown == Shown::Dropped => {}
+        Some(kind) if kind.shown == LibpqDetail::Dropped => {}
         _ => put(out, format_args!("Unknown message: {tag:02x}")),
     }
 }
@@ -169,15 +161,15 @@ fn end_refused(out: &mut Vec<u8>, fault: &Fault) -> bool {
 }
 
 /// Ends a line, and adds how much of the body follows the last part.
-fn end_line(parts: &mut Parts<'_, '_>) -> bool {
-    let (at, len) = (parts.at, parts.body.len());
-    if parts.is_short {
-        put(parts.out, format_args!(" broken: a part is cut off after offset {at}\n"));
+fn end_line(printer: &mut BodyPrinter<'_, '_>) -> bool {
+    let (at, len) = (printer.at, printer.body.len());
+    if printer.is_short {
+        put(printer.out, format_args!(" broken: a part is cut off after offset {at}\n"));
         return false;
     }
-    parts.out.push(b'\n');
+    printer.out.push(b'\n');
     if at < len {
-        put_mismatch(parts.out, at + LENGTH_FIELD, len + LENGTH_FIELD);
+        put_mismatch(printer.out, at + LENGTH_FIELD, len + LENGTH_FIELD);
     }
     true
 }

@@ -82,7 +82,7 @@ impl Side {
 
     /// A message as a line of libpq's PQtrace.
     fn trace(&self) -> String {
-        let (mut out, style, client) = (Vec::new(), Style::Whole, trace::Side::Client);
+        let (mut out, style, client) = (Vec::new(), Style::Whole, recording::Side::Client);
         match self {
             Side::Words(_) => {}
             Side::Message(message) => {
