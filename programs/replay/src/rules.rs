@@ -3,7 +3,7 @@
 use crate::form::LiteralKind;
 use anyhow::{Context, Result};
 use regex::bytes::Regex;
-use rules::File;
+use rules::RulesFile;
 use std::borrow::Cow;
 use std::collections::HashSet;
 use std::path::Path;
@@ -36,7 +36,7 @@ impl Rules {
     }
 
     fn parse(text: &str) -> Result<Rules> {
-        let file = File::parse(text)?;
+        let file = RulesFile::parse(text)?;
         Ok(Rules {
             replaced: each(file.replace, |it| Ok((regex(&it.pattern)?, it.with)))?,
             parameters: each(file.parameter, |it| Ok((regex(&it.statement)?, it.positions)))?,

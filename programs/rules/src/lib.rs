@@ -1,4 +1,5 @@
-//! A file of rules in TOML: what may differ in a replay, and what is taken out of a recording.
+//! A file of rules in TOML: what may differ in a replay, and what is taken out of a recording. Each type is named after
+//! its table.
 #![forbid(unsafe_code)]
 
 use serde::Deserialize;
@@ -6,7 +7,7 @@ use serde::Deserialize;
 /// A file of rules. Each program takes its own of them, and refuses a file with a fault in any.
 #[derive(Debug, Default, Deserialize)]
 #[serde(deny_unknown_fields, default)]
-pub struct File {
+pub struct RulesFile {
     /// What is replaced in the text of SQL before it is compared.
     pub replace: Vec<Replace>,
     /// Values that may differ.
@@ -77,9 +78,9 @@ pub struct Pattern {
     pub pattern: String,
 }
 
-impl File {
+impl RulesFile {
     /// Reads the text of a file.
-    pub fn parse(text: &str) -> Result<File, toml::de::Error> {
+    pub fn parse(text: &str) -> Result<RulesFile, toml::de::Error> {
         toml::from_str(text)
     }
 }

@@ -4,7 +4,7 @@ use super::mask::Mask;
 use super::places::Places;
 use crate::failure::{Failure, Result, Status};
 use regex::bytes::Regex;
-use rules::{File, Pattern};
+use rules::{Pattern, RulesFile};
 use std::path::Path;
 
 /// A rule, and whether it matched something.
@@ -49,7 +49,7 @@ impl Rules {
     }
 
     pub fn parse(text: &str) -> std::result::Result<Rules, String> {
-        let File { redact, .. } = File::parse(text).map_err(|why| why.to_string())?;
+        let RulesFile { redact, .. } = RulesFile::parse(text).map_err(|why| why.to_string())?;
         let pattern = |table: &'static str| {
             move |it: Pattern| {
                 Ok(Rule::new(
