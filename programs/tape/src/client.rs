@@ -1,10 +1,10 @@
 //! A client's messages with their fields.
 
-use crate::parts::{format_list, formats, list, other, text, values};
-use crate::shapes::{
+use crate::fields::{
     kinds, Bind, CopyFail, Data, Empty, Execute, FunctionCall, Initial, Key, Other, Parse,
     Password, Query, Setting, Startup, Target, TargetKind,
 };
+use crate::parts::{format_list, formats, list, other, text, values};
 use pgmsg::frontend::{self, Message, PasswordMessage, SaslInitialResponse};
 use pgmsg::{ByteStr, Format, List, Refusal, Secret};
 

@@ -1,11 +1,11 @@
 //! Two recordings, compared exchange by exchange.
 
-use crate::bar::Bar;
-use crate::exchanges::Exchanges;
+use crate::event::{Message, What};
+use crate::exchange_numbers::Exchanges;
 use crate::failure::{Failure, Result, Status};
-use crate::input::Tape;
-use crate::item::{Message, What};
 use crate::line::Writer;
+use crate::progress::Bar;
+use crate::recording_file::Tape;
 use lines::escape;
 use recording::Side;
 use similar::{capture_diff_slices_deadline, group_diff_ops, Algorithm, ChangeTag, DiffOp};

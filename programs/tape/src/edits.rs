@@ -1,11 +1,11 @@
 //! Recordings that are merged, cut down, split and compared.
 
-use crate::choice::Choice;
 use crate::diff::diff;
 use crate::failure::Status;
 use crate::merge::merge;
 use crate::remove::remove;
 use crate::samples::{self, TempFile};
+use crate::selection::Choice;
 use crate::split::split;
 use recording::{Reader, RecordKind, Side, Writer};
 use std::path::PathBuf;

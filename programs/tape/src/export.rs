@@ -1,11 +1,11 @@
 //! A recording as JSON Lines.
 
-use crate::bar::Bar;
 use crate::failure::Result;
-use crate::input::Tape;
+use crate::json_bytes::Text;
 use crate::line::{put, Bytes, Head, Place, Said, Writer, VERSION};
 use crate::output::Output;
-use crate::text::Text;
+use crate::progress::Bar;
+use crate::recording_file::Tape;
 use std::path::Path;
 
 /// How many bytes of lines are held to be written at once.

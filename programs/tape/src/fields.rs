@@ -1,108 +1,161 @@
-//! The fields of errors and notices, as an object of their names and values in the order of the message.
+//! The kinds of messages and their fields, as JSON has them.
 
-use crate::text::Text;
-use pgmsg::backend::{Field, Fields};
-use pgmsg::ByteStr;
-use serde::de::{self, Deserialize, Deserializer, MapAccess, Visitor};
-use serde::ser::{Serialize, SerializeMap, Serializer};
-use std::borrow::Cow;
-use std::fmt;
+use crate::json_bytes::Text;
+use serde::{Deserialize, Serialize};
 
-/// The names of the fields by their letters. A field of another letter has that for a name.
-const NAMES: [(u8, &str); 18] = [
-    (b'S', "localized_severity"),
-    (b'V', "severity"),
-    (b'C', "code"),
-    (b'M', "message"),
-    (b'D', "detail"),
-    (b'H', "hint"),
-    (b'P', "position"),
-    (b'p', "internal_position"),
-    (b'q', "internal_query"),
-    (b'W', "where"),
-    (b's', "schema"),
-    (b't', "table"),
-    (b'c', "column"),
-    (b'd', "data_type"),
-    (b'n', "constraint"),
-    (b'F', "file"),
-    (b'L', "line"),
-    (b'R', "routine"),
-];
+/// Values of parameters or rows, of which some are NULL.
+pub type Values<'a> = Vec<Option<Text<'a>>>;
 
-/// More fields than a server sends.
-const MANY: usize = 64;
-
-#[derive(Debug, PartialEq)]
-pub struct Report<'a>(Vec<(u8, Text<'a>)>);
-
-impl<'a> Report<'a> {
-    /// The fields, unless a letter comes again.
-    pub fn of(fields: &Fields<'a>) -> Option<Report<'a>> {
-        let is_again = |(at, it): (usize, &Field<'_>)| {
-            fields[..at].iter().any(|before| before.letter == it.letter)
-        };
-        if fields.len() > MANY || fields.iter().enumerate().any(is_again) {
-            return None;
+/// Makes the enum of a side by a table of its kinds and their fields.
+macro_rules! kinds {
+    ($(#[$doc:meta])* $side:ident { $($name:ident($shape:ty),)* }) => {
+        $(#[$doc])*
+        #[derive(Debug, PartialEq, serde::Serialize)]
+        #[serde(untagged)]
+        #[allow(clippy::upper_case_acronyms)]
+        pub enum $side<'a> {
+            $($name($shape),)*
         }
-        let fields = fields.iter().map(|it| (it.letter, Text(Cow::Borrowed(it.value.0))));
-        Some(Report(fields.collect()))
-    }
 
-    pub fn list(&self) -> Fields<'_> {
-        let fields =
-            self.0.iter().map(|(letter, text)| Field { letter: *letter, value: ByteStr(&text.0) });
-        fields.collect()
-    }
-}
+        impl<'a> $side<'a> {
+            /// The name of the message.
+            pub fn kind(&self) -> &'static str {
+                match self {
+                    $($side::$name(_) => stringify!($name),)*
+                }
+            }
 
-fn letter_of(name: &str) -> Option<u8> {
-    let mut letters = name.chars();
-    match (letters.next(), letters.next()) {
-        (Some(letter), None) => u8::try_from(u32::from(letter)).ok(),
-        _ => NAMES.iter().find(|(_, it)| *it == name).map(|(letter, _)| *letter),
-    }
-}
-
-impl Serialize for Report<'_> {
-    fn serialize<S: Serializer>(&self, to: S) -> Result<S::Ok, S::Error> {
-        let mut map = to.serialize_map(Some(self.0.len()))?;
-        for (letter, text) in &self.0 {
-            match NAMES.iter().find(|(it, _)| it == letter) {
-                Some((_, name)) => map.serialize_entry(name, text)?,
-                None => map.serialize_entry(&char::from(*letter), text)?,
+            /// Reads the fields of a message of a kind.
+            pub fn read<D: serde::Deserializer<'a>>(kind: &str, fields: D) -> Result<Self, D::Error> {
+                match kind {
+                    $(stringify!($name) => serde::Deserialize::deserialize(fields).map($side::$name),)*
+                    _ => Err(serde::de::Error::custom(format_args!(
+                        "a {} has no message of the kind `{kind}`",
+                        stringify!($side).to_ascii_lowercase()
+                    ))),
+                }
             }
         }
-        map.end()
-    }
+    };
 }
 
-impl<'de: 'a, 'a> Deserialize<'de> for Report<'a> {
-    fn deserialize<D: Deserializer<'de>>(from: D) -> Result<Report<'a>, D::Error> {
-        from.deserialize_map(ReportVisitor)
-    }
-}
+pub(crate) use kinds;
 
-struct ReportVisitor;
-
-impl<'de> Visitor<'de> for ReportVisitor {
-    type Value = Report<'de>;
-
-    fn expecting(&self, f: &mut fmt::Formatter<'_>) -> fmt::Result {
-        f.write_str("an object of fields")
-    }
-
-    fn visit_map<M: MapAccess<'de>>(self, mut map: M) -> Result<Report<'de>, M::Error> {
-        let mut fields: Vec<(u8, Text<'de>)> = Vec::new();
-        while let Some(name) = map.next_key::<Cow<'de, str>>()? {
-            let letter = letter_of(&name).ok_or_else(|| {
-                de::Error::custom(format_args!("no field of an error is `{name}`"))
-            })?;
-            if fields.iter().any(|(it, _)| *it == letter) {
-                return Err(de::Error::custom(format_args!("the field `{name}` is there twice")));
+/// Defines the fields of a kind of message.
+macro_rules! shapes {
+    ($($(#[$doc:meta])* $name:ident { $($(#[$more:meta])* $field:ident: $type:ty,)* })*) => {
+        $(
+            $(#[$doc])*
+            #[derive(Debug, PartialEq, Serialize, Deserialize)]
+            #[serde(deny_unknown_fields, bound(deserialize = "'de: 'a"))]
+            pub struct $name<'a> {
+                $($(#[$more])* pub $field: $type,)*
             }
-            fields.push((letter, map.next_value()?));
-        }
-        Ok(Report(fields))
+        )*
+    };
+}
+
+shapes! {
+    Startup { minor: u16, settings: Vec<Setting<'a>>, }
+    Setting { name: Text<'a>, value: Text<'a>, }
+    Key { process_id: u32, secret_key: Text<'a>, }
+    Bind {
+        portal: Text<'a>,
+        statement: Text<'a>,
+        formats: Vec<i16>,
+        values: Values<'a>,
+        result_formats: Vec<i16>,
+    }
+    Data { data: Text<'a>, }
+    CopyFail { reason: Text<'a>, }
+    Target { target: TargetKind, name: Text<'a>, }
+    Execute { portal: Text<'a>, max_rows: u32, }
+    FunctionCall {
+        object_id: u32,
+        formats: Vec<i16>,
+        arguments: Values<'a>,
+        result_format: i16,
+    }
+    Parse { statement: Text<'a>, query: Text<'a>, types: Vec<u32>, }
+    Password { password: Text<'a>, }
+    Initial { mechanism: Text<'a>, response: Option<Text<'a>>, }
+    Query { query: Text<'a>, }
+    Mechanisms { mechanisms: Vec<Text<'a>>, }
+    Salt { salt: Text<'a>, }
+    Method { method: u32, data: Text<'a>, }
+    Command { command: Text<'a>, }
+    Row { values: Values<'a>, }
+    FunctionResult { value: Option<Text<'a>>, }
+    Negotiation { minor: u16, options: Vec<Text<'a>>, }
+    Notification { process_id: u32, channel: Text<'a>, payload: Text<'a>, }
+    Columns { columns: Vec<Column<'a>>, }
+    Column {
+        name: Text<'a>,
+        table: u32,
+        attribute: i16,
+        type_id: u32,
+        type_size: i16,
+        type_modifier: i32,
+        format: i16,
+    }
+    /// A message that has no fields here: of an unknown tag, or of bytes that its fields wouldn't give back.
+    Other { tag: Tag, body: Text<'a>, }
+}
+
+/// A message without fields.
+#[derive(Debug, PartialEq, Serialize, Deserialize)]
+#[serde(deny_unknown_fields)]
+pub struct Empty {}
+
+#[derive(Debug, PartialEq, Serialize, Deserialize)]
+#[serde(deny_unknown_fields)]
+pub struct Copy {
+    pub format: i8,
+    pub columns: Vec<i16>,
+}
+
+#[derive(Debug, PartialEq, Serialize, Deserialize)]
+#[serde(deny_unknown_fields)]
+pub struct Types {
+    pub types: Vec<u32>,
+}
+
+#[derive(Debug, PartialEq, Serialize, Deserialize)]
+#[serde(deny_unknown_fields)]
+pub struct Ready {
+    pub status: Status,
+}
+
+/// Whether a transaction is open, by the letter of the protocol.
+#[derive(Clone, Copy, Debug, PartialEq, Eq, Serialize, Deserialize)]
+pub enum Status {
+    I,
+    T,
+    E,
+}
+
+#[derive(Clone, Copy, Debug, PartialEq, Eq, Serialize, Deserialize)]
+#[serde(rename_all = "lowercase")]
+pub enum TargetKind {
+    Statement,
+    Portal,
+}
+
+/// A tag, as the character of its number.
+#[derive(Clone, Copy, Debug, PartialEq, Eq, Serialize, Deserialize)]
+#[serde(try_from = "char", into = "char")]
+pub struct Tag(pub u8);
+
+impl From<Tag> for char {
+    fn from(tag: Tag) -> char {
+        char::from(tag.0)
+    }
+}
+
+impl TryFrom<char> for Tag {
+    type Error = &'static str;
+
+    fn try_from(tag: char) -> Result<Tag, Self::Error> {
+        u8::try_from(u32::from(tag)).map(Tag).map_err(|_| "a tag is one byte")
     }
 }

@@ -1,13 +1,13 @@
 //! A recording from JSON Lines.
 
-use crate::bar::Bar;
 use crate::failure::{Failure, Result, Status};
-use crate::input::open;
-use crate::joiner::{Joiner, Spot, Unjoined};
 use crate::layout::Taker;
 use crate::line::{write, Head, Place, Said, VERSION};
 use crate::output::Output;
 use crate::parse::{self, Line};
+use crate::progress::Bar;
+use crate::record_assembler::{Joiner, Spot, Unjoined};
+use crate::recording_file::open;
 use lines::escape;
 use memchr::memchr;
 use recording::{RecordKind, Side};

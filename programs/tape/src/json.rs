@@ -1,6 +1,6 @@
 //! JSON as a terminal may get it.
 
-use crate::text::has;
+use crate::json_bytes::has;
 use serde::Serialize;
 use serde_json::ser::{Formatter, Serializer};
 use std::io::{self, Write};
@@ -34,7 +34,7 @@ pub fn put_json(out: &mut Vec<u8>, value: &impl Serialize) {
 
 #[cfg(test)]
 mod tests {
-    use crate::item::Message;
+    use crate::event::Message;
     use crate::line::{self, Place, Writer};
     use crate::parse;
     use pgmsg::backend::{Field, FieldKind, Message as ServerMessage, Other};

@@ -1,13 +1,13 @@
 //! The lines of a recording as JSON: what each says, and how one is written.
 
 use crate::client::Client;
-use crate::item::{Item, Message, What};
+use crate::event::{Item, Message, What};
+use crate::fields::{Empty, Other, Tag};
 use crate::json::put_json;
+use crate::json_bytes::Text;
 use crate::layout::Layout;
 use crate::parts::untyped;
 use crate::server::Server;
-use crate::shapes::{Empty, Other, Tag};
-use crate::text::Text;
 use recording::Side;
 use serde::{Deserialize, Serialize};
 use std::borrow::Cow;

@@ -1,23 +1,21 @@
 //! Exports, imports, edits, compares, redacts and shows recordings.
 #![forbid(unsafe_code)]
 
-mod bar;
-mod choice;
 mod client;
-mod cutter;
 mod diff;
-mod direction;
 #[cfg(test)]
 mod edits;
-mod exchanges;
+mod error_fields;
+mod event;
+mod event_decoder;
+mod event_queue;
+mod exchange_numbers;
 mod export;
 mod failure;
 mod fields;
 mod import;
-mod input;
-mod item;
-mod joiner;
 mod json;
+mod json_bytes;
 mod layout;
 mod line;
 mod merge;
@@ -27,17 +25,19 @@ mod options;
 mod output;
 mod parse;
 mod parts;
-mod queue;
+mod progress;
+mod record_assembler;
+mod recording_file;
 mod redact;
 mod remove;
 #[cfg(test)]
 mod roundtrip;
 #[cfg(test)]
 mod samples;
+mod selection;
 mod server;
-mod shapes;
 mod split;
-mod text;
+mod stream_state;
 mod view;
 
 use clap::Parser;

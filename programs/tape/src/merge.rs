@@ -1,9 +1,9 @@
 //! Recordings joined to one, by the time of their records.
 
-use crate::bar::Bar;
 use crate::failure::{Failure, Result};
-use crate::input::Tape;
 use crate::output::Output;
+use crate::progress::Bar;
+use crate::recording_file::Tape;
 use recording::{RecordKind, Writer};
 use std::collections::HashMap;
 use std::path::{Path, PathBuf};

@@ -1,6 +1,6 @@
 //! The arguments of the program.
 
-use crate::choice::Choice;
+use crate::selection::Choice;
 use clap::{Parser, Subcommand};
 use std::path::PathBuf;
 

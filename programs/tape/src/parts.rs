@@ -1,7 +1,7 @@
 //! Parts that messages of both sides have, as JSON has them and as the protocol does.
 
-use crate::shapes::{Other, Tag, Values};
-use crate::text::Text;
+use crate::fields::{Other, Tag, Values};
+use crate::json_bytes::Text;
 use pgmsg::{ByteStr, Format, List, Refusal, Value};
 use std::borrow::Cow;
 

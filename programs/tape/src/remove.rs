@@ -1,11 +1,11 @@
 //! Sessions taken out of a recording.
 
-use crate::bar::Bar;
-use crate::choice::{Choice, Choices};
 use crate::failure::{Failure, Result, Status};
-use crate::input::Tape;
 use crate::merge::Numbers;
 use crate::output::Output;
+use crate::progress::Bar;
+use crate::recording_file::Tape;
+use crate::selection::{Choice, Choices};
 use recording::Writer;
 use std::path::Path;
 

@@ -1,12 +1,12 @@
 //! A server's messages with their fields.
 
-use crate::fields::Report;
-use crate::parts::{format_list, formats, list, other, text, values};
-use crate::shapes::{
+use crate::error_fields::Report;
+use crate::fields::{
     kinds, Column, Columns, Command, Copy, Data, Empty, FunctionResult, Key, Mechanisms, Method,
     Negotiation, Notification, Other, Ready, Row, Salt, Setting, Status, Types,
 };
-use crate::text::Text;
+use crate::json_bytes::Text;
+use crate::parts::{format_list, formats, list, other, text, values};
 use pgmsg::backend::{self, Authentication, CopyResponse, Message, TransactionStatus};
 use pgmsg::{ByteStr, Format, List, Refusal, Secret};
 use std::borrow::Cow;

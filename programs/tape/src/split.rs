@@ -1,9 +1,9 @@
 //! A recording for each session.
 
-use crate::bar::Bar;
 use crate::failure::{Failure, Result, Status};
-use crate::input::Tape;
 use crate::output::Output;
+use crate::progress::Bar;
+use crate::recording_file::Tape;
 use recording::{Record, RecordKind, Writer};
 use std::collections::HashMap;
 use std::fs;

@@ -138,10 +138,10 @@ static LAYOUTS: &[Layout] = layouts! {
 #[cfg(test)]
 mod tests {
     use super::*;
-    use crate::item::Message;
-    use crate::joiner::Spot;
+    use crate::event::Message;
     use crate::line::{self, Place, Writer};
     use crate::parse;
+    use crate::record_assembler::Spot;
     use crate::samples;
     use pgmsg::backend::{self, Column};
     use pgmsg::frontend;

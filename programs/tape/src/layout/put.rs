@@ -1,7 +1,7 @@
 //! Messages as the fields of their lines.
 
 use super::{Field, Layout, Part};
-use crate::text::put_text;
+use crate::json_bytes::put_text;
 use memchr::memchr;
 use serde::Serialize;
 use std::str;

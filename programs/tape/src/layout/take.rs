@@ -1,8 +1,8 @@
 //! Lines as messages, where they are written as an export has them.
 
 use super::{Field, Layout, Part};
-use crate::joiner::Spot;
-use crate::text::has;
+use crate::json_bytes::has;
+use crate::record_assembler::Spot;
 use base64::{decode_config_buf, STANDARD};
 use memchr::{memchr, memchr2};
 use recording::Side;

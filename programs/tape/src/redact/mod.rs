@@ -3,33 +3,33 @@
 //! The recording is read more than once: what is masked in one place is masked wherever it stands. A value keeps its length
 //! and its type, and a password neither.
 
-mod asked;
-mod columns;
-mod known;
+mod known_secrets;
+mod lexer;
 mod literal;
 mod mask;
-mod names;
-mod pieces;
-mod places;
-mod rules;
+mod masked_names;
+mod masked_ranges;
 #[cfg(test)]
-mod sessions;
+mod recordings;
+mod request_queue;
+mod rules;
+mod session;
 mod sql;
 mod values;
 
-use crate::bar::Bar;
+use crate::event::{Item, Message, What};
 use crate::failure::{Failure, Result, Status};
 use crate::import::closed_by;
-use crate::input::Tape;
-use crate::item::{Item, Message, What};
-use crate::joiner::{Joiner, Spot, Unjoined};
 use crate::output::Output;
-use columns::Sessions;
-use known::Known;
+use crate::progress::Bar;
+use crate::record_assembler::{Joiner, Spot, Unjoined};
+use crate::recording_file::Tape;
+use known_secrets::Known;
 use mask::WHOLE;
-use places::Places;
+use masked_ranges::Places;
 use recording::{RecordKind, Side};
 use rules::Rules;
+use session::Sessions;
 use std::borrow::Cow;
 use std::collections::HashSet;
 use std::path::Path;

@@ -1,7 +1,7 @@
 //! What is taken out of a recording: the table `redact` of a file of rules, which has those of a replay too.
 
 use super::mask::Mask;
-use super::places::Places;
+use super::masked_ranges::Places;
 use crate::failure::{Failure, Result, Status};
 use regex::bytes::Regex;
 use rules::{Pattern, RulesFile};

@@ -1,9 +1,9 @@
 //! The literals of SQL, and the secrets that stand in them without a rule.
 
+use super::lexer::{is_of_word, Piece, Pieces};
 use super::literal::{Meaning, Quotes};
 use super::mask::Mask;
-use super::pieces::{is_of_word, Piece, Pieces};
-use super::places::Places;
+use super::masked_ranges::Places;
 use once_cell::sync::Lazy;
 use regex::bytes::Regex;
 use std::ops::Range;
@@ -173,7 +173,7 @@ pub fn literals(sql: &[u8], places: &mut Places<'_>) {
 #[cfg(test)]
 mod tests {
     use super::*;
-    use crate::redact::known::Known;
+    use crate::redact::known_secrets::Known;
     use rand::rngs::SmallRng;
     use rand::{Rng, SeedableRng};
 

@@ -1,9 +1,9 @@
 //! What is masked in a message.
 
-use super::columns::{format_of, Named, Session};
 use super::mask::Mask;
-use super::places::Places;
+use super::masked_ranges::Places;
 use super::rules::Rules;
+use super::session::{format_of, Named, Session};
 use super::sql;
 use pgmsg::backend::{self, Authentication};
 use pgmsg::frontend::{self, Bind, Password};

@@ -1,12 +1,12 @@
 //! A page in HTML that shows a recording: it holds all that it needs, and asks no network for anything.
 
-use crate::bar::Bar;
-use crate::exchanges::Exchanges;
+use crate::event::Item;
+use crate::exchange_numbers::Exchanges;
 use crate::failure::Result;
-use crate::input::Tape;
-use crate::item::Item;
 use crate::line::Writer;
 use crate::output::Output;
+use crate::progress::Bar;
+use crate::recording_file::Tape;
 use std::path::Path;
 
 const PAGE: &str = include_str!("page.html");

@@ -1,7 +1,7 @@
 //! What a client asked for, in the order in which the server answers it. Both sides are followed by what they say, and never
 //! by the time at which that was recorded.
 
-use super::columns::{Columns, Portal, Statement};
+use super::session::{Columns, Portal, Statement};
 use std::collections::{BTreeSet, VecDeque};
 
 /// What a client asked for, to which the server has answers to come.

@@ -2,7 +2,7 @@
 //! that a name has the same substitute throughout its session, and names that a mask alone would make the same stay different,
 //! as far as their ASCII letters and digits reach. Where SQL names a statement or a cursor, that is a text as any other.
 
-use super::places::Places;
+use super::masked_ranges::Places;
 use std::collections::HashMap;
 
 /// The names of a session that have secrets, each with its number among those that a mask alone would make the same.
@@ -40,7 +40,7 @@ fn count_up<'b>(places: impl Iterator<Item = &'b mut u8>, mut number: usize) {
 #[cfg(test)]
 mod tests {
     use super::*;
-    use crate::redact::known::Known;
+    use crate::redact::known_secrets::Known;
     use crate::redact::mask::Mask;
 
     /// The substitute of a name of which everything after `_` is masked.

@@ -1,7 +1,7 @@
 //! Which columns a row has, and which statement a Bind is of: sessions are followed so far.
 
-use super::asked::{Asked, Queue};
-use super::names::Names;
+use super::masked_names::Names;
+use super::request_queue::{Asked, Queue};
 use pgmsg::backend::{self, Column};
 use pgmsg::frontend::{self, Target};
 use pgmsg::Format;

@@ -3,9 +3,9 @@
 //! An item comes where its message begins. One that lies in several records is waited for, up to `HELD` bytes of all that
 //! follows; beyond them, and where it is longer than `LONGEST`, its bytes are items as they came.
 
-use crate::direction::{Direction, Way, LONGEST};
-use crate::item::{Item, Message, What};
-use crate::queue::{Queue, Slot};
+use crate::event::{Item, Message, What};
+use crate::event_queue::{Queue, Slot};
+use crate::stream_state::{Direction, Way, LONGEST};
 use pgmsg::Next;
 use recording::{Record, RecordKind, Side, MESSAGE_HEAD};
 use std::borrow::Cow;

@@ -1,7 +1,7 @@
 //! A direction of a connection: where its messages begin, and what is held of one that isn't whole.
 
-use crate::item::{Message, What};
-use crate::queue::Queue;
+use crate::event::{Message, What};
+use crate::event_queue::Queue;
 use pgmsg::{Decoder, Next};
 use recording::{Side, MESSAGE_HEAD};
 use std::borrow::Cow;

@@ -1,9 +1,9 @@
 //! The recordings that are read.
 
-use crate::bar::{Bar, Watched};
-use crate::cutter::Cutter;
+use crate::event::Item;
+use crate::event_decoder::Cutter;
 use crate::failure::{Failure, Result};
-use crate::item::Item;
+use crate::progress::{Bar, Watched};
 use recording::{Reader, Record};
 use std::fs::File;
 use std::io::{BufReader, Read, Seek, SeekFrom};

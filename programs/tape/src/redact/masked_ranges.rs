@@ -1,6 +1,6 @@
 //! The places of a message that are masked, and the message with masks in them.
 
-use super::known::Known;
+use super::known_secrets::Known;
 use super::mask::{Mask, WHOLE};
 use std::borrow::Cow;
 use std::ops::Range;

@@ -3,7 +3,7 @@
 //! The login is number 0. Both sides are counted apart, so that the numbers of a pipeline don't depend on when an answer
 //! came.
 
-use crate::item::What;
+use crate::event::What;
 use recording::Side;
 use std::collections::HashMap;
 
@@ -89,7 +89,7 @@ impl Session {
 #[cfg(test)]
 mod tests {
     use super::*;
-    use crate::item::Message;
+    use crate::event::Message;
 
     /// The numbers of messages by their tags: capital letters `C:` and `S:` say the side.
     fn numbers(messages: &[(Side, Option<u8>)]) -> Vec<u32> {

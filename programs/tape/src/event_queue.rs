@@ -1,7 +1,7 @@
 //! Items in their order, of which some wait for the rest of a message.
 
-use crate::cutter::Sink;
-use crate::item::{Item, What};
+use crate::event::{Item, What};
+use crate::event_decoder::Sink;
 use recording::Side;
 use std::borrow::Cow;
 use std::collections::VecDeque;
