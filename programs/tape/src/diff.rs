@@ -1,11 +1,11 @@
 //! Two recordings, compared exchange by exchange.
 
-use crate::event::{Message, What};
-use crate::exchange_numbers::Exchanges;
-use crate::failure::{Failure, Result, Status};
-use crate::line::Writer;
-use crate::progress::Bar;
-use crate::recording_file::Tape;
+use crate::event::{EventKind, RawMessage};
+use crate::exchange_numbers::ExchangeNumbers;
+use crate::failure::{Result, TapeFailure, TapeStatus};
+use crate::line::LineWriter;
+use crate::progress::Progress;
+use crate::recording_file::RecordingFile;
 use lines::escape;
 use recording::Side;
 use similar::{capture_diff_slices_deadline, group_diff_ops, Algorithm, ChangeTag, DiffOp};
@@ -22,45 +22,45 @@ const PATIENCE: Duration = Duration::from_secs(3);
 
 /// What both sides say in an exchange, a line each message.
 #[derive(Debug, Default, PartialEq, Eq)]
-struct Exchange {
+struct ExchangeLines {
     client: Vec<String>,
     server: Vec<String>,
 }
 
-impl Exchange {
+impl ExchangeLines {
     fn lines(&self) -> Vec<&str> {
         self.client.iter().chain(&self.server).map(String::as_str).collect()
     }
 }
 
 /// The exchanges of each connection.
-type Sessions = BTreeMap<u32, Vec<Exchange>>;
+type ExchangesByConnection = BTreeMap<u32, Vec<ExchangeLines>>;
 
 /// Prints where two recordings differ, and tells whether they do. Times, addresses, keys and passwords may differ.
-pub fn diff(one: &Path, other: &Path) -> Result<Status> {
-    let bar = Bar::new("diff", &[one, other]);
-    let (ones, others) = (sessions(one, &bar)?, sessions(other, &bar)?);
-    drop(bar);
+pub fn diff(one: &Path, other: &Path) -> Result<TapeStatus> {
+    let progress = Progress::new("diff", &[one, other]);
+    let (ones, others) = (sessions(one, &progress)?, sessions(other, &progress)?);
+    drop(progress);
     let mut out = Vec::new();
     let count = put_sessions(&mut out, [(one, &ones), (other, &others)]);
     match io::stdout().write_all(&out) {
-        Err(why) => Err(Failure::unwritten(Path::new("standard output"), &why)),
-        Ok(()) if count > 0 => Ok(Status::Different),
-        Ok(()) => Ok(Status::Ok),
+        Err(why) => Err(TapeFailure::unwritten(Path::new("standard output"), &why)),
+        Ok(()) if count > 0 => Ok(TapeStatus::Different),
+        Ok(()) => Ok(TapeStatus::Ok),
     }
 }
 
 /// Reads the exchanges of a recording.
-fn sessions(path: &Path, bar: &Bar) -> Result<Sessions> {
-    let mut tape = Tape::open(path, bar)?;
+fn sessions(path: &Path, progress: &Progress) -> Result<ExchangesByConnection> {
+    let mut recording = RecordingFile::open(path, progress)?;
     let (mut sessions, mut exchanges, mut writer) =
-        (Sessions::new(), Exchanges::default(), Writer::default());
-    tape.items(|item| {
-        let session = sessions.entry(item.connection).or_default();
-        let number = exchanges.number(item.connection, &item.what).unwrap_or_default() as usize;
-        if let Some((side, line)) = line(&item.what, &mut writer) {
+        (ExchangesByConnection::new(), ExchangeNumbers::default(), LineWriter::default());
+    recording.events(|event| {
+        let session = sessions.entry(event.connection).or_default();
+        let number = exchanges.number(event.connection, &event.kind).unwrap_or_default() as usize;
+        if let Some((side, line)) = line(&event.kind, &mut writer) {
             if session.len() <= number {
-                session.resize_with(number + 1, Exchange::default);
+                session.resize_with(number + 1, ExchangeLines::default);
             }
             match side {
                 Side::Client => session[number].client.push(line),
@@ -69,19 +69,19 @@ fn sessions(path: &Path, bar: &Bar) -> Result<Sessions> {
         }
         Ok(())
     })?;
-    tape.say_cut();
+    recording.say_cut();
     Ok(sessions)
 }
 
-/// The line of an item that is compared.
-fn line(what: &What<'_>, writer: &mut Writer) -> Option<(Side, String)> {
-    match what {
-        What::Message { side, message, .. } => Some((*side, shown(*side, message, writer))),
-        What::LeftOut { side, tag, .. } => {
+/// The line of an event that is compared.
+fn line(kind: &EventKind<'_>, writer: &mut LineWriter) -> Option<(Side, String)> {
+    match kind {
+        EventKind::Message { side, message, .. } => Some((*side, shown(*side, message, writer))),
+        EventKind::LeftOut { side, tag, .. } => {
             let tag = escape(char::from(*tag).to_string().as_bytes());
             Some((*side, format!("{} {tag} left out", name(*side))))
         }
-        What::Bytes { side, bytes } => {
+        EventKind::Bytes { side, bytes } => {
             Some((*side, format!("{} bytes {}", name(*side), escape(bytes))))
         }
         _ => None,
@@ -96,8 +96,8 @@ fn name(side: Side) -> &'static str {
 }
 
 /// A message by its kind and its fields; of a secret one the kind alone.
-fn shown(side: Side, message: &Message<'_>, writer: &mut Writer) -> String {
-    let said = writer.message(side, message);
+fn shown(side: Side, message: &RawMessage<'_>, writer: &mut LineWriter) -> String {
+    let content = writer.message(side, message);
     let is_secret = match side {
         Side::Client => pgmsg::frontend::Message::read_body(message.tag, message.body())
             .map_or(false, |it| it.is_secret()),
@@ -106,15 +106,15 @@ fn shown(side: Side, message: &Message<'_>, writer: &mut Writer) -> String {
     };
     let fields = match is_secret {
         true => String::new(),
-        false => serde_json::to_string(&said).unwrap_or_default(),
+        false => serde_json::to_string(&content).unwrap_or_default(),
     };
     let fields = if fields == "{}" { "" } else { &fields };
-    let line = format!("{} {} {}", name(side), said.kind(), escape(fields.as_bytes()));
+    let line = format!("{} {} {}", name(side), content.kind(), escape(fields.as_bytes()));
     line.trim_end().to_owned()
 }
 
 /// Adds the differences of all connections, and counts them.
-fn put_sessions(out: &mut Vec<u8>, both: [(&Path, &Sessions); 2]) -> usize {
+fn put_sessions(out: &mut Vec<u8>, both: [(&Path, &ExchangesByConnection); 2]) -> usize {
     let [(_, ones), (_, others)] = both;
     let mut numbers: Vec<u32> = ones.keys().chain(others.keys()).copied().collect();
     numbers.sort_unstable();
@@ -139,11 +139,17 @@ fn put(out: &mut Vec<u8>, line: &str) {
 }
 
 /// Adds the differences of a connection: exchanges of one alone, and those whose answers differ.
-fn put_session(out: &mut Vec<u8>, number: u32, one: &[Exchange], other: &[Exchange]) -> usize {
-    let said = |all: &[Exchange]| all.iter().map(|it| it.client.clone()).collect::<Vec<_>>();
-    let none = Exchange::default();
+fn put_session(
+    out: &mut Vec<u8>,
+    number: u32,
+    one: &[ExchangeLines],
+    other: &[ExchangeLines],
+) -> usize {
+    let requests =
+        |all: &[ExchangeLines]| all.iter().map(|it| it.client.clone()).collect::<Vec<_>>();
+    let none = ExchangeLines::default();
     let mut count = 0;
-    for op in changes(&said(one), &said(other), PATIENCE) {
+    for op in changes(&requests(one), &requests(other), PATIENCE) {
         let (left, right) = (op.old_range(), op.new_range());
         for at in 0..left.len().max(right.len()) {
             let (left, right) = (left.clone().nth(at), right.clone().nth(at));
@@ -246,18 +252,18 @@ mod tests {
 
     #[test]
     fn what_turns_a_text_is_escaped() {
-        let what = What::Bytes { side: Side::Client, bytes: "a\u{202e}b".as_bytes().into() };
+        let kind = EventKind::Bytes { side: Side::Client, bytes: "a\u{202e}b".as_bytes().into() };
         let wanted = (Side::Client, r"client bytes a\xe2\x80\xaeb".to_owned());
-        assert_eq!(line(&what, &mut Writer::default()), Some(wanted));
+        assert_eq!(line(&kind, &mut LineWriter::default()), Some(wanted));
     }
 
     #[test]
     fn the_tag_of_a_message_that_is_left_out_is_escaped() {
         let table = [(b'p', "p"), (0x1b, r"\x1b"), (0x9b, r"\xc2\x9b"), (0xe9, "\u{e9}")];
         for (tag, shown) in table {
-            let what = What::LeftOut { side: Side::Client, tag, length: 9 };
+            let kind = EventKind::LeftOut { side: Side::Client, tag, length: 9 };
             let wanted = (Side::Client, format!("client {shown} left out"));
-            assert_eq!(line(&what, &mut Writer::default()), Some(wanted));
+            assert_eq!(line(&kind, &mut LineWriter::default()), Some(wanted));
         }
     }
 }

@@ -1,11 +1,11 @@
 //! Recordings that are merged, cut down, split and compared.
 
 use crate::diff::diff;
-use crate::failure::Status;
+use crate::failure::TapeStatus;
 use crate::merge::merge;
 use crate::remove::remove;
 use crate::samples::{self, TempFile};
-use crate::selection::Choice;
+use crate::selection::ConnectionRange;
 use crate::split::split;
 use recording::{Reader, RecordKind, Side, Writer};
 use std::path::PathBuf;
@@ -76,11 +76,11 @@ fn connections_are_dropped_or_kept() {
     let tape = samples::recording(1, false);
     let all = sessions(&tape);
     let (from, to) = (TempFile::with("drop", &tape), TempFile::new("drop.to"));
-    let table: [(&[Choice], bool, &[usize]); 4] = [
-        (&[Choice(2..=2)], false, &[0, 2, 3, 4]),
-        (&[Choice(2..=2)], true, &[1]),
-        (&[Choice(1..=2), Choice(4..=4)], false, &[2, 4]),
-        (&[Choice(1..=5)], false, &[]),
+    let table: [(&[ConnectionRange], bool, &[usize]); 4] = [
+        (&[ConnectionRange(2..=2)], false, &[0, 2, 3, 4]),
+        (&[ConnectionRange(2..=2)], true, &[1]),
+        (&[ConnectionRange(1..=2), ConnectionRange(4..=4)], false, &[2, 4]),
+        (&[ConnectionRange(1..=5)], false, &[]),
     ];
     for (named, keeps, left) in table {
         remove(from.path(), named, keeps, to.path()).unwrap();
@@ -89,8 +89,9 @@ fn connections_are_dropped_or_kept() {
     }
     std::fs::remove_file(to.path()).unwrap();
     let failure =
-        remove(from.path(), &[Choice(1..=1), Choice(6..=9)], false, to.path()).unwrap_err();
-    assert_eq!(failure.status, Status::Usage);
+        remove(from.path(), &[ConnectionRange(1..=1), ConnectionRange(6..=9)], false, to.path())
+            .unwrap_err();
+    assert_eq!(failure.status, TapeStatus::Usage);
     assert!(failure.to_string().ends_with("has no connection 6-9") && !to.path().exists());
 }
 
@@ -118,10 +119,10 @@ fn a_recording_that_is_split_and_merged_says_the_same() {
 fn recordings_are_compared() {
     let one = asking(0, &[&[(1, "a", "A"), (2, "b", "B")], &[(3, "c", "C")]]);
     let table = [
-        (asking(7, &[&[(5, "a", "A"), (9, "b", "B")], &[(9, "c", "C")]]), Status::Ok),
-        (asking(0, &[&[(1, "a", "A"), (2, "b", "X")], &[(3, "c", "C")]]), Status::Different),
-        (asking(0, &[&[(1, "a", "A")], &[(3, "c", "C")]]), Status::Different),
-        (asking(0, &[&[(1, "a", "A"), (2, "b", "B")]]), Status::Different),
+        (asking(7, &[&[(5, "a", "A"), (9, "b", "B")], &[(9, "c", "C")]]), TapeStatus::Ok),
+        (asking(0, &[&[(1, "a", "A"), (2, "b", "X")], &[(3, "c", "C")]]), TapeStatus::Different),
+        (asking(0, &[&[(1, "a", "A")], &[(3, "c", "C")]]), TapeStatus::Different),
+        (asking(0, &[&[(1, "a", "A"), (2, "b", "B")]]), TapeStatus::Different),
     ];
     let from = TempFile::with("diff.one", &one);
     for (at, (other, status)) in table.into_iter().enumerate() {

@@ -1,6 +1,6 @@
 //! The fields of errors and notices, as an object of their names and values in the order of the message.
 
-use crate::json_bytes::Text;
+use crate::json_bytes::JsonBytes;
 use pgmsg::backend::{Field, Fields};
 use pgmsg::ByteStr;
 use serde::de::{self, Deserialize, Deserializer, MapAccess, Visitor};
@@ -34,19 +34,19 @@ const NAMES: [(u8, &str); 18] = [
 const MANY: usize = 64;
 
 #[derive(Debug, PartialEq)]
-pub struct Report<'a>(Vec<(u8, Text<'a>)>);
+pub struct ErrorFields<'a>(Vec<(u8, JsonBytes<'a>)>);
 
-impl<'a> Report<'a> {
+impl<'a> ErrorFields<'a> {
     /// The fields, unless a letter comes again.
-    pub fn of(fields: &Fields<'a>) -> Option<Report<'a>> {
+    pub fn of(fields: &Fields<'a>) -> Option<ErrorFields<'a>> {
         let is_again = |(at, it): (usize, &Field<'_>)| {
             fields[..at].iter().any(|before| before.letter == it.letter)
         };
         if fields.len() > MANY || fields.iter().enumerate().any(is_again) {
             return None;
         }
-        let fields = fields.iter().map(|it| (it.letter, Text(Cow::Borrowed(it.value.0))));
-        Some(Report(fields.collect()))
+        let fields = fields.iter().map(|it| (it.letter, JsonBytes(Cow::Borrowed(it.value.0))));
+        Some(ErrorFields(fields.collect()))
     }
 
     pub fn list(&self) -> Fields<'_> {
@@ -64,7 +64,7 @@ fn letter_of(name: &str) -> Option<u8> {
     }
 }
 
-impl Serialize for Report<'_> {
+impl Serialize for ErrorFields<'_> {
     fn serialize<S: Serializer>(&self, to: S) -> Result<S::Ok, S::Error> {
         let mut map = to.serialize_map(Some(self.0.len()))?;
         for (letter, text) in &self.0 {
@@ -77,23 +77,23 @@ impl Serialize for Report<'_> {
     }
 }
 
-impl<'de: 'a, 'a> Deserialize<'de> for Report<'a> {
-    fn deserialize<D: Deserializer<'de>>(from: D) -> Result<Report<'a>, D::Error> {
-        from.deserialize_map(ReportVisitor)
+impl<'de: 'a, 'a> Deserialize<'de> for ErrorFields<'a> {
+    fn deserialize<D: Deserializer<'de>>(from: D) -> Result<ErrorFields<'a>, D::Error> {
+        from.deserialize_map(ErrorFieldsVisitor)
     }
 }
 
-struct ReportVisitor;
+struct ErrorFieldsVisitor;
 
-impl<'de> Visitor<'de> for ReportVisitor {
-    type Value = Report<'de>;
+impl<'de> Visitor<'de> for ErrorFieldsVisitor {
+    type Value = ErrorFields<'de>;
 
     fn expecting(&self, f: &mut fmt::Formatter<'_>) -> fmt::Result {
         f.write_str("an object of fields")
     }
 
-    fn visit_map<M: MapAccess<'de>>(self, mut map: M) -> Result<Report<'de>, M::Error> {
-        let mut fields: Vec<(u8, Text<'de>)> = Vec::new();
+    fn visit_map<M: MapAccess<'de>>(self, mut map: M) -> Result<ErrorFields<'de>, M::Error> {
+        let mut fields: Vec<(u8, JsonBytes<'de>)> = Vec::new();
         while let Some(name) = map.next_key::<Cow<'de, str>>()? {
             let letter = letter_of(&name).ok_or_else(|| {
                 de::Error::custom(format_args!("no field of an error is `{name}`"))
@@ -103,6 +103,6 @@ impl<'de> Visitor<'de> for ReportVisitor {
             }
             fields.push((letter, map.next_value()?));
         }
-        Ok(Report(fields))
+        Ok(ErrorFields(fields))
     }
 }

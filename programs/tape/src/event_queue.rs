@@ -1,7 +1,7 @@
 //! Items in their order, of which some wait for the rest of a message.
 
-use crate::event::{Item, What};
-use crate::event_decoder::Sink;
+use crate::event::{Event, EventKind};
+use crate::event_decoder::EventSink;
 use recording::Side;
 use std::borrow::Cow;
 use std::collections::VecDeque;
@@ -11,7 +11,7 @@ const ENTRY: usize = 128;
 
 /// The part of a message that isn't whole yet which lies in a record.
 #[derive(Clone, Copy, Debug)]
-pub struct Slot {
+pub struct MessagePart {
     pub connection: u32,
     pub time: u64,
     pub begins: bool,
@@ -19,32 +19,32 @@ pub struct Slot {
     pub len: usize,
 }
 
-impl Slot {
-    pub fn item(self, what: What<'_>) -> Item<'_> {
-        Item { connection: self.connection, time: self.time, begins: self.begins, what }
+impl MessagePart {
+    pub fn event(self, kind: EventKind<'_>) -> Event<'_> {
+        Event { connection: self.connection, time: self.time, begins: self.begins, kind }
     }
 
     /// Its bytes as no message.
-    pub fn bytes(self, bytes: &[u8]) -> Item<'_> {
-        self.item(What::Bytes { side: self.side, bytes: Cow::Borrowed(bytes) })
+    pub fn bytes(self, bytes: &[u8]) -> Event<'_> {
+        self.event(EventKind::Bytes { side: self.side, bytes: Cow::Borrowed(bytes) })
     }
 }
 
-enum Entry {
-    Ready(Item<'static>),
-    Waiting(Slot),
+enum QueueEntry {
+    Ready(Event<'static>),
+    Waiting(MessagePart),
 }
 
 /// Entries have numbers, which go on as those at the front are taken.
 #[derive(Default)]
-pub struct Queue {
-    entries: VecDeque<Entry>,
+pub struct EventQueue {
+    entries: VecDeque<QueueEntry>,
     taken: u64,
     /// What the entries take.
     size: usize,
 }
 
-impl Queue {
+impl EventQueue {
     pub fn is_empty(&self) -> bool {
         self.entries.is_empty()
     }
@@ -53,67 +53,67 @@ impl Queue {
         self.size
     }
 
-    /// Gives an item to a sink, or holds it where others are held.
+    /// Gives an event to a sink, or holds it where others are held.
     #[inline]
-    pub fn give<E>(&mut self, item: Item<'_>, sink: &mut impl Sink<E>) -> Result<(), E> {
+    pub fn give<E>(&mut self, event: Event<'_>, sink: &mut impl EventSink<E>) -> Result<(), E> {
         if self.is_empty() {
-            return sink(item);
+            return sink(event);
         }
-        self.size += ENTRY + item.len();
-        self.entries.push_back(Entry::Ready(item.into_owned()));
+        self.size += ENTRY + event.len();
+        self.entries.push_back(QueueEntry::Ready(event.into_owned()));
         Ok(())
     }
 
     /// Adds a part of a message, and gives its number.
-    pub fn wait(&mut self, slot: Slot) -> u64 {
-        self.size += ENTRY + slot.len;
-        self.entries.push_back(Entry::Waiting(slot));
+    pub fn wait(&mut self, part: MessagePart) -> u64 {
+        self.size += ENTRY + part.len;
+        self.entries.push_back(QueueEntry::Waiting(part));
         self.taken + self.entries.len() as u64 - 1
     }
 
-    fn entry(&mut self, number: u64) -> Option<&mut Entry> {
+    fn entry(&mut self, number: u64) -> Option<&mut QueueEntry> {
         self.entries.get_mut(usize::try_from(number.checked_sub(self.taken)?).ok()?)
     }
 
     /// More bytes of a part are there.
     pub fn grow(&mut self, number: u64, count: usize) {
         self.size += count;
-        if let Some(Entry::Waiting(slot)) = self.entry(number) {
-            slot.len += count;
+        if let Some(QueueEntry::Waiting(part)) = self.entry(number) {
+            part.len += count;
         }
     }
 
     /// The part that waits under a number.
-    pub fn slot(&mut self, number: u64) -> Option<Slot> {
+    pub fn part(&mut self, number: u64) -> Option<MessagePart> {
         match self.entry(number)? {
-            Entry::Waiting(slot) => Some(*slot),
-            Entry::Ready(_) => None,
+            QueueEntry::Waiting(part) => Some(*part),
+            QueueEntry::Ready(_) => None,
         }
     }
 
-    /// Puts an item in the place of a part.
-    pub fn settle(&mut self, number: u64, slot: Slot, item: Item<'static>) {
-        self.size = self.size + item.len() - slot.len;
+    /// Puts an event in the place of a part.
+    pub fn settle(&mut self, number: u64, part: MessagePart, event: Event<'static>) {
+        self.size = self.size + event.len() - part.len;
         if let Some(entry) = self.entry(number) {
-            *entry = Entry::Ready(item);
+            *entry = QueueEntry::Ready(event);
         }
     }
 
     /// The part at the front that waits.
-    pub fn front(&self) -> Option<Slot> {
+    pub fn front(&self) -> Option<MessagePart> {
         match self.entries.front()? {
-            Entry::Waiting(slot) => Some(*slot),
-            Entry::Ready(_) => None,
+            QueueEntry::Waiting(part) => Some(*part),
+            QueueEntry::Ready(_) => None,
         }
     }
 
-    /// Takes the item at the front, where that doesn't wait.
-    pub fn take(&mut self) -> Option<Item<'static>> {
+    /// Takes the event at the front, where that doesn't wait.
+    pub fn take(&mut self) -> Option<Event<'static>> {
         match self.entries.pop_front()? {
-            Entry::Ready(item) => {
+            QueueEntry::Ready(event) => {
                 self.taken += 1;
-                self.size -= ENTRY + item.len();
-                Some(item)
+                self.size -= ENTRY + event.len();
+                Some(event)
             }
             waiting => {
                 self.entries.push_front(waiting);

@@ -3,12 +3,12 @@
 //! The login is number 0. Both sides are counted apart, so that the numbers of a pipeline don't depend on when an answer
 //! came.
 
-use crate::event::What;
+use crate::event::EventKind;
 use recording::Side;
 use std::collections::HashMap;
 
 #[derive(Clone, Copy, Debug)]
-struct Session {
+struct ExchangeCounter {
     /// The exchanges that the next messages of either side belong to.
     client: u32,
     server: u32,
@@ -21,27 +21,32 @@ struct Session {
 
 /// Numbers the exchanges of connections.
 #[derive(Default)]
-pub struct Exchanges {
-    sessions: HashMap<u32, Session>,
+pub struct ExchangeNumbers {
+    sessions: HashMap<u32, ExchangeCounter>,
 }
 
-impl Exchanges {
-    /// The number of the exchange that an item of a connection belongs to, where it belongs to one.
-    pub fn number(&mut self, connection: u32, what: &What<'_>) -> Option<u32> {
-        match what {
-            What::Opened(_) => {
-                let session =
-                    Session { client: 1, server: 0, has_begun: false, by_sync: false, last: 0 };
+impl ExchangeNumbers {
+    /// The number of the exchange that an event of a connection belongs to, where it belongs to one.
+    pub fn number(&mut self, connection: u32, kind: &EventKind<'_>) -> Option<u32> {
+        match kind {
+            EventKind::Opened(_) => {
+                let session = ExchangeCounter {
+                    client: 1,
+                    server: 0,
+                    has_begun: false,
+                    by_sync: false,
+                    last: 0,
+                };
                 self.sessions.insert(connection, session);
                 None
             }
-            What::Closed(_) => {
+            EventKind::Closed(_) => {
                 self.sessions.remove(&connection);
                 None
             }
-            What::Encrypted => None,
-            What::LeftOut { .. } => Some(0),
-            What::Message { side, message, .. } => {
+            EventKind::Encrypted => None,
+            EventKind::LeftOut { .. } => Some(0),
+            EventKind::Message { side, message, .. } => {
                 let session = self.sessions.get_mut(&connection)?;
                 session.last = match side {
                     Side::Client => session.client(message.tag),
@@ -49,14 +54,14 @@ impl Exchanges {
                 };
                 Some(session.last)
             }
-            What::Continued { .. } | What::Bytes { .. } => {
+            EventKind::Continued { .. } | EventKind::Bytes { .. } => {
                 self.sessions.get(&connection).map(|it| it.last)
             }
         }
     }
 }
 
-impl Session {
+impl ExchangeCounter {
     fn client(&mut self, tag: Option<u8>) -> u32 {
         let is_copy = matches!(tag, Some(b'd' | b'c' | b'f'));
         match tag {
@@ -89,15 +94,15 @@ impl Session {
 #[cfg(test)]
 mod tests {
     use super::*;
-    use crate::event::Message;
+    use crate::event::RawMessage;
 
     /// The numbers of messages by their tags: capital letters `C:` and `S:` say the side.
     fn numbers(messages: &[(Side, Option<u8>)]) -> Vec<u32> {
-        let mut exchanges = Exchanges::default();
-        exchanges.number(1, &What::Opened(b""[..].into()));
+        let mut exchanges = ExchangeNumbers::default();
+        exchanges.number(1, &EventKind::Opened(b""[..].into()));
         let number = |&(side, tag): &(Side, Option<u8>)| {
-            let message = Message { tag, bytes: b""[..].into() };
-            exchanges.number(1, &What::Message { side, message, here: 0 }).unwrap()
+            let message = RawMessage { tag, bytes: b""[..].into() };
+            exchanges.number(1, &EventKind::Message { side, message, here: 0 }).unwrap()
         };
         messages.iter().map(number).collect()
     }

@@ -7,7 +7,7 @@ use std::path::Path;
 /// The exit statuses. Those above 2 are pg_record's and pg_replay's.
 #[derive(Clone, Copy, Debug, PartialEq, Eq)]
 #[repr(u8)]
-pub enum Status {
+pub enum TapeStatus {
     Ok = 0,
     /// Two recordings differ.
     Different = 1,
@@ -24,39 +24,39 @@ pub enum Status {
 /// Why the program ends, with its status.
 #[derive(Debug, thiserror::Error)]
 #[error("{words}")]
-pub struct Failure {
-    pub status: Status,
+pub struct TapeFailure {
+    pub status: TapeStatus,
     words: String,
 }
 
-pub type Result<T> = std::result::Result<T, Failure>;
+pub type Result<T> = std::result::Result<T, TapeFailure>;
 
-impl Failure {
-    pub fn new(status: Status, words: impl Into<String>) -> Failure {
-        Failure { status, words: words.into() }
+impl TapeFailure {
+    pub fn new(status: TapeStatus, words: impl Into<String>) -> TapeFailure {
+        TapeFailure { status, words: words.into() }
     }
 
     /// A recording that can't be read on.
-    pub fn damaged(damage: &Damage, path: &Path) -> Failure {
+    pub fn damaged(damage: &Damage, path: &Path) -> TapeFailure {
         let status = match damage {
-            Damage::File(_) => Status::Local,
-            _ => Status::Damaged,
+            Damage::File(_) => TapeStatus::Local,
+            _ => TapeStatus::Damaged,
         };
-        Failure::new(status, damage.about(path))
+        TapeFailure::new(status, damage.about(path))
     }
 
     /// A file that can't be read.
-    pub fn unread(path: &Path, why: &io::Error) -> Failure {
-        Failure::new(Status::Local, format!("{} can't be read: {why}", path.display()))
+    pub fn unread(path: &Path, why: &io::Error) -> TapeFailure {
+        TapeFailure::new(TapeStatus::Local, format!("{} can't be read: {why}", path.display()))
     }
 
     /// A file that can't be written. Where nobody reads a pipe any more, as after `head`, there are no words.
-    pub fn unwritten(path: &Path, why: &io::Error) -> Failure {
+    pub fn unwritten(path: &Path, why: &io::Error) -> TapeFailure {
         let words = match why.kind() {
             io::ErrorKind::BrokenPipe => String::new(),
             _ => format!("{} can't be written: {why}", path.display()),
         };
-        Failure::new(Status::Local, words)
+        TapeFailure::new(TapeStatus::Local, words)
     }
 
     /// Whether there is something to say of it.

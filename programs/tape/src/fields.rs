@@ -1,37 +1,37 @@
 //! The kinds of messages and their fields, as JSON has them.
 
-use crate::json_bytes::Text;
+use crate::json_bytes::JsonBytes;
 use serde::{Deserialize, Serialize};
 
 /// Values of parameters or rows, of which some are NULL.
-pub type Values<'a> = Vec<Option<Text<'a>>>;
+pub type Values<'a> = Vec<Option<JsonBytes<'a>>>;
 
 /// Makes the enum of a side by a table of its kinds and their fields.
 macro_rules! kinds {
-    ($(#[$doc:meta])* $side:ident { $($name:ident($shape:ty),)* }) => {
+    ($(#[$doc:meta])* $message:ident of a $side:literal { $($name:ident($shape:ty),)* }) => {
         $(#[$doc])*
         #[derive(Debug, PartialEq, serde::Serialize)]
         #[serde(untagged)]
         #[allow(clippy::upper_case_acronyms)]
-        pub enum $side<'a> {
+        pub enum $message<'a> {
             $($name($shape),)*
         }
 
-        impl<'a> $side<'a> {
+        impl<'a> $message<'a> {
             /// The name of the message.
             pub fn kind(&self) -> &'static str {
                 match self {
-                    $($side::$name(_) => stringify!($name),)*
+                    $($message::$name(_) => stringify!($name),)*
                 }
             }
 
             /// Reads the fields of a message of a kind.
             pub fn read<D: serde::Deserializer<'a>>(kind: &str, fields: D) -> Result<Self, D::Error> {
                 match kind {
-                    $(stringify!($name) => serde::Deserialize::deserialize(fields).map($side::$name),)*
+                    $(stringify!($name) => serde::Deserialize::deserialize(fields).map($message::$name),)*
                     _ => Err(serde::de::Error::custom(format_args!(
                         "a {} has no message of the kind `{kind}`",
-                        stringify!($side).to_ascii_lowercase()
+                        $side
                     ))),
                 }
             }
@@ -42,11 +42,11 @@ macro_rules! kinds {
 pub(crate) use kinds;
 
 /// Defines the fields of a kind of message.
-macro_rules! shapes {
+macro_rules! message_fields {
     ($($(#[$doc:meta])* $name:ident { $($(#[$more:meta])* $field:ident: $type:ty,)* })*) => {
         $(
-            $(#[$doc])*
             #[derive(Debug, PartialEq, Serialize, Deserialize)]
+            $(#[$doc])*
             #[serde(deny_unknown_fields, bound(deserialize = "'de: 'a"))]
             pub struct $name<'a> {
                 $($(#[$more])* pub $field: $type,)*
@@ -55,42 +55,44 @@ macro_rules! shapes {
     };
 }
 
-shapes! {
-    Startup { minor: u16, settings: Vec<Setting<'a>>, }
-    Setting { name: Text<'a>, value: Text<'a>, }
-    Key { process_id: u32, secret_key: Text<'a>, }
-    Bind {
-        portal: Text<'a>,
-        statement: Text<'a>,
+message_fields! {
+    StartupFields { minor: u16, settings: Vec<SettingFields<'a>>, }
+    #[serde(rename = "Setting")]
+    SettingFields { name: JsonBytes<'a>, value: JsonBytes<'a>, }
+    KeyFields { process_id: u32, secret_key: JsonBytes<'a>, }
+    BindFields {
+        portal: JsonBytes<'a>,
+        statement: JsonBytes<'a>,
         formats: Vec<i16>,
         values: Values<'a>,
         result_formats: Vec<i16>,
     }
-    Data { data: Text<'a>, }
-    CopyFail { reason: Text<'a>, }
-    Target { target: TargetKind, name: Text<'a>, }
-    Execute { portal: Text<'a>, max_rows: u32, }
-    FunctionCall {
+    DataFields { data: JsonBytes<'a>, }
+    CopyFailFields { reason: JsonBytes<'a>, }
+    TargetFields { target: TargetKind, name: JsonBytes<'a>, }
+    ExecuteFields { portal: JsonBytes<'a>, max_rows: u32, }
+    FunctionCallFields {
         object_id: u32,
         formats: Vec<i16>,
         arguments: Values<'a>,
         result_format: i16,
     }
-    Parse { statement: Text<'a>, query: Text<'a>, types: Vec<u32>, }
-    Password { password: Text<'a>, }
-    Initial { mechanism: Text<'a>, response: Option<Text<'a>>, }
-    Query { query: Text<'a>, }
-    Mechanisms { mechanisms: Vec<Text<'a>>, }
-    Salt { salt: Text<'a>, }
-    Method { method: u32, data: Text<'a>, }
-    Command { command: Text<'a>, }
-    Row { values: Values<'a>, }
-    FunctionResult { value: Option<Text<'a>>, }
-    Negotiation { minor: u16, options: Vec<Text<'a>>, }
-    Notification { process_id: u32, channel: Text<'a>, payload: Text<'a>, }
-    Columns { columns: Vec<Column<'a>>, }
-    Column {
-        name: Text<'a>,
+    ParseFields { statement: JsonBytes<'a>, query: JsonBytes<'a>, types: Vec<u32>, }
+    PasswordFields { password: JsonBytes<'a>, }
+    SaslInitialFields { mechanism: JsonBytes<'a>, response: Option<JsonBytes<'a>>, }
+    QueryFields { query: JsonBytes<'a>, }
+    MechanismsFields { mechanisms: Vec<JsonBytes<'a>>, }
+    SaltFields { salt: JsonBytes<'a>, }
+    AuthenticationFields { method: u32, data: JsonBytes<'a>, }
+    CommandFields { command: JsonBytes<'a>, }
+    RowFields { values: Values<'a>, }
+    FunctionResultFields { value: Option<JsonBytes<'a>>, }
+    NegotiationFields { minor: u16, options: Vec<JsonBytes<'a>>, }
+    NotificationFields { process_id: u32, channel: JsonBytes<'a>, payload: JsonBytes<'a>, }
+    ColumnsFields { columns: Vec<ColumnFields<'a>>, }
+    #[serde(rename = "Column")]
+    ColumnFields {
+        name: JsonBytes<'a>,
         table: u32,
         attribute: i16,
         type_id: u32,
@@ -99,36 +101,36 @@ shapes! {
         format: i16,
     }
     /// A message that has no fields here: of an unknown tag, or of bytes that its fields wouldn't give back.
-    Other { tag: Tag, body: Text<'a>, }
+    OtherFields { tag: Tag, body: JsonBytes<'a>, }
 }
 
 /// A message without fields.
 #[derive(Debug, PartialEq, Serialize, Deserialize)]
 #[serde(deny_unknown_fields)]
-pub struct Empty {}
+pub struct NoFields {}
 
 #[derive(Debug, PartialEq, Serialize, Deserialize)]
 #[serde(deny_unknown_fields)]
-pub struct Copy {
+pub struct CopyFields {
     pub format: i8,
     pub columns: Vec<i16>,
 }
 
 #[derive(Debug, PartialEq, Serialize, Deserialize)]
 #[serde(deny_unknown_fields)]
-pub struct Types {
+pub struct TypesFields {
     pub types: Vec<u32>,
 }
 
 #[derive(Debug, PartialEq, Serialize, Deserialize)]
 #[serde(deny_unknown_fields)]
-pub struct Ready {
-    pub status: Status,
+pub struct ReadyFields {
+    pub status: StatusLetter,
 }
 
 /// Whether a transaction is open, by the letter of the protocol.
 #[derive(Clone, Copy, Debug, PartialEq, Eq, Serialize, Deserialize)]
-pub enum Status {
+pub enum StatusLetter {
     I,
     T,
     E,

@@ -1,12 +1,12 @@
 //! A recording from JSON Lines.
 
-use crate::failure::{Failure, Result, Status};
-use crate::layout::Taker;
-use crate::line::{write, Head, Place, Said, VERSION};
+use crate::failure::{Result, TapeFailure, TapeStatus};
+use crate::layout::LayoutReader;
+use crate::line::{write, HeaderFields, LineContent, LinePosition, VERSION};
 use crate::output::Output;
-use crate::parse::{self, Line};
-use crate::progress::Bar;
-use crate::record_assembler::{Joiner, Spot, Unjoined};
+use crate::parse::{self, ParsedLine};
+use crate::progress::Progress;
+use crate::record_assembler::{AssembleError, RecordAssembler, RecordPosition};
 use crate::recording_file::open;
 use lines::escape;
 use memchr::memchr;
@@ -21,11 +21,11 @@ const LONGEST: usize = 32 << 20;
 
 /// What is wrong with a line.
 #[derive(Debug, thiserror::Error)]
-enum Wrong {
+enum LineError {
     #[error("{0}")]
     Json(serde_json::Error),
     #[error("{0}")]
-    Unjoined(#[from] Unjoined),
+    Assemble(#[from] AssembleError),
     #[error("the message can't be written: {0}")]
     Refused(#[from] pgmsg::Refusal),
     #[error("{0}")]
@@ -33,17 +33,17 @@ enum Wrong {
 }
 
 /// Reads lines, and makes records of them.
-struct Import<'o> {
+struct Importer<'o> {
     out: Option<&'o mut Output>,
-    joiner: Option<Joiner<&'o mut Output>>,
+    assembler: Option<RecordAssembler<&'o mut Output>>,
     message: Vec<u8>,
-    taker: Taker,
+    reader: LayoutReader,
     tail: Vec<u8>,
 }
 
 pub fn import(path: &Path, to: &Path) -> Result<()> {
-    let file = BufReader::with_capacity(ROOM, Bar::new("import", &[path]).on(open(path)?));
-    let mut lines = Lines { file, passed: 0, line: Vec::new() };
+    let file = BufReader::with_capacity(ROOM, Progress::new("import", &[path]).on(open(path)?));
+    let mut lines = LineReader { file, passed: 0, line: Vec::new() };
     let mut out = Output::create(to)?;
     let tail = read(&mut lines, &mut out, path, to)?;
     out.put(&tail)?;
@@ -51,7 +51,7 @@ pub fn import(path: &Path, to: &Path) -> Result<()> {
 }
 
 /// The lines of a file.
-struct Lines<R> {
+struct LineReader<R> {
     file: BufReader<R>,
     /// How long the last line is, where it lies in the file's buffer.
     passed: usize,
@@ -59,7 +59,7 @@ struct Lines<R> {
     line: Vec<u8>,
 }
 
-impl<R: Read> Lines<R> {
+impl<R: Read> LineReader<R> {
     /// The next line, or its front where it is too long; none at the end.
     fn next(&mut self) -> io::Result<&[u8]> {
         self.file.consume(mem::take(&mut self.passed));
@@ -74,18 +74,23 @@ impl<R: Read> Lines<R> {
 }
 
 /// Reads all lines, and gives what follows the last whole record.
-fn read(lines: &mut Lines<impl Read>, out: &mut Output, path: &Path, to: &Path) -> Result<Vec<u8>> {
-    let mut import = Import {
+fn read(
+    lines: &mut LineReader<impl Read>,
+    out: &mut Output,
+    path: &Path,
+    to: &Path,
+) -> Result<Vec<u8>> {
+    let mut import = Importer {
         out: Some(out),
-        joiner: None,
+        assembler: None,
         message: Vec::new(),
-        taker: Taker::default(),
+        reader: LayoutReader::default(),
         tail: Vec::new(),
     };
     let mut number = 0_u64;
     loop {
         number += 1;
-        let line = lines.next().map_err(|why| Failure::unread(path, &why))?;
+        let line = lines.next().map_err(|why| TapeFailure::unread(path, &why))?;
         let taken = match line.is_empty() {
             true => import.end(),
             false => import.line(line),
@@ -98,11 +103,11 @@ fn read(lines: &mut Lines<impl Read>, out: &mut Output, path: &Path, to: &Path) 
 }
 
 /// A fault by the number of its line.
-fn fault(wrong: &Wrong, path: &Path, to: &Path, number: u64) -> Failure {
+fn fault(wrong: &LineError, path: &Path, to: &Path, number: u64) -> TapeFailure {
     let path = path.display();
     let words = match wrong {
-        Wrong::Unjoined(Unjoined::File(why)) => return Failure::unwritten(to, why),
-        Wrong::Json(why) => {
+        LineError::Assemble(AssembleError::File(why)) => return TapeFailure::unwritten(to, why),
+        LineError::Json(why) => {
             let (words, column) = (why.to_string(), why.column());
             let words = words.split(" at line ").next().unwrap_or_default();
             // They quote names of the file.
@@ -110,101 +115,107 @@ fn fault(wrong: &Wrong, path: &Path, to: &Path, number: u64) -> Failure {
         }
         _ => format!("{path}: line {number}: {wrong}"),
     };
-    Failure::new(Status::Damaged, words)
+    TapeFailure::new(TapeStatus::Damaged, words)
 }
 
-impl Import<'_> {
+impl Importer<'_> {
     /// Takes a line.
-    fn line(&mut self, bytes: &[u8]) -> std::result::Result<(), Wrong> {
+    fn line(&mut self, bytes: &[u8]) -> std::result::Result<(), LineError> {
         if bytes.len() > LONGEST {
-            return Err(Wrong::Other("it is longer than 32 MiB"));
+            return Err(LineError::Other("it is longer than 32 MiB"));
         }
-        if let (Some(joiner), []) = (&mut self.joiner, &self.tail[..]) {
+        if let (Some(assembler), []) = (&mut self.assembler, &self.tail[..]) {
             self.message.clear();
-            if let Some(spot) = self.taker.take(bytes, &mut self.message) {
-                return Ok(joiner.message(spot, &self.message, None)?);
+            if let Some(position) = self.reader.take(bytes, &mut self.message) {
+                return Ok(assembler.message(position, &self.message, None)?);
             }
         }
         if bytes.iter().all(u8::is_ascii_whitespace) {
             return Ok(());
         }
-        let text = std::str::from_utf8(bytes).map_err(|_| Wrong::Other("it is no UTF-8"))?;
+        let text = std::str::from_utf8(bytes).map_err(|_| LineError::Other("it is no UTF-8"))?;
         match parse::read(text) {
             Ok(line) => self.take(&line),
             Err(why) => {
-                let ordered = parse::ordered(text).ok_or(Wrong::Json(why))?;
-                self.take(&parse::read(&ordered).map_err(Wrong::Json)?)
+                let ordered = parse::ordered(text).ok_or(LineError::Json(why))?;
+                self.take(&parse::read(&ordered).map_err(LineError::Json)?)
             }
         }
     }
 
     /// Takes a line that was read.
-    fn take(&mut self, line: &Line<'_>) -> std::result::Result<(), Wrong> {
-        let Line { place, said } = line;
+    fn take(&mut self, line: &ParsedLine<'_>) -> std::result::Result<(), LineError> {
+        let ParsedLine { position, content } = line;
+        let here = position.here;
         if !self.tail.is_empty() {
-            return Err(Wrong::Other("nothing follows a line of the kind `Cut`"));
+            return Err(LineError::Other("nothing follows a line of the kind `Cut`"));
         }
-        let joiner = match (said, &mut self.joiner) {
-            (Said::Recording(head), None) => return self.begin(head),
-            (Said::Recording(_), Some(_)) => {
-                return Err(Wrong::Other("the recording has begun before"))
+        let assembler = match (content, &mut self.assembler) {
+            (LineContent::Recording(head), None) => return self.begin(head),
+            (LineContent::Recording(_), Some(_)) => {
+                return Err(LineError::Other("the recording has begun before"))
             }
-            (_, None) => return Err(Wrong::Other("the first line isn't of the kind `Recording`")),
-            (_, Some(joiner)) => joiner,
+            (_, None) => {
+                return Err(LineError::Other("the first line isn't of the kind `Recording`"))
+            }
+            (_, Some(assembler)) => assembler,
         };
-        let spot = spot_of(*place);
-        let Spot { connection, time, side, .. } = spot;
-        match said {
-            Said::Opened(it) => {
-                joiner.record(RecordKind::Opened, connection, time, &it.address.0)?
+        let position = record_position(*position);
+        let RecordPosition { connection, time, side, .. } = position;
+        match content {
+            LineContent::Opened(it) => {
+                assembler.record(RecordKind::Opened, connection, time, &it.address.0)?
             }
-            Said::Encrypted(_) => joiner.record(RecordKind::Encrypted, connection, time, b"")?,
-            Said::Closed(it) => {
-                joiner.record(RecordKind::Closed, connection, time, closed_by(it.by))?
+            LineContent::Encrypted(_) => {
+                assembler.record(RecordKind::Encrypted, connection, time, b"")?
             }
-            Said::LeftOut(it) => {
-                let mut content = vec![it.tag.0];
-                content.extend_from_slice(&it.length.to_be_bytes());
-                joiner.record(RecordKind::LeftOut(side), connection, time, &content)?;
+            LineContent::Closed(it) => {
+                assembler.record(RecordKind::Closed, connection, time, closed_by(it.by))?
             }
-            Said::Continued(_) => joiner.go_on(spot, place.here)?,
-            Said::Bytes(it) => joiner.message(spot, &it.data.0, place.here)?,
-            Said::Cut(it) => self.tail = it.data.0.to_vec(),
-            Said::Client(_) | Said::Server(_) | Said::Recording(_) => {
+            LineContent::LeftOut(it) => {
+                let mut head = vec![it.tag.0];
+                head.extend_from_slice(&it.length.to_be_bytes());
+                assembler.record(RecordKind::LeftOut(side), connection, time, &head)?;
+            }
+            LineContent::Continued(_) => assembler.go_on(position, here)?,
+            LineContent::Bytes(it) => assembler.message(position, &it.data.0, here)?,
+            LineContent::Cut(it) => self.tail = it.data.0.to_vec(),
+            LineContent::Client(_) | LineContent::Server(_) | LineContent::Recording(_) => {
                 self.message.clear();
-                write(said, &mut self.message)?;
-                joiner.message(spot, &self.message, place.here)?;
+                write(content, &mut self.message)?;
+                assembler.message(position, &self.message, here)?;
             }
         }
         Ok(())
     }
 
-    fn begin(&mut self, head: &Head) -> std::result::Result<(), Wrong> {
+    fn begin(&mut self, head: &HeaderFields) -> std::result::Result<(), LineError> {
         if head.version != VERSION {
-            return Err(Wrong::Other("the format has version 1 here"));
+            return Err(LineError::Other("the format has version 1 here"));
         }
         if let Some(out) = self.out.take() {
-            self.joiner = Some(Joiner::new(out, head.begun).map_err(Unjoined::from)?);
+            self.assembler =
+                Some(RecordAssembler::new(out, head.begun).map_err(AssembleError::from)?);
         }
         Ok(())
     }
 
     /// Takes the end of the file.
-    fn end(&mut self) -> std::result::Result<(), Wrong> {
-        match self.joiner.take() {
-            Some(joiner) => Ok(joiner.end().map(drop)?),
-            None => Err(Wrong::Other("there is no line")),
+    fn end(&mut self) -> std::result::Result<(), LineError> {
+        match self.assembler.take() {
+            Some(assembler) => Ok(assembler.end().map(drop)?),
+            None => Err(LineError::Other("there is no line")),
         }
     }
 }
 
 /// Where a line stands, of which the parts that its kind has not don't matter.
-fn spot_of(place: Place) -> Spot {
-    Spot {
-        connection: place.connection.unwrap_or_default(),
-        time: place.time.unwrap_or_default(),
-        side: place.side.unwrap_or(Side::Client),
-        begins: place.apart,
+fn record_position(position: LinePosition) -> RecordPosition {
+    RecordPosition {
+        connection: position.connection.unwrap_or_default(),
+        time: position.time.unwrap_or_default(),
+        side: position.side.unwrap_or(Side::Client),
+        begins: position.apart,
     }
 }
 

@@ -7,9 +7,9 @@ use std::io::{self, Write};
 
 /// Escapes the control characters from U+007F to U+009F too, which serde_json lets pass. Bytes that have one are in Base64, so
 /// that these are tags, and letters of an error's fields.
-struct Escaping;
+struct EscapingFormatter;
 
-impl Formatter for Escaping {
+impl Formatter for EscapingFormatter {
     fn write_string_fragment<W: ?Sized + Write>(
         &mut self,
         out: &mut W,
@@ -29,38 +29,38 @@ impl Formatter for Escaping {
 /// Appends a value as JSON.
 pub fn put_json(out: &mut Vec<u8>, value: &impl Serialize) {
     // Writing to a vector never fails, and each key is a string.
-    let _ = value.serialize(&mut Serializer::with_formatter(out, Escaping));
+    let _ = value.serialize(&mut Serializer::with_formatter(out, EscapingFormatter));
 }
 
 #[cfg(test)]
 mod tests {
-    use crate::event::Message;
-    use crate::line::{self, Place, Writer};
+    use crate::event::RawMessage;
+    use crate::line::{self, LinePosition, LineWriter};
     use crate::parse;
-    use pgmsg::backend::{Field, FieldKind, Message as ServerMessage, Other};
+    use pgmsg::backend::{self, Field, FieldKind, Other};
     use pgmsg::ByteStr;
     use recording::Side;
 
     /// The line of a server's message, which gives the same bytes back.
-    fn line_of(message: &ServerMessage<'_>) -> String {
+    fn line_of(message: &backend::Message<'_>) -> String {
         let (mut bytes, mut out, mut again) = (Vec::new(), Vec::new(), Vec::new());
         message.write(&mut bytes).unwrap();
-        let message = Message { tag: Some(bytes[0]), bytes: (&bytes[..]).into() };
+        let message = RawMessage { tag: Some(bytes[0]), bytes: (&bytes[..]).into() };
         let (connection, time, side) = (Some(1), Some(0), Some(Side::Server));
-        let place = Place { connection, time, side, ..Place::default() };
-        line::put(&mut out, place, &Writer::default().message(Side::Server, &message));
+        let position = LinePosition { connection, time, side, ..LinePosition::default() };
+        line::put(&mut out, position, &LineWriter::default().message(Side::Server, &message));
         let line = String::from_utf8(out).unwrap();
-        line::write(&parse::read(&line).unwrap().said, &mut again).unwrap();
+        line::write(&parse::read(&line).unwrap().content, &mut again).unwrap();
         assert_eq!(again, bytes, "{line}");
         line.trim_end().to_owned()
     }
 
-    fn other(tag: u8) -> ServerMessage<'static> {
-        ServerMessage::Other(Other { tag, body: ByteStr(b"?") })
+    fn other(tag: u8) -> backend::Message<'static> {
+        backend::Message::Other(Other { tag, body: ByteStr(b"?") })
     }
 
-    fn error(letter: u8) -> ServerMessage<'static> {
-        ServerMessage::ErrorResponse([Field::new(FieldKind::Other(letter), "x")].into())
+    fn error(letter: u8) -> backend::Message<'static> {
+        backend::Message::ErrorResponse([Field::new(FieldKind::Other(letter), "x")].into())
     }
 
     #[test]

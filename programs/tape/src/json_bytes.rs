@@ -9,11 +9,11 @@ use std::str;
 
 /// Bytes of a message, borrowed where they can be.
 #[derive(Clone, Debug, Default, PartialEq, Eq)]
-pub struct Text<'a>(pub Cow<'a, [u8]>);
+pub struct JsonBytes<'a>(pub Cow<'a, [u8]>);
 
-impl<'a> From<&'a [u8]> for Text<'a> {
-    fn from(bytes: &'a [u8]) -> Text<'a> {
-        Text(Cow::Borrowed(bytes))
+impl<'a> From<&'a [u8]> for JsonBytes<'a> {
+    fn from(bytes: &'a [u8]) -> JsonBytes<'a> {
+        JsonBytes(Cow::Borrowed(bytes))
     }
 }
 
@@ -38,18 +38,18 @@ fn is_plain(bytes: &[u8]) -> bool {
 }
 
 /// Appends bytes as JSON has them.
-pub fn put_text(out: &mut Vec<u8>, bytes: &[u8]) {
+pub fn put_json_bytes(out: &mut Vec<u8>, bytes: &[u8]) {
     if is_plain(bytes) {
         out.push(b'"');
         out.extend_from_slice(bytes);
         out.push(b'"');
     } else {
         // Writing to a vector never fails.
-        let _ = serde_json::to_writer(out, &Text::from(bytes));
+        let _ = serde_json::to_writer(out, &JsonBytes::from(bytes));
     }
 }
 
-impl Text<'_> {
+impl JsonBytes<'_> {
     /// The text, where the bytes are one: UTF-8 without control characters other than those of lines and columns.
     fn as_str(&self) -> Option<&str> {
         match has(&self.0, is_no_text) || has_high_control(&self.0) {
@@ -59,7 +59,7 @@ impl Text<'_> {
     }
 }
 
-impl Serialize for Text<'_> {
+impl Serialize for JsonBytes<'_> {
     fn serialize<S: Serializer>(&self, to: S) -> Result<S::Ok, S::Error> {
         if let Some(text) = self.as_str() {
             return to.serialize_str(text);
@@ -70,30 +70,30 @@ impl Serialize for Text<'_> {
     }
 }
 
-impl<'de: 'a, 'a> Deserialize<'de> for Text<'a> {
-    fn deserialize<D: Deserializer<'de>>(from: D) -> Result<Text<'a>, D::Error> {
-        from.deserialize_any(TextVisitor)
+impl<'de: 'a, 'a> Deserialize<'de> for JsonBytes<'a> {
+    fn deserialize<D: Deserializer<'de>>(from: D) -> Result<JsonBytes<'a>, D::Error> {
+        from.deserialize_any(JsonBytesVisitor)
     }
 }
 
-struct TextVisitor;
+struct JsonBytesVisitor;
 
-impl<'de> Visitor<'de> for TextVisitor {
-    type Value = Text<'de>;
+impl<'de> Visitor<'de> for JsonBytesVisitor {
+    type Value = JsonBytes<'de>;
 
     fn expecting(&self, f: &mut fmt::Formatter<'_>) -> fmt::Result {
         f.write_str("a string or {\"base64\": \"..\"}")
     }
 
-    fn visit_borrowed_str<E>(self, text: &'de str) -> Result<Text<'de>, E> {
-        Ok(Text(Cow::Borrowed(text.as_bytes())))
+    fn visit_borrowed_str<E>(self, text: &'de str) -> Result<JsonBytes<'de>, E> {
+        Ok(JsonBytes(Cow::Borrowed(text.as_bytes())))
     }
 
-    fn visit_str<E>(self, text: &str) -> Result<Text<'de>, E> {
-        Ok(Text(Cow::Owned(text.as_bytes().to_vec())))
+    fn visit_str<E>(self, text: &str) -> Result<JsonBytes<'de>, E> {
+        Ok(JsonBytes(Cow::Owned(text.as_bytes().to_vec())))
     }
 
-    fn visit_map<M: MapAccess<'de>>(self, mut map: M) -> Result<Text<'de>, M::Error> {
+    fn visit_map<M: MapAccess<'de>>(self, mut map: M) -> Result<JsonBytes<'de>, M::Error> {
         match map.next_key::<Cow<'de, str>>()? {
             Some(key) if key == "base64" => {}
             _ => {
@@ -106,7 +106,7 @@ impl<'de> Visitor<'de> for TextVisitor {
         let bytes = base64::decode(digits.as_bytes())
             .map_err(|why| de::Error::custom(format_args!("no Base64: {why}")))?;
         match map.next_key::<de::IgnoredAny>()? {
-            None => Ok(Text(Cow::Owned(bytes))),
+            None => Ok(JsonBytes(Cow::Owned(bytes))),
             Some(_) => Err(de::Error::custom("bytes in Base64 have no other field")),
         }
     }
@@ -133,14 +133,17 @@ mod tests {
             (b"\xc2", r#"{"base64":"wg=="}"#),
         ];
         for (bytes, json) in table {
-            assert_eq!(serde_json::to_string(&Text::from(bytes)).unwrap(), json);
+            assert_eq!(serde_json::to_string(&JsonBytes::from(bytes)).unwrap(), json);
             let mut out = Vec::new();
-            put_text(&mut out, bytes);
+            put_json_bytes(&mut out, bytes);
             assert_eq!(String::from_utf8(out).unwrap(), json);
-            assert_eq!(serde_json::from_str::<Text<'_>>(json).unwrap(), Text::from(bytes));
+            assert_eq!(
+                serde_json::from_str::<JsonBytes<'_>>(json).unwrap(),
+                JsonBytes::from(bytes)
+            );
         }
         assert_eq!(
-            serde_json::from_str::<Text<'_>>(r#""\u0000\u00e9""#).unwrap().0,
+            serde_json::from_str::<JsonBytes<'_>>(r#""\u0000\u00e9""#).unwrap().0,
             &b"\0\xc3\xa9"[..]
         );
     }
@@ -156,7 +159,7 @@ mod tests {
             r#"{"base64":"?"}"#,
             r#"{"base64":"","a":1}"#,
         ] {
-            assert!(serde_json::from_str::<Text<'_>>(wrong).is_err(), "{wrong}");
+            assert!(serde_json::from_str::<JsonBytes<'_>>(wrong).is_err(), "{wrong}");
         }
     }
 }

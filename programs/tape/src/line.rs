@@ -1,13 +1,13 @@
 //! The lines of a recording as JSON: what each says, and how one is written.
 
-use crate::client::Client;
-use crate::event::{Item, Message, What};
-use crate::fields::{Empty, Other, Tag};
+use crate::client::ClientMessage;
+use crate::event::{Event, EventKind, RawMessage};
+use crate::fields::{NoFields, OtherFields, Tag};
 use crate::json::put_json;
-use crate::json_bytes::Text;
-use crate::layout::Layout;
+use crate::json_bytes::JsonBytes;
+use crate::layout::MessageLayout;
 use crate::parts::untyped;
-use crate::server::Server;
+use crate::server::ServerMessage;
 use recording::Side;
 use serde::{Deserialize, Serialize};
 use std::borrow::Cow;
@@ -26,7 +26,7 @@ pub enum SideName {
 /// The first line.
 #[derive(Debug, PartialEq, Serialize, Deserialize)]
 #[serde(deny_unknown_fields)]
-pub struct Head {
+pub struct HeaderFields {
     pub version: u32,
     /// In microseconds since 1970.
     pub begun: u64,
@@ -34,20 +34,20 @@ pub struct Head {
 
 #[derive(Debug, PartialEq, Serialize, Deserialize)]
 #[serde(deny_unknown_fields, bound(deserialize = "'de: 'a"))]
-pub struct Opened<'a> {
-    pub address: Text<'a>,
+pub struct OpenedFields<'a> {
+    pub address: JsonBytes<'a>,
 }
 
 #[derive(Debug, PartialEq, Serialize, Deserialize)]
 #[serde(deny_unknown_fields)]
-pub struct Closed {
+pub struct ClosedFields {
     #[serde(with = "SideName")]
     pub by: Side,
 }
 
 #[derive(Debug, PartialEq, Serialize, Deserialize)]
 #[serde(deny_unknown_fields)]
-pub struct LeftOut {
+pub struct LeftOutFields {
     pub tag: Tag,
     pub length: u32,
 }
@@ -55,47 +55,47 @@ pub struct LeftOut {
 /// Bytes that aren't taken for a message, or what follows the last whole record of a file.
 #[derive(Debug, PartialEq, Serialize, Deserialize)]
 #[serde(deny_unknown_fields, bound(deserialize = "'de: 'a"))]
-pub struct Bytes<'a> {
-    pub data: Text<'a>,
+pub struct BytesFields<'a> {
+    pub data: JsonBytes<'a>,
 }
 
 /// What a line tells beside its place.
 #[derive(Debug, PartialEq, Serialize)]
 #[serde(untagged)]
-pub enum Said<'a> {
-    Recording(Head),
-    Opened(Opened<'a>),
-    Closed(Closed),
-    Encrypted(Empty),
-    LeftOut(LeftOut),
-    Client(Client<'a>),
-    Server(Server<'a>),
-    Continued(Empty),
-    Bytes(Bytes<'a>),
-    Cut(Bytes<'a>),
+pub enum LineContent<'a> {
+    Recording(HeaderFields),
+    Opened(OpenedFields<'a>),
+    Closed(ClosedFields),
+    Encrypted(NoFields),
+    LeftOut(LeftOutFields),
+    Client(ClientMessage<'a>),
+    Server(ServerMessage<'a>),
+    Continued(NoFields),
+    Bytes(BytesFields<'a>),
+    Cut(BytesFields<'a>),
 }
 
-impl Said<'_> {
+impl LineContent<'_> {
     /// The name that the line has for it.
     pub fn kind(&self) -> &'static str {
         match self {
-            Said::Recording(_) => "Recording",
-            Said::Opened(_) => "Opened",
-            Said::Closed(_) => "Closed",
-            Said::Encrypted(_) => "Encrypted",
-            Said::LeftOut(_) => "LeftOut",
-            Said::Client(message) => message.kind(),
-            Said::Server(message) => message.kind(),
-            Said::Continued(_) => "Continued",
-            Said::Bytes(_) => "Bytes",
-            Said::Cut(_) => "Cut",
+            LineContent::Recording(_) => "Recording",
+            LineContent::Opened(_) => "Opened",
+            LineContent::Closed(_) => "Closed",
+            LineContent::Encrypted(_) => "Encrypted",
+            LineContent::LeftOut(_) => "LeftOut",
+            LineContent::Client(message) => message.kind(),
+            LineContent::Server(message) => message.kind(),
+            LineContent::Continued(_) => "Continued",
+            LineContent::Bytes(_) => "Bytes",
+            LineContent::Cut(_) => "Cut",
         }
     }
 }
 
 /// Where a line stands in a recording.
 #[derive(Clone, Copy, Debug, Default, PartialEq, Eq, Serialize)]
-pub struct Place {
+pub struct LinePosition {
     #[serde(skip_serializing_if = "Option::is_none")]
     pub connection: Option<u32>,
     #[serde(skip_serializing_if = "Option::is_none")]
@@ -122,25 +122,25 @@ fn name_side<S: serde::Serializer>(side: &Option<Side>, to: S) -> Result<S::Ok, 
 }
 
 #[derive(Serialize)]
-struct Line<'l, 'a> {
+struct WrittenLine<'l, 'a> {
     #[serde(flatten)]
-    place: Place,
+    position: LinePosition,
     kind: &'static str,
     #[serde(flatten)]
-    said: &'l Said<'a>,
+    content: &'l LineContent<'a>,
 }
 
 /// Appends a line.
-pub fn put(out: &mut Vec<u8>, place: Place, said: &Said<'_>) {
-    let kind = said.kind();
-    put_json(out, &Line { place, kind, said });
+pub fn put(out: &mut Vec<u8>, position: LinePosition, content: &LineContent<'_>) {
+    let kind = content.kind();
+    put_json(out, &WrittenLine { position, kind, content });
     out.push(b'\n');
 }
 
-/// Makes the lines of items.
+/// Makes the lines of events.
 #[derive(Default)]
-pub struct Writer {
-    /// The record that the next item of a message may go on with.
+pub struct LineWriter {
+    /// The record that the next event of a message may go on with.
     last: Option<(u32, u64, Side)>,
     /// How the lines of that record begin.
     begin: Vec<u8>,
@@ -148,46 +148,53 @@ pub struct Writer {
     again: Vec<u8>,
 }
 
-impl Writer {
-    /// Appends the line of an item.
-    pub fn item(&mut self, out: &mut Vec<u8>, item: &Item<'_>) {
-        let place = self.place(item);
-        if !self.put_laid_out(out, place, &item.what) {
-            put(out, place, &self.said(&item.what));
+impl LineWriter {
+    /// Appends the line of an event.
+    pub fn event(&mut self, out: &mut Vec<u8>, event: &Event<'_>) {
+        let position = self.position(event);
+        if !self.put_laid_out(out, position, &event.kind) {
+            put(out, position, &self.content(&event.kind));
         }
     }
 
-    /// Where the line of an item stands.
-    fn place(&mut self, item: &Item<'_>) -> Place {
-        let (side, here) = match &item.what {
-            What::Message { side, message, here } => {
+    /// Where the line of an event stands.
+    fn position(&mut self, event: &Event<'_>) -> LinePosition {
+        let (side, here) = match &event.kind {
+            EventKind::Message { side, message, here } => {
                 (Some(*side), Some(*here).filter(|here| *here < message.bytes.len()))
             }
-            What::Continued { side, here } => (Some(*side), *here),
-            What::Bytes { side, .. } | What::LeftOut { side, .. } => (Some(*side), None),
+            EventKind::Continued { side, here } => (Some(*side), *here),
+            EventKind::Bytes { side, .. } | EventKind::LeftOut { side, .. } => (Some(*side), None),
             _ => (None, None),
         };
-        let is_left_out = matches!(item.what, What::LeftOut { .. });
-        let record = side.filter(|_| !is_left_out).map(|side| (item.connection, item.time, side));
+        let is_left_out = matches!(event.kind, EventKind::LeftOut { .. });
+        let record = side.filter(|_| !is_left_out).map(|side| (event.connection, event.time, side));
         let is_same = record.is_some() && record == self.last;
         self.last = record;
-        let (connection, time) = (Some(item.connection), Some(item.time));
-        let place = Place { connection, time, side, apart: false, here: None };
+        let (connection, time) = (Some(event.connection), Some(event.time));
+        let position = LinePosition { connection, time, side, apart: false, here: None };
         if let Some(side) = side.filter(|_| !is_same) {
             self.begin.clear();
-            put_begin(&mut self.begin, item, side);
+            put_begin(&mut self.begin, event, side);
         }
-        Place { apart: item.begins && is_same, here, ..place }
+        LinePosition { apart: event.begins && is_same, here, ..position }
     }
 
     /// Appends the line of a message that has a layout, and nothing of others.
-    fn put_laid_out(&mut self, out: &mut Vec<u8>, place: Place, what: &What<'_>) -> bool {
-        let message = match what {
-            What::Message { message, .. } if !place.apart && place.here.is_none() => message,
+    fn put_laid_out(
+        &mut self,
+        out: &mut Vec<u8>,
+        position: LinePosition,
+        kind: &EventKind<'_>,
+    ) -> bool {
+        let message = match kind {
+            EventKind::Message { message, .. } if !position.apart && position.here.is_none() => {
+                message
+            }
             _ => return false,
         };
-        let layout = match (place.side, message.tag) {
-            (Some(side), Some(tag)) => Layout::of_tag(side, tag),
+        let layout = match (position.side, message.tag) {
+            (Some(side), Some(tag)) => MessageLayout::of_tag(side, tag),
             _ => None,
         };
         let start = out.len();
@@ -199,72 +206,78 @@ impl Writer {
         is_put
     }
 
-    /// What the line of an item says.
-    fn said<'m>(&mut self, what: &'m What<'_>) -> Said<'m> {
-        match what {
-            What::Opened(address) => Said::Opened(Opened { address: Text(Cow::Borrowed(address)) }),
-            What::Closed(side) => Said::Closed(Closed { by: *side }),
-            What::Encrypted => Said::Encrypted(Empty {}),
-            What::LeftOut { tag, length, .. } => {
-                Said::LeftOut(LeftOut { tag: Tag(*tag), length: *length })
+    /// What the line of an event says.
+    fn content<'m>(&mut self, kind: &'m EventKind<'_>) -> LineContent<'m> {
+        match kind {
+            EventKind::Opened(address) => {
+                LineContent::Opened(OpenedFields { address: JsonBytes(Cow::Borrowed(address)) })
             }
-            What::Message { side, message, .. } => self.message(*side, message),
-            What::Continued { .. } => Said::Continued(Empty {}),
-            What::Bytes { bytes, .. } => Said::Bytes(Bytes { data: Text(Cow::Borrowed(bytes)) }),
+            EventKind::Closed(side) => LineContent::Closed(ClosedFields { by: *side }),
+            EventKind::Encrypted => LineContent::Encrypted(NoFields {}),
+            EventKind::LeftOut { tag, length, .. } => {
+                LineContent::LeftOut(LeftOutFields { tag: Tag(*tag), length: *length })
+            }
+            EventKind::Message { side, message, .. } => self.message(*side, message),
+            EventKind::Continued { .. } => LineContent::Continued(NoFields {}),
+            EventKind::Bytes { bytes, .. } => {
+                LineContent::Bytes(BytesFields { data: JsonBytes(Cow::Borrowed(bytes)) })
+            }
         }
     }
 
     /// The fields of a message, where these give the same bytes back.
-    pub fn message<'m>(&mut self, side: Side, message: &'m Message<'_>) -> Said<'m> {
+    pub fn message<'m>(&mut self, side: Side, message: &'m RawMessage<'_>) -> LineContent<'m> {
         let (tag, body) = (message.tag, message.body());
-        let said = match side {
+        let content = match side {
             Side::Client => pgmsg::frontend::Message::read_body(tag, body)
                 .ok()
-                .and_then(|it| Client::of(&it))
-                .map(Said::Client),
+                .and_then(|it| ClientMessage::of(&it))
+                .map(LineContent::Client),
             Side::Server => pgmsg::backend::Message::read_body(tag, body)
                 .ok()
-                .and_then(|it| Server::of(&it))
-                .map(Said::Server),
+                .and_then(|it| ServerMessage::of(&it))
+                .map(LineContent::Server),
         };
         self.again.clear();
-        match (said, tag) {
-            (Some(said), _)
-                if write(&said, &mut self.again).is_ok() && self.again == *message.bytes =>
+        match (content, tag) {
+            (Some(content), _)
+                if write(&content, &mut self.again).is_ok() && self.again == *message.bytes =>
             {
-                said
+                content
             }
             (_, Some(tag)) => other(side, untyped(tag, body)),
-            (_, None) => Said::Bytes(Bytes { data: Text(Cow::Borrowed(&message.bytes)) }),
+            (_, None) => {
+                LineContent::Bytes(BytesFields { data: JsonBytes(Cow::Borrowed(&message.bytes)) })
+            }
         }
     }
 }
 
-/// Appends the front of an item's line up to the name of its kind.
-fn put_begin(out: &mut Vec<u8>, item: &Item<'_>, side: Side) {
+/// Appends the front of an event's line up to the name of its kind.
+fn put_begin(out: &mut Vec<u8>, event: &Event<'_>, side: Side) {
     // Writing to a vector never fails.
     out.extend_from_slice(br#"{"connection":"#);
-    let _ = serde_json::to_writer(&mut *out, &item.connection);
+    let _ = serde_json::to_writer(&mut *out, &event.connection);
     out.extend_from_slice(br#","time":"#);
-    let _ = serde_json::to_writer(&mut *out, &item.time);
+    let _ = serde_json::to_writer(&mut *out, &event.time);
     out.extend_from_slice(match side {
         Side::Client => br#","side":"client","kind":""#,
         Side::Server => br#","side":"server","kind":""#,
     });
 }
 
-fn other(side: Side, other: Other<'_>) -> Said<'_> {
+fn other(side: Side, other: OtherFields<'_>) -> LineContent<'_> {
     match side {
-        Side::Client => Said::Client(Client::Other(other)),
-        Side::Server => Said::Server(Server::Other(other)),
+        Side::Client => LineContent::Client(ClientMessage::Other(other)),
+        Side::Server => LineContent::Server(ServerMessage::Other(other)),
     }
 }
 
 /// Appends the bytes of a message; others have none.
-pub fn write(said: &Said<'_>, out: &mut Vec<u8>) -> Result<(), pgmsg::Refusal> {
-    match said {
-        Said::Client(message) => message.write(out),
-        Said::Server(message) => message.write(out),
+pub fn write(content: &LineContent<'_>, out: &mut Vec<u8>) -> Result<(), pgmsg::Refusal> {
+    match content {
+        LineContent::Client(message) => message.write(out),
+        LineContent::Server(message) => message.write(out),
         _ => Ok(()),
     }
 }

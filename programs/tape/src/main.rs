@@ -41,8 +41,8 @@ mod stream_state;
 mod view;
 
 use clap::Parser;
-use failure::{Result, Status};
-use options::{Command, Options};
+use failure::{Result, TapeStatus};
+use options::{Command, TapeOptions};
 use std::fmt::Display;
 use std::io::{self, Write};
 use std::process::ExitCode;
@@ -52,7 +52,7 @@ fn say(words: impl Display) {
     let _ = writeln!(io::stderr(), "pg_tape: {words}");
 }
 
-fn run(command: &Command) -> Result<Status> {
+fn run(command: &Command) -> Result<TapeStatus> {
     match command {
         Command::Export { tape, output } => export::export(tape, output.as_deref())?,
         Command::Import { file, output } => import::import(file, output)?,
@@ -67,11 +67,11 @@ fn run(command: &Command) -> Result<Status> {
         Command::View { tape, output } => view::view(tape, output)?,
         Command::Diff { one, other } => return diff::diff(one, other),
     }
-    Ok(Status::Ok)
+    Ok(TapeStatus::Ok)
 }
 
 fn main() -> ExitCode {
-    let status = run(&Options::parse().command).unwrap_or_else(|failure| {
+    let status = run(&TapeOptions::parse().command).unwrap_or_else(|failure| {
         if failure.has_words() {
             say(&failure);
         }

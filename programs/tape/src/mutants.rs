@@ -1,7 +1,7 @@
 //! Lines that were changed, of which each fault is named.
 
 use crate::export::export;
-use crate::failure::Status;
+use crate::failure::TapeStatus;
 use crate::import::import;
 use crate::samples::{self, TempFile};
 use rand::rngs::SmallRng;
@@ -16,7 +16,7 @@ fn fault(name: &str, lines: &[u8]) -> Option<String> {
     let (from, to) = (TempFile::with(name, lines), TempFile::new(&format!("{name}.to")));
     let failure = import(from.path(), to.path()).err()?;
     assert!(!to.path().exists());
-    assert_eq!(failure.status, Status::Damaged, "{failure}");
+    assert_eq!(failure.status, TapeStatus::Damaged, "{failure}");
     let words = failure.to_string();
     let words = words.strip_prefix(&format!("{}: ", from.path().display()))?;
     // A fault of JSON has its column too.

@@ -1,6 +1,6 @@
 //! The arguments of the program.
 
-use crate::selection::Choice;
+use crate::selection::ConnectionRange;
 use clap::{Parser, Subcommand};
 use std::path::PathBuf;
 
@@ -12,7 +12,7 @@ use std::path::PathBuf;
 /// name, unless another program has changed that one meanwhile.
 #[derive(Parser, Debug)]
 #[command(name = "pg_tape", version, disable_help_subcommand = true)]
-pub struct Options {
+pub struct TapeOptions {
     #[command(subcommand)]
     pub command: Command,
 }
@@ -61,7 +61,7 @@ pub enum Command {
         tape: PathBuf,
         /// Connections by their numbers, as 3 or 5-7
         #[arg(required = true, value_name = "CONNECTION")]
-        connections: Vec<Choice>,
+        connections: Vec<ConnectionRange>,
         /// Keep these, and take out the others
         #[arg(long)]
         keep: bool,

@@ -1,6 +1,6 @@
 //! Where output goes: standard output, or a file that has it only when all of it is there.
 
-use crate::failure::{Failure, Result, Status};
+use crate::failure::{Result, TapeFailure, TapeStatus};
 use recording::PartialFile;
 use std::fs::{self, File, Metadata, OpenOptions};
 use std::io::{self, BufWriter, Write};
@@ -19,9 +19,9 @@ pub struct Output {
 }
 
 /// A file that is open only while it is written, so that any number of them can be at hand.
-struct Appended(PathBuf);
+struct AppendedFile(PathBuf);
 
-impl Write for Appended {
+impl Write for AppendedFile {
     fn write(&mut self, bytes: &[u8]) -> io::Result<usize> {
         OpenOptions::new().append(true).open(&self.0)?.write(bytes)
     }
@@ -47,7 +47,7 @@ impl Output {
 
     /// The same, where so many bytes are written at once.
     pub fn with_room(path: &Path, room: usize) -> Result<Output> {
-        let failed = |why| Failure::unwritten(path, &why);
+        let failed = |why| TapeFailure::unwritten(path, &why);
         let (file, partial): (Box<dyn Write>, _) = match fs::metadata(path) {
             Ok(it) if is_stdout(&it) => return Ok(Output::to_stdout()),
             Ok(it) if !it.is_file() => {
@@ -55,7 +55,7 @@ impl Output {
             }
             _ => {
                 let partial = PartialFile::beside(path).map_err(failed)?;
-                (Box::new(Appended(partial.path().to_owned())), Some(partial))
+                (Box::new(AppendedFile(partial.path().to_owned())), Some(partial))
             }
         };
         let writer = BufWriter::with_capacity(room, file);
@@ -77,14 +77,16 @@ impl Output {
 
     /// Writes bytes.
     pub fn put(&mut self, bytes: &[u8]) -> Result<()> {
-        self.writer.write_all(bytes).map_err(|why| Failure::unwritten(&self.path, &why))
+        self.writer.write_all(bytes).map_err(|why| TapeFailure::unwritten(&self.path, &why))
     }
 
     /// Writes what is left, and gives the file its name.
     pub fn end(mut self) -> Result<()> {
-        self.writer.flush().map_err(|why| Failure::unwritten(&self.path, &why))?;
+        self.writer.flush().map_err(|why| TapeFailure::unwritten(&self.path, &why))?;
         let named = self.partial.take().map_or(Ok(()), PartialFile::persist);
-        named.map_err(|why| Failure::new(Status::Local, format!("{} {why}", self.path.display())))
+        named.map_err(|why| {
+            TapeFailure::new(TapeStatus::Local, format!("{} {why}", self.path.display()))
+        })
     }
 }
 

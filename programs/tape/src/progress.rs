@@ -12,11 +12,11 @@ const FORM: &str = "{msg} [{wide_bar}] {bytes}/{total_bytes} {bytes_per_sec} {et
 
 /// What is read of its files moves it.
 #[derive(Clone)]
-pub struct Bar(ProgressBar);
+pub struct Progress(ProgressBar);
 
-impl Bar {
+impl Progress {
     /// A bar for work of a name on files.
-    pub fn new(what: &'static str, files: &[&Path]) -> Bar {
+    pub fn new(what: &'static str, files: &[&Path]) -> Progress {
         let len = files.iter().map(|path| fs::metadata(path).map_or(0, |it| it.len())).sum();
         // A bar draws itself nowhere where standard error is no terminal.
         let target = match len < SHORT {
@@ -25,32 +25,32 @@ impl Bar {
         };
         let style =
             ProgressStyle::with_template(FORM).unwrap_or_else(|_| ProgressStyle::default_bar());
-        let bar =
+        let progress =
             ProgressBar::with_draw_target(Some(len), target).with_style(style).with_message(what);
-        Bar(bar)
+        Progress(progress)
     }
 
     /// A file whose reading moves it.
-    pub fn on<R: Read>(&self, file: R) -> Watched<R> {
-        Watched { file, bar: self.0.clone() }
+    pub fn on<R: Read>(&self, file: R) -> ProgressReader<R> {
+        ProgressReader { file, progress: self.0.clone() }
     }
 }
 
-pub struct Watched<R> {
+pub struct ProgressReader<R> {
     file: R,
-    bar: ProgressBar,
+    progress: ProgressBar,
 }
 
-impl<R: Read> Read for Watched<R> {
+impl<R: Read> Read for ProgressReader<R> {
     fn read(&mut self, room: &mut [u8]) -> io::Result<usize> {
         let count = self.file.read(room)?;
-        self.bar.inc(count as u64);
+        self.progress.inc(count as u64);
         Ok(count)
     }
 }
 
-impl<R> Drop for Watched<R> {
+impl<R> Drop for ProgressReader<R> {
     fn drop(&mut self) {
-        self.bar.finish_and_clear();
+        self.progress.finish_and_clear();
     }
 }

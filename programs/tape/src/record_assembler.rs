@@ -6,11 +6,11 @@ use std::io::{self, Write};
 
 /// Why a record can't be made.
 #[derive(Debug, thiserror::Error)]
-pub enum Unjoined {
+pub enum AssembleError {
     #[error("{0}")]
     File(#[from] io::Error),
     #[error("{0}")]
-    Turn(&'static str),
+    Order(&'static str),
     #[error("no message of this side goes on")]
     NothingLeft,
     #[error("of the message {left} bytes are left, and {here} are to be here")]
@@ -25,7 +25,7 @@ pub enum Unjoined {
 
 /// Where bytes of a message stand.
 #[derive(Clone, Copy, Debug, PartialEq, Eq)]
-pub struct Spot {
+pub struct RecordPosition {
     pub connection: u32,
     pub time: u64,
     pub side: Side,
@@ -34,19 +34,19 @@ pub struct Spot {
 }
 
 /// Joins the bytes of messages to records, and writes these.
-pub struct Joiner<W: Write> {
+pub struct RecordAssembler<W: Write> {
     out: Writer<W>,
     connections: OpenConnections,
     /// Where the record at hand is, and its content.
-    current: Option<Spot>,
+    current: Option<RecordPosition>,
     content: Vec<u8>,
     /// What is left of a message whose next bytes lie in other records.
     rests: HashMap<(u32, Side), Vec<u8>>,
 }
 
-impl<W: Write> Joiner<W> {
-    pub fn new(out: W, begun: u64) -> io::Result<Joiner<W>> {
-        Ok(Joiner {
+impl<W: Write> RecordAssembler<W> {
+    pub fn new(out: W, begun: u64) -> io::Result<RecordAssembler<W>> {
+        Ok(RecordAssembler {
             out: Writer::new(out, begun)?,
             connections: OpenConnections::default(),
             current: None,
@@ -62,7 +62,7 @@ impl<W: Write> Joiner<W> {
         connection: u32,
         time: u64,
         content: &[u8],
-    ) -> Result<(), Unjoined> {
+    ) -> Result<(), AssembleError> {
         self.flush()?;
         if kind == RecordKind::Closed {
             self.is_whole(connection, Side::Client)?;
@@ -74,34 +74,38 @@ impl<W: Write> Joiner<W> {
     /// Adds a message, of which so many bytes are at this spot.
     pub fn message(
         &mut self,
-        spot: Spot,
+        position: RecordPosition,
         bytes: &[u8],
         here: Option<usize>,
-    ) -> Result<(), Unjoined> {
+    ) -> Result<(), AssembleError> {
         // A record without bytes may stand anywhere.
         if !bytes.is_empty() {
-            self.is_whole(spot.connection, spot.side)?;
+            self.is_whole(position.connection, position.side)?;
         }
         let here = match here {
-            None => return self.join(spot, bytes),
-            Some(here) if here >= bytes.len() => return Err(Unjoined::All(bytes.len())),
+            None => return self.join(position, bytes),
+            Some(here) if here >= bytes.len() => return Err(AssembleError::All(bytes.len())),
             Some(here) => here,
         };
-        self.join(spot, &bytes[..here])?;
-        self.rests.insert((spot.connection, spot.side), bytes[here..].to_vec());
+        self.join(position, &bytes[..here])?;
+        self.rests.insert((position.connection, position.side), bytes[here..].to_vec());
         Ok(())
     }
 
     /// Adds the next bytes of the last message of a side: so many, or all that are left.
-    pub fn go_on(&mut self, spot: Spot, here: Option<usize>) -> Result<(), Unjoined> {
-        let key = (spot.connection, spot.side);
-        let mut rest = self.rests.remove(&key).ok_or(Unjoined::NothingLeft)?;
+    pub fn go_on(
+        &mut self,
+        position: RecordPosition,
+        here: Option<usize>,
+    ) -> Result<(), AssembleError> {
+        let key = (position.connection, position.side);
+        let mut rest = self.rests.remove(&key).ok_or(AssembleError::NothingLeft)?;
         let left = rest.len();
         match here {
-            None => return self.join(spot, &rest),
-            Some(here) if here >= left => return Err(Unjoined::TooFew { here, left }),
+            None => return self.join(position, &rest),
+            Some(here) if here >= left => return Err(AssembleError::TooFew { here, left }),
             Some(here) => {
-                self.join(spot, &rest[..here])?;
+                self.join(position, &rest[..here])?;
                 rest.drain(..here);
             }
         }
@@ -110,48 +114,54 @@ impl<W: Write> Joiner<W> {
     }
 
     /// Writes all, and gives what it was written to. A message whose rest is missing is a fault.
-    pub fn end(mut self) -> Result<W, Unjoined> {
+    pub fn end(mut self) -> Result<W, AssembleError> {
         self.flush()?;
         match self.rests.values().map(Vec::len).next() {
-            Some(left) => Err(Unjoined::Missing(left)),
+            Some(left) => Err(AssembleError::Missing(left)),
             None => Ok(self.out.end()?),
         }
     }
 
-    fn is_whole(&self, connection: u32, side: Side) -> Result<(), Unjoined> {
+    fn is_whole(&self, connection: u32, side: Side) -> Result<(), AssembleError> {
         if self.rests.is_empty() {
             return Ok(());
         }
         match self.rests.get(&(connection, side)) {
-            Some(rest) => Err(Unjoined::Missing(rest.len())),
+            Some(rest) => Err(AssembleError::Missing(rest.len())),
             None => Ok(()),
         }
     }
 
     /// Adds bytes to the record at hand, or begins another one.
-    fn join(&mut self, spot: Spot, mut bytes: &[u8]) -> Result<(), Unjoined> {
-        let goes_on =
-            |it: Spot| (it.connection, it.time, it.side) == (spot.connection, spot.time, spot.side);
-        if spot.begins || !self.current.map_or(false, goes_on) {
+    fn join(&mut self, position: RecordPosition, mut bytes: &[u8]) -> Result<(), AssembleError> {
+        let goes_on = |it: RecordPosition| {
+            (it.connection, it.time, it.side) == (position.connection, position.time, position.side)
+        };
+        if position.begins || !self.current.map_or(false, goes_on) {
             self.flush()?;
-            self.current = Some(spot);
+            self.current = Some(position);
         }
         while self.content.len() + bytes.len() > MOST {
             let (more, rest) = bytes.split_at(MOST - self.content.len());
             self.content.extend_from_slice(more);
             bytes = rest;
             self.flush()?;
-            self.current = Some(spot);
+            self.current = Some(position);
         }
         self.content.extend_from_slice(bytes);
         Ok(())
     }
 
     /// Writes the record at hand.
-    fn flush(&mut self) -> Result<(), Unjoined> {
-        if let Some(spot) = self.current.take() {
+    fn flush(&mut self) -> Result<(), AssembleError> {
+        if let Some(position) = self.current.take() {
             let content = std::mem::take(&mut self.content);
-            self.put(RecordKind::Bytes(spot.side), spot.connection, spot.time, &content)?;
+            self.put(
+                RecordKind::Bytes(position.side),
+                position.connection,
+                position.time,
+                &content,
+            )?;
             self.content = content;
             self.content.clear();
         }
@@ -164,11 +174,11 @@ impl<W: Write> Joiner<W> {
         connection: u32,
         time: u64,
         content: &[u8],
-    ) -> Result<(), Unjoined> {
+    ) -> Result<(), AssembleError> {
         if content.len() > MOST {
-            return Err(Unjoined::TooLong(content.len()));
+            return Err(AssembleError::TooLong(content.len()));
         }
-        self.connections.take(kind, connection, content).map_err(Unjoined::Turn)?;
+        self.connections.take(kind, connection, content).map_err(AssembleError::Order)?;
         Ok(self.out.add(kind, connection, time, content)?)
     }
 }

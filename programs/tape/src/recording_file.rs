@@ -1,9 +1,9 @@
 //! The recordings that are read.
 
-use crate::event::Item;
-use crate::event_decoder::Cutter;
-use crate::failure::{Failure, Result};
-use crate::progress::{Bar, Watched};
+use crate::event::Event;
+use crate::event_decoder::EventDecoder;
+use crate::failure::{Result, TapeFailure};
+use crate::progress::{Progress, ProgressReader};
 use recording::{Reader, Record};
 use std::fs::File;
 use std::io::{BufReader, Read, Seek, SeekFrom};
@@ -13,21 +13,21 @@ use std::path::{Path, PathBuf};
 const ROOM: usize = 1 << 17;
 
 /// A recording in a file.
-pub struct Tape {
+pub struct RecordingFile {
     path: PathBuf,
-    reader: Reader<BufReader<Watched<File>>>,
+    reader: Reader<BufReader<ProgressReader<File>>>,
 }
 
 pub fn open(path: &Path) -> Result<File> {
-    File::open(path).map_err(|why| Failure::unread(path, &why))
+    File::open(path).map_err(|why| TapeFailure::unread(path, &why))
 }
 
-impl Tape {
+impl RecordingFile {
     /// Opens a recording, for work that a bar shows.
-    pub fn open(path: &Path, bar: &Bar) -> Result<Tape> {
-        let file = BufReader::with_capacity(ROOM, bar.on(open(path)?));
-        let reader = Reader::new(file).map_err(|damage| Failure::damaged(&damage, path))?;
-        Ok(Tape { path: path.to_owned(), reader })
+    pub fn open(path: &Path, progress: &Progress) -> Result<RecordingFile> {
+        let file = BufReader::with_capacity(ROOM, progress.on(open(path)?));
+        let reader = Reader::new(file).map_err(|damage| TapeFailure::damaged(&damage, path))?;
+        Ok(RecordingFile { path: path.to_owned(), reader })
     }
 
     /// When it began, in microseconds since 1970.
@@ -38,7 +38,7 @@ impl Tape {
     /// The next record.
     pub fn read(&mut self) -> Result<Option<Record<'_>>> {
         let path = &self.path;
-        self.reader.read().map_err(|damage| Failure::damaged(&damage, path))
+        self.reader.read().map_err(|damage| TapeFailure::damaged(&damage, path))
     }
 
     /// What follows the last whole record, at the end.
@@ -49,7 +49,7 @@ impl Tape {
             let read = file
                 .seek(SeekFrom::Start(self.reader.at()))
                 .and_then(|_| file.read_to_end(&mut tail));
-            read.map_err(|why| Failure::unread(&self.path, &why))?;
+            read.map_err(|why| TapeFailure::unread(&self.path, &why))?;
         }
         Ok(tail)
     }
@@ -64,9 +64,9 @@ impl Tape {
         }
     }
 
-    /// Gives the items of all records.
-    pub fn items(&mut self, mut sink: impl FnMut(Item<'_>) -> Result<()>) -> Result<()> {
-        let mut cutter = Cutter::default();
+    /// Gives the events of all records.
+    pub fn events(&mut self, mut sink: impl FnMut(Event<'_>) -> Result<()>) -> Result<()> {
+        let mut cutter = EventDecoder::default();
         while let Some(record) = self.read()? {
             cutter.take(&record, &mut sink)?;
         }

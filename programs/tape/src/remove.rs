@@ -1,33 +1,34 @@
 //! Sessions taken out of a recording.
 
-use crate::failure::{Failure, Result, Status};
-use crate::merge::Numbers;
+use crate::failure::{Result, TapeFailure, TapeStatus};
+use crate::merge::ConnectionNumbers;
 use crate::output::Output;
-use crate::progress::Bar;
-use crate::recording_file::Tape;
-use crate::selection::{Choice, Choices};
+use crate::progress::Progress;
+use crate::recording_file::RecordingFile;
+use crate::selection::{ConnectionRange, ConnectionSelection};
 use recording::Writer;
 use std::path::Path;
 
 /// Copies a recording without the connections that are named, or with those alone.
-pub fn remove(path: &Path, named: &[Choice], keeps: bool, to: &Path) -> Result<()> {
+pub fn remove(path: &Path, named: &[ConnectionRange], keeps: bool, to: &Path) -> Result<()> {
     let mut out = Output::create(to)?;
-    let mut tape = Tape::open(path, &Bar::new("drop", &[path]))?;
-    let unwritten = |why| Failure::unwritten(to, &why);
-    let mut writer = Writer::new(&mut out, tape.begun()).map_err(unwritten)?;
-    let (mut choices, mut numbers) = (Choices::new(named), Numbers::default());
-    while let Some(record) = tape.read()? {
-        if choices.has(record.connection) == keeps {
+    let mut recording = RecordingFile::open(path, &Progress::new("drop", &[path]))?;
+    let unwritten = |why| TapeFailure::unwritten(to, &why);
+    let mut writer = Writer::new(&mut out, recording.begun()).map_err(unwritten)?;
+    let (mut selection, mut numbers) =
+        (ConnectionSelection::new(named), ConnectionNumbers::default());
+    while let Some(record) = recording.read()? {
+        if selection.has(record.connection) == keeps {
             let number = numbers.of(0, record.connection);
             writer.add(record.kind, number, record.time, record.content).map_err(unwritten)?;
         }
     }
     writer.end().map_err(unwritten)?;
-    tape.say_cut();
-    match &choices.missing()[..] {
+    recording.say_cut();
+    match &selection.missing()[..] {
         [] => out.end(),
-        missing => Err(Failure::new(
-            Status::Usage,
+        missing => Err(TapeFailure::new(
+            TapeStatus::Usage,
             format!("{} has no connection {}", path.display(), missing.join(", ")),
         )),
     }

@@ -156,7 +156,7 @@ pub fn cancel() -> Vec<u8> {
 }
 
 /// A connection's streams, with what is left of them.
-struct Session {
+struct SampleSession {
     number: u32,
     rests: [(Side, Vec<u8>); 2],
 }
@@ -185,7 +185,7 @@ pub fn recording(seed: u64, changes: bool) -> Vec<u8> {
     file
 }
 
-fn session(random: &mut SmallRng, number: u32, changes: bool) -> Session {
+fn session(random: &mut SmallRng, number: u32, changes: bool) -> SampleSession {
     let rests = [Side::Client, Side::Server].map(|side| {
         let mut bytes = stream(side);
         if number == 3 && side == Side::Client {
@@ -197,13 +197,13 @@ fn session(random: &mut SmallRng, number: u32, changes: bool) -> Session {
         }
         (side, bytes)
     });
-    Session { number, rests }
+    SampleSession { number, rests }
 }
 
 /// Adds a record of a session, or tells that there is no more.
 fn step(
     random: &mut SmallRng,
-    session: &mut Session,
+    session: &mut SampleSession,
     time: u64,
     out: &mut Writer<&mut Vec<u8>>,
 ) -> bool {

@@ -6,30 +6,30 @@ use std::str::FromStr;
 
 /// A number, or the first and the last of some.
 #[derive(Clone, Debug, PartialEq, Eq)]
-pub struct Choice(pub RangeInclusive<u32>);
+pub struct ConnectionRange(pub RangeInclusive<u32>);
 
-impl FromStr for Choice {
+impl FromStr for ConnectionRange {
     type Err = String;
 
-    fn from_str(text: &str) -> Result<Choice, String> {
+    fn from_str(text: &str) -> Result<ConnectionRange, String> {
         let (first, last) = text.split_once('-').unwrap_or((text, text));
         let number = |text: &str| text.parse().ok().filter(|it| *it > 0);
         match (number(first), number(last)) {
-            (Some(first), Some(last)) if first <= last => Ok(Choice(first..=last)),
+            (Some(first), Some(last)) if first <= last => Ok(ConnectionRange(first..=last)),
             _ => Err("it is a number from 1 on, or two as 5-7".to_owned()),
         }
     }
 }
 
 /// The connections that are named, of which some are met.
-pub struct Choices<'c> {
-    named: &'c [Choice],
+pub struct ConnectionSelection<'c> {
+    named: &'c [ConnectionRange],
     met: HashSet<usize>,
 }
 
-impl<'c> Choices<'c> {
-    pub fn new(named: &'c [Choice]) -> Choices<'c> {
-        Choices { named, met: HashSet::new() }
+impl<'c> ConnectionSelection<'c> {
+    pub fn new(named: &'c [ConnectionRange]) -> ConnectionSelection<'c> {
+        ConnectionSelection { named, met: HashSet::new() }
     }
 
     /// Whether a connection is named.
@@ -64,14 +64,14 @@ mod tests {
 
     #[test]
     fn numbers_and_ranges() {
-        assert_eq!("3".parse(), Ok(Choice(3..=3)));
-        assert_eq!("5-7".parse(), Ok(Choice(5..=7)));
+        assert_eq!("3".parse(), Ok(ConnectionRange(3..=3)));
+        assert_eq!("5-7".parse(), Ok(ConnectionRange(5..=7)));
         for wrong in ["", "0", "0-3", "7-5", "a", "1-", "-1", "4294967296"] {
-            assert!(wrong.parse::<Choice>().is_err(), "{wrong}");
+            assert!(wrong.parse::<ConnectionRange>().is_err(), "{wrong}");
         }
-        let named = [Choice(1..=2), Choice(9..=9), Choice(4..=5)];
-        let mut choices = Choices::new(&named);
-        assert!(choices.has(2) && !choices.has(3) && choices.has(5));
-        assert_eq!(choices.missing(), ["9"]);
+        let named = [ConnectionRange(1..=2), ConnectionRange(9..=9), ConnectionRange(4..=5)];
+        let mut selection = ConnectionSelection::new(&named);
+        assert!(selection.has(2) && !selection.has(3) && selection.has(5));
+        assert_eq!(selection.missing(), ["9"]);
     }
 }

@@ -6,14 +6,14 @@
 mod put;
 mod take;
 
-pub use take::Taker;
+pub use take::LayoutReader;
 
 use memchr::memchr;
 use recording::Side;
 
 /// A part of a message.
 #[derive(Debug)]
-enum Part {
+enum FieldType {
     /// A text, which a NUL ends.
     Text,
     /// The same, where it is UTF-8.
@@ -28,36 +28,36 @@ enum Part {
     /// A letter, and the string that a line has for it.
     Letter(&'static [(u8, &'static str)]),
     /// A count of 16 bits, and as many parts.
-    List(&'static Part),
+    List(&'static FieldType),
     /// Parts that have names.
-    Object(&'static [Field]),
+    Object(&'static [FieldLayout]),
 }
 
 #[derive(Debug)]
-struct Field {
+struct FieldLayout {
     /// The name as it stands between fields of a line: `,"name":`.
     key: &'static str,
-    part: Part,
+    part: FieldType,
 }
 
 /// The layout of a kind of message: its fields in the order of the line, which is that of the message.
 #[derive(Debug)]
-pub struct Layout {
+pub struct MessageLayout {
     side: Side,
     tag: u8,
     /// The name of the kind as it stands in a line after the first quote: `Query"`.
     kind: &'static str,
-    fields: &'static [Field],
+    fields: &'static [FieldLayout],
 }
 
-impl Layout {
+impl MessageLayout {
     /// The layout of a side's messages of a tag.
-    pub fn of_tag(side: Side, tag: u8) -> Option<&'static Layout> {
+    pub fn of_tag(side: Side, tag: u8) -> Option<&'static MessageLayout> {
         LAYOUTS.iter().find(|it| it.tag == tag && it.side == side)
     }
 
     /// The layout of a side's messages whose kind stands at the front of a text, and what follows that.
-    fn of_kind(side: Side, text: &[u8]) -> Option<(&'static Layout, &[u8])> {
+    fn of_kind(side: Side, text: &[u8]) -> Option<(&'static MessageLayout, &[u8])> {
         let (kind, rest) = text.split_at(memchr(b'"', text)? + 1);
         let layout = LAYOUTS.iter().find(|it| it.side == side && it.kind.as_bytes() == kind)?;
         Some((layout, rest))
@@ -66,13 +66,13 @@ impl Layout {
 
 macro_rules! fields {
     ($($name:ident: $part:expr),*) => {
-        &[$(Field { key: concat!(",\"", stringify!($name), "\":"), part: $part }),*]
+        &[$(FieldLayout { key: concat!(",\"", stringify!($name), "\":"), part: $part }),*]
     };
 }
 
 macro_rules! layouts {
     ($($side:ident $tag:literal $kind:ident { $($fields:tt)* })*) => {
-        &[$(Layout {
+        &[$(MessageLayout {
             side: Side::$side,
             tag: $tag,
             kind: concat!(stringify!($kind), "\""),
@@ -81,51 +81,51 @@ macro_rules! layouts {
     };
 }
 
-const STATUS: Part = Part::Letter(&[(b'I', "\"I\""), (b'T', "\"T\""), (b'E', "\"E\"")]);
-const TARGET: Part = Part::Letter(&[(b'S', "\"statement\""), (b'P', "\"portal\"")]);
-const VALUES: Part = Part::List(&Part::Value);
-const FORMATS: Part = Part::List(&Part::I16);
-const TYPES: Part = Part::List(&Part::U32);
-const COLUMN: Part = Part::Object(fields! {
-    name: Part::Name,
-    table: Part::U32,
-    attribute: Part::I16,
-    type_id: Part::U32,
-    type_size: Part::I16,
-    type_modifier: Part::I32,
-    format: Part::I16
+const STATUS: FieldType = FieldType::Letter(&[(b'I', "\"I\""), (b'T', "\"T\""), (b'E', "\"E\"")]);
+const TARGET: FieldType = FieldType::Letter(&[(b'S', "\"statement\""), (b'P', "\"portal\"")]);
+const VALUES: FieldType = FieldType::List(&FieldType::Value);
+const FORMATS: FieldType = FieldType::List(&FieldType::I16);
+const TYPES: FieldType = FieldType::List(&FieldType::U32);
+const COLUMN: FieldType = FieldType::Object(fields! {
+    name: FieldType::Name,
+    table: FieldType::U32,
+    attribute: FieldType::I16,
+    type_id: FieldType::U32,
+    type_size: FieldType::I16,
+    type_modifier: FieldType::I32,
+    format: FieldType::I16
 });
 
-static LAYOUTS: &[Layout] = layouts! {
+static LAYOUTS: &[MessageLayout] = layouts! {
     Server b'D' DataRow { values: VALUES }
-    Server b'd' CopyData { data: Part::Rest }
-    Client b'd' CopyData { data: Part::Rest }
-    Server b'C' CommandComplete { command: Part::Text }
+    Server b'd' CopyData { data: FieldType::Rest }
+    Client b'd' CopyData { data: FieldType::Rest }
+    Server b'C' CommandComplete { command: FieldType::Text }
     Server b'Z' ReadyForQuery { status: STATUS }
     Client b'S' Sync {}
     Client b'B' Bind {
-        portal: Part::Text,
-        statement: Part::Text,
+        portal: FieldType::Text,
+        statement: FieldType::Text,
         formats: FORMATS,
         values: VALUES,
         result_formats: FORMATS
     }
-    Client b'E' Execute { portal: Part::Text, max_rows: Part::U32 }
+    Client b'E' Execute { portal: FieldType::Text, max_rows: FieldType::U32 }
     Server b'2' BindComplete {}
-    Client b'P' Parse { statement: Part::Text, query: Part::Text, types: TYPES }
+    Client b'P' Parse { statement: FieldType::Text, query: FieldType::Text, types: TYPES }
     Server b'1' ParseComplete {}
-    Client b'D' Describe { target: TARGET, name: Part::Text }
-    Client b'C' Close { target: TARGET, name: Part::Text }
+    Client b'D' Describe { target: TARGET, name: FieldType::Text }
+    Client b'C' Close { target: TARGET, name: FieldType::Text }
     Server b'3' CloseComplete {}
-    Client b'Q' Query { query: Part::Text }
-    Server b'T' RowDescription { columns: Part::List(&COLUMN) }
+    Client b'Q' Query { query: FieldType::Text }
+    Server b'T' RowDescription { columns: FieldType::List(&COLUMN) }
     Server b't' ParameterDescription { types: TYPES }
     Server b'n' NoData {}
-    Server b'S' ParameterStatus { name: Part::Name, value: Part::Name }
+    Server b'S' ParameterStatus { name: FieldType::Name, value: FieldType::Name }
     Server b'A' NotificationResponse {
-        process_id: Part::U32,
-        channel: Part::Text,
-        payload: Part::Text
+        process_id: FieldType::U32,
+        channel: FieldType::Text,
+        payload: FieldType::Text
     }
     Server b's' PortalSuspended {}
     Server b'I' EmptyQueryResponse {}
@@ -138,10 +138,10 @@ static LAYOUTS: &[Layout] = layouts! {
 #[cfg(test)]
 mod tests {
     use super::*;
-    use crate::event::Message;
-    use crate::line::{self, Place, Writer};
+    use crate::event::RawMessage;
+    use crate::line::{self, LinePosition, LineWriter};
     use crate::parse;
-    use crate::record_assembler::Spot;
+    use crate::record_assembler::RecordPosition;
     use crate::samples;
     use pgmsg::backend::{self, Column};
     use pgmsg::frontend;
@@ -167,17 +167,21 @@ mod tests {
             message.write(&mut bytes).unwrap();
             all.push((Side::Server, bytes));
         }
-        all.retain(|(side, bytes)| Layout::of_tag(*side, bytes[0]).is_some());
+        all.retain(|(side, bytes)| MessageLayout::of_tag(*side, bytes[0]).is_some());
         all
     }
 
     /// The line of a message by the library and by serde.
     fn by_fields(side: Side, bytes: &[u8]) -> String {
-        let (mut out, mut writer) = (Vec::new(), Writer::default());
-        let place =
-            Place { connection: Some(1), time: Some(5), side: Some(side), ..Place::default() };
-        let message = Message { tag: Some(bytes[0]), bytes: bytes.into() };
-        line::put(&mut out, place, &writer.message(side, &message));
+        let (mut out, mut writer) = (Vec::new(), LineWriter::default());
+        let position = LinePosition {
+            connection: Some(1),
+            time: Some(5),
+            side: Some(side),
+            ..LinePosition::default()
+        };
+        let message = RawMessage { tag: Some(bytes[0]), bytes: bytes.into() };
+        line::put(&mut out, position, &writer.message(side, &message));
         String::from_utf8(out).unwrap()
     }
 
@@ -185,27 +189,30 @@ mod tests {
     fn by_layout(side: Side, bytes: &[u8]) -> Option<String> {
         let side_name = if side == Side::Client { "client" } else { "server" };
         let mut out = format!("{BEGIN}{side_name}\",\"kind\":\"").into_bytes();
-        let is_put = Layout::of_tag(side, bytes[0]).unwrap().put(&mut out, &bytes[5..]);
+        let is_put = MessageLayout::of_tag(side, bytes[0]).unwrap().put(&mut out, &bytes[5..]);
         is_put.then(|| String::from_utf8(out).unwrap())
     }
 
     /// The message of a line by serde and by the library.
-    fn read(line: &str) -> Option<(Place, Vec<u8>)> {
+    fn read(line: &str) -> Option<(LinePosition, Vec<u8>)> {
         let line = parse::read(line).ok()?;
         let mut out = Vec::new();
-        line::write(&line.said, &mut out).ok()?;
-        Some((line.place, out))
+        line::write(&line.content, &mut out).ok()?;
+        Some((line.position, out))
     }
 
     #[test]
     fn each_message_with_a_layout_becomes_its_line_and_the_same_message() {
-        let (mut kinds, mut taker) = (Vec::new(), Taker::default());
+        let (mut kinds, mut reader) = (Vec::new(), LayoutReader::default());
         for (side, message) in messages() {
             let line = by_layout(side, &message).unwrap();
             assert_eq!(line, by_fields(side, &message));
             let mut out = Vec::new();
-            if let Some(spot) = taker.take(line.as_bytes(), &mut out) {
-                assert_eq!(spot, Spot { connection: 1, time: 5, side, begins: false });
+            if let Some(position) = reader.take(line.as_bytes(), &mut out) {
+                assert_eq!(
+                    position,
+                    RecordPosition { connection: 1, time: 5, side, begins: false }
+                );
                 assert_eq!(out, message, "{line}");
                 kinds.push((side, message[0]));
             }
@@ -242,7 +249,7 @@ mod tests {
     #[test]
     fn what_a_changed_line_gives_is_what_its_fields_give() {
         let (mut random, mut taken) = (SmallRng::seed_from_u64(12), 0);
-        let mut taker = Taker::default();
+        let mut reader = LayoutReader::default();
         for (side, message) in messages() {
             let line = by_fields(side, &message).into_bytes();
             for _ in 0..2_000 {
@@ -256,13 +263,14 @@ mod tests {
                     }
                 }
                 let mut out = Vec::new();
-                if let Some(spot) = taker.take(&changed, &mut out) {
+                if let Some(position) = reader.take(&changed, &mut out) {
                     taken += 1;
                     let changed = String::from_utf8(changed).unwrap();
-                    let (place, wanted) = read(&changed).unwrap_or_else(|| panic!("{changed}"));
+                    let (line, wanted) = read(&changed).unwrap_or_else(|| panic!("{changed}"));
                     assert_eq!(out, wanted, "{changed}");
-                    let found = (place.connection, place.time, place.side, place.here);
-                    let wanted = (Some(spot.connection), Some(spot.time), Some(spot.side), None);
+                    let found = (line.connection, line.time, line.side, line.here);
+                    let wanted =
+                        (Some(position.connection), Some(position.time), Some(position.side), None);
                     assert_eq!(found, wanted, "{changed}");
                 }
             }

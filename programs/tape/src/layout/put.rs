@@ -1,12 +1,12 @@
 //! Messages as the fields of their lines.
 
-use super::{Field, Layout, Part};
-use crate::json_bytes::put_text;
+use super::{FieldLayout, FieldType, MessageLayout};
+use crate::json_bytes::put_json_bytes;
 use memchr::memchr;
 use serde::Serialize;
 use std::str;
 
-impl Layout {
+impl MessageLayout {
     /// Appends the rest of a line from the kind on, by the body of a message, where that is laid out so.
     pub fn put(&self, out: &mut Vec<u8>, body: &[u8]) -> bool {
         out.extend_from_slice(self.kind.as_bytes());
@@ -23,36 +23,36 @@ impl Layout {
     }
 }
 
-impl Part {
+impl FieldType {
     /// Appends the part at the front of bytes as JSON, and gives what follows it.
     fn put<'b>(&self, out: &mut Vec<u8>, bytes: &'b [u8]) -> Option<&'b [u8]> {
         match self {
-            Part::Text => {
+            FieldType::Text => {
                 let (text, rest) = until_nul(bytes)?;
-                put_text(out, text);
+                put_json_bytes(out, text);
                 Some(rest)
             }
-            Part::Name => {
+            FieldType::Name => {
                 let (name, rest) = until_nul(bytes)?;
-                put_text(out, str::from_utf8(name).ok()?.as_bytes());
+                put_json_bytes(out, str::from_utf8(name).ok()?.as_bytes());
                 Some(rest)
             }
-            Part::Rest => {
-                put_text(out, bytes);
+            FieldType::Rest => {
+                put_json_bytes(out, bytes);
                 Some(&[])
             }
-            Part::Value => put_value(out, bytes),
-            Part::I16 => put_number(out, bytes, i16::from_be_bytes),
-            Part::I32 => put_number(out, bytes, i32::from_be_bytes),
-            Part::U32 => put_number(out, bytes, u32::from_be_bytes),
-            Part::Letter(letters) => {
+            FieldType::Value => put_value(out, bytes),
+            FieldType::I16 => put_number(out, bytes, i16::from_be_bytes),
+            FieldType::I32 => put_number(out, bytes, i32::from_be_bytes),
+            FieldType::U32 => put_number(out, bytes, u32::from_be_bytes),
+            FieldType::Letter(letters) => {
                 let (letter, rest) = bytes.split_first()?;
                 let (_, name) = letters.iter().find(|(it, _)| it == letter)?;
                 out.extend_from_slice(name.as_bytes());
                 Some(rest)
             }
-            Part::List(item) => put_list(out, bytes, item),
-            Part::Object(fields) => put_object(out, bytes, fields),
+            FieldType::List(item) => put_list(out, bytes, item),
+            FieldType::Object(fields) => put_object(out, bytes, fields),
         }
     }
 }
@@ -88,13 +88,13 @@ fn put_value<'b>(out: &mut Vec<u8>, bytes: &'b [u8]) -> Option<&'b [u8]> {
         }
         length => {
             let length = usize::try_from(length).ok()?;
-            put_text(out, rest.get(..length)?);
+            put_json_bytes(out, rest.get(..length)?);
             Some(&rest[length..])
         }
     }
 }
 
-fn put_list<'b>(out: &mut Vec<u8>, bytes: &'b [u8], item: &Part) -> Option<&'b [u8]> {
+fn put_list<'b>(out: &mut Vec<u8>, bytes: &'b [u8], item: &FieldType) -> Option<&'b [u8]> {
     let (count, mut rest) = split(bytes)?;
     out.push(b'[');
     for at in 0..u16::from_be_bytes(count) {
@@ -107,7 +107,7 @@ fn put_list<'b>(out: &mut Vec<u8>, bytes: &'b [u8], item: &Part) -> Option<&'b [
     Some(rest)
 }
 
-fn put_object<'b>(out: &mut Vec<u8>, bytes: &'b [u8], fields: &[Field]) -> Option<&'b [u8]> {
+fn put_object<'b>(out: &mut Vec<u8>, bytes: &'b [u8], fields: &[FieldLayout]) -> Option<&'b [u8]> {
     let mut rest = bytes;
     out.push(b'{');
     for (at, field) in fields.iter().enumerate() {

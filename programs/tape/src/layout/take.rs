@@ -1,8 +1,8 @@
 //! Lines as messages, where they are written as an export has them.
 
-use super::{Field, Layout, Part};
+use super::{FieldLayout, FieldType, MessageLayout};
 use crate::json_bytes::has;
-use crate::record_assembler::Spot;
+use crate::record_assembler::RecordPosition;
 use base64::{decode_config_buf, STANDARD};
 use memchr::{memchr, memchr2};
 use recording::Side;
@@ -13,42 +13,42 @@ const NULL: [u8; 4] = [0xff; 4];
 
 /// Reads lines.
 #[derive(Default)]
-pub struct Taker {
+pub struct LayoutReader {
     /// How the last line began, up to the name of its kind, and what that says. Most lines begin as the one before.
     begin: Vec<u8>,
-    spot: Option<Spot>,
+    position: Option<RecordPosition>,
 }
 
-impl Taker {
+impl LayoutReader {
     /// Appends the message of a line, and gives where that stands. Where it gives nothing, what is appended is no message.
-    pub fn take(&mut self, line: &[u8], out: &mut Vec<u8>) -> Option<Spot> {
+    pub fn take(&mut self, line: &[u8], out: &mut Vec<u8>) -> Option<RecordPosition> {
         let line = line.strip_suffix(b"\n").unwrap_or(line);
         let is_other = has(line, |it| !(b' '..0x80).contains(&it));
         // No string has a control character.
         if is_other && (has(line, |it| it < b' ') || from_utf8(line).is_err()) {
             return None;
         }
-        let (spot, rest) = self.spot(line)?;
-        let (layout, rest) = Layout::of_kind(spot.side, rest)?;
+        let (position, rest) = self.position(line)?;
+        let (layout, rest) = MessageLayout::of_kind(position.side, rest)?;
         let rest = layout.take(rest, out)?;
-        Some(spot).filter(|_| rest == b"}")
+        Some(position).filter(|_| rest == b"}")
     }
 
     /// Where a message's line stands, and what follows from the name of its kind on.
-    fn spot<'t>(&mut self, line: &'t [u8]) -> Option<(Spot, &'t [u8])> {
-        if let (Some(spot), Some(rest)) = (self.spot, line.strip_prefix(&self.begin[..])) {
-            return Some((spot, rest));
+    fn position<'t>(&mut self, line: &'t [u8]) -> Option<(RecordPosition, &'t [u8])> {
+        if let (Some(position), Some(rest)) = (self.position, line.strip_prefix(&self.begin[..])) {
+            return Some((position, rest));
         }
-        let (spot, rest) = spot(line)?;
+        let (position, rest) = position(line)?;
         self.begin.clear();
         self.begin.extend_from_slice(&line[..line.len() - rest.len()]);
-        self.spot = Some(spot);
-        Some((spot, rest))
+        self.position = Some(position);
+        Some((position, rest))
     }
 }
 
 /// Where a message's line stands, and what follows from the name of its kind on.
-fn spot(line: &[u8]) -> Option<(Spot, &[u8])> {
+fn position(line: &[u8]) -> Option<(RecordPosition, &[u8])> {
     let (connection, rest) = number(line.strip_prefix(br#"{"connection":"#)?)?;
     let (time, rest) = number(rest.strip_prefix(br#","time":"#)?)?;
     let rest = rest.strip_prefix(br#","side":""#)?;
@@ -56,10 +56,13 @@ fn spot(line: &[u8]) -> Option<(Spot, &[u8])> {
         Some(rest) => (Side::Client, rest),
         None => (Side::Server, rest.strip_prefix(b"server")?),
     };
-    Some((Spot { connection, time, side, begins: false }, rest.strip_prefix(br#"","kind":""#)?))
+    Some((
+        RecordPosition { connection, time, side, begins: false },
+        rest.strip_prefix(br#"","kind":""#)?,
+    ))
 }
 
-impl Layout {
+impl MessageLayout {
     /// Appends a message by the fields after its kind, and gives what follows them.
     fn take<'t>(&self, text: &'t [u8], out: &mut Vec<u8>) -> Option<&'t [u8]> {
         let (start, mut rest) = (out.len() + 1, text);
@@ -73,21 +76,21 @@ impl Layout {
     }
 }
 
-impl Part {
+impl FieldType {
     /// Appends a part by the JSON at the front of a text, and gives what follows that.
     fn take<'t>(&self, text: &'t [u8], out: &mut Vec<u8>) -> Option<&'t [u8]> {
         match self {
-            Part::Text | Part::Name => {
+            FieldType::Text | FieldType::Name => {
                 let rest = take_string(text, out)?;
                 out.push(0);
                 Some(rest)
             }
-            Part::Rest => take_bytes(text, out),
-            Part::Value => take_value(text, out),
-            Part::I16 => take_number(text, out, i16::to_be_bytes),
-            Part::I32 => take_number(text, out, i32::to_be_bytes),
-            Part::U32 => take_number(text, out, u32::to_be_bytes),
-            Part::Letter(letters) => {
+            FieldType::Rest => take_bytes(text, out),
+            FieldType::Value => take_value(text, out),
+            FieldType::I16 => take_number(text, out, i16::to_be_bytes),
+            FieldType::I32 => take_number(text, out, i32::to_be_bytes),
+            FieldType::U32 => take_number(text, out, u32::to_be_bytes),
+            FieldType::Letter(letters) => {
                 let found = |(letter, name): &(u8, &str)| {
                     Some((*letter, text.strip_prefix(name.as_bytes())?))
                 };
@@ -95,8 +98,8 @@ impl Part {
                 out.push(letter);
                 Some(rest)
             }
-            Part::List(item) => take_list(text, out, item),
-            Part::Object(fields) => take_object(text, out, fields),
+            FieldType::List(item) => take_list(text, out, item),
+            FieldType::Object(fields) => take_object(text, out, fields),
         }
     }
 }
@@ -148,7 +151,7 @@ fn take_value<'t>(text: &'t [u8], out: &mut Vec<u8>) -> Option<&'t [u8]> {
     Some(rest)
 }
 
-fn take_list<'t>(text: &'t [u8], out: &mut Vec<u8>, item: &Part) -> Option<&'t [u8]> {
+fn take_list<'t>(text: &'t [u8], out: &mut Vec<u8>, item: &FieldType) -> Option<&'t [u8]> {
     let (start, mut rest, mut count) = (out.len(), text.strip_prefix(b"[")?, 0_u16);
     out.extend_from_slice(&[0; 2]);
     while !rest.starts_with(b"]") {
@@ -162,7 +165,7 @@ fn take_list<'t>(text: &'t [u8], out: &mut Vec<u8>, item: &Part) -> Option<&'t [
     Some(&rest[1..])
 }
 
-fn take_object<'t>(text: &'t [u8], out: &mut Vec<u8>, fields: &[Field]) -> Option<&'t [u8]> {
+fn take_object<'t>(text: &'t [u8], out: &mut Vec<u8>, fields: &[FieldLayout]) -> Option<&'t [u8]> {
     let mut rest = text.strip_prefix(b"{")?;
     for (at, field) in fields.iter().enumerate() {
         let key = &field.key.as_bytes()[usize::from(at == 0)..];

@@ -17,13 +17,13 @@ mod session;
 mod sql;
 mod values;
 
-use crate::event::{Item, Message, What};
-use crate::failure::{Failure, Result, Status};
+use crate::event::{Event, EventKind, RawMessage};
+use crate::failure::{Result, TapeFailure, TapeStatus};
 use crate::import::closed_by;
 use crate::output::Output;
-use crate::progress::Bar;
-use crate::record_assembler::{Joiner, Spot, Unjoined};
-use crate::recording_file::Tape;
+use crate::progress::Progress;
+use crate::record_assembler::{AssembleError, RecordAssembler, RecordPosition};
+use crate::recording_file::RecordingFile;
 use known_secrets::Known;
 use mask::WHOLE;
 use masked_ranges::Places;
@@ -38,58 +38,65 @@ use std::path::Path;
 const LEFT_OUT: u32 = (4 + WHOLE.len() + 1) as u32;
 
 /// Takes secrets out of a recording, by a file of rules where one is named.
-pub fn redact(path: &Path, rules: Option<&Path>, to: &Path) -> Result<Status> {
+pub fn redact(path: &Path, rules: Option<&Path>, to: &Path) -> Result<TapeStatus> {
     let rules = rules.map_or_else(|| Ok(Rules::default()), Rules::read)?;
     if std::fs::metadata(path).map_or(false, |it| !it.is_file()) {
         let words = format!("{} is read more than once, and is no file", path.display());
-        return Err(Failure::new(Status::Usage, words));
+        return Err(TapeFailure::new(TapeStatus::Usage, words));
     }
     let mut redactor = Redactor { rules, ..Redactor::default() };
     let mut out = Output::create(to)?;
     redactor.learn(path)?;
-    let mut tape = Tape::open(path, &Bar::new("redact", &[path]))?;
-    let unjoined = |why| Failure::unwritten(to, &other(why));
-    let mut joiner =
-        Joiner::new(&mut out, tape.begun()).map_err(|why| Failure::unwritten(to, &why))?;
-    tape.items(|item| match redactor.is_written(&item) {
+    let mut recording = RecordingFile::open(path, &Progress::new("redact", &[path]))?;
+    let unassembled = |why| TapeFailure::unwritten(to, &other(why));
+    let mut assembler = RecordAssembler::new(&mut out, recording.begun())
+        .map_err(|why| TapeFailure::unwritten(to, &why))?;
+    recording.events(|event| match redactor.is_written(&event) {
         true => Ok(()),
-        false => add(&mut joiner, redactor.item(item)).map_err(unjoined),
+        false => add(&mut assembler, redactor.event(event)).map_err(unassembled),
     })?;
-    joiner.end().map(drop).map_err(unjoined)?;
-    tape.say_cut();
+    assembler.end().map(drop).map_err(unassembled)?;
+    recording.say_cut();
     out.end()?;
     Ok(redactor.report())
 }
 
-fn other(why: Unjoined) -> std::io::Error {
+fn other(why: AssembleError) -> std::io::Error {
     match why {
-        Unjoined::File(why) => why,
+        AssembleError::File(why) => why,
         why => std::io::Error::new(std::io::ErrorKind::Other, why),
     }
 }
 
-/// Adds an item to a recording.
-fn add(joiner: &mut Joiner<&mut Output>, item: Item<'_>) -> std::result::Result<(), Unjoined> {
-    let Item { connection, time, begins, what } = item;
-    let spot = |side| Spot { connection, time, side, begins };
-    match what {
-        What::Opened(address) => joiner.record(RecordKind::Opened, connection, time, &address),
-        What::Closed(side) => joiner.record(RecordKind::Closed, connection, time, closed_by(side)),
-        What::Encrypted => joiner.record(RecordKind::Encrypted, connection, time, b""),
-        What::LeftOut { side, tag, length } => {
+/// Adds an event to a recording.
+fn add(
+    assembler: &mut RecordAssembler<&mut Output>,
+    event: Event<'_>,
+) -> std::result::Result<(), AssembleError> {
+    let Event { connection, time, begins, kind } = event;
+    let position = |side| RecordPosition { connection, time, side, begins };
+    match kind {
+        EventKind::Opened(address) => {
+            assembler.record(RecordKind::Opened, connection, time, &address)
+        }
+        EventKind::Closed(side) => {
+            assembler.record(RecordKind::Closed, connection, time, closed_by(side))
+        }
+        EventKind::Encrypted => assembler.record(RecordKind::Encrypted, connection, time, b""),
+        EventKind::LeftOut { side, tag, length } => {
             let [a, b, c, d] = length.to_be_bytes();
-            joiner.record(RecordKind::LeftOut(side), connection, time, &[tag, a, b, c, d])
+            assembler.record(RecordKind::LeftOut(side), connection, time, &[tag, a, b, c, d])
         }
-        What::Message { side, message, here } => {
+        EventKind::Message { side, message, here } => {
             let here = Some(here).filter(|here| *here < message.bytes.len());
-            joiner.message(spot(side), &message.bytes, here)
+            assembler.message(position(side), &message.bytes, here)
         }
-        What::Continued { side, here } => joiner.go_on(spot(side), here),
-        What::Bytes { side, bytes } => joiner.message(spot(side), &bytes, None),
+        EventKind::Continued { side, here } => assembler.go_on(position(side), here),
+        EventKind::Bytes { side, bytes } => assembler.message(position(side), &bytes, None),
     }
 }
 
-/// Takes secrets out of items.
+/// Takes secrets out of events.
 #[derive(Default)]
 struct Redactor {
     rules: Rules,
@@ -109,9 +116,9 @@ impl Redactor {
     fn learn(&mut self, path: &Path) -> Result<()> {
         let (mut refused, mut is_new) = (0, true);
         while is_new {
-            let mut tape = Tape::open(path, &Bar::new("read", &[path]))?;
-            tape.items(|item| {
-                self.item(item);
+            let mut recording = RecordingFile::open(path, &Progress::new("read", &[path]))?;
+            recording.events(|event| {
+                self.event(event);
                 Ok(())
             })?;
             let known = std::mem::replace(&mut refused, self.sessions.end());
@@ -122,44 +129,44 @@ impl Redactor {
         Ok(())
     }
 
-    /// Whether an item is a part of a message that is written already.
-    fn is_written(&self, item: &Item<'_>) -> bool {
-        match item.what {
-            What::Continued { side, .. } => self.whole.contains(&(item.connection, side)),
+    /// Whether an event is a part of a message that is written already.
+    fn is_written(&self, event: &Event<'_>) -> bool {
+        match event.kind {
+            EventKind::Continued { side, .. } => self.whole.contains(&(event.connection, side)),
             _ => false,
         }
     }
 
-    fn item<'a>(&mut self, item: Item<'a>) -> Item<'a> {
-        let what = match item.what {
-            What::Message { side, message, here } => {
+    fn event<'a>(&mut self, event: Event<'a>) -> Event<'a> {
+        let kind = match event.kind {
+            EventKind::Message { side, message, here } => {
                 let len = message.bytes.len();
-                let message = self.message(item.connection, side, message);
+                let message = self.message(event.connection, side, message);
                 let is_other = message.bytes.len() != len;
                 if is_other {
-                    self.whole.insert((item.connection, side));
+                    self.whole.insert((event.connection, side));
                 } else if !self.whole.is_empty() {
-                    self.whole.remove(&(item.connection, side));
+                    self.whole.remove(&(event.connection, side));
                 }
                 let here = if is_other { message.bytes.len() } else { here };
-                What::Message { side, message, here }
+                EventKind::Message { side, message, here }
             }
-            What::Opened(address) => What::Opened(self.searched(address, false)),
-            What::Bytes { side, bytes } => {
+            EventKind::Opened(address) => EventKind::Opened(self.searched(address, false)),
+            EventKind::Bytes { side, bytes } => {
                 self.unread += bytes.len() as u64;
-                What::Bytes { side, bytes: self.searched(bytes, true) }
+                EventKind::Bytes { side, bytes: self.searched(bytes, true) }
             }
-            What::Closed(side) => {
-                self.sessions.close(item.connection);
-                What::Closed(side)
+            EventKind::Closed(side) => {
+                self.sessions.close(event.connection);
+                EventKind::Closed(side)
             }
-            What::LeftOut { side: Side::Client, tag, .. } => {
+            EventKind::LeftOut { side: Side::Client, tag, .. } => {
                 // The length of a message tells that of its password.
-                What::LeftOut { side: Side::Client, tag, length: LEFT_OUT }
+                EventKind::LeftOut { side: Side::Client, tag, length: LEFT_OUT }
             }
-            what => what,
+            kind => kind,
         };
-        Item { what, ..item }
+        Event { kind, ..event }
     }
 
     /// Bytes that are no message, without the secrets of a text.
@@ -170,7 +177,12 @@ impl Redactor {
         places.masked(bytes, None)
     }
 
-    fn message<'a>(&mut self, connection: u32, side: Side, message: Message<'a>) -> Message<'a> {
+    fn message<'a>(
+        &mut self,
+        connection: u32,
+        side: Side,
+        message: RawMessage<'a>,
+    ) -> RawMessage<'a> {
         let mut places = Places::new(&message.bytes, &mut self.known);
         let session = self.sessions.of(connection);
         let (tag, body) = (message.tag, message.body());
@@ -201,11 +213,11 @@ impl Redactor {
         if places.are_learnt() {
             return message;
         }
-        Message { tag, bytes: places.masked(message.bytes, Some(usize::from(tag.is_some()))) }
+        RawMessage { tag, bytes: places.masked(message.bytes, Some(usize::from(tag.is_some()))) }
     }
 
     /// Says which rules did nothing, and what could not be looked at.
-    fn report(&self) -> Status {
+    fn report(&self) -> TapeStatus {
         for rule in self.rules.idle() {
             crate::say(format_args!("the rule {rule} matched nothing"));
         }
@@ -223,8 +235,8 @@ impl Redactor {
             ));
         }
         match self.unread + self.untold {
-            0 => Status::Ok,
-            _ => Status::Untold,
+            0 => TapeStatus::Ok,
+            _ => TapeStatus::Untold,
         }
     }
 }
@@ -302,25 +314,25 @@ mod tests {
     }
 
     /// What has the messages of both sides, and other records with texts.
-    fn items(text: &str) -> Vec<What<'static>> {
+    fn events(text: &str) -> Vec<EventKind<'static>> {
         let mut all = vec![
-            What::Opened(text.as_bytes().to_vec().into()),
-            What::Bytes { side: Side::Client, bytes: text.as_bytes().to_vec().into() },
+            EventKind::Opened(text.as_bytes().to_vec().into()),
+            EventKind::Bytes { side: Side::Client, bytes: text.as_bytes().to_vec().into() },
         ];
-        let item = |side, tag, bytes: Vec<u8>| What::Message {
+        let event = |side, tag, bytes: Vec<u8>| EventKind::Message {
             side,
             here: bytes.len(),
-            message: Message { tag, bytes: bytes.into() },
+            message: RawMessage { tag, bytes: bytes.into() },
         };
         for message in of_client(text) {
             let mut bytes = Vec::new();
             message.write(&mut bytes).unwrap();
-            all.push(item(Side::Client, message.tag(), bytes));
+            all.push(event(Side::Client, message.tag(), bytes));
         }
         for message in of_server(text) {
             let mut bytes = Vec::new();
             message.write(&mut bytes).unwrap();
-            all.push(item(Side::Server, message.tag(), bytes));
+            all.push(event(Side::Server, message.tag(), bytes));
         }
         all
     }
@@ -328,19 +340,19 @@ mod tests {
     #[test]
     fn a_pattern_reaches_each_text() {
         let mut redactor = redactor(r"card-(\d+)");
-        for (what, wanted) in items("the card-4711").into_iter().zip(items("the card-1000")) {
-            let item = Item { connection: 1, time: 0, begins: true, what };
-            assert_eq!(redactor.item(item).what, wanted);
+        for (kind, wanted) in events("the card-4711").into_iter().zip(events("the card-1000")) {
+            let event = Event { connection: 1, time: 0, begins: true, kind };
+            assert_eq!(redactor.event(event).kind, wanted);
         }
     }
 
     #[test]
     fn the_length_of_a_password_that_was_left_out_is_not_told() {
         let mut redactor = redactor("a");
-        let left_out = |length| What::LeftOut { side: Side::Client, tag: b'p', length };
+        let left_out = |length| EventKind::LeftOut { side: Side::Client, tag: b'p', length };
         for length in [4, 400] {
-            let item = Item { connection: 1, time: 0, begins: true, what: left_out(length) };
-            assert_eq!(redactor.item(item).what, left_out(13));
+            let event = Event { connection: 1, time: 0, begins: true, kind: left_out(length) };
+            assert_eq!(redactor.event(event).kind, left_out(13));
         }
     }
 
@@ -351,7 +363,7 @@ mod tests {
         for (connection, name, wanted) in table.iter().chain(&table) {
             let mut bytes = Vec::new();
             Execute { portal: name.into(), max_rows: 0 }.write(&mut bytes).unwrap();
-            let message = Message { tag: Some(b'E'), bytes: bytes.into() };
+            let message = RawMessage { tag: Some(b'E'), bytes: bytes.into() };
             let message = redactor.message(*connection, Side::Client, message);
             assert_eq!(Execute::read(message.body()).unwrap().portal, wanted, "{name}");
         }

@@ -2,7 +2,7 @@
 
 use super::redact;
 use crate::export::export;
-use crate::failure::Status;
+use crate::failure::TapeStatus;
 use crate::samples::TempFile;
 use pgmsg::backend::{self, Column, CopyResponse, Field, FieldKind, TransactionStatus};
 use pgmsg::frontend::{self, Bind, Execute, Parse, Startup, Target};
@@ -59,7 +59,7 @@ fn recording(said: &[Said], most: usize) -> Vec<u8> {
 }
 
 /// Takes secrets out, and gives the status and the lines of what is left.
-fn redacted(name: &str, rules: &str, tape: &[u8]) -> (Status, String) {
+fn redacted(name: &str, rules: &str, tape: &[u8]) -> (TapeStatus, String) {
     let file = |kind: &str| format!("redact.{name}.{kind}");
     let tape = TempFile::with(&file("tape"), tape);
     let rules = TempFile::with(&file("toml"), rules.as_bytes());
@@ -115,14 +115,14 @@ const PARSED: Said = S(backend::Message::ParseComplete);
 const BOUND: Said = S(backend::Message::BindComplete);
 
 /// Tests a session that has secrets `secret..`: both as its sides speak in turn, and where the client says all at once.
-fn test(name: &str, rules: &str, said: &[Said], wanted: Status) {
+fn test(name: &str, rules: &str, said: &[Said], wanted: TapeStatus) {
     let mut at_once = said.to_vec();
     at_once.sort_by_key(|it| it.side() == Side::Server);
     for said in [said, &at_once] {
         let (status, lines) = redacted(name, rules, &recording(said, 1 << 20));
         assert_eq!(status, wanted, "{name}: {lines}");
         let left = lines.lines().filter(|it| it.contains("secret-")).count();
-        assert_eq!(left, usize::from(wanted == Status::Untold), "{name}: {lines}");
+        assert_eq!(left, usize::from(wanted == TapeStatus::Untold), "{name}: {lines}");
     }
 }
 
@@ -141,7 +141,7 @@ fn a_statement_stays_where_the_server_refuses_another_of_its_name() {
         &[parse("s", "SELECT a FROM t WHERE phone = $1 AND b"), bind("", "s", "secret-other")],
         &[execute(""), sync(), error(), ready()],
     ];
-    test("statement", RULES, &said.concat(), Status::Ok);
+    test("statement", RULES, &said.concat(), TapeStatus::Ok);
 }
 
 #[test]
@@ -156,7 +156,7 @@ fn a_portal_stays_where_the_server_refuses_another_of_its_name() {
         &[bind("p", "o", "a"), sync(), error(), ready()],
         &[execute("p"), sync(), row(&["secret-email"]), complete(), ready()],
     ];
-    test("portal", RULES, &said.concat(), Status::Ok);
+    test("portal", RULES, &said.concat(), TapeStatus::Ok);
 }
 
 #[test]
@@ -165,11 +165,11 @@ fn what_cannot_be_told_has_a_status() {
         &[ready(), parse("s", "SELECT email"), bind("", "s", "a"), execute(""), sync()][..],
         &[PARSED, BOUND, row(&["secret-email"]), complete(), ready()],
     ];
-    test("described", RULES, &never_described.concat(), Status::Untold);
+    test("described", RULES, &never_described.concat(), TapeStatus::Untold);
     let never_parsed = [ready(), bind("", "s", "secret-phone"), execute(""), sync(), ready()];
-    test("parsed", RULES, &never_parsed, Status::Untold);
+    test("parsed", RULES, &never_parsed, TapeStatus::Untold);
     let other = [ready(), bind("", "s", "a"), execute(""), sync(), BOUND, row(&["b"]), ready()];
-    test("no_rule", "", &other, Status::Ok);
+    test("no_rule", "", &other, TapeStatus::Ok);
 }
 
 #[test]
@@ -192,7 +192,7 @@ fn a_value_that_is_masked_once_is_masked_everywhere() {
             query("SELECT 'secret-email' AS \"secret-email\""),
         ],
     ];
-    test("everywhere", RULES, &said.concat(), Status::Ok);
+    test("everywhere", RULES, &said.concat(), TapeStatus::Ok);
     let (_, lines) = redacted("shape", RULES, &recording(&said.concat(), 1 << 20));
     assert_eq!(lines.matches("xxxxxx-xxxxx").count(), 7, "{lines}");
     assert!(lines.contains(r#""values":["\\x7878787878782d7878787878"]"#), "{lines}");
@@ -214,7 +214,7 @@ fn a_password_is_masked_whole_and_frames_stay_whole() {
     ];
     for most in [1 << 20, 7, 1] {
         let (status, lines) = redacted("whole", "", &recording(&said.concat(), most));
-        assert_eq!(status, Status::Ok);
+        assert_eq!(status, TapeStatus::Ok);
         for line in [
             r#""kind":"PasswordMessage","password":"xxxxxxxx""#,
             r#""kind":"Query","query":"ALTER ROLE a PASSWORD 'xxxxxxxx' LOGIN""#,

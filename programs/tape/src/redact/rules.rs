@@ -2,7 +2,7 @@
 
 use super::mask::Mask;
 use super::masked_ranges::Places;
-use crate::failure::{Failure, Result, Status};
+use crate::failure::{Result, TapeFailure, TapeStatus};
 use regex::bytes::Regex;
 use rules::{Pattern, RulesFile};
 use std::path::Path;
@@ -43,9 +43,10 @@ fn each<R, T>(
 impl Rules {
     /// Reads a file of rules.
     pub fn read(path: &Path) -> Result<Rules> {
-        let text = std::fs::read_to_string(path).map_err(|why| Failure::unread(path, &why))?;
-        Rules::parse(&text)
-            .map_err(|why| Failure::new(Status::Usage, format!("{}: {why}", path.display())))
+        let text = std::fs::read_to_string(path).map_err(|why| TapeFailure::unread(path, &why))?;
+        Rules::parse(&text).map_err(|why| {
+            TapeFailure::new(TapeStatus::Usage, format!("{}: {why}", path.display()))
+        })
     }
 
     pub fn parse(text: &str) -> std::result::Result<Rules, String> {

@@ -1,12 +1,12 @@
 //! A page in HTML that shows a recording: it holds all that it needs, and asks no network for anything.
 
-use crate::event::Item;
-use crate::exchange_numbers::Exchanges;
+use crate::event::Event;
+use crate::exchange_numbers::ExchangeNumbers;
 use crate::failure::Result;
-use crate::line::Writer;
+use crate::line::LineWriter;
 use crate::output::Output;
-use crate::progress::Bar;
-use crate::recording_file::Tape;
+use crate::progress::Progress;
+use crate::recording_file::RecordingFile;
 use std::path::Path;
 
 const PAGE: &str = include_str!("page.html");
@@ -25,7 +25,7 @@ const ROOM: usize = 1 << 16;
 
 /// Writes the page of a recording.
 pub fn view(path: &Path, to: &Path) -> Result<()> {
-    let mut tape = Tape::open(path, &Bar::new("view", &[path]))?;
+    let mut recording = RecordingFile::open(path, &Progress::new("view", &[path]))?;
     let mut out = Output::create(to)?;
     let name = path.file_name().unwrap_or_default().to_string_lossy();
     // The name of the file comes last: it may be that of any part.
@@ -34,15 +34,15 @@ pub fn view(path: &Path, to: &Path) -> Result<()> {
     let before = before.replace("{{title}}", &text(&name));
     out.put(before.as_bytes())?;
     let mut rows = Rows::default();
-    tape.items(|item| {
-        rows.add(&item);
+    recording.events(|event| {
+        rows.add(&event);
         if rows.out.len() > ROOM {
             out.put(&rows.out)?;
             rows.out.clear();
         }
         Ok(())
     })?;
-    tape.say_cut();
+    recording.say_cut();
     out.put(&rows.out)?;
     out.put(if rows.count == 0 { b"[]\n" } else { b"]\n" })?;
     out.put(after.as_bytes())?;
@@ -59,16 +59,16 @@ fn text(text: &str) -> String {
 struct Rows {
     out: Vec<u8>,
     count: u64,
-    writer: Writer,
-    exchanges: Exchanges,
+    writer: LineWriter,
+    exchanges: ExchangeNumbers,
     line: Vec<u8>,
 }
 
 impl Rows {
-    fn add(&mut self, item: &Item<'_>) {
+    fn add(&mut self, event: &Event<'_>) {
         self.line.clear();
-        self.writer.item(&mut self.line, item);
-        let exchange = self.exchanges.number(item.connection, &item.what);
+        self.writer.event(&mut self.line, event);
+        let exchange = self.exchanges.number(event.connection, &event.kind);
         let fields = match self.line.strip_prefix(b"{") {
             Some(fields) => fields,
             None => return,
