@@ -14,11 +14,11 @@ const LEAST_STRONG: usize = 8;
 const FRONTS: usize = 1 << 20;
 
 /// How a text writes some characters of a value.
-type Writing = &'static [(u8, &'static [u8])];
+type EscapeTable = &'static [(u8, &'static [u8])];
 
 /// In a string of SQL, without escapes or with them, as people write it and as libpq does; in data of COPY; in JSON or an
 /// array; in a row.
-const WRITINGS: [Writing; 6] = [
+const ESCAPE_TABLES: [EscapeTable; 6] = [
     &[(b'\'', b"''")],
     &[(b'\'', b"''"), (b'\\', b"\\\\")],
     &[(b'\'', b"\\'"), (b'\\', b"\\\\")],
@@ -45,16 +45,16 @@ const WRITINGS: [Writing; 6] = [
 
 /// What was masked as a secret.
 #[derive(Default)]
-pub struct Known {
-    passwords: Set,
-    values: Set,
+pub struct KnownSecrets {
+    passwords: SecretSet,
+    values: SecretSet,
     /// Digits of Base64 of passwords.
-    base64: Set,
+    base64: SecretSet,
     /// All are known, so that they can be looked for.
     is_complete: bool,
 }
 
-impl Known {
+impl KnownSecrets {
     /// Notes a secret.
     pub fn add(&mut self, secret: &[u8], is_password: bool) {
         if self.is_complete || secret.len() < LEAST {
@@ -64,9 +64,9 @@ impl Known {
         if set.all.contains(secret) {
             return;
         }
-        for writing in WRITINGS {
-            if writing.iter().any(|it| secret.contains(&it.0)) {
-                set.insert(written(secret, writing));
+        for escapes in ESCAPE_TABLES {
+            if escapes.iter().any(|it| secret.contains(&it.0)) {
+                set.insert(escaped(secret, escapes));
             }
         }
         set.insert(secret.to_vec());
@@ -129,14 +129,14 @@ impl Known {
 }
 
 /// A secret as a text writes it.
-fn written(text: &[u8], writing: Writing) -> Vec<u8> {
-    let with = |byte: &u8| writing.iter().find(|it| it.0 == *byte).map(|it| it.1.to_vec());
+fn escaped(text: &[u8], escapes: EscapeTable) -> Vec<u8> {
+    let with = |byte: &u8| escapes.iter().find(|it| it.0 == *byte).map(|it| it.1.to_vec());
     text.iter().flat_map(|it| with(it).unwrap_or_else(|| vec![*it])).collect()
 }
 
 /// Texts, of which the longest is found that stands at a place.
 #[derive(Default)]
-struct Set {
+struct SecretSet {
     all: BTreeSet<Vec<u8>>,
     /// Whether some may begin with four bytes, by their hash.
     fronts: Vec<u64>,
@@ -151,7 +151,7 @@ fn front(text: &[u8]) -> (usize, u64) {
     (bit / 64, 1 << (bit % 64))
 }
 
-impl Set {
+impl SecretSet {
     fn insert(&mut self, text: Vec<u8>) {
         self.fronts.resize(FRONTS / 64, 0);
         let (at, bit) = front(&text);
@@ -169,11 +169,11 @@ impl Set {
         if self.all.is_empty() {
             return Vec::new();
         }
-        let places = text.windows(LEAST).enumerate().filter(|(place, four)| {
+        let starts = text.windows(LEAST).enumerate().filter(|(place, four)| {
             let (at, bit) = front(four);
             self.fronts[at] & bit != 0 && begins(*place)
         });
-        places.filter_map(|(at, _)| self.longest(text, at, &fits)).collect()
+        starts.filter_map(|(at, _)| self.longest(text, at, &fits)).collect()
     }
 
     /// The longest that stands there and fits. The last one that isn't greater than the rest of the text is either its front,
@@ -244,7 +244,7 @@ mod tests {
     use super::*;
 
     /// What stands in the place of a text, with `#` for a password.
-    fn masked(known: &Known, text: &str) -> String {
+    fn masked(known: &KnownSecrets, text: &str) -> String {
         let mut found = known.find(text.as_bytes(), false);
         found.sort_by_key(|it| it.0.start);
         let (mut out, mut end) = (String::new(), 0);
@@ -264,7 +264,7 @@ mod tests {
 
     #[test]
     fn secrets_are_found_wherever_they_stand() {
-        let mut known = Known::default();
+        let mut known = KnownSecrets::default();
         for password in ["P@ssw0rd!", "it's", "a'b\\c", "test", "n3xt", "abc"] {
             known.add(password.as_bytes(), true);
         }

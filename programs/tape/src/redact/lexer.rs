@@ -3,31 +3,31 @@
 use super::literal::{blank_len, Quotes};
 use std::ops::Range;
 
-/// A piece of SQL.
+/// A lexeme of SQL.
 #[derive(Clone, Debug, PartialEq, Eq)]
-pub enum Piece {
+pub enum Lexeme {
     Word(Range<usize>),
     /// The inside of a name in double quotes.
     Name(Range<usize>),
-    /// The inside of a string. One that goes on after a new line is one piece.
+    /// The inside of a string. One that goes on after a new line is one lexeme.
     Text(Range<usize>, Quotes),
     Number(Range<usize>),
     /// Anything else but space and comments, by its first byte.
     Mark(u8),
 }
 
-/// The pieces of a text, from its front on.
-pub struct Pieces<'s> {
+/// The lexemes of a text, from its front on.
+pub struct Lexer<'s> {
     sql: &'s [u8],
     at: usize,
     /// The quotes of a string without a letter before it.
     plain: Quotes,
 }
 
-impl<'s> Pieces<'s> {
+impl<'s> Lexer<'s> {
     /// Reads SQL in which plain strings are of this kind: they have escapes where `standard_conforming_strings` is off.
-    pub fn new(sql: &'s [u8], plain: Quotes) -> Pieces<'s> {
-        Pieces { sql, at: 0, plain }
+    pub fn new(sql: &'s [u8], plain: Quotes) -> Lexer<'s> {
+        Lexer { sql, at: 0, plain }
     }
 
     fn rest(&self) -> &'s [u8] {
@@ -51,19 +51,19 @@ impl<'s> Pieces<'s> {
     }
 
     /// A string whose first quote stands there.
-    fn string(&mut self, at: usize, quotes: Quotes) -> Piece {
+    fn string(&mut self, at: usize, quotes: Quotes) -> Lexeme {
         self.at = at + 1;
         let start = self.at;
         loop {
             match self.rest() {
-                [] => return Piece::Text(start..self.sql.len(), quotes),
+                [] => return Lexeme::Text(start..self.sql.len(), quotes),
                 [b'\\', _, ..] if quotes == Quotes::Escapes => self.at += 2,
                 [b'\'', b'\'', ..] => self.at += 2,
                 [b'\'', after @ ..] => {
                     self.at += 1;
                     match continuation(after) {
                         Some(len) => self.at += len,
-                        None => return Piece::Text(start..self.at - 1, quotes),
+                        None => return Lexeme::Text(start..self.at - 1, quotes),
                     }
                 }
                 _ => self.at += 1,
@@ -72,13 +72,13 @@ impl<'s> Pieces<'s> {
     }
 
     /// A name whose first quote stands there.
-    fn name(&mut self, at: usize) -> Piece {
+    fn name(&mut self, at: usize) -> Lexeme {
         self.at = at + 1;
-        Piece::Name(self.until(b"\""))
+        Lexeme::Name(self.until(b"\""))
     }
 
     /// A word, or the string or the name whose prefix it is.
-    fn word(&mut self) -> Piece {
+    fn word(&mut self) -> Lexeme {
         let range = self.run(is_of_word);
         match (&self.sql[range.clone()], self.rest()) {
             (b"e" | b"E", [b'\'', ..]) => self.string(range.end, Quotes::Escapes),
@@ -87,7 +87,7 @@ impl<'s> Pieces<'s> {
             }
             (b"u" | b"U", [b'&', b'\'', ..]) => self.string(range.end + 1, Quotes::Unicode),
             (b"u" | b"U", [b'&', b'"', ..]) => self.name(range.end + 1),
-            _ => Piece::Word(range),
+            _ => Lexeme::Word(range),
         }
     }
 
@@ -101,16 +101,16 @@ impl<'s> Pieces<'s> {
     }
 
     /// A text in dollar quotes, or a parameter.
-    fn dollar(&mut self) -> Piece {
+    fn dollar(&mut self) -> Lexeme {
         match self.tag() {
             Some(tag) => {
                 self.at += tag.len();
-                Piece::Text(self.until(tag), Quotes::Dollars)
+                Lexeme::Text(self.until(tag), Quotes::Dollars)
             }
             None => {
                 self.at += 1;
                 self.run(|it| it.is_ascii_digit());
-                Piece::Mark(b'$')
+                Lexeme::Mark(b'$')
             }
         }
     }
@@ -132,8 +132,8 @@ impl<'s> Pieces<'s> {
         }
     }
 
-    /// The piece at the front, where one begins there.
-    fn piece(&mut self) -> Option<Piece> {
+    /// The lexeme at the front, where one begins there.
+    fn lexeme(&mut self) -> Option<Lexeme> {
         let rest = self.rest();
         match rest {
             [b'\'', ..] => return Some(self.string(self.at, self.plain)),
@@ -142,7 +142,7 @@ impl<'s> Pieces<'s> {
             [b'/', b'*', ..] => self.comment(),
             [b'$', ..] => return Some(self.dollar()),
             [first, ..] if first.is_ascii_digit() => {
-                return Some(Piece::Number(self.run(|it| it.is_ascii_digit() || it == b'.')));
+                return Some(Lexeme::Number(self.run(|it| it.is_ascii_digit() || it == b'.')));
             }
             [first, ..] if is_of_word(*first) => return Some(self.word()),
             _ => {
@@ -150,7 +150,7 @@ impl<'s> Pieces<'s> {
                 return rest
                     .first()
                     .filter(|it| !it.is_ascii_whitespace())
-                    .map(|it| Piece::Mark(*it));
+                    .map(|it| Lexeme::Mark(*it));
             }
         }
         None
@@ -169,13 +169,13 @@ fn continuation(after: &[u8]) -> Option<usize> {
     Some(len + 1).filter(|_| goes_on)
 }
 
-impl Iterator for Pieces<'_> {
-    type Item = Piece;
+impl Iterator for Lexer<'_> {
+    type Item = Lexeme;
 
-    fn next(&mut self) -> Option<Piece> {
+    fn next(&mut self) -> Option<Lexeme> {
         while self.at < self.sql.len() {
-            if let Some(piece) = self.piece() {
-                return Some(piece);
+            if let Some(lexeme) = self.lexeme() {
+                return Some(lexeme);
             }
         }
         None

@@ -17,7 +17,7 @@ pub enum Quotes {
 
 /// The bytes that the inside of a string means, and where each of them comes from.
 #[derive(Debug, Default)]
-pub struct Meaning {
+pub struct LiteralValue {
     pub bytes: Vec<u8>,
     /// Where a byte is written, by its place; then where the string ends.
     at: Vec<usize>,
@@ -25,28 +25,28 @@ pub struct Meaning {
     gaps: Vec<Range<usize>>,
 }
 
-impl Meaning {
-    pub fn of(text: &[u8], quotes: Quotes) -> Meaning {
-        let (mut meaning, mut at) = (Meaning::default(), 0);
+impl LiteralValue {
+    pub fn of(text: &[u8], quotes: Quotes) -> LiteralValue {
+        let (mut value, mut at) = (LiteralValue::default(), 0);
         while let Some(rest @ [first, ..]) = text.get(at..) {
             let (means, len) = match (quotes, rest) {
-                (Quotes::Dollars, _) => (Means::byte(*first), 1),
-                (_, [b'\'', b'\'', ..]) => (Means::byte(b'\''), 2),
+                (Quotes::Dollars, _) => (CharBytes::byte(*first), 1),
+                (_, [b'\'', b'\'', ..]) => (CharBytes::byte(b'\''), 2),
                 (_, [b'\'', after @ ..]) => {
                     let len = rest.len().min(2 + blank_len(after));
-                    meaning.gaps.push(at..at + len);
-                    (Means::default(), len)
+                    value.gaps.push(at..at + len);
+                    (CharBytes::default(), len)
                 }
                 (Quotes::Escapes, [b'\\', escaped @ ..]) => escape(escaped),
                 (Quotes::Unicode, [b'\\', escaped @ ..]) => unicode(escaped),
-                _ => (Means::byte(*first), 1),
+                _ => (CharBytes::byte(*first), 1),
             };
-            meaning.bytes.extend_from_slice(means.bytes());
-            meaning.at.resize(meaning.bytes.len(), at);
+            value.bytes.extend_from_slice(means.bytes());
+            value.at.resize(value.bytes.len(), at);
             at += len;
         }
-        meaning.at.push(text.len());
-        meaning
+        value.at.push(text.len());
+        value
     }
 
     /// Where the parts of the string are: more than one where it goes on after a new line.
@@ -64,17 +64,17 @@ impl Meaning {
 
 /// The bytes of a character, or one byte.
 #[derive(Default)]
-struct Means([u8; 4], usize);
+struct CharBytes([u8; 4], usize);
 
-impl Means {
-    fn byte(byte: u8) -> Means {
-        Means([byte, 0, 0, 0], 1)
+impl CharBytes {
+    fn byte(byte: u8) -> CharBytes {
+        CharBytes([byte, 0, 0, 0], 1)
     }
 
-    fn character(number: u32) -> Means {
+    fn character(number: u32) -> CharBytes {
         let mut bytes = [0; 4];
         let len = char::from_u32(number).map_or(0, |it| it.encode_utf8(&mut bytes).len());
-        Means(bytes, len)
+        CharBytes(bytes, len)
     }
 
     fn bytes(&self) -> &[u8] {
@@ -83,7 +83,7 @@ impl Means {
 }
 
 /// What follows a backslash in a string with escapes, and how long the whole is.
-fn escape(escaped: &[u8]) -> (Means, usize) {
+fn escape(escaped: &[u8]) -> (CharBytes, usize) {
     let (radix, skipped, most) = match escaped {
         [b'x', ..] => (16, 1, 2),
         [b'u', ..] => (16, 1, 4),
@@ -93,30 +93,30 @@ fn escape(escaped: &[u8]) -> (Means, usize) {
     };
     let (number, len) = number(&escaped[skipped..], radix, most);
     let means = match escaped {
-        [b'u' | b'U', ..] if len > 0 => Means::character(number),
-        _ if len > 0 => Means::byte(number as u8),
-        [b'b', ..] => Means::byte(8),
-        [b'f', ..] => Means::byte(12),
-        [b'n', ..] => Means::byte(b'\n'),
-        [b'r', ..] => Means::byte(b'\r'),
-        [b't', ..] => Means::byte(b'\t'),
-        [other, ..] => Means::byte(*other),
-        [] => Means::default(),
+        [b'u' | b'U', ..] if len > 0 => CharBytes::character(number),
+        _ if len > 0 => CharBytes::byte(number as u8),
+        [b'b', ..] => CharBytes::byte(8),
+        [b'f', ..] => CharBytes::byte(12),
+        [b'n', ..] => CharBytes::byte(b'\n'),
+        [b'r', ..] => CharBytes::byte(b'\r'),
+        [b't', ..] => CharBytes::byte(b'\t'),
+        [other, ..] => CharBytes::byte(*other),
+        [] => CharBytes::default(),
     };
     (means, if len > 0 { 1 + skipped + len } else { 2 })
 }
 
 /// The same in a string of Unicode.
-fn unicode(escaped: &[u8]) -> (Means, usize) {
+fn unicode(escaped: &[u8]) -> (CharBytes, usize) {
     match escaped {
-        [b'\\', ..] => (Means::byte(b'\\'), 2),
+        [b'\\', ..] => (CharBytes::byte(b'\\'), 2),
         [b'+', digits @ ..] => {
             let (number, len) = number(digits, 16, 6);
-            (Means::character(number), 2 + len)
+            (CharBytes::character(number), 2 + len)
         }
         digits => {
             let (number, len) = number(digits, 16, 4);
-            (Means::character(number), 1 + len)
+            (CharBytes::character(number), 1 + len)
         }
     }
 }
@@ -167,18 +167,18 @@ mod tests {
             (Plain, "", ""),
         ];
         for (quotes, text, wanted) in table {
-            let meaning = Meaning::of(text.as_bytes(), quotes);
-            assert_eq!(String::from_utf8_lossy(&meaning.bytes), wanted, "{text}");
-            let written = meaning.written(&(0..wanted.len()));
+            let value = LiteralValue::of(text.as_bytes(), quotes);
+            assert_eq!(String::from_utf8_lossy(&value.bytes), wanted, "{text}");
+            let written = value.written(&(0..wanted.len()));
             assert_eq!(
                 written,
                 if wanted.is_empty() { text.len() } else { 0 }..text.len(),
                 "{text}"
             );
         }
-        let meaning = Meaning::of(b"a'\n'b", Quotes::Plain);
-        assert_eq!(meaning.parts().collect::<Vec<_>>(), [0..1, 4..5]);
-        let meaning = Meaning::of(b"PASSWORD ''p''", Quotes::Plain);
-        assert_eq!(meaning.written(&(10..11)), 11..12);
+        let value = LiteralValue::of(b"a'\n'b", Quotes::Plain);
+        assert_eq!(value.parts().collect::<Vec<_>>(), [0..1, 4..5]);
+        let value = LiteralValue::of(b"PASSWORD ''p''", Quotes::Plain);
+        assert_eq!(value.written(&(10..11)), 11..12);
     }
 }

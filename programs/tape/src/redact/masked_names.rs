@@ -2,16 +2,16 @@
 //! that a name has the same substitute throughout its session, and names that a mask alone would make the same stay different,
 //! as far as their ASCII letters and digits reach. Where SQL names a statement or a cursor, that is a text as any other.
 
-use super::masked_ranges::Places;
+use super::masked_ranges::MaskedRanges;
 use std::collections::HashMap;
 
 /// The names of a session that have secrets, each with its number among those that a mask alone would make the same.
 #[derive(Default)]
-pub struct Names(HashMap<Vec<u8>, HashMap<Vec<u8>, usize>>);
+pub struct MaskedNames(HashMap<Vec<u8>, HashMap<Vec<u8>, usize>>);
 
-impl Names {
+impl MaskedNames {
     /// What stands in the place of a name of which some parts are masked: the mask, counted up by the name's number.
-    pub fn substitute(&mut self, name: &[u8], parts: Places<'_>) -> Vec<u8> {
+    pub fn substitute(&mut self, name: &[u8], parts: MaskedRanges<'_>) -> Vec<u8> {
         let (mut bytes, is_masked) = parts.masked_name(name);
         let alike = self.0.entry(bytes.clone()).or_default();
         let next = alike.len();
@@ -23,8 +23,8 @@ impl Names {
 }
 
 /// Adds to a number that is written in digits and letters, from the last one on.
-fn count_up<'b>(places: impl Iterator<Item = &'b mut u8>, mut number: usize) {
-    for byte in places {
+fn count_up<'b>(bytes: impl Iterator<Item = &'b mut u8>, mut number: usize) {
+    for byte in bytes {
         let (first, count) = match byte {
             b'0'..=b'9' => (b'0', 10),
             b'a'..=b'z' => (b'a', 26),
@@ -40,13 +40,13 @@ fn count_up<'b>(places: impl Iterator<Item = &'b mut u8>, mut number: usize) {
 #[cfg(test)]
 mod tests {
     use super::*;
-    use crate::redact::known_secrets::Known;
+    use crate::redact::known_secrets::KnownSecrets;
     use crate::redact::mask::Mask;
 
     /// The substitute of a name of which everything after `_` is masked.
-    fn substitute(names: &mut Names, name: &str) -> String {
-        let mut known = Known::default();
-        let mut parts = Places::new(name.as_bytes(), &mut known);
+    fn substitute(names: &mut MaskedNames, name: &str) -> String {
+        let mut known = KnownSecrets::default();
+        let mut parts = MaskedRanges::new(name.as_bytes(), &mut known);
         parts.add(name.split_once('_').unwrap().1.as_bytes(), Mask::Text);
         String::from_utf8(names.substitute(name.as_bytes(), parts)).unwrap()
     }
@@ -67,7 +67,7 @@ mod tests {
             ("s_c 8", "s_x 1"),
             ("s_\u{e9}", "s_\u{f8}"),
         ];
-        let mut names = Names::default();
+        let mut names = MaskedNames::default();
         for (name, wanted) in table.iter().chain(&table) {
             assert_eq!(substitute(&mut names, name), *wanted, "{name}");
         }

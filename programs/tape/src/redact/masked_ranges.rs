@@ -1,41 +1,41 @@
-//! The places of a message that are masked, and the message with masks in them.
+//! The ranges of a message that are masked, and the message with masks in them.
 
-use super::known_secrets::Known;
+use super::known_secrets::KnownSecrets;
 use super::mask::{Mask, WHOLE};
 use std::borrow::Cow;
 use std::ops::Range;
 
-/// A place, and what stands there then.
+/// A range, and what stands there then.
 #[derive(Clone, Debug, PartialEq, Eq)]
-struct Place {
+struct MaskedRange {
     range: Range<usize>,
     mask: Mask,
     /// Where the value begins in which it is: the four bytes before are the length of that.
     value: Option<usize>,
 }
 
-/// Places in bytes, named by parts that are borrowed of these.
-pub struct Places<'k> {
+/// Ranges in bytes, named by parts that are borrowed of these.
+pub struct MaskedRanges<'k> {
     start: usize,
     len: usize,
-    all: Vec<Place>,
+    all: Vec<MaskedRange>,
     value: Option<usize>,
     is_tight: bool,
     /// The secrets of the whole recording.
-    known: &'k mut Known,
+    known: &'k mut KnownSecrets,
     /// How many values may be secrets, which can't be told.
     pub untold: u64,
 }
 
-impl<'k> Places<'k> {
-    pub fn new(bytes: &[u8], known: &'k mut Known) -> Places<'k> {
+impl<'k> MaskedRanges<'k> {
+    pub fn new(bytes: &[u8], known: &'k mut KnownSecrets) -> MaskedRanges<'k> {
         let (start, len) = (bytes.as_ptr() as usize, bytes.len());
-        Places { start, len, all: Vec::new(), value: None, is_tight: false, known, untold: 0 }
+        MaskedRanges { start, len, all: Vec::new(), value: None, is_tight: false, known, untold: 0 }
     }
 
-    /// Places in a part of the bytes, alone.
-    pub fn of_part(&mut self, part: &[u8]) -> Places<'_> {
-        Places::new(part, self.known)
+    /// Ranges in a part of the bytes, alone.
+    pub fn of_part(&mut self, part: &[u8]) -> MaskedRanges<'_> {
+        MaskedRanges::new(part, self.known)
     }
 
     /// What is added from here on is in a value whose length is in the four bytes before it.
@@ -64,9 +64,9 @@ impl<'k> Places<'k> {
         self.put(part, mask);
     }
 
-    /// Has a string masked whose meaning is a secret throughout the recording.
-    pub fn add_string(&mut self, part: &[u8], meaning: &[u8], mask: Mask) {
-        self.known.add(meaning, mask == Mask::Whole);
+    /// Has a string masked whose value is a secret throughout the recording.
+    pub fn add_string(&mut self, part: &[u8], value: &[u8], mask: Mask) {
+        self.known.add(value, mask == Mask::Whole);
         self.put(part, mask);
     }
 
@@ -81,7 +81,7 @@ impl<'k> Places<'k> {
             false => mask,
         };
         if let Some(range) = self.at(part).filter(|it| !it.is_empty()) {
-            self.all.push(Place { range, mask, value: self.value });
+            self.all.push(MaskedRange { range, mask, value: self.value });
         }
     }
 
@@ -101,7 +101,7 @@ impl<'k> Places<'k> {
         self.all.is_empty()
     }
 
-    /// The bytes with masks in the places. The length of the message, where it has one, is at this offset.
+    /// The bytes with masks in the ranges. The length of the message, where it has one, is at this offset.
     pub fn masked<'b>(self, bytes: Cow<'b, [u8]>, head: Option<usize>) -> Cow<'b, [u8]> {
         if self.is_empty() {
             return bytes;
@@ -125,15 +125,15 @@ impl<'k> Places<'k> {
         (self.masked(name.into(), None).into_owned(), is_masked)
     }
 
-    /// The places in their order, of masks that are as long as what they mask or of the others.
-    fn sorted(&self, is_other: bool) -> Vec<&Place> {
-        let mut places: Vec<&Place> =
+    /// The ranges in their order, of masks that are as long as what they mask or of the others.
+    fn sorted(&self, is_other: bool) -> Vec<&MaskedRange> {
+        let mut ranges: Vec<&MaskedRange> =
             self.all.iter().filter(|it| it.mask.other().is_some() == is_other).collect();
-        places.sort_by_key(|it| (it.range.start, usize::MAX - it.range.end));
-        places
+        ranges.sort_by_key(|it| (it.range.start, usize::MAX - it.range.end));
+        ranges
     }
 
-    /// Puts the masks that are as long as what they mask. Where places overlap, the first one counts.
+    /// Puts the masks that are as long as what they mask. Where ranges overlap, the first one counts.
     fn keep_lengths(&self, bytes: &mut [u8]) {
         let mut end = 0;
         for place in self.sorted(false) {
@@ -143,7 +143,7 @@ impl<'k> Places<'k> {
         }
     }
 
-    /// The other masks, where places that overlap are one.
+    /// The other masks, where ranges that overlap are one.
     fn splices(&self) -> Vec<Splice<'_>> {
         let mut splices: Vec<Splice<'_>> = Vec::new();
         for place in self.sorted(true) {
@@ -168,8 +168,8 @@ struct Splice<'p> {
 }
 
 impl Splice<'_> {
-    /// Takes in a place that overlaps. Where both masks are as long as what they mask, so is that of the whole.
-    fn go_on(&mut self, place: &Place) {
+    /// Takes in a range that overlaps. Where both masks are as long as what they mask, so is that of the whole.
+    fn go_on(&mut self, place: &MaskedRange) {
         let passed = self.range.end - place.range.start;
         if let (Mask::Bytes(more), true) = (&place.mask, self.with.len() == self.range.len()) {
             if more.len() == place.range.len() {
@@ -217,14 +217,14 @@ mod tests {
             (b"\0PASSWORD 'a'\n'bc'", b"\0PASSWORD 'x'\n'xx'"),
         ];
         for (bytes, wanted) in table {
-            let mut known = Known::default();
+            let mut known = KnownSecrets::default();
             ["abcd1234", "1234efgh"].iter().for_each(|it| known.add(it.as_bytes(), true));
             known.complete();
-            let mut places = Places::new(bytes, &mut known);
-            places.enter(bytes);
-            places.put_known(bytes);
-            quoted_passwords(bytes, &mut places);
-            assert_eq!(&*places.masked(bytes.into(), None), wanted);
+            let mut ranges = MaskedRanges::new(bytes, &mut known);
+            ranges.enter(bytes);
+            ranges.put_known(bytes);
+            quoted_passwords(bytes, &mut ranges);
+            assert_eq!(&*ranges.masked(bytes.into(), None), wanted);
         }
     }
 }

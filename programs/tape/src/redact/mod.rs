@@ -24,12 +24,12 @@ use crate::output::Output;
 use crate::progress::Progress;
 use crate::record_assembler::{AssembleError, RecordAssembler, RecordPosition};
 use crate::recording_file::RecordingFile;
-use known_secrets::Known;
+use known_secrets::KnownSecrets;
 use mask::WHOLE;
-use masked_ranges::Places;
+use masked_ranges::MaskedRanges;
 use recording::{RecordKind, Side};
-use rules::Rules;
-use session::Sessions;
+use rules::RedactionRules;
+use session::SessionStates;
 use std::borrow::Cow;
 use std::collections::HashSet;
 use std::path::Path;
@@ -39,7 +39,7 @@ const LEFT_OUT: u32 = (4 + WHOLE.len() + 1) as u32;
 
 /// Takes secrets out of a recording, by a file of rules where one is named.
 pub fn redact(path: &Path, rules: Option<&Path>, to: &Path) -> Result<TapeStatus> {
-    let rules = rules.map_or_else(|| Ok(Rules::default()), Rules::read)?;
+    let rules = rules.map_or_else(|| Ok(RedactionRules::default()), RedactionRules::read)?;
     if std::fs::metadata(path).map_or(false, |it| !it.is_file()) {
         let words = format!("{} is read more than once, and is no file", path.display());
         return Err(TapeFailure::new(TapeStatus::Usage, words));
@@ -99,9 +99,9 @@ fn add(
 /// Takes secrets out of events.
 #[derive(Default)]
 struct Redactor {
-    rules: Rules,
-    sessions: Sessions,
-    known: Known,
+    rules: RedactionRules,
+    sessions: SessionStates,
+    known: KnownSecrets,
     /// The sides whose last message has another length, and is written as a whole where it begins.
     whole: HashSet<(u32, Side)>,
     /// How many bytes were no messages whose fields can be looked at.
@@ -171,10 +171,10 @@ impl Redactor {
 
     /// Bytes that are no message, without the secrets of a text.
     fn searched<'a>(&mut self, bytes: Cow<'a, [u8]>, is_tight: bool) -> Cow<'a, [u8]> {
-        let mut places = Places::new(&bytes, &mut self.known);
-        places.tighten(is_tight);
-        values::search(&bytes, &mut self.rules, &mut places);
-        places.masked(bytes, None)
+        let mut ranges = MaskedRanges::new(&bytes, &mut self.known);
+        ranges.tighten(is_tight);
+        values::search(&bytes, &mut self.rules, &mut ranges);
+        ranges.masked(bytes, None)
     }
 
     fn message<'a>(
@@ -183,21 +183,21 @@ impl Redactor {
         side: Side,
         message: RawMessage<'a>,
     ) -> RawMessage<'a> {
-        let mut places = Places::new(&message.bytes, &mut self.known);
+        let mut ranges = MaskedRanges::new(&message.bytes, &mut self.known);
         let session = self.sessions.of(connection);
         let (tag, body) = (message.tag, message.body());
         let is_read = match side {
             Side::Client => match pgmsg::frontend::Message::read_body(tag, body) {
                 Ok(read) => {
                     session.client(&read);
-                    values::client(&read, session, &mut self.rules, &mut places);
+                    values::client(&read, session, &mut self.rules, &mut ranges);
                     true
                 }
                 Err(_) => false,
             },
             Side::Server => match pgmsg::backend::Message::read_body(tag, body) {
                 Ok(read) => {
-                    values::server(&read, session, &mut self.rules, &mut places);
+                    values::server(&read, session, &mut self.rules, &mut ranges);
                     session.server(&read);
                     true
                 }
@@ -206,14 +206,14 @@ impl Redactor {
         };
         if !is_read {
             self.unread += body.len() as u64;
-            places.tighten(true);
-            values::search(body, &mut self.rules, &mut places);
+            ranges.tighten(true);
+            values::search(body, &mut self.rules, &mut ranges);
         }
-        self.untold += places.untold;
-        if places.are_learnt() {
+        self.untold += ranges.untold;
+        if ranges.are_learnt() {
             return message;
         }
-        RawMessage { tag, bytes: places.masked(message.bytes, Some(usize::from(tag.is_some()))) }
+        RawMessage { tag, bytes: ranges.masked(message.bytes, Some(usize::from(tag.is_some()))) }
     }
 
     /// Says which rules did nothing, and what could not be looked at.
@@ -253,7 +253,8 @@ mod tests {
 
     /// What takes secrets out by the pattern of a text.
     fn redactor(pattern: &str) -> Redactor {
-        let rules = Rules::parse(&format!("[[redact.text]]\npattern = '{pattern}'")).unwrap();
+        let rules =
+            RedactionRules::parse(&format!("[[redact.text]]\npattern = '{pattern}'")).unwrap();
         let mut redactor = Redactor { rules, ..Redactor::default() };
         redactor.known.complete();
         redactor

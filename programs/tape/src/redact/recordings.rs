@@ -8,7 +8,7 @@ use pgmsg::backend::{self, Column, CopyResponse, Field, FieldKind, TransactionSt
 use pgmsg::frontend::{self, Bind, Execute, Parse, Startup, Target};
 use pgmsg::{ByteStr, Value};
 use recording::{RecordKind, Side, Writer};
-use Said::{Client as C, Server as S};
+use SideMessage::{Client as C, Server as S};
 
 const RULES: &str = r#"
     [[redact.column]]
@@ -20,31 +20,31 @@ const RULES: &str = r#"
 
 /// What a side says.
 #[derive(Clone)]
-enum Said {
+enum SideMessage {
     Client(frontend::Message<'static>),
     Server(backend::Message<'static>),
 }
 
-impl Said {
+impl SideMessage {
     fn side(&self) -> Side {
         match self {
-            Said::Client(_) => Side::Client,
-            Said::Server(_) => Side::Server,
+            SideMessage::Client(_) => Side::Client,
+            SideMessage::Server(_) => Side::Server,
         }
     }
 
     fn bytes(&self) -> Vec<u8> {
         let mut out = Vec::new();
         match self {
-            Said::Client(message) => message.write(&mut out).unwrap(),
-            Said::Server(message) => message.write(&mut out).unwrap(),
+            SideMessage::Client(message) => message.write(&mut out).unwrap(),
+            SideMessage::Server(message) => message.write(&mut out).unwrap(),
         }
         out
     }
 }
 
 /// A recording of a session, whose records have so many bytes at most.
-fn recording(said: &[Said], most: usize) -> Vec<u8> {
+fn recording(said: &[SideMessage], most: usize) -> Vec<u8> {
     let mut file = Vec::new();
     let mut out = Writer::new(&mut file, 0).unwrap();
     out.add(RecordKind::Opened, 1, 0, b"").unwrap();
@@ -69,53 +69,53 @@ fn redacted(name: &str, rules: &str, tape: &[u8]) -> (TapeStatus, String) {
     (status, String::from_utf8(lines.bytes()).unwrap())
 }
 
-fn parse(name: &'static str, sql: &'static str) -> Said {
+fn parse(name: &'static str, sql: &'static str) -> SideMessage {
     let (statement, query) = (name.into(), sql.into());
     C(frontend::Message::Parse(Parse { statement, query, ..Parse::default() }))
 }
 
-fn bind(portal: &'static str, statement: &'static str, value: &'static str) -> Said {
+fn bind(portal: &'static str, statement: &'static str, value: &'static str) -> SideMessage {
     let (portal, statement, values) = (portal.into(), statement.into(), [value.into()].into());
     C(frontend::Message::Bind(Bind { portal, statement, values, ..Bind::default() }))
 }
 
-fn execute(portal: &'static str) -> Said {
+fn execute(portal: &'static str) -> SideMessage {
     C(frontend::Message::Execute(Execute { portal: portal.into(), max_rows: 0 }))
 }
 
-fn query(sql: &'static str) -> Said {
+fn query(sql: &'static str) -> SideMessage {
     C(frontend::Message::Query(sql.into()))
 }
 
-fn sync() -> Said {
+fn sync() -> SideMessage {
     C(frontend::Message::Sync)
 }
 
-fn row(values: &[&'static str]) -> Said {
+fn row(values: &[&'static str]) -> SideMessage {
     S(backend::Message::DataRow(values.iter().map(|it| Value::from(*it)).collect()))
 }
 
-fn described(name: &'static str) -> Said {
+fn described(name: &'static str) -> SideMessage {
     S(backend::Message::RowDescription([Column::new(name, 25)].into()))
 }
 
-fn error() -> Said {
+fn error() -> SideMessage {
     S(backend::Message::ErrorResponse([Field::new(FieldKind::Code, "42P05")].into()))
 }
 
-fn complete() -> Said {
+fn complete() -> SideMessage {
     S(backend::Message::CommandComplete("SELECT 1".into()))
 }
 
-fn ready() -> Said {
+fn ready() -> SideMessage {
     S(backend::Message::ReadyForQuery(TransactionStatus::Idle))
 }
 
-const PARSED: Said = S(backend::Message::ParseComplete);
-const BOUND: Said = S(backend::Message::BindComplete);
+const PARSED: SideMessage = S(backend::Message::ParseComplete);
+const BOUND: SideMessage = S(backend::Message::BindComplete);
 
 /// Tests a session that has secrets `secret..`: both as its sides speak in turn, and where the client says all at once.
-fn test(name: &str, rules: &str, said: &[Said], wanted: TapeStatus) {
+fn test(name: &str, rules: &str, said: &[SideMessage], wanted: TapeStatus) {
     let mut at_once = said.to_vec();
     at_once.sort_by_key(|it| it.side() == Side::Server);
     for said in [said, &at_once] {

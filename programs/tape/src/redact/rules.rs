@@ -1,31 +1,31 @@
 //! What is taken out of a recording: the table `redact` of a file of rules, which has those of a replay too.
 
 use super::mask::Mask;
-use super::masked_ranges::Places;
+use super::masked_ranges::MaskedRanges;
 use crate::failure::{Result, TapeFailure, TapeStatus};
 use regex::bytes::Regex;
 use rules::{Pattern, RulesFile};
 use std::path::Path;
 
 /// A rule, and whether it matched something.
-struct Rule<T> {
+struct RedactionRule<T> {
     what: T,
     name: String,
     is_met: bool,
 }
 
-impl<T> Rule<T> {
-    fn new(what: T, name: String) -> Rule<T> {
-        Rule { what, name, is_met: false }
+impl<T> RedactionRule<T> {
+    fn new(what: T, name: String) -> RedactionRule<T> {
+        RedactionRule { what, name, is_met: false }
     }
 }
 
 #[derive(Default)]
-pub struct Rules {
-    columns: Vec<Rule<String>>,
-    parameters: Vec<Rule<(Regex, Vec<usize>)>>,
-    statements: Vec<Rule<Regex>>,
-    texts: Vec<Rule<Regex>>,
+pub struct RedactionRules {
+    columns: Vec<RedactionRule<String>>,
+    parameters: Vec<RedactionRule<(Regex, Vec<usize>)>>,
+    statements: Vec<RedactionRule<Regex>>,
+    texts: Vec<RedactionRule<Regex>>,
 }
 
 fn regex(pattern: &str) -> std::result::Result<Regex, String> {
@@ -40,36 +40,36 @@ fn each<R, T>(
     rules.into_iter().map(make).collect()
 }
 
-impl Rules {
+impl RedactionRules {
     /// Reads a file of rules.
-    pub fn read(path: &Path) -> Result<Rules> {
+    pub fn read(path: &Path) -> Result<RedactionRules> {
         let text = std::fs::read_to_string(path).map_err(|why| TapeFailure::unread(path, &why))?;
-        Rules::parse(&text).map_err(|why| {
+        RedactionRules::parse(&text).map_err(|why| {
             TapeFailure::new(TapeStatus::Usage, format!("{}: {why}", path.display()))
         })
     }
 
-    pub fn parse(text: &str) -> std::result::Result<Rules, String> {
+    pub fn parse(text: &str) -> std::result::Result<RedactionRules, String> {
         let RulesFile { redact, .. } = RulesFile::parse(text).map_err(|why| why.to_string())?;
         let pattern = |table: &'static str| {
             move |it: Pattern| {
-                Ok(Rule::new(
+                Ok(RedactionRule::new(
                     regex(&it.pattern)?,
                     format!("[[redact.{table}]] pattern = {:?}", it.pattern),
                 ))
             }
         };
-        Ok(Rules {
+        Ok(RedactionRules {
             columns: each(redact.column, |it| {
                 let name = format!("[[redact.column]] name = {:?}", it.name);
-                Ok(Rule::new(it.name, name))
+                Ok(RedactionRule::new(it.name, name))
             })?,
             parameters: each(redact.parameter, |it| {
                 let name = format!(
                     "[[redact.parameter]] statement = {:?}, positions = {:?}",
                     it.statement, it.positions
                 );
-                Ok(Rule::new((regex(&it.statement)?, it.positions), name))
+                Ok(RedactionRule::new((regex(&it.statement)?, it.positions), name))
             })?,
             statements: each(redact.statement, pattern("statement"))?,
             texts: each(redact.text, pattern("text"))?,
@@ -93,7 +93,7 @@ impl Rules {
 
     /// Whether the value of a parameter is masked, by its position from 1 on.
     pub fn parameter(&mut self, sql: &[u8], position: usize) -> bool {
-        let fits = |it: &&mut Rule<(Regex, Vec<usize>)>| {
+        let fits = |it: &&mut RedactionRule<(Regex, Vec<usize>)>| {
             it.what.1.contains(&position) && it.what.0.is_match(sql)
         };
         met(self.parameters.iter_mut().filter(fits))
@@ -105,13 +105,13 @@ impl Rules {
     }
 
     /// Has what patterns match masked in a text: the first group of each match, where the pattern has one.
-    pub fn texts(&mut self, text: &[u8], places: &mut Places<'_>) {
+    pub fn texts(&mut self, text: &[u8], ranges: &mut MaskedRanges<'_>) {
         for rule in &mut self.texts {
             for found in rule.what.captures_iter(text) {
                 let part = found.get(1).or_else(|| found.get(0));
                 if let Some(part) = part.filter(|it| !it.as_bytes().is_empty()) {
                     rule.is_met = true;
-                    places.add(part.as_bytes(), Mask::Text);
+                    ranges.add(part.as_bytes(), Mask::Text);
                 }
             }
         }
@@ -128,7 +128,7 @@ impl Rules {
 }
 
 /// Notes that rules are met, and tells whether there are any.
-fn met<'r, T: 'r>(rules: impl Iterator<Item = &'r mut Rule<T>>) -> bool {
+fn met<'r, T: 'r>(rules: impl Iterator<Item = &'r mut RedactionRule<T>>) -> bool {
     rules.map(|rule| rule.is_met = true).count() > 0
 }
 
@@ -152,7 +152,7 @@ mod tests {
             [[redact.text]]
             pattern = 'card (\d+)'
         "#;
-        let mut rules = Rules::parse(text).unwrap();
+        let mut rules = RedactionRules::parse(text).unwrap();
         assert!(rules.column(b"email") && !rules.column(b"Email"));
         assert!(
             rules.parameter(b"INSERT INTO users ..", 3)
@@ -172,7 +172,7 @@ mod tests {
             ("redact = 5", "invalid type"),
         ];
         for (text, words) in table {
-            let why = Rules::parse(text).err().unwrap();
+            let why = RedactionRules::parse(text).err().unwrap();
             assert!(why.contains(words), "{why}");
         }
     }

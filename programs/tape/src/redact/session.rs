@@ -1,7 +1,7 @@
 //! Which columns a row has, and which statement a Bind is of: sessions are followed so far.
 
-use super::masked_names::Names;
-use super::request_queue::{Asked, Queue};
+use super::masked_names::MaskedNames;
+use super::request_queue::{PendingRequest, RequestQueue};
 use pgmsg::backend::{self, Column};
 use pgmsg::frontend::{self, Target};
 use pgmsg::Format;
@@ -11,29 +11,33 @@ use std::rc::Rc;
 
 /// The name and the type of a column.
 #[derive(Clone, Debug, PartialEq, Eq)]
-pub struct Named {
+pub struct ColumnDescription {
     pub name: Vec<u8>,
     pub type_id: u32,
     pub format: Format,
 }
 
-impl Named {
-    fn of(column: &Column<'_>) -> Named {
-        Named { name: column.name.to_vec(), type_id: column.type_id, format: column.format }
+impl ColumnDescription {
+    fn of(column: &Column<'_>) -> ColumnDescription {
+        ColumnDescription {
+            name: column.name.to_vec(),
+            type_id: column.type_id,
+            format: column.format,
+        }
     }
 }
 
-pub type Columns = Rc<RefCell<Vec<Named>>>;
+pub type SharedColumns = Rc<RefCell<Vec<ColumnDescription>>>;
 
 /// A prepared statement. What isn't known of it comes with the server's answers.
 #[derive(Clone, Debug, Default)]
-pub struct Statement {
+pub struct PreparedStatement {
     pub sql: Rc<Vec<u8>>,
     types: Rc<RefCell<Vec<u32>>>,
-    columns: Columns,
+    columns: SharedColumns,
 }
 
-impl Statement {
+impl PreparedStatement {
     /// The type of a parameter, by its position from 0 on; 0 where it isn't known.
     pub fn type_of(&self, position: usize) -> u32 {
         self.types.borrow().get(position).copied().unwrap_or_default()
@@ -43,24 +47,24 @@ impl Statement {
 /// A portal, with the formats of its results.
 #[derive(Clone, Debug, Default)]
 pub struct Portal {
-    columns: Columns,
+    columns: SharedColumns,
     formats: Vec<Format>,
 }
 
 /// What is known of a session.
 #[derive(Default)]
-pub struct Session {
-    statements: HashMap<Vec<u8>, Statement>,
+pub struct SessionState {
+    statements: HashMap<Vec<u8>, PreparedStatement>,
     /// Statements of Parses that the server refuses, by their names: a client may have sent the values of theirs too.
-    refused: HashMap<Vec<u8>, Statement>,
+    refused: HashMap<Vec<u8>, PreparedStatement>,
     portals: HashMap<Vec<u8>, Portal>,
-    asked: Queue,
+    pending: RequestQueue,
     /// How many Parses and Binds the client has sent.
     made: u32,
     /// The columns of the rows of a Query.
-    columns: Vec<Named>,
+    columns: Vec<ColumnDescription>,
     /// The names of statements and portals that have secrets.
-    pub names: Names,
+    pub names: MaskedNames,
 }
 
 /// The format of a value by its position: none is text, one is that of all.
@@ -71,14 +75,14 @@ pub fn format_of(formats: &[Format], position: usize) -> Format {
     }
 }
 
-impl Session {
+impl SessionState {
     /// The statement of a name.
-    fn statement(&self, name: &[u8]) -> Statement {
+    fn statement(&self, name: &[u8]) -> PreparedStatement {
         self.statements.get(name).cloned().unwrap_or_default()
     }
 
     /// The statements that a client may mean by a name: the server's, and one that the server refuses.
-    pub fn meant(&self, name: &[u8]) -> Vec<Statement> {
+    pub fn meant(&self, name: &[u8]) -> Vec<PreparedStatement> {
         let all = [self.statements.get(name), self.refused.get(name)];
         all.into_iter().flatten().cloned().collect()
     }
@@ -86,14 +90,14 @@ impl Session {
     /// Whether the server makes nothing of the next Parse or Bind, as far as that is known.
     fn is_refused(&mut self) -> bool {
         self.made += 1;
-        self.asked.push(Asked::Make(self.made));
-        self.asked.refused().contains(&self.made)
+        self.pending.push(PendingRequest::Make(self.made));
+        self.pending.refused().contains(&self.made)
     }
 
     /// The columns of a row that comes now.
-    pub fn columns(&self) -> Vec<Named> {
-        match self.asked.front() {
-            Some(Asked::Execute(portal)) => {
+    pub fn columns(&self) -> Vec<ColumnDescription> {
+        match self.pending.front() {
+            Some(PendingRequest::Execute(portal)) => {
                 let mut columns = portal.columns.borrow().clone();
                 let formats = columns.iter_mut().enumerate();
                 formats.for_each(|(at, it)| it.format = format_of(&portal.formats, at));
@@ -106,12 +110,12 @@ impl Session {
     /// Notes what a client says.
     pub fn client(&mut self, message: &frontend::Message<'_>) {
         use frontend::Message as M;
-        let asked = match message {
+        let pending = match message {
             M::Parse(parse) => {
-                let statement = Statement {
+                let statement = PreparedStatement {
                     sql: Rc::new(parse.query.to_vec()),
                     types: Rc::new(RefCell::new(parse.types.to_vec())),
-                    columns: Columns::default(),
+                    columns: SharedColumns::default(),
                 };
                 let name = parse.statement.to_vec();
                 match self.is_refused() {
@@ -128,15 +132,17 @@ impl Session {
                 }
                 return;
             }
-            M::Describe(Target::Statement(name)) => Asked::Describe(self.statement(name)),
-            M::Describe(Target::Portal(name)) => Asked::DescribePortal(self.portal(name).columns),
-            M::Execute(execute) => Asked::Execute(self.portal(&execute.portal)),
-            M::Startup(_) | M::Query(_) | M::FunctionCall(_) => Asked::Query,
-            M::Sync => Asked::Sync,
-            M::CopyDone | M::CopyFail(_) => Asked::DataEnd,
+            M::Describe(Target::Statement(name)) => PendingRequest::Describe(self.statement(name)),
+            M::Describe(Target::Portal(name)) => {
+                PendingRequest::DescribePortal(self.portal(name).columns)
+            }
+            M::Execute(execute) => PendingRequest::Execute(self.portal(&execute.portal)),
+            M::Startup(_) | M::Query(_) | M::FunctionCall(_) => PendingRequest::Query,
+            M::Sync => PendingRequest::Sync,
+            M::CopyDone | M::CopyFail(_) => PendingRequest::DataEnd,
             _ => return,
         };
-        self.asked.push(asked);
+        self.pending.push(pending);
     }
 
     fn portal(&self, name: &[u8]) -> Portal {
@@ -146,34 +152,35 @@ impl Session {
     /// Notes what a server answers.
     pub fn server(&mut self, message: &backend::Message<'_>) {
         use backend::Message as M;
-        match (message, self.asked.front()) {
-            (M::ParameterDescription(types), Some(Asked::Describe(statement))) => {
+        match (message, self.pending.front()) {
+            (M::ParameterDescription(types), Some(PendingRequest::Describe(statement))) => {
                 *statement.types.borrow_mut() = types.to_vec();
             }
             (M::RowDescription(columns), _) => {
-                self.describe(columns.iter().map(Named::of).collect())
+                self.describe(columns.iter().map(ColumnDescription::of).collect())
             }
-            (M::ParseComplete | M::BindComplete, Some(Asked::Make(_)))
-            | (M::NoData, Some(Asked::Describe(_) | Asked::DescribePortal(_)))
+            (M::ParseComplete | M::BindComplete, Some(PendingRequest::Make(_)))
+            | (M::NoData, Some(PendingRequest::Describe(_) | PendingRequest::DescribePortal(_)))
             | (
                 M::CommandComplete(_) | M::EmptyQueryResponse | M::PortalSuspended,
-                Some(Asked::Execute(_)),
-            ) => self.asked.pop(),
-            (M::CopyInResponse(_) | M::CopyBothResponse(_), _) => self.asked.begin_copy(),
-            (M::ErrorResponse(_), _) => self.asked.fail(),
-            (M::ReadyForQuery(_), _) => self.asked.ready(),
+                Some(PendingRequest::Execute(_)),
+            ) => self.pending.pop(),
+            (M::CopyInResponse(_) | M::CopyBothResponse(_), _) => self.pending.begin_copy(),
+            (M::ErrorResponse(_), _) => self.pending.fail(),
+            (M::ReadyForQuery(_), _) => self.pending.ready(),
             _ => {}
         }
     }
 
     /// Notes the columns of a statement or a portal that is described, or of the rows of a Query.
-    fn describe(&mut self, columns: Vec<Named>) {
-        match self.asked.front() {
+    fn describe(&mut self, columns: Vec<ColumnDescription>) {
+        match self.pending.front() {
             Some(
-                Asked::Describe(Statement { columns: known, .. }) | Asked::DescribePortal(known),
+                PendingRequest::Describe(PreparedStatement { columns: known, .. })
+                | PendingRequest::DescribePortal(known),
             ) => {
                 *known.borrow_mut() = columns;
-                self.asked.pop();
+                self.pending.pop();
             }
             _ => self.columns = columns,
         }
@@ -182,23 +189,23 @@ impl Session {
 
 /// The sessions that are open, and what the server refuses in each that is closed.
 #[derive(Default)]
-pub struct Sessions {
-    open: HashMap<u32, Session>,
+pub struct SessionStates {
+    open: HashMap<u32, SessionState>,
     refused: BTreeMap<u32, BTreeSet<u32>>,
 }
 
-impl Sessions {
-    pub fn of(&mut self, connection: u32) -> &mut Session {
+impl SessionStates {
+    pub fn of(&mut self, connection: u32) -> &mut SessionState {
         let refused = &mut self.refused;
         self.open.entry(connection).or_insert_with(|| {
-            let asked = Queue::knowing(refused.remove(&connection).unwrap_or_default());
-            Session { asked, ..Session::default() }
+            let pending = RequestQueue::knowing(refused.remove(&connection).unwrap_or_default());
+            SessionState { pending, ..SessionState::default() }
         })
     }
 
     pub fn close(&mut self, connection: u32) {
         if let Some(session) = self.open.remove(&connection) {
-            let refused = session.asked.refused();
+            let refused = session.pending.refused();
             if !refused.is_empty() {
                 self.refused.insert(connection, refused.clone());
             }
@@ -232,7 +239,7 @@ mod tests {
     }
 
     /// The names and the formats of the columns that a row has now.
-    fn found(session: &Session) -> Vec<(String, i16)> {
+    fn found(session: &SessionState) -> Vec<(String, i16)> {
         let columns = session.columns().into_iter();
         columns.map(|it| (String::from_utf8(it.name).unwrap(), it.format.0)).collect()
     }
@@ -250,7 +257,7 @@ mod tests {
         let execute =
             |portal: &'static str| F::Execute(Execute { portal: portal.into(), max_rows: 0 });
         let describe = |name: &'static str| F::Describe(Target::Statement(name.into()));
-        let mut session = Session::default();
+        let mut session = SessionState::default();
         for said in [parse("a"), describe("a"), parse("b"), describe("b"), F::Sync] {
             session.client(&said);
         }
@@ -286,7 +293,7 @@ mod tests {
     }
 
     /// Has both sides say messages, a letter each by their tags; `_` is a Startup, and `>` and `<` change the side.
-    fn say(session: &mut Session, text: &str) {
+    fn say(session: &mut SessionState, text: &str) {
         use backend::Message as B;
         use frontend::Message as F;
         let copy = || CopyResponse { format: 0, columns: [Format::TEXT].into() };
@@ -355,7 +362,7 @@ mod tests {
             "_Q<ZCZ",
         ];
         for said in table {
-            let mut session = Session::default();
+            let mut session = SessionState::default();
             session.client(&parse("a"));
             session.client(&frontend::Message::Describe(Target::Statement("a".into())));
             say(&mut session, "S<1");
@@ -373,7 +380,7 @@ mod tests {
 
     #[test]
     fn the_rows_of_a_query_that_is_sent_with_the_startup_have_its_columns() {
-        let mut session = Session::default();
+        let mut session = SessionState::default();
         say(&mut session, "_QES<Z");
         session.server(&described("q"));
         assert_eq!(found(&session), [("q".to_owned(), 0)]);
@@ -383,7 +390,7 @@ mod tests {
     fn an_error_passes_over_what_is_asked_up_to_the_sync() {
         use backend::Message as B;
         use frontend::Message as F;
-        let mut session = Session::default();
+        let mut session = SessionState::default();
         let execute = F::Execute(Execute::default());
         for said in [
             parse(""),

@@ -1,9 +1,9 @@
 //! The literals of SQL, and the secrets that stand in them without a rule.
 
-use super::lexer::{is_of_word, Piece, Pieces};
-use super::literal::{Meaning, Quotes};
+use super::lexer::{is_of_word, Lexeme, Lexer};
+use super::literal::{LiteralValue, Quotes};
 use super::mask::Mask;
-use super::masked_ranges::Places;
+use super::masked_ranges::MaskedRanges;
 use once_cell::sync::Lazy;
 use regex::bytes::Regex;
 use std::ops::Range;
@@ -27,58 +27,58 @@ const DEEPEST: usize = 4;
 const FAR: usize = 4 << 10;
 
 /// A password: where the parts of its string are, and what these mean.
-struct Password {
+struct PasswordLiteral {
     parts: Vec<Range<usize>>,
-    meaning: Vec<u8>,
+    value: Vec<u8>,
 }
 
-impl Password {
+impl PasswordLiteral {
     /// That of a string which begins there.
-    fn of(start: usize, meaning: Meaning) -> Password {
-        let parts = meaning.parts().map(|it| start + it.start..start + it.end).collect();
-        Password { parts, meaning: meaning.bytes }
+    fn of(start: usize, value: LiteralValue) -> PasswordLiteral {
+        let parts = value.parts().map(|it| start + it.start..start + it.end).collect();
+        PasswordLiteral { parts, value: value.bytes }
     }
 
     /// The same in a string that begins there.
-    fn within(self, start: usize, outer: &Meaning) -> Password {
+    fn within(self, start: usize, outer: &LiteralValue) -> PasswordLiteral {
         let parts = self.parts.iter().map(|it| {
             let written = outer.written(it);
             start + written.start..start + written.end
         });
-        Password { parts: parts.collect(), meaning: self.meaning }
+        PasswordLiteral { parts: parts.collect(), value: self.value }
     }
 
     /// Has it masked as a whole: the first part, without the others.
-    fn hide(self, sql: &[u8], places: &mut Places<'_>) {
+    fn hide(self, sql: &[u8], ranges: &mut MaskedRanges<'_>) {
         let mut parts = self.parts.into_iter();
         if let Some(first) = parts.next() {
-            places.add_string(&sql[first], &self.meaning, Mask::Whole);
+            ranges.add_string(&sql[first], &self.value, Mask::Whole);
         }
-        parts.for_each(|it| places.put(&sql[it], Mask::Bytes(Vec::new())));
+        parts.for_each(|it| ranges.put(&sql[it], Mask::Bytes(Vec::new())));
     }
 }
 
 /// Has verifiers of passwords masked in any text.
-pub fn secrets(text: &[u8], places: &mut Places<'_>) {
+pub fn secrets(text: &[u8], ranges: &mut MaskedRanges<'_>) {
     let is_candidate = text.windows(3).any(|it| matches!(it, b"SCR" | b"md5"));
     if !is_candidate {
         return;
     }
     for found in VERIFIERS.iter().flat_map(|it| it.captures_iter(text)) {
         if let Some(secret) = found.get(1) {
-            places.add(secret.as_bytes(), Mask::Whole);
+            ranges.add(secret.as_bytes(), Mask::Whole);
         }
     }
 }
 
 /// Has the passwords masked of SQL that stands somewhere in a text, as in the words of an error.
-pub fn quoted_passwords(words: &[u8], places: &mut Places<'_>) {
+pub fn quoted_passwords(words: &[u8], ranges: &mut MaskedRanges<'_>) {
     for rest in asked(words) {
         // The word may be a name in quotes.
         let rest = rest.strip_prefix(b"\"").unwrap_or(rest);
         let rest = &rest[..rest.len().min(FAR)];
         if let Some(password) = first_password(rest) {
-            password.hide(rest, places);
+            password.hide(rest, ranges);
         }
     }
 }
@@ -94,78 +94,79 @@ fn asked(text: &[u8]) -> impl Iterator<Item = &[u8]> {
 }
 
 /// The string at the front, after a sign of equality. Where the text is the inside of a string, its quotes are doubled.
-fn first_password(rest: &[u8]) -> Option<Password> {
-    let mut pieces = Pieces::new(rest, Quotes::Plain);
-    match pieces.find(|it| !is_equality(it))? {
-        Piece::Text(range, _) if range.is_empty() => {
+fn first_password(rest: &[u8]) -> Option<PasswordLiteral> {
+    let mut lexemes = Lexer::new(rest, Quotes::Plain);
+    match lexemes.find(|it| !is_equality(it))? {
+        Lexeme::Text(range, _) if range.is_empty() => {
             let after = rest.get(range.end + 1..)?;
             let len = after.iter().position(|it| *it == b'\'')?;
             let is_doubled = len > 0 && after[len..].starts_with(b"''");
             let start = range.end + 1;
-            is_doubled.then(|| Password::of(start, Meaning::of(&after[..len], Quotes::Plain)))
+            is_doubled
+                .then(|| PasswordLiteral::of(start, LiteralValue::of(&after[..len], Quotes::Plain)))
         }
-        Piece::Text(range, quotes) => {
-            Some(Password::of(range.start, Meaning::of(&rest[range], quotes)))
+        Lexeme::Text(range, quotes) => {
+            Some(PasswordLiteral::of(range.start, LiteralValue::of(&rest[range], quotes)))
         }
         _ => None,
     }
 }
 
-fn is_equality(piece: &Piece) -> bool {
-    matches!(piece, Piece::Mark(b'=' | b'>' | b':'))
+fn is_equality(lexeme: &Lexeme) -> bool {
+    matches!(lexeme, Lexeme::Mark(b'=' | b'>' | b':'))
 }
 
 /// The ways in which the server may read SQL: where a quote follows a backslash, that depends on a setting.
-fn readings(sql: &[u8]) -> impl Iterator<Item = Pieces<'_>> {
+fn readings(sql: &[u8]) -> impl Iterator<Item = Lexer<'_>> {
     let is_open = sql.windows(2).any(|it| it == br"\'");
     let escapes = Some(Quotes::Escapes).filter(|_| is_open);
-    [Some(Quotes::Plain), escapes].into_iter().flatten().map(move |it| Pieces::new(sql, it))
+    [Some(Quotes::Plain), escapes].into_iter().flatten().map(move |it| Lexer::new(sql, it))
 }
 
 /// Has the passwords of SQL masked: strings that follow the word PASSWORD, or that word and `=`, `=>` or `:=`.
-pub fn passwords(sql: &[u8], places: &mut Places<'_>) {
-    passwords_in(sql, 0).into_iter().for_each(|it| it.hide(sql, places));
+pub fn passwords(sql: &[u8], ranges: &mut MaskedRanges<'_>) {
+    passwords_in(sql, 0).into_iter().for_each(|it| it.hide(sql, ranges));
 }
 
-fn passwords_in(sql: &[u8], depth: usize) -> Vec<Password> {
+fn passwords_in(sql: &[u8], depth: usize) -> Vec<PasswordLiteral> {
     if depth > DEEPEST || asked(sql).next().is_none() {
         return Vec::new();
     }
-    readings(sql).flat_map(|pieces| passwords_of(sql, pieces, depth)).collect()
+    readings(sql).flat_map(|lexemes| passwords_of(sql, lexemes, depth)).collect()
 }
 
-fn passwords_of(sql: &[u8], pieces: Pieces<'_>, depth: usize) -> Vec<Password> {
+fn passwords_of(sql: &[u8], lexemes: Lexer<'_>, depth: usize) -> Vec<PasswordLiteral> {
     let (mut found, mut is_asked) = (Vec::new(), false);
-    for piece in pieces {
-        is_asked = match piece {
-            Piece::Text(range, quotes) => {
-                let meaning = Meaning::of(&sql[range.clone()], quotes);
+    for lexeme in lexemes {
+        is_asked = match lexeme {
+            Lexeme::Text(range, quotes) => {
+                let value = LiteralValue::of(&sql[range.clone()], quotes);
                 match is_asked {
-                    true => found.push(Password::of(range.start, meaning)),
+                    true => found.push(PasswordLiteral::of(range.start, value)),
                     false => {
-                        let inside = passwords_in(&meaning.bytes, depth + 1).into_iter();
-                        found.extend(inside.map(|it| it.within(range.start, &meaning)));
+                        let inside = passwords_in(&value.bytes, depth + 1).into_iter();
+                        found.extend(inside.map(|it| it.within(range.start, &value)));
                     }
                 }
                 false
             }
-            Piece::Word(range) | Piece::Name(range) => sql[range].eq_ignore_ascii_case(ASKED),
-            piece => is_asked && is_equality(&piece),
+            Lexeme::Word(range) | Lexeme::Name(range) => sql[range].eq_ignore_ascii_case(ASKED),
+            lexeme => is_asked && is_equality(&lexeme),
         };
     }
     found
 }
 
 /// Has all literals of SQL masked.
-pub fn literals(sql: &[u8], places: &mut Places<'_>) {
-    for piece in readings(sql).flatten() {
-        match piece {
-            Piece::Text(range, quotes) => {
-                let meaning = Meaning::of(&sql[range.clone()], quotes);
-                places.add_string(&sql[range], &meaning.bytes, Mask::Text);
+pub fn literals(sql: &[u8], ranges: &mut MaskedRanges<'_>) {
+    for lexeme in readings(sql).flatten() {
+        match lexeme {
+            Lexeme::Text(range, quotes) => {
+                let value = LiteralValue::of(&sql[range.clone()], quotes);
+                ranges.add_string(&sql[range], &value.bytes, Mask::Text);
             }
-            Piece::Number(range) => places.add(&sql[range], Mask::Text),
-            Piece::Word(_) | Piece::Name(_) | Piece::Mark(_) => {}
+            Lexeme::Number(range) => ranges.add(&sql[range], Mask::Text),
+            Lexeme::Word(_) | Lexeme::Name(_) | Lexeme::Mark(_) => {}
         }
     }
 }
@@ -173,19 +174,19 @@ pub fn literals(sql: &[u8], places: &mut Places<'_>) {
 #[cfg(test)]
 mod tests {
     use super::*;
-    use crate::redact::known_secrets::Known;
+    use crate::redact::known_secrets::KnownSecrets;
     use rand::rngs::SmallRng;
     use rand::{Rng, SeedableRng};
 
-    fn masked(sql: &str, mark: impl Fn(&[u8], &mut Places<'_>)) -> String {
-        let mut known = Known::default();
-        let mut places = Places::new(sql.as_bytes(), &mut known);
-        mark(sql.as_bytes(), &mut places);
-        String::from_utf8(places.masked(sql.as_bytes().into(), None).into_owned()).unwrap()
+    fn masked(sql: &str, mark: impl Fn(&[u8], &mut MaskedRanges<'_>)) -> String {
+        let mut known = KnownSecrets::default();
+        let mut ranges = MaskedRanges::new(sql.as_bytes(), &mut known);
+        mark(sql.as_bytes(), &mut ranges);
+        String::from_utf8(ranges.masked(sql.as_bytes().into(), None).into_owned()).unwrap()
     }
 
     /// Tests texts in which what stands as `<..>` is masked as a whole, and `{..}` is left out.
-    fn test(table: &[&str], mark: impl Fn(&[u8], &mut Places<'_>)) {
+    fn test(table: &[&str], mark: impl Fn(&[u8], &mut MaskedRanges<'_>)) {
         let secret = regex::Regex::new(r"(?s)<(.*?)>|\{(.*?)\}").unwrap();
         let mask = |it: &regex::Captures<'_>| if it.get(1).is_some() { "xxxxxxxx" } else { "" };
         for text in table {
@@ -240,8 +241,8 @@ mod tests {
             ("EXECUTE 'ALTER ROLE a PASSWORD ''ab''''c'''", "ab'c"),
         ];
         for (sql, secret) in table {
-            let mut known = Known::default();
-            passwords(sql.as_bytes(), &mut Places::new(sql.as_bytes(), &mut known));
+            let mut known = KnownSecrets::default();
+            passwords(sql.as_bytes(), &mut MaskedRanges::new(sql.as_bytes(), &mut known));
             known.complete();
             assert_eq!(known.find(secret.as_bytes(), false), [(0..4, Mask::Whole)], "{sql}");
         }
@@ -298,7 +299,7 @@ mod tests {
             "password", "'", "''", "$$", "$a$", "E'", "U&'", "u&\"", "\"", "\\", "\\x", "\\00",
             "\n", "--", "/*", "*/", "=", "a1 ",
         ];
-        let marks: [fn(&[u8], &mut Places<'_>); 3] = [passwords, literals, quoted_passwords];
+        let marks: [fn(&[u8], &mut MaskedRanges<'_>); 3] = [passwords, literals, quoted_passwords];
         let mut random = SmallRng::seed_from_u64(1);
         for _ in 0..20_000 {
             let count = random.gen_range(1..14);
