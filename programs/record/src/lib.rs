@@ -2,29 +2,29 @@
 //! that is public.
 #![forbid(unsafe_code)]
 
-mod arguments;
-mod call;
-mod direction;
 mod encryption;
+mod forwarder;
 mod framer;
-mod output;
+mod options;
 mod pass;
+mod poll_on_wake;
 mod print;
 mod printer;
 mod proxy;
+mod record_sink;
 mod serve;
 mod session;
-mod tape;
+mod stdout;
 
 #[cfg(test)]
 mod mutants;
 
 pub use pass::{pass, Begin, Link};
+pub use record_sink::{Over, Recorded, Tape};
 pub use session::NoLink;
-pub use tape::{Over, Recorded, Tape};
 
-use arguments::Arguments;
 use net::{ExitStatus, Failure, StderrWriter};
+use options::Arguments;
 use std::process;
 
 fn run(arguments: &Arguments, stderr: &StderrWriter) -> Result<ExitStatus, Failure> {
@@ -41,7 +41,7 @@ pub fn main() -> ! {
     let status = run(&arguments, &stderr).unwrap_or_else(|failure| {
         stderr.say(&failure);
         if failure.status == ExitStatus::Usage {
-            stderr.say_plain(format!("usage: {}", arguments::USAGE));
+            stderr.say_plain(format!("usage: {}", options::USAGE));
         }
         failure.status
     });

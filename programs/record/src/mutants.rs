@@ -1,8 +1,8 @@
 //! Random and mutated bytes of both sides, as they are cut into records and printed: nothing panics, all passes, and little
 //! is held.
 
-use crate::arguments::Form;
 use crate::framer::{Found, Framer};
+use crate::options::Form;
 use crate::printer::Printer;
 use ::mutants::{Mutants, OF_CLIENT, OF_SERVER};
 use lines::trace::Style;

@@ -1,10 +1,10 @@
 //! The passing of both directions of a connection.
 
-use crate::call::Call;
-use crate::direction::{first_end, Direction};
+use crate::forwarder::{first_end, Direction};
 use crate::framer::{decoder_of, Framer};
+use crate::poll_on_wake::Call;
+use crate::record_sink::{Over, Tape};
 use crate::session::{NoLink, OPENING};
-use crate::tape::{Over, Tape};
 use net::{StderrWriter, Stream, Upstream};
 use pgmsg::backend::{Field, FieldKind, Message};
 use pgmsg::Decoder;

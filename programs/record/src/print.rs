@@ -1,6 +1,6 @@
 //! The printing of a recording.
 
-use crate::arguments::{Arguments, Form};
+use crate::options::{Arguments, Form};
 use crate::printer::Printer;
 use net::{ExitStatus, Failure, StderrWriter};
 use recording::{Damage, Reader};

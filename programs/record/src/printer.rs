@@ -1,7 +1,7 @@
 //! What passes, or what is recorded, as lines.
 
-use crate::arguments::Form;
 use crate::framer::decoder_of;
+use crate::options::Form;
 use lines::trace;
 use pgmsg::{Decoder, Frame, Next};
 use recording::{RecordKind, Side};

@@ -1,7 +1,7 @@
 //! What all sessions share, and where clients are accepted.
 
+use crate::record_sink::Tape;
 use crate::session::{Session, OPENING};
-use crate::tape::Tape;
 use net::{ExitStatus, Listener, ServerTls, StderrWriter, Upstream, Workers};
 use std::io;
 use std::sync::atomic::{AtomicU64, Ordering};

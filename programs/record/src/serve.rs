@@ -1,10 +1,10 @@
 //! The passing on of many connections, until a signal comes or nothing may pass any more.
 
-use crate::arguments::{Arguments, Form};
-use crate::output::Output;
+use crate::options::{Arguments, Form};
 use crate::printer::Printer;
 use crate::proxy::Proxy;
-use crate::tape::{Recorded, Tape};
+use crate::record_sink::{Recorded, Tape};
+use crate::stdout::Output;
 use net::{
     ignore_file_size, most_sessions, ExitStatus, Failure, Listeners, ServerTls, ShutdownSignals,
     StderrWriter, Upstream,

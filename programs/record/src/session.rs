@@ -3,7 +3,7 @@
 use crate::encryption;
 use crate::pass::{pass, refuse, Begin, Link};
 use crate::proxy::Proxy;
-use crate::tape::Over;
+use crate::record_sink::Over;
 use net::{ExitStatus, FirstMessage, OpenError, OpenedClient, Stream};
 use recording::Side;
 use std::time::Duration;

@@ -1,7 +1,7 @@
 //! Where what passes goes: to a recording, to standard output, or both.
 
-use crate::output::Output;
 use crate::printer::Printer;
+use crate::stdout::Output;
 use net::{let_others, ExitStatus, Failure, StderrWriter};
 use recording::{RecordError, RecordKind, Side};
 use std::collections::HashMap;
