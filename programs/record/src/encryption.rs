@@ -1,12 +1,12 @@
 //! Requests for encryption that the server answers.
 
-use crate::pass::{Begin, Link};
-use crate::session::{NoLink, Session};
+use crate::pass::{Link, LinkStart};
+use crate::session::{LinkError, ProxySession};
 use net::{read_start, ConnectionStart, FirstMessage, OpenError, Stream};
 use tokio::io::{AsyncReadExt, AsyncWriteExt};
 
 /// What the server makes of a request.
-enum Answer {
+enum EncryptionAnswer {
     /// Both sides begin with encryption.
     Yes,
     /// The client goes on without.
@@ -16,13 +16,13 @@ enum Answer {
 }
 
 /// Passes requests for encryption on, until one is granted, or another first message comes.
-pub async fn link(session: &mut Session<'_>, mut client: Stream) -> Result<Link, NoLink> {
+pub async fn link(session: &mut ProxySession<'_>, mut client: Stream) -> Result<Link, LinkError> {
     let (mut from_client, mut connected) = (Vec::new(), None);
     loop {
         let read_start =
             read_start(&mut client, &mut from_client).await.map_err(OpenError::from)?;
         if let ConnectionStart::End = read_start {
-            return Err(NoLink::Gone);
+            return Err(LinkError::Gone);
         }
         let mut server = match connected.take() {
             Some(server) => server,
@@ -32,9 +32,9 @@ pub async fn link(session: &mut Session<'_>, mut client: Stream) -> Result<Link,
             ConnectionStart::SslRequest(length) | ConnectionStart::GssEncRequest(length) => {
                 let request: Vec<u8> = from_client.drain(..length).collect();
                 match ask(&mut client, &mut server, &request).await? {
-                    Answer::Yes => (Begin::Encrypted, Vec::new()),
-                    Answer::Other(bytes) => (Begin::First, bytes),
-                    Answer::No => {
+                    EncryptionAnswer::Yes => (LinkStart::Encrypted, Vec::new()),
+                    EncryptionAnswer::Other(bytes) => (LinkStart::First, bytes),
+                    EncryptionAnswer::No => {
                         connected = Some(server);
                         continue;
                     }
@@ -42,9 +42,9 @@ pub async fn link(session: &mut Session<'_>, mut client: Stream) -> Result<Link,
             }
             ConnectionStart::Message(first, _) => {
                 session.count(&first);
-                (Begin::First, Vec::new())
+                (LinkStart::First, Vec::new())
             }
-            _ => (Begin::Encrypted, Vec::new()),
+            _ => (LinkStart::Encrypted, Vec::new()),
         };
         return Ok(Link { client, server, from_client, from_server, begin });
     }
@@ -64,15 +64,15 @@ async fn ask(
     client: &mut Stream,
     server: &mut Stream,
     request: &[u8],
-) -> Result<Answer, OpenError> {
+) -> Result<EncryptionAnswer, OpenError> {
     server.write_all(request).await?;
     let mut answer = [0];
     let count = server.read(&mut answer).await?;
     let is_yes = match &answer[..count] {
         b"S" | b"G" => true,
         b"N" => false,
-        other => return Ok(Answer::Other(other.to_vec())),
+        other => return Ok(EncryptionAnswer::Other(other.to_vec())),
     };
     client.write_all(&answer).await?;
-    Ok(if is_yes { Answer::Yes } else { Answer::No })
+    Ok(if is_yes { EncryptionAnswer::Yes } else { EncryptionAnswer::No })
 }

@@ -1,6 +1,6 @@
 //! One way of a connection.
 
-use crate::framer::{Found, Framer};
+use crate::framer::{Framer, Scan};
 use bytes::{Buf, BytesMut};
 use net::Stream;
 use pgmsg::backend::Authentication;
@@ -17,7 +17,7 @@ const ROOM: usize = 2 << 10;
 const ROOM_MOST: usize = 64 << 10;
 
 /// What passes from one side to the other.
-pub struct Direction {
+pub struct Forwarder {
     side: Side,
     /// `None` where bytes are encrypted, and pass unread.
     framer: Option<Framer>,
@@ -29,7 +29,7 @@ pub struct Direction {
     /// The room for what comes next.
     room: usize,
     /// What is found in the bytes that came last, if they were looked at.
-    found: Found,
+    found: Scan,
     is_new: bool,
     /// The side has ended.
     pub has_ended: bool,
@@ -38,22 +38,22 @@ pub struct Direction {
     is_closed: bool,
 }
 
-impl Direction {
+impl Forwarder {
     /// The direction from a side on, after some bytes that came before.
     pub fn new(
         side: Side,
         framer: Option<Framer>,
         drops_binding: bool,
         before: &[u8],
-    ) -> Direction {
-        Direction {
+    ) -> Forwarder {
+        Forwarder {
             side,
             framer,
             drops_binding,
             held: BytesMut::from(before),
             passing: 0,
             room: ROOM,
-            found: Found::default(),
+            found: Scan::default(),
             is_new: true,
             has_ended: false,
             is_refused: false,
@@ -79,7 +79,7 @@ impl Direction {
 
     /// The records of what is new.
     pub fn records(&self) -> impl Iterator<Item = (RecordKind, &[u8])> {
-        self.found.pieces.iter().map(|piece| (piece.kind, &self.held[piece.range.clone()]))
+        self.found.spans.iter().map(|piece| (piece.kind, &self.held[piece.range.clone()]))
     }
 
     /// Takes mechanisms with channel binding out of what may pass, where that is asked for.
@@ -152,7 +152,7 @@ impl Direction {
 }
 
 /// The side that ended first of those that have, where one has.
-pub fn first_end(up: &Direction, down: &Direction) -> Option<Side> {
+pub fn first_end(up: &Forwarder, down: &Forwarder) -> Option<Side> {
     if up.has_ended || down.is_refused {
         Some(up.side)
     } else if down.has_ended || up.is_refused {
@@ -185,7 +185,7 @@ mod tests {
         let mut stream = vec![b'R', 0, 0, 0, 8 + mechanisms.len() as u8, 0, 0, 0, 10];
         stream.extend_from_slice(mechanisms);
         let framer = Framer::new(Side::Server, true, true);
-        let mut direction = Direction::new(Side::Server, Some(framer), true, &stream);
+        let mut direction = Forwarder::new(Side::Server, Some(framer), true, &stream);
         direction.look();
         direction.drop_binding();
         assert_eq!(direction.passing, direction.held.len());

@@ -14,22 +14,22 @@ const MECHANISMS_MOST: usize = 4096;
 
 /// A record of bytes that were scanned, by their places.
 #[derive(Clone, Debug, PartialEq, Eq)]
-pub struct Piece {
+pub struct RecordSpan {
     pub kind: RecordKind,
     pub range: Range<usize>,
 }
 
 /// What is found in some bytes.
 #[derive(Debug, Default)]
-pub struct Found {
-    pub pieces: Vec<Piece>,
+pub struct Scan {
+    pub spans: Vec<RecordSpan>,
     /// Whole messages of SASL with the list of mechanisms.
     pub mechanisms: Vec<Range<usize>>,
 }
 
-impl Found {
+impl Scan {
     pub fn clear(&mut self) {
-        self.pieces.clear();
+        self.spans.clear();
         self.mechanisms.clear();
     }
 }
@@ -46,17 +46,17 @@ pub struct Framer {
     decoder: Decoder,
     /// How much comes of the message at hand, and whether that is left out.
     left: usize,
-    is_hidden: bool,
+    is_left_out: bool,
     /// The side broke the protocol; its bytes pass as they come.
     is_broken: bool,
 }
 
 /// What is at the front.
-enum Front {
-    Short,
+enum FrontMessage {
+    Incomplete,
     Broken,
-    Shown(usize),
-    Hidden(usize),
+    Recorded(usize),
+    LeftOut(usize),
 }
 
 impl Framer {
@@ -74,7 +74,7 @@ impl Framer {
             wants_mechanisms,
             decoder,
             left: 0,
-            is_hidden: false,
+            is_left_out: false,
             is_broken: false,
         }
     }
@@ -82,26 +82,28 @@ impl Framer {
     /// Finds the records of some bytes that follow those that were taken before, and answers how many are taken: up to a
     /// message of which too little is there, which is less than `MECHANISMS_MOST` bytes. At the end of the direction all
     /// are taken.
-    pub fn scan(&mut self, bytes: &[u8], is_end: bool, found: &mut Found) -> usize {
+    pub fn scan(&mut self, bytes: &[u8], is_end: bool, found: &mut Scan) -> usize {
         found.clear();
         let (mut at, mut shown) = (0, 0);
         while at < bytes.len() && !self.is_broken {
             if self.left == 0 {
                 match self.look(&bytes[at..], at, found) {
-                    Front::Short => break,
-                    Front::Broken => self.is_broken = true,
-                    Front::Shown(length) => self.left = length,
-                    Front::Hidden(length) => {
+                    FrontMessage::Incomplete => break,
+                    FrontMessage::Broken => self.is_broken = true,
+                    FrontMessage::Recorded(length) => self.left = length,
+                    FrontMessage::LeftOut(length) => {
                         self.push(found, shown..at);
                         let range = at..at + MESSAGE_HEAD;
-                        found.pieces.push(Piece { kind: RecordKind::LeftOut(self.side), range });
-                        (self.left, self.is_hidden) = (length, true);
+                        found
+                            .spans
+                            .push(RecordSpan { kind: RecordKind::LeftOut(self.side), range });
+                        (self.left, self.is_left_out) = (length, true);
                     }
                 }
             }
             at += self.skip(bytes.len() - at);
-            shown = if self.is_hidden { at } else { shown };
-            self.is_hidden &= self.left > 0;
+            shown = if self.is_left_out { at } else { shown };
+            self.is_left_out &= self.left > 0;
         }
         if self.is_broken || is_end {
             at = bytes.len();
@@ -117,46 +119,46 @@ impl Framer {
         count
     }
 
-    fn push(&self, found: &mut Found, range: Range<usize>) {
+    fn push(&self, found: &mut Scan, range: Range<usize>) {
         if !range.is_empty() {
-            found.pieces.push(Piece { kind: RecordKind::Bytes(self.side), range });
+            found.spans.push(RecordSpan { kind: RecordKind::Bytes(self.side), range });
         }
     }
 
-    fn look(&mut self, front: &[u8], at: usize, found: &mut Found) -> Front {
+    fn look(&mut self, front: &[u8], at: usize, found: &mut Scan) -> FrontMessage {
         let (tag, length) = match self.decoder.next(front) {
-            Err(_) => return Front::Broken,
+            Err(_) => return FrontMessage::Broken,
             Ok(Next::Frame(frame)) => (frame.tag, frame.bytes.len()),
             Ok(Next::Incomplete { tag: Some(tag), needed }) if front.len() >= MESSAGE_HEAD => {
                 (Some(tag), needed)
             }
-            Ok(Next::Incomplete { .. }) => return Front::Short,
+            Ok(Next::Incomplete { .. }) => return FrontMessage::Incomplete,
         };
         match (self.side, tag) {
-            (Side::Client, Some(b'p')) if self.leaves_out => Front::Hidden(length),
+            (Side::Client, Some(b'p')) if self.leaves_out => FrontMessage::LeftOut(length),
             (Side::Server, Some(b'R')) if length >= METHOD_END => {
                 self.judge(front, at..at + length, found)
             }
-            _ => Front::Shown(length),
+            _ => FrontMessage::Recorded(length),
         }
     }
 
     /// Whether an Authentication is left out, by its method. A whole list of mechanisms is noted.
-    fn judge(&self, front: &[u8], range: Range<usize>, found: &mut Found) -> Front {
+    fn judge(&self, front: &[u8], range: Range<usize>, found: &mut Scan) -> FrontMessage {
         let (method, length) = match *front {
             [_, _, _, _, _, a, b, c, d, ..] => (u32::from_be_bytes([a, b, c, d]), range.len()),
-            _ => return Front::Short,
+            _ => return FrontMessage::Incomplete,
         };
         if method == SASL && self.wants_mechanisms {
             if length <= front.len() {
                 found.mechanisms.push(range);
             } else if length <= MECHANISMS_MOST {
-                return Front::Short;
+                return FrontMessage::Incomplete;
             }
         }
         match self.leaves_out && SECRET.contains(&method) {
-            true => Front::Hidden(length),
-            false => Front::Shown(length),
+            true => FrontMessage::LeftOut(length),
+            false => FrontMessage::Recorded(length),
         }
     }
 }
@@ -175,18 +177,18 @@ mod tests {
 
     /// Takes a stream in pieces of a length, and gives what is recorded of it.
     fn recorded(mut framer: Framer, stream: &[u8], step: usize) -> Vec<u8> {
-        let (mut held, mut out, mut found) = (Vec::new(), Vec::new(), Found::default());
+        let (mut held, mut out, mut found) = (Vec::new(), Vec::new(), Scan::default());
         for piece in stream.chunks(step) {
             held.extend_from_slice(piece);
             let count = framer.scan(&held, false, &mut found);
-            for piece in &found.pieces {
+            for piece in &found.spans {
                 out.extend_from_slice(&held[piece.range.clone()]);
             }
             held.drain(..count);
         }
         let count = framer.scan(&held, true, &mut found);
         assert_eq!(count, held.len());
-        for piece in &found.pieces {
+        for piece in &found.spans {
             out.extend_from_slice(&held[piece.range.clone()]);
         }
         out
@@ -232,7 +234,7 @@ mod tests {
 
     #[test]
     fn a_list_of_mechanisms_is_found_whole() {
-        let (mut framer, mut found) = (Framer::new(Side::Server, true, true), Found::default());
+        let (mut framer, mut found) = (Framer::new(Side::Server, true, true), Scan::default());
         assert_eq!(framer.scan(&SERVER[..20], false, &mut found), 13);
         assert!(found.mechanisms.is_empty());
         assert_eq!(framer.scan(&SERVER[13..], false, &mut found), SERVER.len() - 13);
@@ -243,7 +245,7 @@ mod tests {
     fn a_request_that_is_too_short_for_its_method_lists_no_mechanisms() {
         for length in 0..8 {
             let stream = [b'R', 0, 0, 0, length, 0, 0, 0, 10];
-            let (mut framer, mut found) = (Framer::new(Side::Server, true, true), Found::default());
+            let (mut framer, mut found) = (Framer::new(Side::Server, true, true), Scan::default());
             framer.scan(&stream, true, &mut found);
             assert_eq!(found.mechanisms, [], "length {length}");
         }

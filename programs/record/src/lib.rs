@@ -19,26 +19,26 @@ mod stdout;
 #[cfg(test)]
 mod mutants;
 
-pub use pass::{pass, Begin, Link};
-pub use record_sink::{Over, Recorded, Tape};
-pub use session::NoLink;
+pub use pass::{pass, Link, LinkStart};
+pub use record_sink::{RecordSink, RecordingOutput, Stopped};
+pub use session::LinkError;
 
 use net::{ExitStatus, Failure, StderrWriter};
-use options::Arguments;
+use options::RecordOptions;
 use std::process;
 
-fn run(arguments: &Arguments, stderr: &StderrWriter) -> Result<ExitStatus, Failure> {
-    match &arguments.print {
-        Some(path) => print::print(path, arguments, stderr),
-        None => serve::serve(arguments, stderr),
+fn run(options: &RecordOptions, stderr: &StderrWriter) -> Result<ExitStatus, Failure> {
+    match &options.print {
+        Some(path) => print::print(path, options, stderr),
+        None => serve::serve(options, stderr),
     }
 }
 
 /// Runs the program, and ends the process by its status.
 pub fn main() -> ! {
-    let arguments = Arguments::read();
+    let options = RecordOptions::read();
     let stderr = StderrWriter::new("pg_record");
-    let status = run(&arguments, &stderr).unwrap_or_else(|failure| {
+    let status = run(&options, &stderr).unwrap_or_else(|failure| {
         stderr.say(&failure);
         if failure.status == ExitStatus::Usage {
             stderr.say_plain(format!("usage: {}", options::USAGE));

@@ -1,8 +1,8 @@
 //! Random and mutated bytes of both sides, as they are cut into records and printed: nothing panics, all passes, and little
 //! is held.
 
-use crate::framer::{Found, Framer};
-use crate::options::Form;
+use crate::framer::{Framer, Scan};
+use crate::options::LineFormat;
 use crate::printer::Printer;
 use ::mutants::{Mutants, OF_CLIENT, OF_SERVER};
 use lines::trace::Style;
@@ -28,13 +28,13 @@ fn sides(mutants: &mut Mutants) -> [(Side, Vec<u8>, usize); 2] {
 /// Passes a direction through its framer in pieces, and has its records printed.
 fn pass(mutants: &mut Mutants, side: Side, bytes: &[u8], printer: &mut Printer) {
     let mut framer = Framer::new(side, mutants.flips(), mutants.flips());
-    let (mut held, mut passed, mut found) = (Vec::new(), 0, Found::default());
+    let (mut held, mut passed, mut found) = (Vec::new(), 0, Scan::default());
     let step = 1 + mutants.below(200);
     for piece in bytes.chunks(step).map(Some).chain([None]) {
         held.extend_from_slice(piece.unwrap_or_default());
         let count = framer.scan(&held, piece.is_none(), &mut found);
         let mut at = 0;
-        for record in &found.pieces {
+        for record in &found.spans {
             assert!(at <= record.range.start && record.range.end <= count, "{record:?} of {count}");
             at = record.range.end;
             printer.take(1, record.kind, &held[record.range.clone()]);
@@ -50,10 +50,13 @@ fn pass(mutants: &mut Mutants, side: Side, bytes: &[u8], printer: &mut Printer) 
 fn anything_that_passes_is_recorded_and_printed() {
     let mut mutants = Mutants::of_variables(INPUTS);
     while mutants.go_on() {
-        let form =
-            [Form::Server, Form::Lines, Form::Trace(Style::AsLibpq), Form::Trace(Style::Whole)]
-                [mutants.below(4)];
-        let mut printer = Printer::new(form, None, mutants.flips());
+        let format = [
+            LineFormat::Server,
+            LineFormat::Lines,
+            LineFormat::Trace(Style::AsLibpq),
+            LineFormat::Trace(Style::Whole),
+        ][mutants.below(4)];
+        let mut printer = Printer::new(format, None, mutants.flips());
         printer.take(1, RecordKind::Opened, b"[local]");
         for (side, bytes, count) in sides(&mut mutants) {
             pass(&mut mutants, side, &bytes, &mut printer);

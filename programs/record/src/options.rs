@@ -25,7 +25,7 @@ passes. Requests to cancel are passed on, and counted at the end.";
 #[derive(Parser, Debug)]
 #[command(name = "pg_record", version, about = ABOUT, after_help = AFTER, override_usage = USAGE)]
 #[command(disable_help_flag = true)]
-pub struct Arguments {
+pub struct RecordOptions {
     #[arg(value_name = "LISTEN_PORT", required_unless_present_any = ["print", "listen"])]
     pub listen_port: Option<u16>,
     #[command(flatten)]
@@ -80,7 +80,7 @@ fn style(text: &str) -> Result<Style, String> {
 
 /// How messages are printed.
 #[derive(Clone, Copy, Debug, PartialEq, Eq)]
-pub enum Form {
+pub enum LineFormat {
     /// Messages of the server, as `pg_tool stream` does.
     Server,
     /// Also those of the client, as `pg_tool server stream` does.
@@ -89,10 +89,10 @@ pub enum Form {
     Trace(Style),
 }
 
-impl Arguments {
+impl RecordOptions {
     /// Reads them, or ends the program by words about them.
-    pub fn read() -> Arguments {
-        Arguments::try_parse().unwrap_or_else(|error| {
+    pub fn read() -> RecordOptions {
+        RecordOptions::try_parse().unwrap_or_else(|error| {
             if !error.use_stderr() {
                 let _ = error.print();
                 process::exit(ExitStatus::Ok as i32);
@@ -104,10 +104,10 @@ impl Arguments {
     }
 
     /// How messages are printed, where that is asked for.
-    pub fn form(&self) -> Option<Form> {
+    pub fn format(&self) -> Option<LineFormat> {
         match self.trace {
-            Some(style) => Some(Form::Trace(style)),
-            None => Some(Form::Lines).filter(|_| self.stream),
+            Some(style) => Some(LineFormat::Trace(style)),
+            None => Some(LineFormat::Lines).filter(|_| self.stream),
         }
     }
 }
@@ -116,8 +116,8 @@ impl Arguments {
 mod tests {
     use super::*;
 
-    fn parsed(words: &[&str]) -> Result<Arguments, clap::Error> {
-        Arguments::try_parse_from(["pg_record"].iter().chain(words))
+    fn parsed(words: &[&str]) -> Result<RecordOptions, clap::Error> {
+        RecordOptions::try_parse_from(["pg_record"].iter().chain(words))
     }
 
     #[test]
@@ -144,11 +144,11 @@ mod tests {
 
     #[test]
     fn the_last_kind_of_line_is_taken() {
-        let form = |words: &[&str]| parsed(words).unwrap().form();
-        assert_eq!(form(&["0"]), None);
-        assert_eq!(form(&["--trace", "0"]), Some(Form::Trace(Style::AsLibpq)));
-        assert_eq!(form(&["--trace=whole", "0"]), Some(Form::Trace(Style::Whole)));
-        assert_eq!(form(&["--trace", "--stream", "0"]), Some(Form::Lines));
-        assert_eq!(form(&["--stream", "--trace", "0"]), Some(Form::Trace(Style::AsLibpq)));
+        let format = |words: &[&str]| parsed(words).unwrap().format();
+        assert_eq!(format(&["0"]), None);
+        assert_eq!(format(&["--trace", "0"]), Some(LineFormat::Trace(Style::AsLibpq)));
+        assert_eq!(format(&["--trace=whole", "0"]), Some(LineFormat::Trace(Style::Whole)));
+        assert_eq!(format(&["--trace", "--stream", "0"]), Some(LineFormat::Lines));
+        assert_eq!(format(&["--stream", "--trace", "0"]), Some(LineFormat::Trace(Style::AsLibpq)));
     }
 }

@@ -1,10 +1,10 @@
 //! The passing of both directions of a connection.
 
-use crate::forwarder::{first_end, Direction};
+use crate::forwarder::{first_end, Forwarder};
 use crate::framer::{decoder_of, Framer};
-use crate::poll_on_wake::Call;
-use crate::record_sink::{Over, Tape};
-use crate::session::{NoLink, OPENING};
+use crate::poll_on_wake::PollOnWake;
+use crate::record_sink::{RecordSink, Stopped};
+use crate::session::{LinkError, OPENING};
 use net::{StderrWriter, Stream, Upstream};
 use pgmsg::backend::{Field, FieldKind, Message};
 use pgmsg::Decoder;
@@ -26,12 +26,12 @@ pub struct Link {
     pub server: Stream,
     pub from_client: Vec<u8>,
     pub from_server: Vec<u8>,
-    pub begin: Begin,
+    pub begin: LinkStart,
 }
 
 /// What passes from the begin of a link on.
 #[derive(Clone, Copy, Debug, PartialEq, Eq)]
-pub enum Begin {
+pub enum LinkStart {
     /// The client's first message.
     First,
     /// Messages of a session that is open.
@@ -46,54 +46,65 @@ impl Link {
     pub async fn start(
         self,
         upstream: &Upstream,
-        tape: &Tape,
+        sink: &RecordSink,
         number: u32,
         length: usize,
-    ) -> Result<Link, NoLink> {
+    ) -> Result<Link, LinkError> {
         if !upstream.has_other_way(&self.server) {
             return Ok(self);
         }
         let (startup, rest) = self.from_client.split_at(length);
-        tape.take(number, &[(RecordKind::Bytes(Side::Client), startup)]).await?;
+        sink.take(number, &[(RecordKind::Bytes(Side::Client), startup)]).await?;
         let (mut client, from_client) = (self.client, rest.to_vec());
         let words = match timeout(OPENING, upstream.start(self.server, startup)).await {
             Ok(Ok((server, from_server))) => {
-                return Ok(Link { client, server, from_client, from_server, begin: Begin::Open });
+                return Ok(Link {
+                    client,
+                    server,
+                    from_client,
+                    from_server,
+                    begin: LinkStart::Open,
+                });
             }
             Ok(Err(why)) => format!("{why:#}"),
             Err(_) => upstream.is_late(),
         };
-        refuse(&mut client, &tape.stderr, &words).await;
-        Err(NoLink::Unreachable(words))
+        refuse(&mut client, &sink.stderr, &words).await;
+        Err(LinkError::Unreachable(words))
     }
 }
 
 /// Passes both ways, and records what passes as a connection that was opened, until the server has ended and its last words are
 /// passed on. Passwords may be left out.
-pub async fn pass(tape: &Tape, number: u32, leaves_out: bool, link: Link) -> Result<(), Over> {
+pub async fn pass(
+    sink: &RecordSink,
+    number: u32,
+    leaves_out: bool,
+    link: Link,
+) -> Result<(), Stopped> {
     let drops_binding = drops_binding(&link);
-    if link.begin == Begin::Encrypted {
-        tape.take(number, &[(RecordKind::Encrypted, &[])]).await?;
+    if link.begin == LinkStart::Encrypted {
+        sink.take(number, &[(RecordKind::Encrypted, &[])]).await?;
     }
-    let direction = |side, before: &[u8]| {
+    let forwarder = |side, before: &[u8]| {
         let framer = decoder(side, link.begin);
         let framer = framer.map(|it| Framer::of(it, side, leaves_out, drops_binding));
-        Direction::new(side, framer, drops_binding, before)
+        Forwarder::new(side, framer, drops_binding, before)
     };
-    let mut up = direction(Side::Client, &link.from_client);
-    let mut down = direction(Side::Server, &link.from_server);
+    let mut up = forwarder(Side::Client, &link.from_client);
+    let mut down = forwarder(Side::Server, &link.from_server);
     let (mut client, mut server, mut first) = (link.client, link.server, None);
     // To read from TLS may be to write, and the other way round.
-    let calls = !client.is_tls() && !server.is_tls();
-    let (mut up_call, mut down_call) = (Call::new(calls), Call::new(calls));
+    let tells_apart = !client.is_tls() && !server.is_tls();
+    let (mut poll_up, mut poll_down) = (PollOnWake::new(tells_apart), PollOnWake::new(tells_apart));
     while !down.is_over() {
         up.look();
         down.look();
-        record(tape, number, &up, &down).await?;
+        record(sink, number, &up, &down).await?;
         down.drop_binding();
         poll_fn(|cx| {
-            let came = up_call.poll(cx, |cx| up.poll(cx, &mut client, &mut server));
-            let answered = down_call.poll(cx, |cx| down.poll(cx, &mut server, &mut client));
+            let came = poll_up.poll(cx, |cx| up.poll(cx, &mut client, &mut server));
+            let answered = poll_down.poll(cx, |cx| down.poll(cx, &mut server, &mut client));
             if came.is_ready() {
                 came
             } else {
@@ -102,11 +113,11 @@ pub async fn pass(tape: &Tape, number: u32, leaves_out: bool, link: Link) -> Res
         })
         .await;
         if let (None, Some(side)) = (first, first_end(&up, &down)) {
-            tape.note_end(number, side);
+            sink.note_end(number, side);
             first = Some(side);
         }
     }
-    tape.close_connection(number, first.unwrap_or(Side::Server)).await?;
+    sink.close_connection(number, first.unwrap_or(Side::Server)).await?;
     // A socket that is closed before it is read to its end may take back what was written to it.
     let _ = timeout(CLOSING, discard(&mut client)).await;
     Ok(())
@@ -135,25 +146,30 @@ pub async fn refuse(client: &mut Stream, stderr: &StderrWriter, words: &str) {
 }
 
 /// Records what is new, most often one record.
-async fn record(tape: &Tape, number: u32, up: &Direction, down: &Direction) -> Result<(), Over> {
+async fn record(
+    sink: &RecordSink,
+    number: u32,
+    up: &Forwarder,
+    down: &Forwarder,
+) -> Result<(), Stopped> {
     let mut records = up.records().chain(down.records());
     match (records.next(), records.next()) {
         (None, _) => Ok(()),
-        (Some(one), None) => tape.take(number, &[one]).await,
+        (Some(one), None) => sink.take(number, &[one]).await,
         (Some(first), Some(second)) => {
             let all: Vec<_> = [first, second].into_iter().chain(records).collect();
-            tape.take(number, &all).await
+            sink.take(number, &all).await
         }
     }
 }
 
 /// What cuts the messages of a side, where they can be read.
-fn decoder(side: Side, begin: Begin) -> Option<Decoder> {
+fn decoder(side: Side, begin: LinkStart) -> Option<Decoder> {
     match begin {
-        Begin::First => Some(decoder_of(side)),
-        Begin::Open if side == Side::Client => Some(Decoder::of_open_client()),
-        Begin::Open => Some(Decoder::of_server()),
-        Begin::Encrypted => None,
+        LinkStart::First => Some(decoder_of(side)),
+        LinkStart::Open if side == Side::Client => Some(Decoder::of_open_client()),
+        LinkStart::Open => Some(Decoder::of_server()),
+        LinkStart::Encrypted => None,
     }
 }
 

@@ -5,35 +5,35 @@ use std::sync::Arc;
 use std::task::{Context, Poll, Wake, Waker};
 
 /// Wakes a task, and notes for what.
-pub struct Flag {
-    is_called: AtomicBool,
+pub struct WakeFlag {
+    is_woken: AtomicBool,
     task: Waker,
 }
 
-impl Wake for Flag {
+impl Wake for WakeFlag {
     fn wake(self: Arc<Self>) {
         self.wake_by_ref();
     }
 
     fn wake_by_ref(self: &Arc<Self>) {
-        self.is_called.store(true, Ordering::Release);
+        self.is_woken.store(true, Ordering::Release);
         self.task.wake_by_ref();
     }
 }
 
 /// Has something polled only where it may go on: when it was woken, and after it was ready.
-pub enum Call {
+pub enum PollOnWake {
     /// Always, as where another may take its place as the one that is woken.
     Always,
-    Woken(Option<(Arc<Flag>, Waker)>),
+    Woken(Option<(Arc<WakeFlag>, Waker)>),
 }
 
-impl Call {
+impl PollOnWake {
     /// Whether wakers are told apart.
-    pub fn new(tells_apart: bool) -> Call {
+    pub fn new(tells_apart: bool) -> PollOnWake {
         match tells_apart {
-            true => Call::Woken(None),
-            false => Call::Always,
+            true => PollOnWake::Woken(None),
+            false => PollOnWake::Always,
         }
     }
 
@@ -43,21 +43,21 @@ impl Call {
         poll: impl FnOnce(&mut Context<'_>) -> Poll<()>,
     ) -> Poll<()> {
         let woken = match self {
-            Call::Always => return poll(cx),
-            Call::Woken(woken) => woken,
+            PollOnWake::Always => return poll(cx),
+            PollOnWake::Woken(woken) => woken,
         };
         let known = woken.take().filter(|(flag, _)| flag.task.will_wake(cx.waker()));
         let (flag, waker) = woken.insert(known.unwrap_or_else(|| {
-            let (is_called, task) = (AtomicBool::new(true), cx.waker().clone());
-            let flag = Arc::new(Flag { is_called, task });
+            let (is_woken, task) = (AtomicBool::new(true), cx.waker().clone());
+            let flag = Arc::new(WakeFlag { is_woken, task });
             (flag.clone(), flag.into())
         }));
-        if !flag.is_called.swap(false, Ordering::Acquire) {
+        if !flag.is_woken.swap(false, Ordering::Acquire) {
             return Poll::Pending;
         }
         let polled = poll(&mut Context::from_waker(waker));
         if polled.is_ready() {
-            flag.is_called.store(true, Ordering::Relaxed);
+            flag.is_woken.store(true, Ordering::Relaxed);
         }
         polled
     }
@@ -68,19 +68,19 @@ mod tests {
     use super::*;
 
     /// A task that does nothing when it is woken.
-    struct Task;
+    struct NoopWake;
 
-    impl Wake for Task {
+    impl Wake for NoopWake {
         fn wake(self: Arc<Self>) {}
     }
 
     #[test]
     fn it_is_polled_when_it_was_woken_and_after_it_was_ready() {
-        let (task, other) = (Waker::from(Arc::new(Task)), Waker::from(Arc::new(Task)));
-        let (mut call, mut seen) = (Call::Woken(None), None);
+        let (task, other) = (Waker::from(Arc::new(NoopWake)), Waker::from(Arc::new(NoopWake)));
+        let (mut gate, mut seen) = (PollOnWake::Woken(None), None);
         let mut polls = |task: &Waker, polled: Poll<()>| {
             let (mut cx, mut is_polled) = (Context::from_waker(task), false);
-            let answer = call.poll(&mut cx, |cx| {
+            let answer = gate.poll(&mut cx, |cx| {
                 is_polled = true;
                 seen = Some(cx.waker().clone());
                 polled

@@ -1,6 +1,6 @@
 //! The printing of a recording.
 
-use crate::options::{Arguments, Form};
+use crate::options::{LineFormat, RecordOptions};
 use crate::printer::Printer;
 use net::{ExitStatus, Failure, StderrWriter};
 use recording::{Damage, Reader};
@@ -14,11 +14,11 @@ const ROOM: usize = 1 << 16;
 /// Prints the lines of a recording, up to its end or its first fault.
 pub fn print(
     path: &Path,
-    arguments: &Arguments,
+    options: &RecordOptions,
     stderr: &StderrWriter,
 ) -> Result<ExitStatus, Failure> {
-    let form = arguments.form().unwrap_or(Form::Lines);
-    let mut printer = Printer::new(form, arguments.only, arguments.numbers);
+    let format = options.format().unwrap_or(LineFormat::Lines);
+    let mut printer = Printer::new(format, options.only, options.numbers);
     let read = read(path, &mut printer, stderr);
     printer.end();
     write(&mut printer)?;

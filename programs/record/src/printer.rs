@@ -1,7 +1,7 @@
 //! What passes, or what is recorded, as lines.
 
 use crate::framer::decoder_of;
-use crate::options::Form;
+use crate::options::LineFormat;
 use lines::trace;
 use pgmsg::{Decoder, Frame, Next};
 use recording::{RecordKind, Side};
@@ -16,16 +16,16 @@ const HELD_LEAST: usize = 64 << 10;
 
 /// Prints the lines of connections.
 pub struct Printer {
-    form: Form,
+    format: LineFormat,
     /// The number of the connection that is shown, where not all are.
     only: Option<u32>,
     shows_numbers: bool,
-    all: BTreeMap<u32, [Direction; 2]>,
-    out: Out,
+    all: BTreeMap<u32, [PrintState; 2]>,
+    out: PrinterOutput,
 }
 
 /// Where lines are added.
-struct Out {
+struct PrinterOutput {
     bytes: Vec<u8>,
     /// What was to be said on standard error.
     said: Vec<String>,
@@ -34,7 +34,7 @@ struct Out {
 }
 
 /// A direction of a connection.
-struct Direction {
+struct PrintState {
     side: Side,
     decoder: Decoder,
     /// No message begins as the bytes go on.
@@ -47,13 +47,13 @@ struct Direction {
 }
 
 impl Printer {
-    pub fn new(form: Form, only: Option<u32>, shows_numbers: bool) -> Printer {
+    pub fn new(format: LineFormat, only: Option<u32>, shows_numbers: bool) -> Printer {
         Printer {
-            form,
+            format,
             only,
             shows_numbers,
             all: BTreeMap::new(),
-            out: Out { bytes: Vec::new(), said: Vec::new(), held: 0 },
+            out: PrinterOutput { bytes: Vec::new(), said: Vec::new(), held: 0 },
         }
     }
 
@@ -63,10 +63,11 @@ impl Printer {
             return;
         }
         let at = |side| if side == Side::Client { 0 } else { 1 };
-        let lines = Lines { form: self.form, prefix: self.shows_numbers.then_some(number) };
+        let lines =
+            LinePrinter { format: self.format, prefix: self.shows_numbers.then_some(number) };
         match (kind, self.all.get_mut(&number)) {
             (RecordKind::Opened, _) => {
-                let both = [Direction::new(Side::Client), Direction::new(Side::Server)];
+                let both = [PrintState::new(Side::Client), PrintState::new(Side::Server)];
                 self.all.insert(number, both);
             }
             (RecordKind::Bytes(side), Some(both)) => {
@@ -78,8 +79,8 @@ impl Printer {
                 self.out.said.push(words);
             }
             (RecordKind::Closed, Some(both)) => {
-                both.iter().for_each(|direction| lines.end(direction, &mut self.out));
-                self.out.held -= both.iter().map(|direction| direction.bytes.len()).sum::<usize>();
+                both.iter().for_each(|state| lines.end(state, &mut self.out));
+                self.out.held -= both.iter().map(|state| state.bytes.len()).sum::<usize>();
                 self.all.remove(&number);
             }
             (_, None) => {}
@@ -89,8 +90,9 @@ impl Printer {
     /// Ends the connections that are open.
     pub fn end(&mut self) {
         for (number, both) in std::mem::take(&mut self.all) {
-            let lines = Lines { form: self.form, prefix: self.shows_numbers.then_some(number) };
-            both.iter().for_each(|direction| lines.end(direction, &mut self.out));
+            let lines =
+                LinePrinter { format: self.format, prefix: self.shows_numbers.then_some(number) };
+            both.iter().for_each(|state| lines.end(state, &mut self.out));
         }
     }
 
@@ -105,9 +107,9 @@ impl Printer {
     }
 }
 
-impl Direction {
-    fn new(side: Side) -> Direction {
-        Direction {
+impl PrintState {
+    fn new(side: Side) -> PrintState {
+        PrintState {
             side,
             decoder: decoder_of(side),
             is_over: false,
@@ -127,12 +129,12 @@ impl Direction {
 }
 
 /// How the lines of a connection are.
-struct Lines {
-    form: Form,
+struct LinePrinter {
+    format: LineFormat,
     prefix: Option<u32>,
 }
 
-impl Lines {
+impl LinePrinter {
     fn number(&self, out: &mut Vec<u8>) {
         if let Some(number) = self.prefix {
             put(out, format_args!("{number} "));
@@ -140,46 +142,46 @@ impl Lines {
     }
 
     /// Adds bytes of a direction, and prints the messages that are whole.
-    fn take(&self, direction: &mut Direction, content: &[u8], out: &mut Out) {
-        let is_shown = self.form != Form::Server || direction.side == Side::Server;
-        if direction.is_over || !is_shown {
+    fn take(&self, state: &mut PrintState, content: &[u8], out: &mut PrinterOutput) {
+        let is_shown = self.format != LineFormat::Server || state.side == Side::Server;
+        if state.is_over || !is_shown {
             return;
         }
-        let content = direction.skip(content);
+        let content = state.skip(content);
         if content.is_empty() {
             return;
         }
-        let mut held = std::mem::take(&mut direction.bytes);
+        let mut held = std::mem::take(&mut state.bytes);
         out.held -= held.len();
         held.extend_from_slice(content);
-        let count = self.print_whole(direction, &held, out);
+        let count = self.print_whole(state, &held, out);
         held.drain(..count);
         held.shrink_to(HELD_LEAST);
         out.held += held.len();
-        direction.bytes = held;
+        state.bytes = held;
     }
 
     /// Prints messages, and gives how many bytes are passed over.
-    fn print_whole(&self, direction: &mut Direction, bytes: &[u8], out: &mut Out) -> usize {
+    fn print_whole(&self, state: &mut PrintState, bytes: &[u8], out: &mut PrinterOutput) -> usize {
         let (mut at, room) = (0, HELD_MOST.saturating_sub(out.held).max(HELD_LEAST));
         loop {
-            match self.next(direction, &bytes[at..]) {
+            match self.next(state, &bytes[at..]) {
                 Ok(Next::Incomplete { needed, .. }) if needed > room => {
                     out.said.push(format!("a message of {needed} bytes isn't shown"));
-                    (direction.left, direction.skipped) = (needed, 0);
-                    direction.skip(&bytes[at..]);
+                    (state.left, state.skipped) = (needed, 0);
+                    state.skip(&bytes[at..]);
                     return bytes.len();
                 }
                 Ok(Next::Incomplete { .. }) => return at,
                 Ok(Next::Frame(frame)) => {
                     self.number(&mut out.bytes);
-                    self.print(direction.side, &frame, &mut out.bytes);
+                    self.print(state.side, &frame, &mut out.bytes);
                     at += frame.bytes.len();
                 }
                 Err(words) => {
                     self.number(&mut out.bytes);
                     put(&mut out.bytes, format_args!("{words}\n"));
-                    direction.is_over = true;
+                    state.is_over = true;
                     return bytes.len();
                 }
             }
@@ -187,13 +189,13 @@ impl Lines {
     }
 
     /// The message at the front, or what is wrong with it.
-    fn next<'b>(&self, direction: &mut Direction, bytes: &'b [u8]) -> Result<Next<'b>, String> {
+    fn next<'b>(&self, state: &mut PrintState, bytes: &'b [u8]) -> Result<Next<'b>, String> {
         match *bytes {
-            [tag, _, _, _, _, ..] if !self.has_line(direction.side, tag) => {
+            [tag, _, _, _, _, ..] if !self.has_line(state.side, tag) => {
                 Err(format!("unknown message type: {tag}"))
             }
             _ => {
-                let next = direction.decoder.next(bytes);
+                let next = state.decoder.next(bytes);
                 next.map_err(|fault| fault.to_string())
             }
         }
@@ -201,17 +203,17 @@ impl Lines {
 
     /// Whether there is a line of a message by its tag. The decoder judges those of a client.
     fn has_line(&self, side: Side, tag: u8) -> bool {
-        let is_server_line = side == Side::Server && !matches!(self.form, Form::Trace(_));
+        let is_server_line = side == Side::Server && !matches!(self.format, LineFormat::Trace(_));
         !is_server_line || trace::server_name(tag).is_some()
     }
 
     fn print(&self, side: Side, frame: &Frame<'_>, out: &mut Vec<u8>) {
         let body = frame.body();
-        match (self.form, side, frame.tag) {
-            (Form::Trace(style), _, Some(tag)) => {
+        match (self.format, side, frame.tag) {
+            (LineFormat::Trace(style), _, Some(tag)) => {
                 trace::message(out, style, side, tag, body);
             }
-            (Form::Trace(style), _, None) => {
+            (LineFormat::Trace(style), _, None) => {
                 trace::first_message(out, style, body);
             }
             (_, Side::Server, Some(tag)) => lines::server_line(out, tag, body),
@@ -220,26 +222,28 @@ impl Lines {
     }
 
     /// Prints a message whose body is left out.
-    fn left_out(&self, side: Side, content: &[u8], out: &mut Out) {
+    fn left_out(&self, side: Side, content: &[u8], out: &mut PrinterOutput) {
         let (tag, length) = match content {
             &[tag, a, b, c, d] => (tag, u32::from_be_bytes([a, b, c, d])),
             _ => return,
         };
         self.number(&mut out.bytes);
-        match (self.form, side) {
-            (Form::Trace(style), _) => trace::left_out(&mut out.bytes, style, side, tag, length),
+        match (self.format, side) {
+            (LineFormat::Trace(style), _) => {
+                trace::left_out(&mut out.bytes, style, side, tag, length)
+            }
             (_, Side::Server) => lines::left_out_line(&mut out.bytes, tag, length),
             (_, Side::Client) => put(&mut out.bytes, "password left-out\n"),
         }
     }
 
     /// Prints how many bytes of a direction are no whole message, where there are any.
-    fn end(&self, direction: &Direction, out: &mut Out) {
-        let rest = match direction.left {
-            0 => direction.bytes.len(),
-            _ => direction.skipped,
+    fn end(&self, state: &PrintState, out: &mut PrinterOutput) {
+        let rest = match state.left {
+            0 => state.bytes.len(),
+            _ => state.skipped,
         };
-        if rest > 0 && !direction.is_over {
+        if rest > 0 && !state.is_over {
             self.number(&mut out.bytes);
             put(&mut out.bytes, format_args!("rest {rest}\n"));
         }
@@ -256,8 +260,8 @@ fn put(out: &mut Vec<u8>, text: impl Display) {
 mod tests {
     use super::*;
 
-    fn printer(form: Form, connections: u32) -> Printer {
-        let mut printer = Printer::new(form, None, false);
+    fn printer(format: LineFormat, connections: u32) -> Printer {
+        let mut printer = Printer::new(format, None, false);
         (1..=connections).for_each(|number| printer.take(number, RecordKind::Opened, b"a"));
         printer
     }
@@ -265,8 +269,8 @@ mod tests {
     #[test]
     fn each_kind_of_a_server_has_its_line() {
         let stream = b"v\0\0\0\x0c\0\x03\0\0\0\0\0\0W\0\0\0\x07\0\0\0V\0\0\0\x08\xff\xff\xff\xffZ\0\0\0\x05I";
-        for form in [Form::Server, Form::Lines] {
-            let mut printer = printer(form, 1);
+        for format in [LineFormat::Server, LineFormat::Lines] {
+            let mut printer = printer(format, 1);
             printer.take(1, RecordKind::Bytes(Side::Server), stream);
             assert_eq!(
                 String::from_utf8_lossy(printer.lines()),
@@ -278,13 +282,13 @@ mod tests {
 
     /// The bytes that directions hold, and have room for.
     fn held(printer: &Printer) -> (usize, usize) {
-        let all = || printer.all.values().flatten().map(|direction| &direction.bytes);
+        let all = || printer.all.values().flatten().map(|state| &state.bytes);
         (all().map(Vec::len).sum(), all().map(Vec::capacity).sum())
     }
 
     #[test]
     fn all_connections_together_hold_little() {
-        let (mut printer, connections) = (printer(Form::Lines, 8), 8);
+        let (mut printer, connections) = (printer(LineFormat::Lines, 8), 8);
         let (length, piece) = (48 << 20, vec![0; 16 << 20]);
         for number in 1..=connections {
             let mut begun = vec![b'D'];

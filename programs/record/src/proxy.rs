@@ -1,7 +1,7 @@
 //! What all sessions share, and where clients are accepted.
 
-use crate::record_sink::Tape;
-use crate::session::{Session, OPENING};
+use crate::record_sink::RecordSink;
+use crate::session::{ProxySession, OPENING};
 use net::{ExitStatus, Listener, ServerTls, StderrWriter, Upstream, Workers};
 use std::io;
 use std::sync::atomic::{AtomicU64, Ordering};
@@ -17,7 +17,7 @@ const PAUSE: Duration = Duration::from_millis(50);
 
 pub struct Proxy {
     pub upstream: Upstream,
-    pub tape: Tape,
+    pub sink: RecordSink,
     pub tls: Option<ServerTls>,
     pub passes_encryption: bool,
     pub leaves_out: bool,
@@ -83,7 +83,7 @@ impl Proxy {
             let proxy = self.clone();
             workers.spawn(async move {
                 if let Ok(client) = client.watch() {
-                    Session::new(&proxy, peer).serve(client).await;
+                    ProxySession::new(&proxy, peer).serve(client).await;
                 }
                 drop(place);
             });

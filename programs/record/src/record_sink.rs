@@ -1,7 +1,7 @@
 //! Where what passes goes: to a recording, to standard output, or both.
 
 use crate::printer::Printer;
-use crate::stdout::Output;
+use crate::stdout::StdoutWriter;
 use net::{let_others, ExitStatus, Failure, StderrWriter};
 use recording::{RecordError, RecordKind, Side};
 use std::collections::HashMap;
@@ -14,26 +14,26 @@ const COPIED_MOST: usize = 4 << 10;
 
 /// Nothing may pass any more. Why is told to the one that ends the program.
 #[derive(Debug)]
-pub struct Over;
+pub struct Stopped;
 
 /// Tells why the program ends.
-pub type Fails = Box<dyn Fn(Failure) + Send + Sync>;
+pub type OnFailure = Box<dyn Fn(Failure) + Send + Sync>;
 
 /// Takes what is to be a record, before it passes.
-pub struct Tape {
-    file: Option<Recorded>,
-    lines: Option<Printed>,
+pub struct RecordSink {
+    file: Option<RecordingOutput>,
+    lines: Option<PrintedLines>,
     /// How many connections have been opened.
     opened: Mutex<u32>,
     /// Those of which one side has ended, and the other is to.
     ending: Mutex<HashMap<u32, Side>>,
     pub(crate) stderr: StderrWriter,
-    fails: Fails,
+    on_failure: OnFailure,
 }
 
 /// A recording, and its file.
-pub struct Recorded {
-    tape: recording::Recorder,
+pub struct RecordingOutput {
+    recorder: recording::Recorder,
     path: PathBuf,
     /// What passes does so also where it can't be recorded any more.
     goes_on: bool,
@@ -43,20 +43,20 @@ pub struct Recorded {
 }
 
 /// Lines in the order of the records, and where they go.
-struct Printed {
+struct PrintedLines {
     printer: Mutex<Printer>,
-    output: Output,
+    stdout: StdoutWriter,
 }
 
 fn lock<T>(mutex: &Mutex<T>) -> MutexGuard<'_, T> {
     mutex.lock().unwrap_or_else(PoisonError::into_inner)
 }
 
-impl Recorded {
+impl RecordingOutput {
     /// A recording whose file words name by a path. What passes may go on where it can't be recorded any more.
-    pub fn new(tape: recording::Recorder, path: &Path, goes_on: bool) -> Recorded {
-        Recorded {
-            tape,
+    pub fn new(recorder: recording::Recorder, path: &Path, goes_on: bool) -> RecordingOutput {
+        RecordingOutput {
+            recorder,
             path: path.to_owned(),
             goes_on,
             is_lost: AtomicBool::new(false),
@@ -65,34 +65,35 @@ impl Recorded {
     }
 
     /// The same with a new file.
-    pub fn create(path: &Path, goes_on: bool) -> Result<Recorded, Failure> {
-        let tape = recording::Recorder::create(path).map_err(|why| {
+    pub fn create(path: &Path, goes_on: bool) -> Result<RecordingOutput, Failure> {
+        let recorder = recording::Recorder::create(path).map_err(|why| {
             Failure::new(ExitStatus::Unrecorded, format!("{} {why}", path.display()))
         })?;
-        Ok(Recorded::new(tape, path, goes_on))
+        Ok(RecordingOutput::new(recorder, path, goes_on))
     }
 }
 
-impl Tape {
+impl RecordSink {
     /// Records and prints, where each is asked for.
     pub fn new(
-        file: Option<Recorded>,
-        lines: Option<(Printer, Output)>,
+        file: Option<RecordingOutput>,
+        lines: Option<(Printer, StdoutWriter)>,
         stderr: StderrWriter,
-        fails: Fails,
-    ) -> Tape {
-        Tape {
+        on_failure: OnFailure,
+    ) -> RecordSink {
+        RecordSink {
             file,
-            lines: lines.map(|(printer, output)| Printed { printer: Mutex::new(printer), output }),
+            lines: lines
+                .map(|(printer, stdout)| PrintedLines { printer: Mutex::new(printer), stdout }),
             opened: Mutex::new(0),
             ending: Mutex::default(),
             stderr,
-            fails,
+            on_failure,
         }
     }
 
     /// Takes the opening of a connection, and gives its number.
-    pub async fn open(&self, peer: &str) -> Result<u32, Over> {
+    pub async fn open(&self, peer: &str) -> Result<u32, Stopped> {
         let records = [(RecordKind::Opened, peer.as_bytes())];
         let (number, end) = {
             // The records are in the order of the numbers.
@@ -104,7 +105,11 @@ impl Tape {
     }
 
     /// Takes records of a connection. They may pass once this is over.
-    pub async fn take(&self, connection: u32, records: &[(RecordKind, &[u8])]) -> Result<(), Over> {
+    pub async fn take(
+        &self,
+        connection: u32,
+        records: &[(RecordKind, &[u8])],
+    ) -> Result<(), Stopped> {
         let file = match (&self.lines, self.file()) {
             (None, None) => return Ok(()),
             (None, Some(file)) => file,
@@ -115,13 +120,13 @@ impl Tape {
         };
         if let &[(kind, content)] = records {
             if content.len() > COPIED_MOST {
-                return self.judge(file, file.tape.write_long(connection, kind, content));
+                return self.judge(file, file.recorder.write_long(connection, kind, content));
             }
         }
-        let end = file.tape.add(connection, records);
+        let end = file.recorder.add(connection, records);
         // What comes for several sessions at the same time is written at once.
         let_others().await;
-        self.judge(file, file.tape.write(end))
+        self.judge(file, file.recorder.write(end))
     }
 
     /// Notes that a side of a connection has ended, which is recorded with the end of the other, or with that of all.
@@ -130,19 +135,19 @@ impl Tape {
     }
 
     /// Takes the end of a connection, of which a side closed it first.
-    pub async fn close_connection(&self, connection: u32, first: Side) -> Result<(), Over> {
+    pub async fn close_connection(&self, connection: u32, first: Side) -> Result<(), Stopped> {
         lock(&self.ending).remove(&connection);
         let content = [RecordKind::Bytes(first).letter()];
         self.take(connection, &[(RecordKind::Closed, &content)]).await
     }
 
     /// The file, while something can be recorded.
-    fn file(&self) -> Option<&Recorded> {
+    fn file(&self) -> Option<&RecordingOutput> {
         self.file.as_ref().filter(|file| !file.is_lost.load(Ordering::Relaxed))
     }
 
     /// Records and prints, and gives where the lines end.
-    fn put(&self, connection: u32, records: &[(RecordKind, &[u8])]) -> Result<u64, Over> {
+    fn put(&self, connection: u32, records: &[(RecordKind, &[u8])]) -> Result<u64, Stopped> {
         let lines = match &self.lines {
             None => return self.record(connection, records).map(|()| 0),
             Some(lines) => lines,
@@ -153,24 +158,30 @@ impl Tape {
             printer.take(connection, kind, content);
         }
         printer.said().iter().for_each(|words| self.stderr.say(words));
-        Ok(lines.output.add(printer.lines()))
+        Ok(lines.stdout.add(printer.lines()))
     }
 
-    fn record(&self, connection: u32, records: &[(RecordKind, &[u8])]) -> Result<(), Over> {
+    fn record(&self, connection: u32, records: &[(RecordKind, &[u8])]) -> Result<(), Stopped> {
         match self.file() {
             Some(file) => {
-                let end = file.tape.add(connection, records);
-                self.judge(file, file.tape.write(end))
+                let end = file.recorder.add(connection, records);
+                self.judge(file, file.recorder.write(end))
             }
             None => Ok(()),
         }
     }
 
     /// Whether what is recorded may pass. That a recording is lost is told once.
-    fn judge(&self, file: &Recorded, written: Result<(), RecordError>) -> Result<(), Over> {
+    fn judge(
+        &self,
+        file: &RecordingOutput,
+        written: Result<(), RecordError>,
+    ) -> Result<(), Stopped> {
         let why = match written {
             Ok(()) => return Ok(()),
-            Err(RecordError::Closed) if file.is_ending.load(Ordering::Relaxed) => return Err(Over),
+            Err(RecordError::Closed) if file.is_ending.load(Ordering::Relaxed) => {
+                return Err(Stopped)
+            }
             Err(why) => why,
         };
         if let RecordError::Io(_) = why {
@@ -179,16 +190,16 @@ impl Tape {
                 self.stderr.say(words);
                 self.stderr.say("nothing is recorded from here on");
             } else {
-                (self.fails)(Failure::new(ExitStatus::Unrecorded, words));
+                (self.on_failure)(Failure::new(ExitStatus::Unrecorded, words));
             }
         }
         file.is_lost.store(file.goes_on, Ordering::Relaxed);
-        Some(()).filter(|()| file.goes_on).ok_or(Over)
+        Some(()).filter(|()| file.goes_on).ok_or(Stopped)
     }
 
-    async fn wait(&self, end: u64) -> Result<(), Over> {
+    async fn wait(&self, end: u64) -> Result<(), Stopped> {
         match &self.lines {
-            Some(lines) => lines.output.wait(end).await.map_err(|_| Over),
+            Some(lines) => lines.stdout.wait(end).await.map_err(|_| Stopped),
             None => Ok(()),
         }
     }
@@ -204,9 +215,9 @@ impl Tape {
         }
         if let Some(file) = &self.file {
             file.is_ending.store(true, Ordering::Relaxed);
-            file.tape.close();
+            file.recorder.close();
             if is_unreachable {
-                file.tape.forget(&file.path);
+                file.recorder.forget(&file.path);
             }
         }
     }
@@ -216,18 +227,18 @@ impl Tape {
     pub async fn end(&self, is_told: bool) -> Option<ExitStatus> {
         if let Some(lines) = &self.lines {
             self.end_printer(lines);
-            if let Err(words) = lines.output.end(is_told).await {
+            if let Err(words) = lines.stdout.end(is_told).await {
                 self.stderr.say(words);
             }
         }
-        let is_lost = |file: &Recorded| file.is_lost.load(Ordering::Relaxed);
+        let is_lost = |file: &RecordingOutput| file.is_lost.load(Ordering::Relaxed);
         let is_lost = self.file.as_ref().map_or(false, is_lost);
         Some(ExitStatus::Unrecorded).filter(|_| is_lost)
     }
 
-    fn end_printer(&self, lines: &Printed) {
+    fn end_printer(&self, lines: &PrintedLines) {
         let mut printer = lock(&lines.printer);
         printer.end();
-        lines.output.add(printer.lines());
+        lines.stdout.add(printer.lines());
     }
 }

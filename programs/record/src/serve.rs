@@ -1,10 +1,10 @@
 //! The passing on of many connections, until a signal comes or nothing may pass any more.
 
-use crate::options::{Arguments, Form};
+use crate::options::{LineFormat, RecordOptions};
 use crate::printer::Printer;
 use crate::proxy::Proxy;
-use crate::record_sink::{Recorded, Tape};
-use crate::stdout::Output;
+use crate::record_sink::{RecordSink, RecordingOutput};
+use crate::stdout::StdoutWriter;
 use net::{
     ignore_file_size, most_sessions, ExitStatus, Failure, Listeners, ServerTls, ShutdownSignals,
     StderrWriter, Upstream,
@@ -28,30 +28,30 @@ fn local(why: io::Error) -> Failure {
 }
 
 /// Serves, and gives the status in which that ends.
-pub fn serve(arguments: &Arguments, stderr: &StderrWriter) -> Result<ExitStatus, Failure> {
+pub fn serve(options: &RecordOptions, stderr: &StderrWriter) -> Result<ExitStatus, Failure> {
     // Signals, the end and those who connect have a thread of their own, so that a write which blocks all others doesn't hold
     // them up.
     let own = Builder::new_current_thread().enable_all().build().map_err(local)?;
     let _file_size = own.block_on(async { ignore_file_size() }).map_err(local)?;
     let signals = own.block_on(async { ShutdownSignals::take() }).map_err(local)?;
     let signal = own.spawn(signals.wait());
-    let workers = Arc::new(arguments.listening.workers().map_err(local)?);
-    let (fails, failures) = mpsc::unbounded_channel();
-    let tape = tape_of(arguments, stderr, fails)?;
-    let served = match own.block_on(begin(arguments, stderr)) {
+    let workers = Arc::new(options.listening.workers().map_err(local)?);
+    let (on_failure, failures) = mpsc::unbounded_channel();
+    let sink = sink_of(options, stderr, on_failure)?;
+    let served = match own.block_on(begin(options, stderr)) {
         Ok((upstream, bound)) => {
             let (single, first) = mpsc::unbounded_channel();
-            let single = arguments.is_single.then_some(single);
+            let single = options.is_single.then_some(single);
             let Listeners { listeners, tls } = bound;
             let threads = workers.count();
-            let proxy = proxy_of(arguments, stderr, tape, upstream, tls, threads, single);
+            let proxy = proxy_of(options, stderr, sink, upstream, tls, threads, single);
             let accepting = |listener| own.spawn(proxy.clone().accept(listener, workers.clone()));
             let accepting = listeners.into_iter().map(accepting).collect();
-            let ends = Ends { failures, signal, first };
-            own.block_on(end(&proxy, accepting, ends))
+            let events = ShutdownEvents { failures, signal, first };
+            own.block_on(end(&proxy, accepting, events))
         }
         Err(failure) => {
-            tape.close(true);
+            sink.close(true);
             Err(failure)
         }
     };
@@ -61,54 +61,54 @@ pub fn serve(arguments: &Arguments, stderr: &StderrWriter) -> Result<ExitStatus,
 }
 
 /// Where what passes goes. Nothing asked for is lines of the server's messages.
-fn tape_of(
-    arguments: &Arguments,
+fn sink_of(
+    options: &RecordOptions,
     stderr: &StderrWriter,
-    fails: mpsc::UnboundedSender<Failure>,
-) -> Result<Tape, Failure> {
-    let create = |path| Recorded::create(path, arguments.keep_passing);
-    let file = arguments.output.as_deref().map(create).transpose()?;
-    let form = arguments.form().or_else(|| Some(Form::Server).filter(|_| file.is_none()));
-    let told = fails.clone();
-    let lines = form.map(|form| {
-        let printer = Printer::new(form, arguments.only, arguments.numbers);
-        let output = Output::new(move |failure| drop(told.send(failure)));
+    on_failure: mpsc::UnboundedSender<Failure>,
+) -> Result<RecordSink, Failure> {
+    let create = |path| RecordingOutput::create(path, options.keep_passing);
+    let file = options.output.as_deref().map(create).transpose()?;
+    let format = options.format().or_else(|| Some(LineFormat::Server).filter(|_| file.is_none()));
+    let told = on_failure.clone();
+    let lines = format.map(|format| {
+        let printer = Printer::new(format, options.only, options.numbers);
+        let output = StdoutWriter::new(move |failure| drop(told.send(failure)));
         (printer, output)
     });
-    let fails = Box::new(move |failure| drop(fails.send(failure)));
-    Ok(Tape::new(file, lines, stderr.clone(), fails))
+    let on_failure = Box::new(move |failure| drop(on_failure.send(failure)));
+    Ok(RecordSink::new(file, lines, stderr.clone(), on_failure))
 }
 
 /// Finds the server, and listens.
 async fn begin(
-    arguments: &Arguments,
+    options: &RecordOptions,
     stderr: &StderrWriter,
 ) -> Result<(Upstream, Listeners), Failure> {
-    let upstream = match arguments.encryption {
-        true => arguments.server.find_unread().await?,
-        false => arguments.server.find().await?,
+    let upstream = match options.encryption {
+        true => options.server.find_unread().await?,
+        false => options.server.find().await?,
     };
     let tell = |line| stderr.say_plain(line);
-    let bound = arguments.listening.bind(arguments.listen_port, tell).await?;
+    let bound = options.listening.bind(options.listen_port, tell).await?;
     Ok((upstream, bound))
 }
 
 fn proxy_of(
-    arguments: &Arguments,
+    options: &RecordOptions,
     stderr: &StderrWriter,
-    tape: Tape,
+    sink: RecordSink,
     upstream: Upstream,
     tls: Option<ServerTls>,
     threads: usize,
     single: Option<mpsc::UnboundedSender<ExitStatus>>,
 ) -> Arc<Proxy> {
-    let prints_server = arguments.form().is_none() && arguments.output.is_none();
+    let prints_server = options.format().is_none() && options.output.is_none();
     Arc::new(Proxy {
         upstream,
-        tape,
+        sink,
         tls,
-        passes_encryption: arguments.encryption,
-        leaves_out: !arguments.passwords && !prints_server,
+        passes_encryption: options.encryption,
+        leaves_out: !options.passwords && !prints_server,
         stderr: stderr.clone(),
         single,
         places: Arc::new(Semaphore::new(most_sessions(DESCRIPTORS, threads))),
@@ -118,7 +118,7 @@ fn proxy_of(
 }
 
 /// What ends the program.
-struct Ends {
+struct ShutdownEvents {
     failures: mpsc::UnboundedReceiver<Failure>,
     signal: JoinHandle<ExitStatus>,
     /// The status of the first session, where all ends with it.
@@ -129,13 +129,13 @@ struct Ends {
 async fn end(
     proxy: &Arc<Proxy>,
     accepting: Vec<JoinHandle<()>>,
-    mut ends: Ends,
+    mut events: ShutdownEvents,
 ) -> Result<ExitStatus, Failure> {
     let (ended, is_told) = tokio::select! {
         biased;
-        Some(failure) = ends.failures.recv() => (Err(failure), false),
-        status = &mut ends.signal => (Ok(status.unwrap_or(ExitStatus::Local)), true),
-        Some(status) = ends.first.recv() => (Ok(status), false),
+        Some(failure) = events.failures.recv() => (Err(failure), false),
+        status = &mut events.signal => (Ok(status.unwrap_or(ExitStatus::Local)), true),
+        Some(status) = events.first.recv() => (Ok(status), false),
     };
     for each in accepting {
         each.abort();
@@ -143,14 +143,14 @@ async fn end(
         let _ = timeout(PATIENCE, each).await;
     }
     let (closed, is_unreachable) = (proxy.clone(), matches!(ended, Ok(ExitStatus::Unreachable)));
-    let closing = spawn_blocking(move || closed.tape.close(is_unreachable));
+    let closing = spawn_blocking(move || closed.sink.close(is_unreachable));
     if timeout(PATIENCE, closing).await.is_err() {
         // Who writes to a pipe that nobody reads may keep others from their lines, too.
         return ended;
     }
     let lost = tokio::select! {
-        lost = proxy.tape.end(is_told) => lost,
-        _ = ends.signal, if !is_told => proxy.tape.end(true).await,
+        lost = proxy.sink.end(is_told) => lost,
+        _ = events.signal, if !is_told => proxy.sink.end(true).await,
     };
     say_cancels(proxy);
     ended.map(|status| lost.unwrap_or(status))

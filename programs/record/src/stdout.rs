@@ -17,23 +17,23 @@ const PATIENCE: Duration = Duration::from_millis(500);
 
 /// Standard output, where nothing more can be written.
 #[derive(Debug)]
-pub struct Closed;
+pub struct StdoutClosed;
 
 /// Takes lines, and says when they are written.
-pub struct Output {
-    waiting: Arc<Waiting>,
+pub struct StdoutWriter {
+    waiting: Arc<PendingLines>,
     /// How many bytes are written. It has no sender any more where none can be.
     written: watch::Receiver<u64>,
 }
 
 /// Lines that aren't written yet, and how many bytes of lines were added in all.
 #[derive(Default)]
-struct Waiting {
+struct PendingLines {
     lines: Mutex<(Vec<u8>, u64)>,
     is_called: Condvar,
 }
 
-impl Waiting {
+impl PendingLines {
     fn lock(&self) -> MutexGuard<'_, (Vec<u8>, u64)> {
         self.lines.lock().unwrap_or_else(PoisonError::into_inner)
     }
@@ -48,10 +48,10 @@ impl Waiting {
     }
 }
 
-impl Output {
-    /// Begins the thread. `fails` is told why standard output can't be written.
-    pub fn new(fails: impl FnOnce(Failure) + Send + 'static) -> Output {
-        let waiting = Arc::new(Waiting::default());
+impl StdoutWriter {
+    /// Begins the thread. `on_failure` is told why standard output can't be written.
+    pub fn new(on_failure: impl FnOnce(Failure) + Send + 'static) -> StdoutWriter {
+        let waiting = Arc::new(PendingLines::default());
         let (sender, written) = watch::channel(0);
         let taken = waiting.clone();
         thread::spawn(move || {
@@ -61,13 +61,13 @@ impl Output {
                 let mut stdout = io::stdout();
                 if let Err(why) = stdout.write_all(&lines).and_then(|()| stdout.flush()) {
                     let words = format!("standard output can't be written: {why}");
-                    return fails(Failure::new(ExitStatus::Local, words));
+                    return on_failure(Failure::new(ExitStatus::Local, words));
                 }
                 count += lines.len() as u64;
                 let _ = sender.send(count);
             }
         });
-        Output { waiting, written }
+        StdoutWriter { waiting, written }
     }
 
     /// Adds lines, and gives the place where they end.
@@ -81,10 +81,10 @@ impl Output {
     }
 
     /// Waits until lines up to a place are written.
-    pub async fn wait(&self, end: u64) -> Result<(), Closed> {
+    pub async fn wait(&self, end: u64) -> Result<(), StdoutClosed> {
         let mut written = self.written.clone();
         while *written.borrow() < end {
-            written.changed().await.map_err(|_| Closed)?;
+            written.changed().await.map_err(|_| StdoutClosed)?;
         }
         Ok(())
     }

@@ -3,7 +3,7 @@
 use crate::options::{self, Options};
 use anyhow::anyhow;
 use net::{ExitStatus, Failure, StderrWriter, Stream, Upstream};
-use pg_record::{Link, NoLink, Recorded, Tape};
+use pg_record::{Link, LinkError, RecordSink, RecordingOutput};
 use recording::{
     unnamed_file, Damage, Identity, PartialFile, PersistError, Reader, RecordKind, Writer,
 };
@@ -26,7 +26,7 @@ const OPENING: Duration = Duration::from_secs(60);
 /// A run in which sessions are recorded. They are in a file of its own until it ends.
 pub struct Renewal {
     /// What passes in this run.
-    pub tape: Tape,
+    pub sink: RecordSink,
     upstream: Upstream,
     /// The file of this run, which has no name, and a path by which it is opened.
     _run: File,
@@ -73,11 +73,11 @@ impl Renewal {
         let run = PathBuf::from(format!("/proc/self/fd/{}", file.as_raw_fd()));
         let recorded =
             recording::Recorder::begin(file.try_clone().map_err(failed)?).map_err(failed)?;
-        let recorded = Recorded::new(recorded, &path, false);
-        let tape = Tape::new(Some(recorded), None, stderr.clone(), Box::new(fails));
+        let recorded = RecordingOutput::new(recorded, &path, false);
+        let sink = RecordSink::new(Some(recorded), None, stderr.clone(), Box::new(fails));
         let keeps_old = options.recorded() == options::Recorded::Missing;
         Ok(Some(Renewal {
-            tape,
+            sink,
             upstream,
             _run: file,
             run,
@@ -106,10 +106,10 @@ impl Renewal {
     }
 
     /// The link of a client that has said a Startup of so many bytes, or a request to cancel with 0.
-    pub async fn start(&self, link: Link, number: u32, startup: usize) -> Result<Link, NoLink> {
+    pub async fn start(&self, link: Link, number: u32, startup: usize) -> Result<Link, LinkError> {
         match startup {
             0 => Ok(link),
-            _ => link.start(&self.upstream, &self.tape, number, startup).await,
+            _ => link.start(&self.upstream, &self.sink, number, startup).await,
         }
     }
 
@@ -126,7 +126,7 @@ impl Renewal {
     /// Puts the new sessions into the recording, without old ones that they take the place of, as far as these are there
     /// still. Answers how many are new, and how many gone.
     pub fn end(&self, replaced: &HashSet<u64>) -> Result<(usize, usize), Failure> {
-        self.tape.close(false);
+        self.sink.close(false);
         let new = self.new.lock().unwrap_or_else(PoisonError::into_inner);
         let failed = |why: io::Error| unwritten(&self.path, &why);
         while !new.is_empty() {

@@ -8,7 +8,7 @@ use crate::report::{fatal, Report, Side};
 use crate::serve::Shared;
 use anyhow::Result;
 use net::{open, FirstMessage, Stream};
-use pg_record::Over;
+use pg_record::Stopped;
 use pgmsg::backend::{Authentication, Message};
 use pgmsg::frontend;
 use std::time::{Duration, Instant};
@@ -119,7 +119,7 @@ async fn serve(shared: &Shared, mut guest: Guest, seat: usize) -> Result<Option<
         Some(renewal) => match Taping::begin(renewal, &peer, &startup).await {
             Ok(taping) => Some(taping),
             // Why nothing is recorded any more is told already.
-            Err(Over) => return Ok(Some(false)),
+            Err(Stopped) => return Ok(Some(false)),
         },
     };
     Session::new(shared, seat, taping).serve(stream, recorded.startup, rest).await

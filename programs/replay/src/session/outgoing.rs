@@ -4,7 +4,7 @@ use super::taping::Taping;
 use crate::serve::Shared;
 use crate::tape::{Changed, Tape, Wait, Window};
 use net::Stream;
-use pg_record::Over;
+use pg_record::Stopped;
 use std::collections::VecDeque;
 use std::time::{Duration, Instant};
 use tokio::io::AsyncWriteExt;
@@ -61,8 +61,8 @@ impl From<std::io::Error> for Unsent {
     }
 }
 
-impl From<Over> for Unsent {
-    fn from(_: Over) -> Unsent {
+impl From<Stopped> for Unsent {
+    fn from(_: Stopped) -> Unsent {
         Unsent::Broken
     }
 }

@@ -4,7 +4,7 @@ use super::Session;
 use crate::renewal::Renewal;
 use crate::serve::Shared;
 use net::Stream;
-use pg_record::{pass, Begin, Link, NoLink};
+use pg_record::{pass, Link, LinkError, LinkStart};
 use recording::Side;
 
 impl Session<'_> {
@@ -30,10 +30,11 @@ impl Session<'_> {
             Ok((server, from_server, from_client)) => {
                 shared.pool().give_back(self.seat);
                 renewal.keep(number);
-                let link = Link { client, server, from_client, from_server, begin: Begin::Open };
+                let link =
+                    Link { client, server, from_client, from_server, begin: LinkStart::Open };
                 // What is left to say may begin within a message, and holds no password after the login. Why nothing can
                 // pass any more is told already.
-                let _ = pass(&renewal.tape, number, false, link).await;
+                let _ = pass(&renewal.sink, number, false, link).await;
                 None
             }
             Err(why) => {
@@ -68,17 +69,19 @@ pub async fn pass_all(
             return Err(client);
         }
     };
-    if let Ok(number) = renewal.tape.open(peer).await {
+    if let Ok(number) = renewal.sink.open(peer).await {
         let from_server = Vec::new();
-        let link = Link { client, server, from_client, from_server, begin: Begin::First };
+        let link = Link { client, server, from_client, from_server, begin: LinkStart::First };
         match renewal.start(link, number, startup).await {
             Ok(link) => {
                 renewal.keep(number);
-                drop(pass(&renewal.tape, number, true, link).await);
+                drop(pass(&renewal.sink, number, true, link).await);
             }
-            Err(NoLink::Unreachable(why)) => shared.stderr.say(why),
-            Err(NoLink::Refused(why, _)) => shared.stderr.say(format!("a client at {peer} {why}")),
-            Err(NoLink::Gone | NoLink::Over) => {}
+            Err(LinkError::Unreachable(why)) => shared.stderr.say(why),
+            Err(LinkError::Refused(why, _)) => {
+                shared.stderr.say(format!("a client at {peer} {why}"))
+            }
+            Err(LinkError::Gone | LinkError::Stopped) => {}
         }
     }
     Ok(())

@@ -4,7 +4,7 @@ use crate::renewal::Renewal;
 use crate::tape::{Cut, Cutter};
 use anyhow::{bail, ensure, Result};
 use net::Stream;
-use pg_record::Over;
+use pg_record::Stopped;
 use pgmsg::backend::{FieldKind, Message};
 use pgmsg::{Decoder, Frame, Next};
 use recording::{RecordKind, Side, MOST};
@@ -44,15 +44,15 @@ impl<'s> Taping<'s> {
         renewal: &'s Renewal,
         peer: &str,
         startup: &[u8],
-    ) -> Result<Taping<'s>, Over> {
-        let number = renewal.tape.open(peer).await?;
+    ) -> Result<Taping<'s>, Stopped> {
+        let number = renewal.sink.open(peer).await?;
         let (startup, server) = (startup.to_vec(), Cutter::of_server());
         let pending = startup.clone();
         Ok(Taping { renewal, number, startup, pending, server, readies: 0, heard: Vec::new() })
     }
 
     /// Takes what the client says.
-    pub async fn say(&mut self, bytes: &[u8]) -> Result<(), Over> {
+    pub async fn say(&mut self, bytes: &[u8]) -> Result<(), Stopped> {
         self.pending.extend_from_slice(bytes);
         match self.pending.len() > PENDING_MOST {
             true => self.record_pending().await,
@@ -61,7 +61,7 @@ impl<'s> Taping<'s> {
     }
 
     /// Takes what the client is about to hear.
-    pub async fn hear(&mut self, bytes: &[u8]) -> Result<(), Over> {
+    pub async fn hear(&mut self, bytes: &[u8]) -> Result<(), Stopped> {
         self.record_pending().await?;
         self.record(Side::Server, bytes).await?;
         let mut rest = bytes;
@@ -80,22 +80,22 @@ impl<'s> Taping<'s> {
         Ok(())
     }
 
-    async fn record_pending(&mut self) -> Result<(), Over> {
+    async fn record_pending(&mut self) -> Result<(), Stopped> {
         let pending = std::mem::take(&mut self.pending);
         self.record(Side::Client, &pending).await
     }
 
-    async fn record(&self, side: Side, bytes: &[u8]) -> Result<(), Over> {
+    async fn record(&self, side: Side, bytes: &[u8]) -> Result<(), Stopped> {
         for part in bytes.chunks(MOST) {
-            self.renewal.tape.take(self.number, &[(RecordKind::Bytes(side), part)]).await?;
+            self.renewal.sink.take(self.number, &[(RecordKind::Bytes(side), part)]).await?;
         }
         Ok(())
     }
 
     /// Takes the end of the session, whose client was or wasn't the first to leave.
-    pub async fn end(mut self, first: Side) -> Result<(), Over> {
+    pub async fn end(mut self, first: Side) -> Result<(), Stopped> {
         self.record_pending().await?;
-        self.renewal.tape.close_connection(self.number, first).await
+        self.renewal.sink.close_connection(self.number, first).await
     }
 
     /// Connects to the server, and says to it what the client said up to what it heard last. Answers the connection, what the
