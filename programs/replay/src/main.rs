@@ -1,15 +1,15 @@
 //! Serves a recording: answers clients as the server did.
 #![forbid(unsafe_code)]
 
-mod form;
+mod fingerprint;
 mod options;
 mod pool;
+mod recorded;
 mod renewal;
 mod report;
 mod rules;
 mod serve;
 mod session;
-mod tape;
 
 #[cfg(test)]
 mod mutants;
@@ -37,7 +37,7 @@ fn login(path: &Path) -> Result<Login, Failure> {
     let unread = |why: &dyn std::fmt::Display| {
         Failure::new(ExitStatus::Local, format!("{} can't be read: {why}", path.display()))
     };
-    let bytes = std::fs::read(path).map_err(|why| unread(&tape::plain(&why)))?;
+    let bytes = std::fs::read(path).map_err(|why| unread(&recorded::plain(&why)))?;
     let password = bytes.split(|it| matches!(it, b'\n' | b'\r')).next().unwrap_or_default();
     Login::new(password).map_err(|why| unread(&why))
 }
@@ -62,7 +62,7 @@ async fn begin(options: &Options, stderr: &StderrWriter) -> Result<Begun, Failur
     let fails = move |failure| drop(fails.try_send(Err(failure)));
     let renewal = Renewal::begin(options, stderr, fails).await?;
     let path = renewal.as_ref().map_or(&*options.file, Renewal::replayed);
-    let tape = tape::load(path, &rules, options.speed, &|words| stderr.say(words))?;
+    let tape = recorded::load(path, &rules, options.speed, &|words| stderr.say(words))?;
     if tape.connections.is_empty() && renewal.is_none() {
         let words = format!("{} has no session that can be replayed", options.file.display());
         return Err(Failure::new(ExitStatus::Damaged, words));

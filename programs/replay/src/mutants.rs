@@ -1,9 +1,9 @@
 //! Random and mutated bytes as recordings, and as what clients say to them: nothing panics, and little is held.
 
-use crate::form::{Former, Forms};
+use crate::fingerprint::{Former, Forms};
 use crate::pool::{Claim, Pool, Step};
+use crate::recorded::{load, Cut, Cutter, Tape, What, Window, HEAD, MESSAGE_MOST};
 use crate::rules::Rules;
-use crate::tape::{load, Cut, Cutter, Tape, What, Window, HEAD, MESSAGE_MOST};
 use ::mutants::{Mutants, OF_CLIENT, STARTUP};
 use std::sync::Arc;
 

@@ -1,6 +1,6 @@
 //! The options, and what is wrong with them.
 
-use crate::form::LiteralKind;
+use crate::fingerprint::LiteralKind;
 use crate::rules::Rules;
 use clap::Parser;
 use net::{Address, ExitStatus, Failure, ListenOptions, ServerOptions};

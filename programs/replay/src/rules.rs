@@ -1,6 +1,6 @@
 //! What may differ between a client and the recorded one: the rules of a file, and those of the options.
 
-use crate::form::LiteralKind;
+use crate::fingerprint::LiteralKind;
 use anyhow::{Context, Result};
 use regex::bytes::Regex;
 use rules::RulesFile;

@@ -1,11 +1,11 @@
 //! Serving a recording to the clients that connect.
 
 use crate::pool::Pool;
+use crate::recorded::{plain, Tape};
 use crate::renewal::Renewal;
 use crate::report::{doubt, Adviser, Allowed, Report, Side};
 use crate::rules::Rules;
 use crate::session::{greet, Login};
-use crate::tape::{plain, Tape};
 use anyhow::Result;
 use net::{most_sessions, ExitStatus, Failure, Listener, ServerTls, StderrWriter, Workers};
 use std::collections::VecDeque;

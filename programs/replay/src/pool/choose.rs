@@ -1,7 +1,7 @@
 //! Taking another turn in the place of one that has begun: as long as all that was said and heard of both is the same.
 
 use super::{Pool, Seat};
-use crate::tape::{Changed, What};
+use crate::recorded::{Changed, What};
 
 impl Pool {
     /// Takes another turn in the place of that which a session is in: one that went the same up to here, and goes on with

@@ -1,7 +1,7 @@
 //! Which recorded connection a client begins with.
 
 use super::{Pool, Seat};
-use crate::tape::What;
+use crate::recorded::What;
 
 /// What becomes of a Startup.
 #[derive(Clone, Copy, Debug, PartialEq, Eq)]

@@ -12,7 +12,7 @@ mod tests;
 
 pub use claims::Claim;
 
-use crate::tape::{Changed, Ending, Tape, What};
+use crate::recorded::{Changed, Ending, Tape, What};
 use std::collections::{HashMap, HashSet};
 use std::ops::Range;
 use std::sync::Arc;

@@ -12,7 +12,7 @@
 //! Where the same place of the other connection was answered alike, clients that do the same have these connections.
 
 use super::{Pool, SEATED};
-use crate::tape::{Changed, Tape, What};
+use crate::recorded::{Changed, Tape, What};
 use std::collections::HashSet;
 use std::ops::Range;
 

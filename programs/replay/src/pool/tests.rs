@@ -1,9 +1,9 @@
 //! Recordings of short sessions, which clients say again.
 
 use super::*;
-use crate::form::{Former, UNRECORDED};
+use crate::fingerprint::{Former, UNRECORDED};
+use crate::recorded::load;
 use crate::rules::Rules;
-use crate::tape::load;
 use pgmsg::backend::{Authentication, BackendKeyData, Message, TransactionStatus};
 use pgmsg::frontend;
 use recording::{RecordKind, Side, Writer};

@@ -1,7 +1,7 @@
 //! Which rules are advised: none by which two recorded requests with different answers would be one.
 
+use crate::recorded::{load, Tape, What};
 use crate::rules::Rules;
-use crate::tape::{load, Tape, What};
 use anyhow::{ensure, Result};
 use std::collections::HashMap;
 use std::fs;

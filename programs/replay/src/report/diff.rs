@@ -1,7 +1,7 @@
 //! The parts of two messages that differ, as git shows words that do.
 
 use super::{Allowed, Side};
-use crate::tape::HEAD;
+use crate::recorded::HEAD;
 use lines::escape as escaped;
 use once_cell::sync::OnceCell;
 use pgmsg::frontend::{Message, Target};

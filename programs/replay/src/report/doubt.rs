@@ -1,7 +1,7 @@
 //! What is said where a client may mean either of two recorded messages, which were answered otherwise.
 
 use super::Side;
-use crate::tape::{Tape, HEAD};
+use crate::recorded::{Tape, HEAD};
 use lines::escape;
 use pgmsg::frontend::Message;
 

@@ -2,21 +2,21 @@
 
 mod advice;
 mod diff;
+mod difference;
 mod doubt;
-mod parting;
 mod rule;
 
 use crate::pool::Expected;
+use crate::recorded::{Ending, Tape, HEAD, MESSAGE_MOST};
 use crate::rules::Rules;
-use crate::tape::{Ending, Tape, HEAD, MESSAGE_MOST};
+use difference::parting;
 use lines::trace::{self, Style};
-use parting::parting;
 use pgmsg::backend::{Field, FieldKind, Message, TransactionStatus};
 use std::collections::HashSet;
 
 pub use advice::Adviser;
+pub use difference::Parting;
 pub use doubt::sentence as doubt;
-pub use parting::Parting;
 
 /// Longer texts are cut.
 const SHOWN: usize = 4096;

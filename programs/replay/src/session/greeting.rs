@@ -2,7 +2,7 @@
 
 use super::passing::pass_all;
 use super::{linger, say, Session, Taping};
-use crate::form::{Former, UNRECORDED};
+use crate::fingerprint::{Former, UNRECORDED};
 use crate::pool::Claim;
 use crate::report::{fatal, Report, Side};
 use crate::serve::Shared;

@@ -1,26 +1,26 @@
 //! A client, and what it is answered.
 
 mod greeting;
-mod login;
-mod lost;
-mod outgoing;
 mod passing;
+mod recorder;
+mod recovery;
+mod scram;
+mod send_queue;
 mod take;
-mod taping;
 
 pub use greeting::greet;
-pub use login::Login;
-pub use taping::Taping;
+pub use recorder::Taping;
+pub use scram::Login;
 
-use crate::form::Former;
+use crate::fingerprint::Former;
+use crate::recorded::{Changed, Cutter, Ending, Place, SpokenReader};
 use crate::report::{Parting, Report, Side};
 use crate::serve::Shared;
-use crate::tape::{Changed, Cutter, Ending, Place, SpokenReader};
 use anyhow::Result;
-use lost::Lost;
 use net::{ExitStatus, Failure, Stream};
-use outgoing::{Outgoing, Sent};
 use pgmsg::backend::Message;
+use recovery::Lost;
+use send_queue::{Outgoing, Sent};
 use std::time::{Duration, Instant};
 use tokio::io::{AsyncReadExt, AsyncWriteExt};
 use tokio::sync::futures::Notified;
@@ -186,9 +186,9 @@ impl<'s> Session<'s> {
             }
             let waits = match self.out.send(self.shared, self.seat, stream, self.holds).await {
                 Ok(sent) => sent,
-                Err(outgoing::Unsent::Changed(why)) => return Err(self.changed(&why).into()),
+                Err(send_queue::Unsent::Changed(why)) => return Err(self.changed(&why).into()),
                 // A client that is gone hears nothing more.
-                Err(outgoing::Unsent::Broken) => {
+                Err(send_queue::Unsent::Broken) => {
                     return self.end_of_client().map_err(|why| self.changed(&why).into())
                 }
             };

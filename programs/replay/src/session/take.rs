@@ -1,10 +1,10 @@
 //! What a client says.
 
 use super::{Run, Session, State};
-use crate::form::Ignored;
+use crate::fingerprint::Ignored;
 use crate::pool::{Fit, Step};
+use crate::recorded::{is_state_of_standby, Changed, Cut, Cutter, Ending, Tape, What, HEAD};
 use crate::report::{Parting, Side};
-use crate::tape::{is_state_of_standby, Changed, Cut, Cutter, Ending, Tape, What, HEAD};
 use pgmsg::backend::{Message, TransactionStatus};
 use pgmsg::List;
 

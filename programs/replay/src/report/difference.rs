@@ -1,7 +1,7 @@
 //! Where two messages of a client part.
 
 use super::{Allowed, Side};
-use crate::tape::HEAD;
+use crate::recorded::HEAD;
 use pgmsg::frontend::{Bind, Execute, Message, Parse, Settings, Startup, Target};
 
 /// A part of a message, and its place in the recorded and in the received one, from the tag on.

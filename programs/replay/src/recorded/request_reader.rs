@@ -1,6 +1,6 @@
 //! Reading what clients said, which goes on from record to record.
 
-use super::said::{Place, Spoken};
+use super::requests::{Place, Spoken};
 use super::{Changed, Tape, Window};
 
 /// Reads what a client said on from a place.

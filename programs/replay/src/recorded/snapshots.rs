@@ -11,9 +11,9 @@
 //! So the answers of a turn are the same on any of these connections that is between two turns, but for what shows the time or
 //! the connection itself. Prepared statements don't matter to that: what takes one is compared by its text.
 
-use super::connection::{Building, End};
-use super::said::{Script, What};
-use crate::form::{deeds, imported, is_read_only, Deed};
+use super::connection_builder::{Building, End};
+use super::requests::{Script, What};
+use crate::fingerprint::{deeds, imported, is_read_only, Deed};
 use pgmsg::frontend::{Message, Target};
 use std::collections::{HashMap, HashSet};
 

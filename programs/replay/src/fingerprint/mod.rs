@@ -1,14 +1,14 @@
 //! What of a client's messages is compared: their form, in which names stand for what they name, and what may differ is
 //! left out. Two messages fit where their forms are the same.
 
+mod fingerprints;
 mod names;
-mod reading;
+mod read_only;
 mod sql;
-mod store;
 
-pub use reading::{deeds, imported, is_read_only, Deed};
+pub use fingerprints::{Forms, UNRECORDED};
+pub use read_only::{deeds, imported, is_read_only, Deed};
 pub use sql::is_rollback;
-pub use store::{Forms, UNRECORDED};
 
 use crate::rules::Rules;
 use names::{About, Effect, Names};

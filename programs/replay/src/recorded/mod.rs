@@ -1,25 +1,25 @@
 //! A recording as it is served: what each recorded client said, and what it heard of that.
 
+mod answer_matcher;
 mod answers;
-mod causes;
-mod connection;
-mod cutter;
-mod load;
-mod piece;
-mod said;
-mod sharing;
-mod spoken;
+mod chunk;
+mod connection_builder;
+mod loader;
+mod message_splitter;
+mod request_reader;
+mod requests;
+mod snapshots;
 
-pub use causes::Wait;
-pub use connection::is_state_of_standby;
-pub use cutter::{Cut, Cutter};
-pub use load::{load, plain};
-pub use piece::{Changed, Piece, Window};
-use said::Spoken;
-pub use said::{Place, Script, What};
-pub use spoken::SpokenReader;
+pub use answer_matcher::Wait;
+pub use chunk::{Changed, Piece, Window};
+pub use connection_builder::is_state_of_standby;
+pub use loader::{load, plain};
+pub use message_splitter::{Cut, Cutter};
+pub use request_reader::SpokenReader;
+use requests::Spoken;
+pub use requests::{Place, Script, What};
 
-use crate::form::{Former, Forms};
+use crate::fingerprint::{Former, Forms};
 use crate::rules::Rules;
 use crc32fast::Hasher;
 use pgmsg::frontend::Message;

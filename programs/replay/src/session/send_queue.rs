@@ -1,8 +1,8 @@
 //! What is to be sent to a client, and what it waits for.
 
-use super::taping::Taping;
+use super::recorder::Taping;
+use crate::recorded::{Changed, Tape, Wait, Window};
 use crate::serve::Shared;
-use crate::tape::{Changed, Tape, Wait, Window};
 use net::Stream;
 use pg_record::Stopped;
 use std::collections::VecDeque;

@@ -1,10 +1,10 @@
 //! Reading a recording from its first byte to its last.
 
-use super::connection::{Building, Bytes, End, Heard, Notified};
-use super::said::{Said, Script};
-use super::sharing;
+use super::connection_builder::{Building, Bytes, End, Heard, Notified};
+use super::requests::{Said, Script};
+use super::snapshots;
 use super::{Connection, Tape, Turn, Wait};
-use crate::form::Forms;
+use crate::fingerprint::Forms;
 use crate::rules::Rules;
 use net::{ExitStatus, Failure};
 use recording::{Damage, Reader, RecordKind, Side};
@@ -159,7 +159,7 @@ impl Loading {
             self.end(building, None);
         }
         self.over.sort_unstable_by_key(|(building, _)| building.number);
-        sharing::share(self.over.iter_mut().map(|(building, _)| building).collect());
+        snapshots::share(self.over.iter_mut().map(|(building, _)| building).collect());
         if self.over.iter().map(|(building, _)| building.count()).sum::<usize>() > COUNT_MOST {
             return None;
         }

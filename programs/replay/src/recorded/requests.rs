@@ -1,7 +1,7 @@
 //! What clients said, message by message. A recording has millions of them, so that each takes little room, and what only
 //! few of them have is kept beside.
 
-use super::piece::Piece;
+use super::chunk::Piece;
 use std::collections::HashMap;
 use std::ops::Range;
 

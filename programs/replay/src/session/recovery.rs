@@ -3,10 +3,10 @@
 //! both did otherwise.
 
 use super::{Session, State};
-use crate::form::is_rollback;
+use crate::fingerprint::is_rollback;
 use crate::pool::Fit;
+use crate::recorded::{Changed, What, HEAD};
 use crate::report::{bytes_of, refusal, Side};
-use crate::tape::{Changed, What, HEAD};
 use pgmsg::backend::{Message as Answer, TransactionStatus};
 use pgmsg::frontend::Message;
 

@@ -1,7 +1,7 @@
 //! Asking a client for its password by SCRAM-SHA-256, as RFC 5802 and RFC 7677 have it.
 
 use super::say;
-use crate::tape::MESSAGE_MOST;
+use crate::recorded::MESSAGE_MOST;
 use anyhow::{bail, ensure, Context, Result};
 use net::Stream;
 use openssl::base64::{decode_block, encode_block};

@@ -1,11 +1,11 @@
 //! A connection that is read from a recording.
 
-use super::causes::{Causes, Sort, Wait};
-use super::cutter::{Cut, Cutter};
-use super::said::{Place, Script, Spoken, What};
-use super::sharing::Sharing;
+use super::answer_matcher::{Causes, Sort, Wait};
+use super::message_splitter::{Cut, Cutter};
+use super::requests::{Place, Script, Spoken, What};
+use super::snapshots::Sharing;
 use super::{Ending, Piece, HEAD};
-use crate::form::{Former, Forms, UNRECORDED};
+use crate::fingerprint::{Former, Forms, UNRECORDED};
 use crate::rules::Rules;
 use crc32fast::Hasher;
 use pgmsg::frontend::Message;

@@ -1,8 +1,8 @@
 //! What the server of a recorded connection said: where it belongs, and what it waits for.
 
-use super::causes::{Target, Wait};
-use super::connection::{Building, Bytes, Notified};
-use super::cutter::{Cut, Cutter};
+use super::answer_matcher::{Target, Wait};
+use super::connection_builder::{Building, Bytes, Notified};
+use super::message_splitter::{Cut, Cutter};
 use super::{Piece, HEAD};
 use pgmsg::backend::{BackendKeyData, FieldKind, Fields, NotificationResponse};
 use std::collections::HashMap;

@@ -1,7 +1,7 @@
 //! The recording of a session while it is replayed, from which it can go on with a server.
 
+use crate::recorded::{Cut, Cutter};
 use crate::renewal::Renewal;
-use crate::tape::{Cut, Cutter};
 use anyhow::{bail, ensure, Result};
 use net::Stream;
 use pg_record::Stopped;
